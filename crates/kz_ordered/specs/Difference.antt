@@ -1,0 +1,43 @@
+-- The difference of two lists: what makes the one of the other.
+use Rattle.std.specs.Prelude.{Bool, List, [], ◌∷◌, ◌++◌, Option, Some, None, if◌then◌else◌}
+use Rattle.std.specs.declared.cmp.Ordering.{Ordering}
+use Rattle.kz_ordered.specs.Ordered.{find, put, without}
+
+-- One edit of a list.
+pub data Edit (A K : Type 0) : Type 0 where
+  drop_key : K → Edit A K
+  make : A → Edit A K
+  alter : A → Edit A K
+
+-- what an edit makes of a list
+abbrev pub edited : {A K : Type 0} → (K → K → Ordering) → (A → K) → Edit A K → List A → List A
+edited cmp key (drop_key k) xs = without cmp key k xs
+edited cmp key (make x) xs = put cmp key x xs
+edited cmp key (alter x) xs = put cmp key x xs
+
+-- what edits make of a list, one after another
+abbrev pub all_edited : {A K : Type 0} → (K → K → Ordering) → (A → K) → List (Edit A K) → List A → List A
+all_edited cmp key [] xs = xs
+all_edited cmp key (e ∷ es) xs = all_edited cmp key es (edited cmp key e xs)
+
+abbrev pub drop_unless : {A K : Type 0} → K → Option A → List (Edit A K)
+drop_unless k (Some y) = []
+drop_unless k None = drop_key k ∷ []
+
+-- a drop of each key of the first list that the second hasn't, in falling order
+abbrev pub drops : {A K : Type 0} → (K → K → Ordering) → (A → K) → List A → List A → List (Edit A K)
+drops cmp key [] b = []
+drops cmp key (x ∷ a) b = drops cmp key a b ++ drop_unless (key x) (find cmp key (key x) b)
+
+abbrev pub make_or_alter : {A K : Type 0} → (A → A → Bool) → A → Option A → List (Edit A K)
+make_or_alter same x None = make x ∷ []
+make_or_alter same x (Some y) = if same y x then [] else alter x ∷ []
+
+-- in rising order, each item of the second list that the first hasn't, made, and each that it has otherwise, altered
+abbrev pub makes : {A K : Type 0} → (K → K → Ordering) → (A → K) → (A → A → Bool) → List A → List A → List (Edit A K)
+makes cmp key same a [] = []
+makes cmp key same a (x ∷ b) = make_or_alter same x (find cmp key (key x) a) ++ makes cmp key same a b
+
+-- The edits that make the second list of the first: drops in falling order, then the others in rising order.
+abbrev pub difference : {A K : Type 0} → (K → K → Ordering) → (A → K) → (A → A → Bool) → List A → List A → List (Edit A K)
+difference cmp key same a b = drops cmp key a b ++ makes cmp key same a b

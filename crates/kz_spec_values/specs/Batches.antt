@@ -1,0 +1,1 @@
+-- Which bytes are a record batch.

@@ -1,0 +1,1 @@
+-- What the body of a migrated znode says, and the text that is written for it.

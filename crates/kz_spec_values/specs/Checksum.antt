@@ -1,0 +1,1 @@
+-- The checksum CRC-32C.

@@ -1,0 +1,1 @@
+-- Quotas and credentials in the bodies of clients, users and addresses.

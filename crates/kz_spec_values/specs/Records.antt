@@ -1,0 +1,1 @@
+-- Which bytes spell a record.

@@ -1,0 +1,4 @@
+//! What bodies of znodes, records and batches mean.
+//!
+//! The definitions stand in specs/. A law is the contract of a function that does nothing.
+#![tactic(auto)]

@@ -1,0 +1,41 @@
+//! The plain data of the migration: what every definition and every layer names.
+//!
+//! Each type is declared once, here, and the definitions use it as it is. Lists, texts and paths are small own types
+//! that contracts see as lists.
+#![tactic(auto)]
+
+mod bodies;
+mod duplicate;
+mod fault;
+mod id;
+mod key;
+mod log;
+mod machine;
+mod memory;
+mod outside;
+mod path;
+mod record;
+mod row;
+mod sequence;
+mod text;
+mod tree;
+
+pub use bodies::{AssignmentRow, Body, Pair, QuotaRow, ScramPair};
+pub use duplicate::{Duplicate, copy_all};
+pub use fault::{BodyFault, LogFault, ReadWhy, TreeFault};
+pub use id::Id;
+pub use key::EntityKey;
+pub use log::BatchRow;
+pub use machine::{AheadPath, Answer, DriverState, Event, Recorded, Reply, Verdict};
+pub use memory::NoMemory;
+pub use outside::{Failed, Status};
+pub use path::ZPath;
+pub use record::{
+    AccessControlEntryRecord, ClientQuotaRecord, ConfigRecord, Endpoint, Feature, MetaRecord,
+    PartitionChangeRecord, PartitionRecord, ProducerIdsRecord, QuotaEntity, RegisterBrokerRecord,
+    TopicRecord, UserScramCredentialRecord,
+};
+pub use row::{AclRow, PartitionRow, QuotaValue, ScramRow};
+pub use sequence::Sequence;
+pub use text::Text;
+pub use tree::{Op, Rendered, Row};

@@ -1,0 +1,165 @@
+//! What a script asks of the machine, and what it answers.
+use crate::{LogFault, MetaRecord, ReadWhy, Sequence, TreeFault, ZPath};
+
+/// The states of a migration driver.
+#[derive(Clone, Copy, Debug, PartialEq, Eq)]
+pub enum DriverState {
+    Uninitialized,
+    Inactive,
+    WaitForControllerQuorum,
+    WaitForBrokers,
+    BecomeController,
+    ZkMigration,
+    SyncKraftToZk,
+    KraftControllerToBrokerComm,
+    DualWrite,
+}
+
+/// What `/migration` records: which controller wrote the tree last, and up to which offset of the log.
+#[derive(Clone, Copy, Debug, PartialEq, Eq)]
+pub struct Recorded {
+    /// The controller's id.
+    pub id: i32,
+    /// The controller's epoch.
+    pub controller_epoch: i32,
+    /// The offset, or -1 before the first.
+    pub offset: i64,
+    /// The epoch of the log there, or -1 before the first offset.
+    pub epoch: i32,
+}
+
+/// What a step of a driver answers.
+#[derive(Drop)]
+pub enum Reply {
+    /// There is nothing to do.
+    Idle,
+    /// A declared controller isn't running.
+    WaitQuorum { id: i32 },
+    /// A broker isn't registered as migrating.
+    WaitBroker { id: i32 },
+    /// The driver is in this state now.
+    Moved(DriverState),
+    /// The driver has looked at the log or the tree.
+    Looked,
+    /// The driver has claimed the tree: `/controller_epoch` holds this number.
+    Claimed { zk_epoch: i32 },
+    /// The driver has read a page of so many znodes.
+    Read { rows: usize },
+    /// The driver has appended records up to this offset.
+    Appended { offset: i64 },
+    /// The driver has written so many operations, and has more to write.
+    Wrote { ops: usize },
+    /// The driver has written the tree up to this offset, and recorded it.
+    Recorded { offset: i64 },
+    /// Another controller of this higher epoch holds the tree.
+    FencedEpoch { epoch: i32 },
+    /// Another controller has claimed the tree since this claim.
+    FencedWrite { claim: i32 },
+    /// Another controller of this epoch leads the log.
+    Stale { epoch: i32 },
+    /// This znode can't be translated.
+    Untranslatable { path: ZPath, why: ReadWhy },
+    /// A limit of this znode would be passed.
+    Limit { path: ZPath },
+    /// The request or its answer was lost.
+    Lost,
+    /// The session had expired, so the request wasn't taken.
+    Expired,
+    /// The tree's store failed.
+    TreeFailed(TreeFault),
+    /// The log's store failed.
+    LogFailed(LogFault),
+    /// Memory ran out.
+    NoMemory,
+}
+
+/// A path at which the tree is ahead of its recorded offset, and the first later batch end at which it agrees.
+#[derive(Drop)]
+pub struct AheadPath {
+    pub path: ZPath,
+    pub offset: i64,
+}
+
+/// How the tree and the log agree.
+#[derive(Drop)]
+pub enum Verdict {
+    /// The log isn't migrated.
+    Unmigrated,
+    /// No offset is recorded.
+    Unrecorded,
+    /// The tree is as rendered at the recorded offset, with no write since.
+    Closed {
+        offset: i64,
+    },
+    /// A write is under way: these paths differ from the recorded offset.
+    Ahead {
+        offset: i64,
+        paths: Sequence<AheadPath>,
+    },
+    /// The tree agrees with no batch end at this path.
+    Disagrees {
+        path: ZPath,
+    },
+}
+
+/// What a line of a script asks for. Ids are at least 0, and `now` is a time of at least 0.
+#[derive(Drop)]
+pub enum Event {
+    /// Declares the controllers.
+    Quorum {
+        ids: Sequence<i32>,
+    },
+    /// Starts a controller.
+    Start {
+        controller: i32,
+    },
+    /// Elects a controller as the leader of the log.
+    Elect {
+        controller: i32,
+        now: i64,
+    },
+    /// Lets a controller's driver make steps until it waits or rests.
+    Turn {
+        controller: i32,
+        now: i64,
+    },
+    /// Asks a controller to append these records, of which there is at least one.
+    Change {
+        controller: i32,
+        records: Sequence<MetaRecord>,
+        now: i64,
+    },
+    /// Compares the tree with the log.
+    Check,
+}
+
+/// What the machine answers an event.
+#[derive(Drop)]
+pub enum Answer {
+    /// It is done.
+    Done,
+    /// The controller leads with this epoch, and the log ends at this offset.
+    Elected { epoch: i32, offset: i64 },
+    /// The replies of a turn's steps.
+    Turn { replies: Sequence<Reply> },
+    /// The records are in the log, up to this offset.
+    Appended { offset: i64 },
+    /// How the tree and the log agree.
+    Check { verdict: Verdict },
+    /// This controller runs, the least one.
+    Running { id: i32 },
+    /// The controller isn't declared.
+    UnknownController,
+    /// The controller runs already.
+    AlreadyRunning,
+    /// The controller doesn't run.
+    NotRunning,
+    /// The controller was never elected, or has resigned.
+    NotLeader,
+    /// The log has this epoch, and the controller another.
+    Stale { epoch: i32 },
+    /// The migration isn't committed.
+    NotMigrated,
+    /// The limit of this number would be passed.
+    Over { number: u8 },
+}
