@@ -1,7 +1,12 @@
 -- The difference of two lists: what makes the one of the other.
-use Rattle.std.specs.Prelude.{Bool, List, [], ◌∷◌, ◌++◌, Option, Some, None, if◌then◌else◌}
+use Rattle.std.specs.Prelude.{◌≡◌, Bool, true, List, [], ◌∷◌, ◌++◌, Option, Some, None, if◌then◌else◌}
 use Rattle.std.specs.declared.cmp.Ordering.{Ordering}
 use Rattle.kz_ordered.specs.Ordered.{find, put, without}
+
+-- Of two items with one key, the test finds them the same exactly where they are equal.
+pub record DecidesEqual {A K : Type 0} (key : A → K) (same : A → A → Bool) : Type 0 where
+  pub itself : (x : A) → same x x ≡ true
+  pub equal : (x y : A) → key x ≡ key y → same x y ≡ true → x ≡ y
 
 -- One edit of a list.
 pub data Edit (A K : Type 0) : Type 0 where

@@ -1,23 +1,23 @@
 -- Lists whose items rise by a key. `cmp` orders the keys, and `key` gives the key of an item.
-use Rattle.std.specs.Prelude.{◌≡◌, List, [], ◌∷◌, Option, Some, None, ⊤}
+use Rattle.std.specs.Prelude.{◌≡◌, List, [], ◌∷◌, Option, Some, None, if◌then◌else◌, ⊤}
 use Rattle.std.specs.declared.cmp.Ordering.{Ordering}
 use Rattle.std.specs.declared.cmp.Ordering.TheVariants.{Less}
-use Rattle.std.specs.Ordering.{match_ordering}
+use Rattle.std.specs.Ordering.{match_ordering, is_eq}
 
--- the item with this key
+-- the first item with this key
 abbrev pub find : {A K : Type 0} → (K → K → Ordering) → (A → K) → K → List A → Option A
 find cmp key k [] = None
-find cmp key k (x ∷ xs) = match_ordering (cmp k (key x)) (find cmp key k xs) (Some x) (find cmp key k xs)
+find cmp key k (x ∷ xs) = if is_eq (cmp k (key x)) then Some x else find cmp key k xs
 
 -- the list with this item at its place, instead of the one with its key
 abbrev pub put : {A K : Type 0} → (K → K → Ordering) → (A → K) → A → List A → List A
 put cmp key x [] = x ∷ []
 put cmp key x (y ∷ ys) = match_ordering (cmp (key x) (key y)) (x ∷ y ∷ ys) (x ∷ ys) (y ∷ put cmp key x ys)
 
--- the list without the item of this key
+-- the list without the first item of this key
 abbrev pub without : {A K : Type 0} → (K → K → Ordering) → (A → K) → K → List A → List A
 without cmp key k [] = []
-without cmp key k (x ∷ xs) = match_ordering (cmp k (key x)) (x ∷ without cmp key k xs) xs (x ∷ without cmp key k xs)
+without cmp key k (x ∷ xs) = if is_eq (cmp k (key x)) then xs else x ∷ without cmp key k xs
 
 -- these items, each put at its place: of two with one key the later one stands
 abbrev pub all_put : {A K : Type 0} → (K → K → Ordering) → (A → K) → List A → List A → List A
