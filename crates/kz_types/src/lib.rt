@@ -31,9 +31,9 @@ pub use memory::NoMemory;
 pub use outside::{Failed, Status};
 pub use path::ZPath;
 pub use record::{
-    AccessControlEntryRecord, ClientQuotaRecord, ConfigRecord, Endpoint, Feature, MetaRecord,
-    PartitionChangeRecord, PartitionRecord, ProducerIdsRecord, QuotaEntity, RegisterBrokerRecord,
-    TopicRecord, UserScramCredentialRecord,
+    AccessControlEntryRecord, BatchFault, ByteFault, ClientQuotaRecord, CodecFault, ConfigRecord,
+    Endpoint, Feature, MetaRecord, PartitionChangeRecord, PartitionRecord, ProducerIdsRecord,
+    QuotaEntities, QuotaEntity, RegisterBrokerRecord, TopicRecord, UserScramCredentialRecord,
 };
 pub use row::{AclRow, PartitionRow, QuotaValue, ScramRow};
 pub use sequence::Sequence;

@@ -1,6 +1,7 @@
-//! Records of the metadata log, after Kafka's record schemas (KIP-631, KIP-868, KIP-866).
-use crate::{Duplicate, Id, NoMemory, QuotaValue, Sequence, Text};
+//! Records of the metadata log, after Kafka's record schemas (KIP-631, KIP-868, KIP-866), and why bytes are none.
+use crate::{Duplicate, Id, NoMemory, QuotaValue, Sequence, Text, copy_all};
 use std::alloc::Global;
+use std::marker::Model;
 
 /// An address that a broker listens at.
 #[derive(Drop)]
@@ -216,10 +217,88 @@ impl Duplicate for QuotaEntity {
     }
 }
 
+/// Whom a quota speaks of: its parts, in order, which contracts see as a list. A user and a client id stand with the
+/// user first, whatever order they come in, so that this pair is one value.
+#[derive(Drop)]
+pub struct QuotaEntities {
+    parts: Vec<QuotaEntity>,
+}
+
+impl Model for QuotaEntities {
+    ghost use Rattle.std.specs.Prelude.{◌≡◌, List, false};
+    ghost use Rattle.kz_types.specs.QuotaEntities.{is_client_first};
+    ghost use Rattle.kz_types.specs.declared.record.QuotaEntity.{QuotaEntity};
+
+    ghost Value = { List QuotaEntity };
+
+    ghost view = { λ q. q.parts.items };
+
+    ghost invariant = { λ q. is_client_first q.parts.items ≡ false };
+}
+
+impl QuotaEntities {
+    ghost use Rattle.std.specs.Prelude.{◌≡◌, length, false};
+    ghost use Rattle.kz_types.specs.QuotaEntities.{is_client_first, user_first};
+
+    /// These parts, and the pair of a client id and a user with the user first.
+    pub fn from_vec(parts: Vec<QuotaEntity>) -> QuotaEntities
+        ensures value { result ≡ user_first parts.items }
+        ensures order { is_client_first result ≡ false }
+    {
+        QuotaEntities {
+            parts: QuotaEntities::put_user_first(parts),
+        }
+    }
+
+    // These parts with the user first.
+    fn put_user_first(mut parts: Vec<QuotaEntity>) -> Vec<QuotaEntity>
+        ensures value { result.items ≡ user_first parts.items }
+        ensures order { is_client_first result.items ≡ false }
+    {
+        if QuotaEntities::is_client_first(&parts) {
+            parts.swap(0, 1);
+        }
+        parts
+    }
+
+    // Whether these are a client id and then a user.
+    fn is_client_first(parts: &[QuotaEntity]) -> bool
+        ensures { result ≡ is_client_first parts.now }
+    {
+        match parts {
+            [first, second] => first.kind.as_str() == "client-id" && second.kind.as_str() == "user",
+            _ => false,
+        }
+    }
+
+    /// Lends the parts.
+    pub fn as_slice(&self) -> &[QuotaEntity]
+        ensures value { result.now ≡ self.now }
+        ensures order { is_client_first self.now ≡ false }
+    {
+        self.parts.as_slice()
+    }
+
+    /// How many parts there are.
+    pub fn len(&self) -> usize
+        ensures { result ≡ length self.now }
+    {
+        self.parts.len()
+    }
+}
+
+impl Duplicate for QuotaEntities {
+    fn copy(&self, alloc: Global) -> Result<Self, NoMemory> {
+        Ok(QuotaEntities {
+            parts: copy_all(alloc, &self.parts)?,
+        })
+    }
+}
+
 /// A quota is set, or removed.
 #[derive(Drop)]
 pub struct ClientQuotaRecord {
-    pub entity: Sequence<QuotaEntity>,
+    pub entity: QuotaEntities,
     pub key: Text,
     pub value: QuotaValue,
     pub remove: bool,
@@ -348,4 +427,49 @@ impl Duplicate for MetaRecord {
             }),
         }
     }
+}
+
+/// Why a field can't be read, and the first byte at which no spelling goes on.
+#[derive(Clone, Copy, Debug, PartialEq, Eq)]
+pub enum ByteFault {
+    /// The bytes end here, within the field.
+    Short { at: usize },
+    /// A number of variable length has no end or passes its range at this byte.
+    Overlong { at: usize },
+    /// A text is no UTF-8 from this byte on.
+    NotUtf8 { at: usize },
+}
+
+/// Why bytes are no record, in the order in which they are read.
+#[derive(Clone, Copy, Debug, PartialEq, Eq)]
+pub enum CodecFault {
+    /// The bytes end here, within the record.
+    Short { at: usize },
+    /// No record has this key.
+    UnknownKey { key: u32 },
+    /// The record of this key has another version.
+    UnknownVersion { key: u32, version: u32 },
+    /// A field that begins here, or that has this byte, has a value that it can't have.
+    BadField { at: usize },
+    /// The record ends here, and the bytes don't.
+    Rest { at: usize },
+    /// Memory ran out.
+    NoMemory,
+}
+
+/// Why bytes are no batch of records, in the order in which this is tested.
+#[derive(Clone, Copy, Debug, PartialEq, Eq)]
+pub enum BatchFault {
+    /// The bytes end before the header or the stated length does, or that length is less than the header's.
+    Short,
+    /// The format has another number than 2.
+    BadMagic { byte: u8 },
+    /// The stated checksum isn't that of the bytes.
+    BadCrc { stored: u32, computed: u32 },
+    /// The records are compressed, by the method of this number.
+    Compressed { bits: u8 },
+    /// The records don't fill the stated length in the stated number, or one of them is malformed.
+    BadCount,
+    /// The records don't have the offsets 0, 1, 2 and so on.
+    BadOrder,
 }
