@@ -1,3 +1,4 @@
 pub mod Order
 pub mod Lookup
 pub mod Append
+pub mod Difference

@@ -1,5 +1,6 @@
 -- Look-ups in a list after an item is put or taken out, and lists that rise.
 use Rattle.std.proofs.Common.{◌≡◌, ◌≢◌, ℕ, zero, suc, ◌+◌, ◌<◌, ◌≤◌, ◌⊎◌, Bool, true, false, cond, List, [], ◌∷◌, Option, Some, None, Ordering, Less, Equal, Greater, is_eq, Contains, length, get_or, refl, sym, ap, ◌∙◌, subst, arith, inl, inr}
+use Rattle.std.specs.Ordering.{match_ordering}
 use Rattle.std.proofs.lemmas.List.Elements.{Contains-get_or}
 use Rattle.kz_ordered.specs.Order.{TotalOrder}
 use Rattle.kz_ordered.specs.Ordered.{find, put, without, RisesAbove, Rises}
@@ -218,3 +219,31 @@ module _ {A K : Type 0} {cmp : K → K → Ordering} (o : TotalOrder cmp) (key :
   Rises-from_places [] h = tt
   Rises-from_places (x ∷ []) h = tt
   Rises-from_places (x ∷ y ∷ ys) h = (h 0 x (omega arith), Rises-from_places (y ∷ ys) (λ i d within. let e : suc i + 1 ≡ suc (i + 1) = omega arith in rw e at (h (suc i) d (omega arith))))
+
+  -- ---- what a list contains after a change
+
+  pub Contains-put_cases : (x : A) (ys : List A) (z : A) → Contains (put cmp key x ys) z → (x ≡ z) ⊎ Contains ys z
+  Contains-put_cases x [] z has = Contains-cons_cases x [] z has
+  Contains-put_cases x (y ∷ ys) z has = put_cases_by x y ys z (cmp (key x) (key y)) has (Contains-put_cases x ys z)
+    where
+      behind : (x y : A) (ys : List A) (z : A) → (x ≡ z) ⊎ Contains ys z → (x ≡ z) ⊎ Contains (y ∷ ys) z
+      behind x y ys z (inl e) = inl e
+      behind x y ys z (inr has) = inr (Contains-tail y ys z has)
+      first_or : (x y : A) (ys zs : List A) (z : A) → (y ≡ z) ⊎ Contains zs z → (Contains zs z → (x ≡ z) ⊎ Contains ys z) → (x ≡ z) ⊎ Contains (y ∷ ys) z
+      first_or x y ys zs z (inl e) later = inr (subst (Contains (y ∷ ys)) e (Contains-head y ys))
+      first_or x y ys zs z (inr has) later = behind x y ys z (later has)
+      put_cases_by : (x y : A) (ys : List A) (z : A) (r : Ordering) → Contains (match_ordering r (x ∷ y ∷ ys) (x ∷ ys) (y ∷ put cmp key x ys)) z → (Contains (put cmp key x ys) z → (x ≡ z) ⊎ Contains ys z) → (x ≡ z) ⊎ Contains (y ∷ ys) z
+      put_cases_by x y ys z Less has later = Contains-cons_cases x (y ∷ ys) z has
+      put_cases_by x y ys z Equal has later = behind x y ys z (Contains-cons_cases x ys z has)
+      put_cases_by x y ys z Greater has later = first_or x y ys (put cmp key x ys) z (Contains-cons_cases y (put cmp key x ys) z has) later
+
+  pub Contains-without : (k : K) (xs : List A) (z : A) → Contains (without cmp key k xs) z → Contains xs z
+  Contains-without k [] z has = has
+  Contains-without k (x ∷ xs) z has = without_by k x xs z (is_eq (cmp k (key x))) has (Contains-without k xs z)
+    where
+      first_or : (x : A) (xs zs : List A) (z : A) → (x ≡ z) ⊎ Contains zs z → (Contains zs z → Contains xs z) → Contains (x ∷ xs) z
+      first_or x xs zs z (inl e) later = subst (Contains (x ∷ xs)) e (Contains-head x xs)
+      first_or x xs zs z (inr has) later = Contains-tail x xs z (later has)
+      without_by : (k : K) (x : A) (xs : List A) (z : A) (b : Bool) → Contains (cond b xs (x ∷ without cmp key k xs)) z → (Contains (without cmp key k xs) z → Contains xs z) → Contains (x ∷ xs) z
+      without_by k x xs z true has later = Contains-tail x xs z has
+      without_by k x xs z false has later = first_or x xs (without cmp key k xs) z (Contains-cons_cases x (without cmp key k xs) z has) later
