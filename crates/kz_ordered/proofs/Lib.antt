@@ -2,3 +2,4 @@ pub mod Order
 pub mod Lookup
 pub mod Append
 pub mod Difference
+pub mod Edits
