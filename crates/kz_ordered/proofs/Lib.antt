@@ -1,0 +1,5 @@
+pub mod Order
+pub mod Lookup
+pub mod Append
+pub mod Difference
+pub mod Edits

@@ -1,5 +1,5 @@
 -- Lists whose items rise by a key. `cmp` orders the keys, and `key` gives the key of an item.
-use Rattle.std.specs.Prelude.{◌≡◌, List, [], ◌∷◌, Option, Some, None, if◌then◌else◌, ⊤}
+use Rattle.std.specs.Prelude.{◌≡◌, List, [], ◌∷◌, Option, Some, None, if◌then◌else◌, All, ⊤}
 use Rattle.std.specs.declared.cmp.Ordering.{Ordering}
 use Rattle.std.specs.declared.cmp.Ordering.TheVariants.{Less}
 use Rattle.std.specs.Ordering.{match_ordering, is_eq}
@@ -33,3 +33,7 @@ RisesAbove cmp key k (x ∷ xs) = (cmp k (key x) ≡ Less) × RisesAbove cmp key
 abbrev pub Rises : {A K : Type 0} → (K → K → Ordering) → (A → K) → List A → Type 0
 Rises cmp key [] = ⊤
 Rises cmp key (x ∷ xs) = RisesAbove cmp key (key x) xs
+
+-- each key of the list is below this one
+abbrev pub AllBelow : {A K : Type 0} → (K → K → Ordering) → (A → K) → List A → K → Type 0
+AllBelow cmp key xs k = All (λ x. cmp (key x) k ≡ Less) xs
