@@ -1,1 +1,4 @@
 pub mod Causes
+pub mod Numbers
+pub mod PathRule
+pub mod Paths
