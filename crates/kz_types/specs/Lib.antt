@@ -1,2 +1,7 @@
 pub mod Causes
 pub mod QuotaEntities
+pub mod Numbers
+pub mod PathRule
+pub mod Paths
+pub mod Quotas
+pub mod Ids
