@@ -1,0 +1,113 @@
+-- Which event a line of a script is: a JSON object with the event's name as `event`, and exactly its members.
+use Rattle.std.specs.Prelude.{ℕ, Bool, false, not, ◌&&◌, ◌||◌, ◌==◌, ℤ, pos, List, [], ◌∷◌, length, Option, Some, None, option_map, option_and_then, if◌then◌else◌, codes}
+use Rattle.std.specs.Ordering.{int_eq}
+use Rattle.serde_json.specs.Data.{Data, Items, no_items, item}
+use Rattle.serde_json.specs.Find.{get, as_array}
+use Rattle.kz_types.specs.declared.machine.Event.{Event}
+use Rattle.kz_types.specs.declared.machine.Event.TheVariants.{Quorum, Start, Elect, Turn, Change, Check}
+use Rattle.kz_types.specs.declared.record.ConfigRecord.{ConfigRecord}
+use Rattle.kz_types.specs.declared.record.MetaRecord.{MetaRecord}
+use Rattle.kz_types.specs.declared.record.MetaRecord.TheVariants.{Config}
+use Rattle.kz_spec_lines.specs.Decimals.{is_decimal_up_to}
+use Rattle.kz_spec_lines.specs.Json.{json_of, member_count, count_with, whole_up_to, text_member, by_name}
+use Rattle.kz_spec_lines.specs.Records.{record_of}
+
+-- ---- members
+
+-- the id of a controller or a broker: a whole number from 0 to the greatest of 32 bits
+abbrev pub id_of : Data → Option ℤ
+id_of d = whole_up_to 2147483647 d
+
+-- a time: a whole number from 0 to the greatest of 64 bits; where it is absent, 0
+abbrev pub time_of : Option Data → Option ℤ
+time_of None = Some (pos 0)
+time_of (Some d) = whole_up_to 9223372036854775807 d
+
+-- the member `controller`
+abbrev pub controller_of : Data → Option ℤ
+controller_of d = option_and_then id_of (get (codes "controller") d)
+
+-- the member `now`
+abbrev pub now_of : Data → Option ℤ
+now_of d = time_of (get (codes "now") d)
+
+-- `event`, `controller`, perhaps `now`, and so many further members
+abbrev pub timed_count : ℕ → Data → ℕ
+timed_count more d = count_with (get (codes "now") d) more
+
+-- ---- events
+
+-- the id in a list of one
+abbrev pub only_id : Items → Option ℤ
+only_id no_items = None
+only_id (item d no_items) = id_of d
+only_id (item d (item e ds)) = None
+
+-- `quorum`, with a list of exactly one id
+abbrev pub quorum_of : Data → Option Event
+quorum_of d = if member_count d == 2
+    then option_map (λ i. Quorum (i ∷ [])) (option_and_then only_id (option_and_then as_array (get (codes "ids") d)))
+    else None
+
+abbrev pub start_of : Data → Option Event
+start_of d = if member_count d == 2 then option_map (λ c. Start c) (controller_of d) else None
+
+abbrev pub elect_of : Data → Option Event
+elect_of d = if member_count d == timed_count 2 d
+    then option_and_then (λ c. option_map (λ t. Elect c t) (now_of d)) (controller_of d)
+    else None
+
+abbrev pub turn_of : Data → Option Event
+turn_of d = if member_count d == timed_count 2 d
+    then option_and_then (λ c. option_map (λ t. Turn c t) (now_of d)) (controller_of d)
+    else None
+
+-- the configuration of all brokers, whose name is empty, or of the broker whose id its name is
+abbrev pub is_broker_config : ConfigRecord → Bool
+is_broker_config c =
+    int_eq c.resource_type (pos 4)
+    && (length c.resource_name == 0 || is_decimal_up_to 2147483647 c.resource_name)
+    && not (length c.name == 0)
+
+-- a record that a change may hold
+abbrev pub is_changeable : MetaRecord → Bool
+is_changeable (Config c) = is_broker_config c
+is_changeable r = false
+
+-- the record in a list of one
+abbrev pub only_record : Items → Option MetaRecord
+only_record no_items = None
+only_record (item d no_items) = option_and_then (λ r. if is_changeable r then Some r else None) (record_of d)
+only_record (item d (item e ds)) = None
+
+-- `change`, with a list of exactly one record
+abbrev pub change_of : Data → Option Event
+change_of d = if member_count d == timed_count 3 d
+    then option_and_then (λ c. option_and_then (λ r. option_map (λ t. Change c (r ∷ []) t) (now_of d))
+    (option_and_then only_record (option_and_then as_array (get (codes "records") d))))
+    (controller_of d)
+    else None
+
+abbrev pub check_of : Data → Option Event
+check_of d = if member_count d == 1 then Some Check else None
+
+-- ---- lines
+
+-- the events by their names
+abbrev pub event_forms : List (List ℕ × (Data → Option Event))
+event_forms =
+    (codes "quorum", quorum_of)
+    ∷ (codes "start", start_of)
+    ∷ (codes "elect", elect_of)
+    ∷ (codes "turn", turn_of)
+    ∷ (codes "change", change_of)
+    ∷ (codes "check", check_of)
+    ∷ []
+
+-- the event that a JSON value is
+abbrev pub event_of : Data → Option Event
+event_of d = option_and_then (λ name. by_name event_forms name d) (text_member (codes "event") d)
+
+-- the event that a line is
+unfoldable pub line_event : List ℕ → Option Event
+line_event bytes = option_and_then event_of (json_of bytes)

@@ -1,0 +1,7 @@
+pub mod Lines
+pub mod Json
+pub mod Decimals
+pub mod Records
+pub mod Events
+pub mod Replies
+pub mod Statuses

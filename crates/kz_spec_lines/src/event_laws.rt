@@ -1,0 +1,75 @@
+//! Which events some lines are.
+ghost use Rattle.std.specs.Prelude.{◌≡◌, [], ◌∷◌, ◌++◌, None, Some, pos, codes};
+ghost use Rattle.kz_types.specs.declared.machine.Event.TheVariants.{Quorum, Start, Elect, Turn, Change, Check};
+ghost use Rattle.kz_types.specs.declared.record.MetaRecord.TheVariants.{Config};
+ghost use Rattle.kz_spec_lines.specs.Events.{line_event};
+
+/// The lines of a first migration.
+#[tactic(auto, unfolding(crate::proofs::OnLiterals::lines_on_literals))]
+pub fn a_migration()
+    ensures quorum { line_event (codes "{\"event\":\"quorum\",\"ids\":[3000]}") ≡ Some (Quorum (pos 3000 ∷ [])) }
+    ensures start { line_event (codes "{\"event\":\"start\",\"controller\":3000}") ≡ Some (Start (pos 3000)) }
+    ensures elect { line_event (codes "{\"event\":\"elect\",\"controller\":3000}") ≡ Some (Elect (pos 3000) (pos 0)) }
+    ensures turn { line_event (codes "{\"event\":\"turn\",\"controller\":3000}") ≡ Some (Turn (pos 3000) (pos 0)) }
+    ensures check { line_event (codes "{\"event\":\"check\"}") ≡ Some Check }
+{}
+
+/// A change of a broker's configuration, of the one of all brokers, and one without a value.
+#[tactic(auto, unfolding(crate::proofs::OnLiterals::lines_on_literals))]
+pub fn a_change()
+    ensures broker { line_event (codes "{\"event\":\"change\",\"controller\":3000,\"records\":[{\"kind\":\"Config\",\"resourceType\":4,\"resourceName\":\"1\",\"name\":\"a\",\"value\":\"1\"}]}")
+        ≡ Some (Change (pos 3000) (Config (record { resource_type = pos 4; resource_name = codes "1"; name = codes "a"; value = Some (codes "1") }) ∷ []) (pos 0)) }
+    ensures brokers { line_event (codes "{\"now\":7,\"records\":[{\"value\":null,\"name\":\"a\",\"resourceName\":\"\",\"resourceType\":4,\"kind\":\"Config\"}],\"controller\":1,\"event\":\"change\"}")
+        ≡ Some (Change (pos 1) (Config (record { resource_type = pos 4; resource_name = []; name = codes "a"; value = None }) ∷ []) (pos 7)) }
+{}
+
+/// Blanks around a value, the order of members and escapes mean nothing. The last of two equal members counts.
+#[tactic(auto, unfolding(crate::proofs::OnLiterals::lines_on_literals))]
+pub fn other_spellings()
+    ensures blanks { line_event (codes " { \"event\" : \"check\" } \r") ≡ Some Check }
+    ensures escaped { line_event (codes "{\"\\u0065vent\":\"ch\\u0065ck\"}") ≡ Some Check }
+    ensures ordered { line_event (codes "{\"controller\":1,\"now\":5,\"event\":\"turn\"}") ≡ Some (Turn (pos 1) (pos 5)) }
+    ensures repeated { line_event (codes "{\"event\":\"turn\",\"event\":\"start\",\"controller\":1,\"controller\":2}") ≡ Some (Start (pos 2)) }
+    ensures greatest { line_event (codes "{\"event\":\"elect\",\"controller\":2147483647,\"now\":9223372036854775807}") ≡ Some (Elect (pos 2147483647) (pos 9223372036854775807)) }
+{}
+
+/// Numbers that are no ids and no times.
+#[tactic(auto, unfolding(crate::proofs::OnLiterals::lines_on_literals))]
+pub fn no_whole_numbers()
+    ensures point { line_event (codes "{\"event\":\"start\",\"controller\":1.0}") ≡ None }
+    ensures exponent { line_event (codes "{\"event\":\"start\",\"controller\":1e0}") ≡ None }
+    ensures signed { line_event (codes "{\"event\":\"start\",\"controller\":-0}") ≡ None }
+    ensures negative { line_event (codes "{\"event\":\"start\",\"controller\":-1}") ≡ None }
+    ensures large { line_event (codes "{\"event\":\"start\",\"controller\":2147483648}") ≡ None }
+    ensures text { line_event (codes "{\"event\":\"start\",\"controller\":\"1\"}") ≡ None }
+    ensures late { line_event (codes "{\"event\":\"elect\",\"controller\":1,\"now\":9223372036854775808}") ≡ None }
+    ensures absent { line_event (codes "{\"event\":\"elect\",\"controller\":1,\"now\":null}") ≡ None }
+{}
+
+/// Lines with other members than an event's, and lines that are no objects.
+#[tactic(auto, unfolding(crate::proofs::OnLiterals::lines_on_literals))]
+pub fn no_events()
+    ensures empty { line_event [] ≡ None }
+    ensures comment { line_event (codes "# a") ≡ None }
+    ensures bare { line_event (codes "{}") ≡ None }
+    ensures list { line_event (codes "[]") ≡ None }
+    ensures stop { line_event (codes "{\"event\":\"stop\"}") ≡ None }
+    ensures extra { line_event (codes "{\"event\":\"check\",\"now\":1}") ≡ None }
+    ensures missing { line_event (codes "{\"event\":\"start\"}") ≡ None }
+    ensures no_ids { line_event (codes "{\"event\":\"quorum\",\"ids\":[]}") ≡ None }
+    ensures two_ids { line_event (codes "{\"event\":\"quorum\",\"ids\":[1,2]}") ≡ None }
+    ensures behind { line_event (codes "{\"event\":\"check\"}x") ≡ None }
+    ensures not_utf8 { line_event (codes "{\"event\":\"check\"" ++ (255 ∷ codes "}")) ≡ None }
+{}
+
+/// Changes that aren't taken.
+#[tactic(auto, unfolding(crate::proofs::OnLiterals::lines_on_literals))]
+pub fn no_changes()
+    ensures none { line_event (codes "{\"event\":\"change\",\"controller\":1,\"records\":[]}") ≡ None }
+    ensures no_value { line_event (codes "{\"event\":\"change\",\"controller\":1,\"records\":[{\"kind\":\"Config\",\"resourceType\":4,\"resourceName\":\"\",\"name\":\"a\"}]}") ≡ None }
+    ensures no_name { line_event (codes "{\"event\":\"change\",\"controller\":1,\"records\":[{\"kind\":\"Config\",\"resourceType\":4,\"resourceName\":\"\",\"name\":\"\",\"value\":null}]}") ≡ None }
+    ensures leading { line_event (codes "{\"event\":\"change\",\"controller\":1,\"records\":[{\"kind\":\"Config\",\"resourceType\":4,\"resourceName\":\"01\",\"name\":\"a\",\"value\":null}]}") ≡ None }
+    ensures large { line_event (codes "{\"event\":\"change\",\"controller\":1,\"records\":[{\"kind\":\"Config\",\"resourceType\":4,\"resourceName\":\"2147483648\",\"name\":\"a\",\"value\":null}]}") ≡ None }
+    ensures topic { line_event (codes "{\"event\":\"change\",\"controller\":1,\"records\":[{\"kind\":\"Config\",\"resourceType\":2,\"resourceName\":\"1\",\"name\":\"a\",\"value\":null}]}") ≡ None }
+    ensures other { line_event (codes "{\"event\":\"change\",\"controller\":1,\"records\":[{\"kind\":\"NoOp\"}]}") ≡ None }
+{}

@@ -1,0 +1,8 @@
+//! What the lines of a script mean, and which lines the program prints.
+//!
+//! The definitions stand in specs/. A law is the contract of a function that does nothing.
+#![tactic(auto)]
+
+mod event_laws;
+mod line_laws;
+mod reply_laws;

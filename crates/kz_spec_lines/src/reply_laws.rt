@@ -1,0 +1,53 @@
+//! The lines that some answers print.
+ghost use Rattle.std.specs.Prelude.{◌≡◌, [], ◌∷◌, None, Some, pos, negsuc, codes};
+ghost use Rattle.kz_types.specs.declared.machine.DriverState.TheVariants.{WaitForBrokers, BecomeController, DualWrite};
+ghost use Rattle.kz_types.specs.declared.fault.BodyFault.TheVariants as fault;
+ghost use Rattle.kz_types.specs.declared.fault.ReadWhy.TheVariants as why;
+ghost use Rattle.kz_types.specs.declared.machine.Reply.TheVariants as reply;
+ghost use Rattle.kz_types.specs.declared.machine.Verdict.TheVariants as verdict;
+ghost use Rattle.kz_types.specs.declared.machine.Answer.TheVariants as answer;
+ghost use Rattle.kz_types.specs.declared.outside.Status.TheVariants as status;
+ghost use Rattle.kz_spec_lines.specs.Replies.{reply_lines, summary_line};
+ghost use Rattle.kz_spec_lines.specs.Statuses.{status_text};
+
+/// The lines of a first migration.
+#[tactic(auto, unfolding(crate::proofs::OnLiterals::lines_on_literals))]
+pub fn a_migration()
+    ensures quorum { reply_lines 1 answer.Done ≡ codes "1 done\n" }
+    ensures start { reply_lines 2 answer.Done ≡ codes "2 done\n" }
+    ensures elect { reply_lines 3 (answer.Elected (pos 1) (pos 1)) ≡ codes "3 elected 1 1\n" }
+    ensures turn { reply_lines 4 (answer.Turn (
+        reply.Moved WaitForBrokers ∷ reply.Looked ∷ reply.Moved BecomeController ∷ reply.Looked ∷ reply.Claimed (pos 1)
+        ∷ reply.Read 0 ∷ reply.Appended (pos 2) ∷ reply.Appended (pos 4) ∷ reply.Looked ∷ reply.Read 0
+        ∷ reply.Recorded (pos 4) ∷ reply.Moved DualWrite ∷ reply.Idle ∷ []))
+        ≡ codes "4 moved WAIT_FOR_BROKERS\n4 looked\n4 moved BECOME_CONTROLLER\n4 looked\n4 claimed 1\n4 read 0\n4 appended 2\n4 appended 4\n4 looked\n4 read 0\n4 recorded 4\n4 moved DUAL_WRITE\n4 idle\n" }
+    ensures check { reply_lines 5 (answer.Check (verdict.Closed (pos 4))) ≡ codes "5 closed 4\n" }
+    ensures summary { summary_line 5 13 (pos 2) (pos 4) (Some (pos 4)) ≡ codes "end events=5 steps=13 zxid=2 offset=4 recorded=4\n" }
+{}
+
+/// The lines of a run without input, of refusals and of verdicts.
+#[tactic(auto, unfolding(crate::proofs::OnLiterals::lines_on_literals))]
+pub fn other_lines()
+    ensures summary { summary_line 0 0 (pos 0) (negsuc 0) None ≡ codes "end events=0 steps=0 zxid=0 offset=-1 recorded=none\n" }
+    ensures running { reply_lines 5 (answer.Running (pos 3000)) ≡ codes "5 running 3000\n" }
+    ensures over { reply_lines 12 (answer.Over 2) ≡ codes "12 over 2\n" }
+    ensures ahead { reply_lines 6 (answer.Check (verdict.Ahead (pos 4) (record { path = codes "/a"; offset = pos 5 } ∷ []))) ≡ codes "6 ahead 4 1\n" }
+    ensures disagrees { reply_lines 6 (answer.Check (verdict.Disagrees (codes "/a\"b"))) ≡ codes "6 disagrees \"/a\\\"b\"\n" }
+{}
+
+/// The lines of a turn that can't translate a znode. A step without a line prints none.
+#[tactic(auto, unfolding(crate::proofs::OnLiterals::lines_on_literals))]
+pub fn untranslatable_lines()
+    ensures stray { reply_lines 4 (answer.Turn (reply.Untranslatable (codes "/config/brokers/x") why.Stray ∷ [])) ≡ codes "4 untranslatable \"/config/brokers/x\" stray\n" }
+    ensures field { reply_lines 4 (answer.Turn (reply.Read 1 ∷ reply.Untranslatable (codes "/a") (why.Body (fault.BadField (codes "config"))) ∷ []))
+        ≡ codes "4 read 1\n4 untranslatable \"/a\" bad-field \"config\"\n" }
+    ensures over { reply_lines 4 (answer.Turn (reply.Untranslatable (codes "/a") (why.Over 2) ∷ [])) ≡ codes "4 untranslatable \"/a\" over 2\n" }
+    ensures silent { reply_lines 4 (answer.Turn (reply.Looked ∷ reply.NoMemory ∷ [])) ≡ codes "4 looked\n" }
+{}
+
+/// The texts of some endings.
+#[tactic(auto, unfolding(crate::proofs::OnLiterals::lines_on_literals))]
+pub fn endings()
+    ensures script { status_text (status.Script 5) ≡ codes "script line 5" }
+    ensures limit { status_text (status.Limit 10 2097152) ≡ codes "limit 10" }
+{}
