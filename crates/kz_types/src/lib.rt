@@ -5,6 +5,7 @@
 #![tactic(auto)]
 
 mod bodies;
+mod driver;
 mod duplicate;
 mod examples;
 mod fault;
@@ -24,12 +25,13 @@ mod tree;
 mod value_fault;
 
 pub use bodies::{AssignmentRow, Body, Pair, QuotaRow, ScramPair};
+pub use driver::{ClaimSeen, Stage};
 pub use duplicate::{Duplicate, copy_all};
 pub use fault::{BodyFault, LogFault, ReadWhy, TreeFault};
 pub use id::Id;
 pub use key::EntityKey;
 pub use kind::Kind;
-pub use log::BatchRow;
+pub use log::{BatchRow, Entry};
 pub use machine::{AheadPath, Answer, DriverState, Event, Recorded, Reply, Verdict};
 pub use memory::NoMemory;
 pub use outside::{Failed, Status};

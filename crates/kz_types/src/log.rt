@@ -23,3 +23,11 @@ impl Duplicate for BatchRow {
         })
     }
 }
+
+/// A record of the log with its offset and the epoch of its batch.
+#[derive(Drop)]
+pub struct Entry {
+    pub offset: i64,
+    pub epoch: i32,
+    pub item: MetaRecord,
+}
