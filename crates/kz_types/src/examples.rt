@@ -4,7 +4,6 @@
 ghost use Rattle.std.specs.Prelude.{◌≡◌, ◌∷◌, ◌++◌, [], codes, true, false, pos, ℕ, List, None};
 ghost use Rattle.kz_types.specs.Numbers.{canonical};
 ghost use Rattle.kz_types.specs.Paths.{is_path, fault_place, kind_of, key_of, path_of, is_legal, is_migrated};
-
 ghost use Rattle.kz_types.specs.Quotas.{quota_of, quota_text};
 ghost use Rattle.kz_types.specs.Ids.{id_of, id_text, zero_id};
 
@@ -15,8 +14,7 @@ pub fn user_path()
     ensures path { path_of (EntityKey.User (Some (codes "a b*~/" ++ 195 ∷ 188 ∷ []))) ≡ codes "/config/users/a%20b%2A~%2F%C3%BC" }
     ensures key { key_of (codes "/config/users/a%20b%2A~%2F%C3%BC") ≡ Some (EntityKey.User (Some (codes "a b*~/" ++ 195 ∷ 188 ∷ []))) }
     ensures lower_case { kind_of (codes "/config/users/a%2a") ≡ Kind.Stray }
-{
-}
+{}
 
 /// The default user, and a user of that name.
 pub fn default_user()
@@ -24,8 +22,7 @@ pub fn default_user()
     ensures default_key { key_of (codes "/config/users/<default>") ≡ Some (EntityKey.User None) }
     ensures named { path_of (EntityKey.User (Some (codes "<default>"))) ≡ codes "/config/users/%3Cdefault%3E" }
     ensures named_key { key_of (codes "/config/users/%3Cdefault%3E") ≡ Some (EntityKey.User (Some (codes "<default>"))) }
-{
-}
+{}
 
 /// Partitions have canonical numbers.
 pub fn partition_paths()
@@ -36,15 +33,13 @@ pub fn partition_paths()
     ensures too_great { canonical (codes "2147483648") ≡ None }
     ensures empty { canonical [] ≡ None }
     ensures sign { canonical (codes "+1") ≡ None }
-{
-}
+{}
 
 /// Addresses.
 pub fn address_paths()
     ensures default { path_of (EntityKey.Ip None) ≡ codes "/config/ips/<default>" }
     ensures named { is_legal (EntityKey.Ip (Some (codes "<default>"))) ≡ false }
-{
-}
+{}
 
 /// Kinds at their boundaries.
 pub fn kinds()
@@ -60,8 +55,7 @@ pub fn kinds()
     ensures block { kind_of (codes "/latest_producer_id_block") ≡ Kind.Entity }
     ensures below_block { kind_of (codes "/latest_producer_id_block/a") ≡ Kind.Stray }
     ensures beside { is_migrated (codes "/config/brokers-2") ≡ false }
-{
-}
+{}
 
 /// Broker configurations.
 pub fn broker_paths()
@@ -70,8 +64,7 @@ pub fn broker_paths()
     ensures path { path_of (EntityKey.BrokerConfig (Some (pos 0))) ≡ codes "/config/brokers/0" }
     ensures leading_zero { kind_of (codes "/config/brokers/00") ≡ Kind.Stray }
     ensures too_great { kind_of (codes "/config/brokers/2147483648") ≡ Kind.Stray }
-{
-}
+{}
 
 /// Paths, and bytes that are none.
 pub fn rule()
@@ -88,8 +81,7 @@ pub fn rule()
     ensures first_place { fault_place (codes "a") ≡ 0 }
     ensures control_place { fault_place (codes "/a" ++ 31 ∷ []) ≡ 2 }
     ensures character_place { fault_place (codes "/" ++ 240 ∷ 128 ∷ []) ≡ 2 }
-{
-}
+{}
 
 /// Quotas and their texts.
 pub fn quotas()
@@ -110,8 +102,7 @@ pub fn quotas()
     ensures written { quota_text (record { whole = pos 1024; micros = pos 0 }) ≡ codes "1024" }
     ensures written_decimals { quota_text (record { whole = pos 12; micros = pos 500000 }) ≡ codes "12.5" }
     ensures written_small { quota_text (record { whole = pos 0; micros = pos 100 }) ≡ codes "0.0001" }
-{
-}
+{}
 
 /// Ids and their texts.
 pub fn ids()
@@ -119,5 +110,4 @@ pub fn ids()
     ensures read { id_of (codes "AAECAwQFBgcICQoLDA0ODw") ≡ Some (0 ∷ 1 ∷ 2 ∷ 3 ∷ 4 ∷ 5 ∷ 6 ∷ 7 ∷ 8 ∷ 9 ∷ 10 ∷ 11 ∷ 12 ∷ 13 ∷ 14 ∷ 15 ∷ []) }
     ensures unused_bits { id_of (codes "AAAAAAAAAAAAAAAAAAAAAB") ≡ None }
     ensures short { id_of (codes "AAAAAAAAAAAAAAAAAAAAA") ≡ None }
-{
-}
+{}
