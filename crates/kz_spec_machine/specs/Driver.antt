@@ -1,0 +1,464 @@
+-- A migration driver (KIP-866): its state, the one request of a step, and what follows its answer or its loss.
+use Rattle.std.specs.Prelude.{ℕ, ◌+◌, ◌*◌, ◌/◌, Bool, true, false, not, ◌&&◌, ◌||◌, nat_lt, nat_le, ℤ, pos, negsuc, ◌+ℤ◌, int_lt, List, [], ◌∷◌, ◌++◌, length, map, take, drop, Option, Some, None, is_some, option_and_then, slice_get, Result, Ok, Err, if◌then◌else◌, codes}
+use Rattle.std.specs.Ordering.{int_eq}
+use Rattle.std.specs.Result.{result_unwrap_or}
+use Rattle.std.specs.List.{filter, list_any, zip, filter_map}
+use Rattle.kz_types.specs.declared.tree.Row.{Row}
+use Rattle.kz_types.specs.declared.tree.Op.{Op}
+use Rattle.kz_types.specs.declared.tree.Op.TheVariants as op
+use Rattle.kz_types.specs.declared.driver.ClaimSeen.{ClaimSeen}
+use Rattle.kz_types.specs.declared.driver.Stage.{Stage}
+use Rattle.kz_types.specs.declared.driver.Stage.TheVariants as stage
+use Rattle.kz_types.specs.declared.machine.DriverState.{DriverState}
+use Rattle.kz_types.specs.declared.machine.DriverState.TheVariants as state
+use Rattle.kz_types.specs.declared.machine.Recorded.{Recorded}
+use Rattle.kz_types.specs.declared.machine.Reply.{Reply}
+use Rattle.kz_types.specs.declared.machine.Reply.TheVariants as reply
+use Rattle.kz_types.specs.declared.fault.TreeFault.{TreeFault}
+use Rattle.kz_types.specs.declared.fault.TreeFault.TheVariants as tree_fault
+use Rattle.kz_types.specs.declared.fault.LogFault.{LogFault}
+use Rattle.kz_types.specs.declared.fault.LogFault.TheVariants as log_fault
+use Rattle.kz_types.specs.declared.fault.BodyFault.{BodyFault}
+use Rattle.kz_types.specs.declared.fault.ReadWhy.TheVariants as why
+use Rattle.kz_types.specs.declared.record.MetaRecord.{MetaRecord}
+use Rattle.kz_types.specs.declared.record.MetaRecord.TheVariants as meta
+use Rattle.kz_types.specs.declared.record.RegisterBrokerRecord.{RegisterBrokerRecord}
+use Rattle.kz_types.specs.Paths.{base_paths}
+use Rattle.kz_spec_values.specs.Control.{control_path, epoch_path, migration_path, read_epoch, written_epoch, shown_epoch, written_control, written_recorded}
+use Rattle.kz_spec_stores.specs.Tree.{Tree, row_at, multi, scan, look, broker_ids, area, rendered_row, max_version}
+use Rattle.kz_spec_stores.specs.Image.{Image, is_migrated_state}
+use Rattle.kz_spec_stores.specs.Log.{Log, View, new_view, append, end_of, image_at, read_view}
+use Rattle.kz_spec_stores.specs.Rendering.{render}
+use Rattle.kz_spec_stores.specs.Translation.{Unreadable, translate}
+use Rattle.kz_spec_stores.specs.Difference.{diff, chunk, max_chunk}
+
+-- ---- what there is
+
+-- What all drivers share: the tree, the log, and the ids of the declared controllers.
+pub record Shared : Type 0 where
+  pub tree : Tree
+  pub log : Log
+  pub declared : List ℤ
+
+-- One driver: its controller's id; its epoch, where it was elected and hasn't resigned; its claim, the data version of
+-- `/controller_epoch` that it made; its state with its part; what it knows of the log; and the offset that it recorded
+-- last.
+pub record Driver : Type 0 where
+  pub id : ℤ
+  pub epoch : Option ℤ
+  pub claim : Option ℤ
+  pub stage : Stage
+  pub view : View
+  pub recorded : Option ℤ
+
+abbrev pub new_driver : ℤ → Driver
+new_driver id = record { id = id; epoch = None; claim = None; stage = stage.Uninitialized; view = new_view; recorded = None }
+
+-- the state that a driver is in
+abbrev pub state_of : Stage → DriverState
+state_of stage.Uninitialized = state.Uninitialized
+state_of stage.Inactive = state.Inactive
+state_of stage.WaitForQuorum = state.WaitForControllerQuorum
+state_of stage.WaitForBrokers = state.WaitForBrokers
+state_of stage.CompareBrokers = state.WaitForBrokers
+state_of stage.Look = state.BecomeController
+state_of (stage.Claim seen) = state.BecomeController
+state_of (stage.ReadSource rows) = state.ZkMigration
+state_of (stage.Begin rows) = state.ZkMigration
+state_of (stage.Fill records) = state.ZkMigration
+state_of stage.ReadLog = state.SyncKraftToZk
+state_of (stage.ReadArea target rows) = state.SyncKraftToZk
+state_of (stage.WriteAll target ops) = state.SyncKraftToZk
+state_of stage.InformBrokers = state.KraftControllerToBrokerComm
+state_of stage.Rest = state.DualWrite
+state_of (stage.WriteChange target ops) = state.DualWrite
+
+-- the epoch of a driver, 0 where it has none
+abbrev pub epoch_or_zero : Option ℤ → ℤ
+epoch_or_zero None = pos 0
+epoch_or_zero (Some e) = e
+
+abbrev pub views_migrated : Driver → Bool
+views_migrated d = is_migrated_state d.view.image.state
+
+-- ---- sizes
+
+-- the znodes of a page, and the records of a batch of the migration
+abbrev pub page_size : ℕ
+page_size = 256
+
+abbrev pub batch_size : ℕ
+batch_size = 1000
+
+-- ---- where a driver goes
+
+abbrev pub at_stage : Stage → Driver → Driver
+at_stage s d = record d { stage = s }
+
+-- it has no epoch and no claim, and does nothing until it is elected anew
+abbrev pub resigned : Driver → Driver
+resigned d = record d { epoch = None; claim = None; stage = stage.Inactive }
+
+-- it looks at the tree anew, without a claim
+abbrev pub begins_again : Driver → Driver
+begins_again d = record d { claim = None; stage = stage.Look }
+
+-- a driver that is elected with an epoch
+abbrev pub elected_driver : ℤ → Driver → Driver
+elected_driver epoch d = record d { epoch = Some epoch; claim = None; stage = stage.WaitForQuorum }
+
+-- ---- the claim
+
+-- what a look at the control and base znodes sees
+abbrev pub seen_in : Tree → ClaimSeen
+seen_in t = record {
+  control = row_at control_path t.rows;
+  epoch = row_at epoch_path t.rows;
+  migration = row_at migration_path t.rows;
+  bases = map is_some (look t base_paths);
+}
+
+-- the epoch that `/controller` shows
+abbrev pub shown_by : Option Row → Option ℤ
+shown_by row = option_and_then (λ (r : Row). shown_epoch r.body) row
+
+abbrev pub unless_fenced : Option ℤ → Driver → Driver × Reply → Driver × Reply
+unless_fenced None d rest = rest
+unless_fenced (Some e) d rest = if int_lt (epoch_or_zero d.epoch) e then (resigned d, reply.FencedEpoch e) else rest
+
+abbrev pub unless_full_epoch : Result ℤ BodyFault → ℤ → Driver → Driver × Reply → Driver × Reply
+unless_full_epoch (Err e) version d rest = (d, reply.Untranslatable epoch_path (why.Body e))
+unless_full_epoch (Ok number) version d rest = if int_eq number max_version || int_eq version max_version then (d, reply.Limit epoch_path) else rest
+
+abbrev pub unless_bad_epoch : Option Row → Driver → Driver × Reply → Driver × Reply
+unless_bad_epoch None d rest = rest
+unless_bad_epoch (Some r) d rest = unless_full_epoch (read_epoch r.body) r.version d rest
+
+abbrev pub unless_full_record : Option Row → Driver → Driver × Reply → Driver × Reply
+unless_full_record None d rest = rest
+unless_full_record (Some r) d rest = if not (views_migrated d) && int_eq r.version max_version then (d, reply.Limit migration_path) else rest
+
+-- the driver after its look: another controller of a higher epoch fences it off, and a znode that it couldn't set stops it
+abbrev pub looked : ClaimSeen → Driver → Driver × Reply
+looked seen d =
+    unless_fenced (shown_by seen.control) d (
+    unless_bad_epoch seen.epoch d (
+    unless_full_record seen.migration d (at_stage (stage.Claim seen) d, reply.Looked)))
+
+abbrev pub epoch_number : Row → ℤ
+epoch_number r = result_unwrap_or (read_epoch r.body) (pos 0)
+
+-- the number that a claim writes to `/controller_epoch`, and the data version that this gives
+abbrev pub claimed_number : Option Row → ℤ
+claimed_number None = pos 1
+claimed_number (Some r) = epoch_number r +ℤ pos 1
+
+abbrev pub claimed_version : Option Row → ℤ
+claimed_version None = pos 0
+claimed_version (Some r) = r.version +ℤ pos 1
+
+abbrev pub epoch_op : Option Row → Op
+epoch_op None = op.Create epoch_path (written_epoch (pos 1)) None
+epoch_op (Some r) = op.Set epoch_path (written_epoch (epoch_number r +ℤ pos 1)) r.version
+
+abbrev pub control_ops : Option Row → List ℕ → List Op
+control_ops None body = op.Create control_path body None ∷ []
+control_ops (Some r) body = op.Delete control_path r.version ∷ op.Create control_path body None ∷ []
+
+-- before the first offset
+abbrev pub unrecorded : Driver → Recorded
+unrecorded d = record { id = d.id; controller_epoch = epoch_or_zero d.epoch; offset = negsuc 0; epoch = negsuc 0 }
+
+abbrev pub migration_ops : Bool → Option Row → List ℕ → List Op
+migration_ops true row body = []
+migration_ops false None body = op.Create migration_path body None ∷ []
+migration_ops false (Some r) body = op.Set migration_path body (negsuc 0) ∷ []
+
+abbrev pub base_op : Bool → List ℕ → List Op
+base_op true path = []
+base_op false path = op.Create path [] None ∷ []
+
+-- the base znodes that are missing
+abbrev pub base_ops : List Bool → List (List ℕ) → List Op
+base_ops [] paths = []
+base_ops (b ∷ bs) [] = []
+base_ops (b ∷ bs) (p ∷ ps) = base_op b p ++ base_ops bs ps
+
+-- The multi of a claim: the number of `/controller_epoch` rises, at the version that was seen; `/controller` is this
+-- controller's; nothing is recorded yet, where the log isn't migrated; and the base znodes stand.
+abbrev pub claim_ops : ClaimSeen → Driver → ℤ → List Op
+claim_ops seen d now =
+    epoch_op seen.epoch
+    ∷ (control_ops seen.control (written_control d.id (epoch_or_zero d.epoch) now)
+    ++ (migration_ops (views_migrated d) seen.migration (written_recorded (unrecorded d))
+    ++ base_ops seen.bases base_paths))
+
+-- ---- the write
+
+-- what remains to be written of the metadata at an offset
+abbrev pub remaining_at : Tree → Log → ℤ → List Op
+remaining_at t l offset = diff (area t) (render (image_at l offset))
+
+abbrev pub is_last_write : List Op → Bool
+is_last_write ops = nat_le (length ops) max_chunk
+
+abbrev pub record_ops : Bool → Recorded → List Op
+record_ops true target = op.Set migration_path (written_recorded target) (negsuc 0) ∷ []
+record_ops false target = []
+
+-- The multi of a write: the claim still stands; the next operations; and with the last of them the offset is recorded.
+abbrev pub write_ops : ℤ → List Op → Recorded → List Op
+write_ops claim ops target = op.Check epoch_path claim ∷ (chunk ops ++ record_ops (is_last_write ops) target)
+
+-- what will be recorded after a read of the log: its end, and the epoch of its last batch, or the driver's own where it
+-- has read none
+abbrev pub target_of : Driver → Recorded
+target_of d = record {
+  id = d.id;
+  controller_epoch = epoch_or_zero d.epoch;
+  offset = d.view.position;
+  epoch = if int_eq d.view.epoch (pos 0) then epoch_or_zero d.epoch else d.view.epoch;
+}
+
+-- ---- the one request of a step
+
+pub data Request : Type 0 where
+  nothing : Request
+  read_log : Request
+  list_brokers : Request
+  look_up : Request  -- the control and base znodes
+  read_page : Option (List ℕ) → Request  -- the znodes of the migrated area behind a path
+  write : List Op → Request
+  add : List MetaRecord → Request
+
+-- the last path of these znodes
+abbrev pub last_path : List Row → Option (List ℕ)
+last_path [] = None
+last_path (r ∷ []) = Some r.path
+last_path (r ∷ s ∷ rs) = last_path (s ∷ rs)
+
+-- the name of the migration's transaction
+abbrev pub begin_record : MetaRecord
+begin_record = meta.BeginTransaction (Some (codes "ZK Migration"))
+
+-- the records that commit the migration
+abbrev pub commit_records : List MetaRecord
+commit_records = meta.ZkMigrationState (pos 2) ∷ meta.EndTransaction ∷ []
+
+abbrev pub begin_request : Result (List MetaRecord) Unreadable → Request
+begin_request (Ok records) = add (begin_record ∷ [])
+begin_request (Err e) = nothing
+
+-- the records of the next batch of the migration
+abbrev pub next_records : List MetaRecord → List MetaRecord
+next_records [] = commit_records
+next_records (r ∷ rs) = take batch_size (r ∷ rs)
+
+abbrev pub write_request : Option ℤ → List Op → Recorded → Request
+write_request None ops target = nothing
+write_request (Some claim) ops target = write (write_ops claim ops target)
+
+-- what a driver asks for, by its stage
+abbrev pub asked : Shared → ℤ → Driver → Stage → Request
+asked s now d stage.Uninitialized = nothing
+asked s now d stage.Inactive = nothing
+asked s now d stage.WaitForQuorum = read_log
+asked s now d stage.WaitForBrokers = read_log
+asked s now d stage.CompareBrokers = list_brokers
+asked s now d stage.Look = look_up
+asked s now d (stage.Claim seen) = write (claim_ops seen d now)
+asked s now d (stage.ReadSource rows) = read_page (last_path rows)
+asked s now d (stage.Begin rows) = begin_request (translate rows)
+asked s now d (stage.Fill records) = add (next_records records)
+asked s now d stage.ReadLog = read_log
+asked s now d (stage.ReadArea target rows) = read_page (last_path rows)
+asked s now d (stage.WriteAll target ops) = write_request d.claim (remaining_at s.tree s.log target.offset) target
+asked s now d stage.InformBrokers = nothing
+asked s now d stage.Rest = read_log
+asked s now d (stage.WriteChange target ops) = write_request d.claim (remaining_at s.tree s.log target.offset) target
+
+-- ---- what a request makes of the tree and the log
+
+abbrev pub with_tree : Shared → Result Tree TreeFault → Shared
+with_tree s (Ok t) = record s { tree = t }
+with_tree s (Err e) = s
+
+abbrev pub with_log : Shared → Result Log LogFault → Shared
+with_log s (Ok l) = record s { log = l }
+with_log s (Err e) = s
+
+-- what is shared after a request of a driver of this epoch
+abbrev pub made : Shared → ℤ → ℤ → Request → Shared
+made s epoch now nothing = s
+made s epoch now read_log = s
+made s epoch now list_brokers = s
+made s epoch now look_up = s
+made s epoch now (read_page after) = s
+made s epoch now (write ops) = with_tree s (multi s.tree ops)
+made s epoch now (add records) = with_log s (append s.log epoch now records)
+
+-- ---- the driver that gets its answer
+
+-- the least of these numbers
+abbrev pub least : List ℤ → Option ℤ
+least [] = None
+least (i ∷ is) = less_of i (least is)
+  where
+  less_of : ℤ → Option ℤ → Option ℤ
+  less_of i None = Some i
+  less_of i (Some j) = if int_lt j i then Some j else Some i
+
+abbrev pub is_one_of : List ℤ → ℤ → Bool
+is_one_of ids id = list_any (λ i. int_eq i id) ids
+
+-- the least declared controller that doesn't run
+abbrev pub missing_controller : List ℤ → List ℤ → Option ℤ
+missing_controller declared running = least (filter (λ i. not (is_one_of running i)) declared)
+
+-- whether a broker is registered as ready to migrate
+abbrev pub is_migrating : Image → ℤ → Bool
+is_migrating i id = list_any (λ (b : RegisterBrokerRecord). int_eq b.broker_id id && b.migrating) i.brokers
+
+-- the least of these brokers that isn't registered as ready to migrate
+abbrev pub missing_broker : List ℤ → Image → Option ℤ
+missing_broker ids i = least (filter (λ id. not (is_migrating i id)) ids)
+
+-- the driver that has read the log to its end
+abbrev pub having_read : Log → Driver → Driver
+having_read l d = record d { view = read_view l d.view }
+
+-- a driver that sees that the migration is over resigns
+abbrev pub unless_finalised : Driver → Driver × Reply → Driver × Reply
+unless_finalised d rest = if int_eq d.view.image.state (pos 3) then (resigned d, reply.Moved state.Inactive) else rest
+
+abbrev pub wait_or_move : Option ℤ → Driver → Driver × Reply
+wait_or_move (Some id) d = (d, reply.WaitQuorum id)
+wait_or_move None d = (at_stage stage.WaitForBrokers d, reply.Moved state.WaitForBrokers)
+
+abbrev pub after_quorum : List ℤ → List ℤ → Driver → Driver × Reply
+after_quorum declared running d = unless_finalised d (
+    if int_eq d.view.image.state (pos 2) then (at_stage stage.Look d, reply.Moved state.BecomeController)
+    else wait_or_move (missing_controller declared running) d)
+
+abbrev pub after_brokers : Option ℤ → Driver → Driver × Reply
+after_brokers (Some id) d = (at_stage stage.WaitForBrokers d, reply.WaitBroker id)
+after_brokers None d = (at_stage stage.Look d, reply.Moved state.BecomeController)
+
+abbrev pub path_of_op : Op → List ℕ
+path_of_op (op.Create path body owner) = path
+path_of_op (op.Set path body version) = path
+path_of_op (op.Delete path version) = path
+path_of_op (op.Check path version) = path
+
+abbrev pub path_or_empty : Option Op → List ℕ
+path_or_empty None = []
+path_or_empty (Some o) = path_of_op o
+
+-- the path of the operation at an index
+abbrev pub path_at : List Op → ℕ → List ℕ
+path_at ops index = path_or_empty (slice_get ops index)
+
+abbrev pub after_claim : ClaimSeen → Driver → List Op → Result Tree TreeFault → Driver × Reply
+after_claim seen d ops (Ok t) = (record d { claim = Some (claimed_version seen.epoch); stage = if views_migrated d then stage.ReadLog else stage.ReadSource [] }, reply.Claimed (claimed_number seen.epoch))
+after_claim seen d ops (Err (tree_fault.Refused index code)) = (begins_again d, reply.Moved state.BecomeController)
+after_claim seen d ops (Err (tree_fault.Limit index number)) = (d, reply.Limit (path_at ops index))
+after_claim seen d ops (Err f) = (d, reply.TreeFailed f)
+
+abbrev pub after_page : List Row → List Row → (List Row → Stage) → (List Row → Stage) → Driver → Driver × Reply
+after_page rows page more last d = (at_stage (if nat_lt (length page) page_size then last (rows ++ page) else more (rows ++ page)) d, reply.Read (length page))
+
+-- a driver that appends, and goes to a stage where its records are in the log
+abbrev pub after_append : Stage → Driver → Result Log LogFault → Driver × Reply
+after_append next d (Ok l) = (at_stage next d, reply.Appended (end_of l))
+after_append next d (Err (log_fault.Stale epoch)) = (resigned d, reply.Stale epoch)
+after_append next d (Err f) = (d, reply.LogFailed f)
+
+abbrev pub after_translation : Shared → ℤ → Driver → Result (List MetaRecord) Unreadable → Driver × Reply
+after_translation s now d (Err e) = (at_stage (stage.ReadSource []) d, reply.Untranslatable e.path e.why)
+after_translation s now d (Ok records) = after_append (stage.Fill records) d (append s.log (epoch_or_zero d.epoch) now (begin_record ∷ []))
+
+abbrev pub after_records : List MetaRecord → Stage
+after_records [] = stage.ReadLog
+after_records (r ∷ rs) = stage.Fill (drop batch_size (r ∷ rs))
+
+-- the stage after a write: the last one records the offset
+abbrev pub written_driver : List Op → Recorded → (List Op → Stage) → Stage → Driver → Driver × Reply
+written_driver ops target more last d =
+    if is_last_write ops then (record d { stage = last; recorded = Some target.offset }, reply.Recorded target.offset)
+    else (at_stage (more (drop max_chunk ops)) d, reply.Wrote (length (chunk ops)))
+
+abbrev pub is_claim_refused : ℕ → ℤ → Bool
+is_claim_refused index code = nat_lt index 1 && int_eq code (negsuc 102)
+
+abbrev pub after_write : ℤ → List Op → Recorded → (List Op → Stage) → Stage → Driver → Result Tree TreeFault → Driver × Reply
+after_write claim ops target more last d (Ok t) = written_driver ops target more last d
+after_write claim ops target more last d (Err (tree_fault.Refused index code)) =
+    if is_claim_refused index code then (resigned d, reply.FencedWrite claim) else (begins_again d, reply.Moved state.BecomeController)
+after_write claim ops target more last d (Err (tree_fault.Limit index number)) = (d, reply.Limit (path_at (write_ops claim ops target) index))
+after_write claim ops target more last d (Err f) = (d, reply.TreeFailed f)
+
+-- a driver that writes under its claim
+abbrev pub writes : Tree → Option ℤ → List Op → Recorded → (List Op → Stage) → Stage → Driver → Driver × Reply
+writes t None ops target more last d = (begins_again d, reply.Moved state.BecomeController)
+writes t (Some claim) ops target more last d = after_write claim ops target more last d (multi t (write_ops claim ops target))
+
+-- the driver that has read the log before it reads the migrated area
+abbrev pub after_log : Driver → Driver × Reply
+after_log d = unless_finalised d (at_stage (stage.ReadArea (target_of d) []) d, reply.Looked)
+
+abbrev pub is_recorded_at : Option ℤ → ℤ → Bool
+is_recorded_at None offset = false
+is_recorded_at (Some o) offset = int_eq o offset
+
+-- the driver that has read the log in dual write: at rest where nothing is new
+abbrev pub after_rest : Image → Driver → Driver × Reply
+after_rest before d = unless_finalised d (
+    if is_recorded_at d.recorded d.view.position then (d, reply.Idle)
+    else (at_stage (stage.WriteChange (target_of d) (diff (render before) (render d.view.image))) d, reply.Looked))
+
+-- The driver after the answer to its request, and what it replies, by its stage.
+abbrev pub answered : Shared → List ℤ → ℤ → Driver → Stage → Driver × Reply
+answered s running now d stage.Uninitialized = (at_stage stage.Inactive d, reply.Moved state.Inactive)
+answered s running now d stage.Inactive = (d, reply.Idle)
+answered s running now d stage.WaitForQuorum = after_quorum s.declared running (having_read s.log d)
+answered s running now d stage.WaitForBrokers = unless_finalised (having_read s.log d) (at_stage stage.CompareBrokers (having_read s.log d), reply.Looked)
+answered s running now d stage.CompareBrokers = after_brokers (missing_broker (broker_ids s.tree) d.view.image) d
+answered s running now d stage.Look = looked (seen_in s.tree) d
+answered s running now d (stage.Claim seen) = after_claim seen d (claim_ops seen d now) (multi s.tree (claim_ops seen d now))
+answered s running now d (stage.ReadSource rows) = after_page rows (scan s.tree (last_path rows) page_size) (λ all. stage.ReadSource all) (λ all. stage.Begin all) d
+answered s running now d (stage.Begin rows) = after_translation s now d (translate rows)
+answered s running now d (stage.Fill records) = after_append (after_records records) d (append s.log (epoch_or_zero d.epoch) now (next_records records))
+answered s running now d stage.ReadLog = after_log (having_read s.log d)
+answered s running now d (stage.ReadArea target rows) = after_page rows (scan s.tree (last_path rows) page_size) (λ all. stage.ReadArea target all) (λ all. stage.WriteAll target (diff (map rendered_row all) (render d.view.image))) d
+answered s running now d (stage.WriteAll target ops) = writes s.tree d.claim (remaining_at s.tree s.log target.offset) target (λ rest. stage.WriteAll target rest) stage.InformBrokers d
+answered s running now d stage.InformBrokers = (at_stage stage.Rest d, reply.Moved state.DualWrite)
+answered s running now d stage.Rest = after_rest d.view.image (having_read s.log d)
+answered s running now d (stage.WriteChange target ops) = writes s.tree d.claim (remaining_at s.tree s.log target.offset) target (λ rest. stage.WriteChange target rest) stage.Rest d
+
+-- ---- the driver that gets no answer
+
+-- The driver whose request, or its answer, was lost: it can't know whether the tree or the log took it.
+abbrev pub without_answer : Request → Driver → Driver
+without_answer nothing d = d
+without_answer read_log d = d
+without_answer list_brokers d = at_stage stage.WaitForBrokers d
+without_answer look_up d = begins_again d
+without_answer (read_page after) d = begins_again d
+without_answer (write ops) d = begins_again d
+without_answer (add records) d = resigned d
+
+-- ---- one step
+
+-- What is shared, the driver, and its reply.
+pub record Stepped : Type 0 where
+  pub shared : Shared
+  pub driver : Driver
+  pub reply : Reply
+
+-- One step: at most one request, and its answer.
+unfoldable pub step : Shared → List ℤ → ℤ → Driver → Stepped
+step s running now d = record {
+  shared = made s (epoch_or_zero d.epoch) now (asked s now d d.stage);
+  driver = (answered s running now d d.stage).0;
+  reply = (answered s running now d d.stage).1;
+}

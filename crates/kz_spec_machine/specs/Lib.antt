@@ -1,0 +1,4 @@
+pub mod Driver
+pub mod Verdicts
+pub mod Machine
+pub mod Examples

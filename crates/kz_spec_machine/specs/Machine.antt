@@ -1,0 +1,302 @@
+-- The machine: worlds, events, and what each event makes of a world.
+use Rattle.std.specs.Prelude.{ℕ, zero, suc, ◌+◌, ◌*◌, ◌/◌, Bool, true, false, not, ◌&&◌, nat_lt, ℤ, pos, ◌+ℤ◌, int_le, int_lt, List, [], ◌∷◌, ◌++◌, length, map, Option, Some, None, option_map, Result, Ok, Err, if◌then◌else◌}
+use Rattle.std.specs.Ordering.{int_eq}
+use Rattle.std.specs.List.{find, list_any}
+use Rattle.kz_types.specs.declared.tree.Op.{Op}
+use Rattle.kz_types.specs.declared.driver.Stage.{Stage}
+use Rattle.kz_types.specs.declared.driver.Stage.TheVariants as stage
+use Rattle.kz_types.specs.declared.machine.Recorded.{Recorded}
+use Rattle.kz_types.specs.declared.machine.Reply.{Reply}
+use Rattle.kz_types.specs.declared.machine.Reply.TheVariants as reply
+use Rattle.kz_types.specs.declared.machine.Event.{Event}
+use Rattle.kz_types.specs.declared.machine.Event.TheVariants as event
+use Rattle.kz_types.specs.declared.machine.Answer.{Answer}
+use Rattle.kz_types.specs.declared.machine.Answer.TheVariants as answer
+use Rattle.kz_types.specs.declared.record.MetaRecord.{MetaRecord}
+use Rattle.kz_types.specs.declared.record.MetaRecord.TheVariants as meta
+use Rattle.kz_spec_stores.specs.Tree.{Tree, empty_tree, area, migrated_rows}
+use Rattle.kz_spec_stores.specs.Image.{empty_image, all_applied, is_migrated_state}
+use Rattle.kz_spec_stores.specs.Log.{Log, empty_log, end_of, image_at, image_of, is_migrated_log, is_open_log, batch_ends, with_batch, full_log, max_epoch}
+use Rattle.kz_spec_stores.specs.Rendering.{Excess, render, excess}
+use Rattle.kz_spec_stores.specs.Translation.{Unreadable, translate}
+use Rattle.kz_spec_machine.specs.Driver.{Shared, Driver, new_driver, elected_driver, is_one_of, least, Request, nothing, asked, Stepped, step}
+use Rattle.kz_spec_machine.specs.Verdicts.{verdict}
+
+-- ---- worlds
+
+pub record World : Type 0 where
+  pub shared : Shared
+  pub drivers : List Driver
+
+abbrev pub empty_world : World
+empty_world = record { shared = record { tree = empty_tree; log = empty_log; declared = [] }; drivers = [] }
+
+-- the ids of the controllers that run
+abbrev pub running_ids : List Driver → List ℤ
+running_ids drivers = map (λ (d : Driver). d.id) drivers
+
+abbrev pub is_running : ℤ → List Driver → Bool
+is_running id drivers = is_one_of (running_ids drivers) id
+
+-- the driver of a controller
+abbrev pub driver_of : ℤ → List Driver → Option Driver
+driver_of id drivers = find (λ (d : Driver). int_eq d.id id) drivers
+
+-- the drivers with this one in place of that of its controller
+abbrev pub with_driver : Driver → List Driver → List Driver
+with_driver d drivers = map (λ (e : Driver). if int_eq e.id d.id then d else e) drivers
+
+-- ---- what a stop may leave
+
+-- A tree and a log at one moment.
+pub record Pair : Type 0 where
+  pub tree : Tree
+  pub log : Log
+
+abbrev pub pair_of : Shared → Pair
+pair_of s = record { tree = s.tree; log = s.log }
+
+abbrev pub pairs_after : Request → Shared → List Pair
+pairs_after nothing s = []
+pairs_after request s = pair_of s ∷ []
+
+-- the tree and the log after the request of a step, where it makes one
+abbrev pub step_pairs : Shared → List ℤ → ℤ → Driver → List Pair
+step_pairs s running now d = pairs_after (asked s now d d.stage) (step s running now d).shared
+
+-- ---- a turn
+
+-- whether a turn ends with this reply
+abbrev pub ends : Reply → Bool
+ends reply.Idle = true
+ends (reply.WaitQuorum id) = true
+ends (reply.WaitBroker id) = true
+ends (reply.Moved s) = false
+ends reply.Looked = false
+ends (reply.Claimed number) = false
+ends (reply.Read rows) = false
+ends (reply.Appended offset) = false
+ends (reply.Wrote ops) = false
+ends (reply.Recorded offset) = false
+ends (reply.FencedEpoch epoch) = true
+ends (reply.FencedWrite claim) = true
+ends (reply.Stale epoch) = true
+ends (reply.Untranslatable path why) = true
+ends (reply.Limit path) = true
+ends reply.Lost = false
+ends reply.Expired = false
+ends (reply.TreeFailed fault) = true
+ends (reply.LogFailed fault) = true
+ends reply.NoMemory = true
+
+-- What is shared, the driver, and the replies of its steps.
+pub record Turned : Type 0 where
+  pub shared : Shared
+  pub driver : Driver
+  pub replies : List Reply
+
+abbrev pub with_reply : Reply → Turned → Turned
+with_reply r t = record t { replies = r ∷ t.replies }
+
+-- At most so many steps, up to and with the first whose reply ends the turn.
+unfoldable pub turn : ℕ → Shared → List ℤ → ℤ → Driver → Turned
+turn zero s running now d = record { shared = s; driver = d; replies = [] }
+turn (suc n) s running now d =
+    if ends (step s running now d).reply
+    then record { shared = (step s running now d).shared; driver = (step s running now d).driver; replies = (step s running now d).reply ∷ [] }
+    else with_reply (step s running now d).reply (turn n (step s running now d).shared running now (step s running now d).driver)
+
+-- the tree and the log after each request of a turn
+unfoldable pub turn_pairs : ℕ → Shared → List ℤ → ℤ → Driver → List Pair
+turn_pairs zero s running now d = []
+turn_pairs (suc n) s running now d = step_pairs s running now d
+    ++ (if ends (step s running now d).reply then [] else turn_pairs n (step s running now d).shared running now (step s running now d).driver)
+
+-- ---- how many steps a turn may have
+
+abbrev pub translated_count : Result (List MetaRecord) Unreadable → ℕ
+translated_count (Ok records) = length records
+translated_count (Err e) = 0
+
+-- the znodes that a turn ends with: of the log's end, or, before the migration, of what the tree translates to
+abbrev pub rendered_count : Bool → Log → Result (List MetaRecord) Unreadable → ℕ
+rendered_count true l translation = length (render (image_of l))
+rendered_count false l (Ok records) = length (render (all_applied max_epoch records empty_image))
+rendered_count false l (Err e) = length (render (image_of l))
+
+abbrev pub rendered_at : Log → Recorded → ℕ
+rendered_at l target = if is_one_of (batch_ends l) target.offset then length (render (image_at l target.offset)) else 0
+
+-- how many operations may remain to be written
+abbrev pub remaining_count : Log → Stage → ℕ
+remaining_count l (stage.ReadArea target rows) = rendered_at l target
+remaining_count l (stage.WriteAll target []) = rendered_at l target
+remaining_count l (stage.WriteAll target (o ∷ os)) = length (o ∷ os)
+remaining_count l (stage.WriteChange target ops) = length ops
+remaining_count l s = 0
+
+abbrev pub most_steps : ℕ → ℕ → ℕ → ℕ → ℕ
+most_steps znodes records rendered remaining = 20 + 2 * (znodes / 256) + records / 1000 + (znodes + rendered + 2 * remaining) / 64
+
+-- the most steps of a turn
+abbrev pub work : Shared → Driver → ℕ
+work s d = most_steps
+    (length (area s.tree))
+    (if is_migrated_log s.log then 0 else translated_count (translate (migrated_rows s.tree)))
+    (rendered_count (is_migrated_log s.log) s.log (translate (migrated_rows s.tree)))
+    (remaining_count s.log d.stage)
+
+-- ---- events
+
+-- a refusal leaves the world as it was
+abbrev pub decided : World → Option Answer → World → Answer → World × Answer
+decided w (Some refusal) new reply = (w, refusal)
+decided w None new reply = (new, reply)
+
+abbrev pub first_of : Option Answer → Option Answer → Option Answer
+first_of (Some a) rest = Some a
+first_of None rest = rest
+
+abbrev pub unless : Bool → Answer → Option Answer
+unless true a = None
+unless false a = Some a
+
+abbrev pub over : ℕ → Answer
+over number = answer.Over number
+
+-- why a log can't take these records
+abbrev pub full : Log → List MetaRecord → Option Answer
+full l items = option_map over (full_log l items)
+
+-- the controller is declared and runs
+abbrev pub running_refusal : World → ℤ → Option Answer
+running_refusal w id = first_of (unless (is_one_of w.shared.declared id) answer.UnknownController) (unless (is_running id w.drivers) answer.NotRunning)
+
+abbrev pub epoch_refusal : ℤ → Option ℤ → Option Answer
+epoch_refusal epoch None = Some answer.NotLeader
+epoch_refusal epoch (Some e) = unless (int_eq e epoch) (answer.Stale epoch)
+
+abbrev pub driver_refusal : ℤ → Option Driver → Option Answer
+driver_refusal epoch None = Some answer.NotLeader
+driver_refusal epoch (Some d) = epoch_refusal epoch d.epoch
+
+-- and leads the log
+abbrev pub leader_refusal : World → ℤ → Option Answer
+leader_refusal w id = first_of (running_refusal w id) (driver_refusal w.shared.log.epoch (driver_of id w.drivers))
+
+-- ---- quorum
+
+abbrev pub quorum_refusal : World → Option Answer
+quorum_refusal w = option_map (λ id. answer.Running id) (least (running_ids w.drivers))
+
+abbrev pub declared_world : World → List ℤ → World
+declared_world w ids = record { shared = record w.shared { declared = ids }; drivers = w.drivers }
+
+-- ---- start
+
+abbrev pub start_refusal : World → ℤ → Option Answer
+start_refusal w id = first_of (unless (is_one_of w.shared.declared id) answer.UnknownController) (unless (not (is_running id w.drivers)) answer.AlreadyRunning)
+
+abbrev pub started_world : World → ℤ → World
+started_world w id = record { shared = w.shared; drivers = w.drivers ++ new_driver id ∷ [] }
+
+-- ---- elect
+
+-- what an election writes: it ends an open transaction, and begins the migration's first state
+abbrev pub election_records : Log → List MetaRecord
+election_records l = meta.NoOp
+    ∷ ((if is_open_log l then meta.AbortTransaction None ∷ [] else [])
+    ++ (if int_eq (image_of l).state (pos 0) then meta.ZkMigrationState (pos 1) ∷ [] else []))
+
+abbrev pub next_epoch : Log → ℤ
+next_epoch l = l.epoch +ℤ pos 1
+
+abbrev pub elected_log : Log → ℤ → Log
+elected_log l now = with_batch (record l { epoch = next_epoch l }) (next_epoch l) now (election_records l)
+
+abbrev pub election_refusal : World → ℤ → Option Answer
+election_refusal w id = first_of (running_refusal w id) (first_of (unless (int_lt w.shared.log.epoch max_epoch) (over 15)) (full w.shared.log (election_records w.shared.log)))
+
+abbrev pub elected_world : World → ℤ → ℤ → World
+elected_world w id now = record {
+  shared = record w.shared { log = elected_log w.shared.log now };
+  drivers = map (λ (d : Driver). if int_eq d.id id then elected_driver (next_epoch w.shared.log) d else d) w.drivers;
+}
+
+abbrev pub election_answer : World → ℤ → Answer
+election_answer w now = answer.Elected (next_epoch w.shared.log) (end_of (elected_log w.shared.log now))
+
+-- ---- turn
+
+abbrev pub turn_result : World → ℤ → Option Driver → World × Answer
+turn_result w now None = (w, answer.NotRunning)
+turn_result w now (Some d) = turned_world w (turn (work w.shared d) w.shared (running_ids w.drivers) now d)
+  where
+  turned_world : World → Turned → World × Answer
+  turned_world w t = (record { shared = t.shared; drivers = with_driver t.driver w.drivers }, answer.Turn t.replies)
+
+abbrev pub event_turn_pairs : World → ℤ → Option Driver → List Pair
+event_turn_pairs w now None = []
+event_turn_pairs w now (Some d) = turn_pairs (work w.shared d) w.shared (running_ids w.drivers) now d
+
+-- ---- change
+
+abbrev pub over_excess : Option Excess → Option Answer
+over_excess e = option_map (λ (x : Excess). over x.number) e
+
+abbrev pub change_refusal : World → ℤ → List MetaRecord → Option Answer
+change_refusal w id records = first_of (leader_refusal w id) (
+    first_of (unless (is_migrated_log w.shared.log) answer.NotMigrated) (
+    first_of (over_excess (excess (all_applied w.shared.log.epoch records (image_of w.shared.log)))) (
+    full w.shared.log records)))
+
+abbrev pub changed_log : Log → List MetaRecord → ℤ → Log
+changed_log l records now = with_batch l l.epoch now records
+
+abbrev pub changed_world : World → List MetaRecord → ℤ → World
+changed_world w records now = record { shared = record w.shared { log = changed_log w.shared.log records now }; drivers = w.drivers }
+
+-- ---- the machine
+
+abbrev pub unless_refused : World → Option Answer → World × Answer → World × Answer
+unless_refused w (Some refusal) rest = (w, refusal)
+unless_refused w None rest = rest
+
+-- The world after an event, and the answer.
+unfoldable pub next : World → Event → World × Answer
+next w (event.Quorum ids) = decided w (quorum_refusal w) (declared_world w ids) answer.Done
+next w (event.Start id) = decided w (start_refusal w id) (started_world w id) answer.Done
+next w (event.Elect id now) = decided w (election_refusal w id) (elected_world w id now) (election_answer w now)
+next w (event.Turn id now) = unless_refused w (running_refusal w id) (turn_result w now (driver_of id w.drivers))
+next w (event.Change id records now) = decided w (change_refusal w id records) (changed_world w records now) (answer.Appended (end_of (changed_log w.shared.log records now)))
+next w event.Check = (w, answer.Check (verdict w.shared.tree w.shared.log))
+
+abbrev pub pairs_unless : Option Answer → List Pair → List Pair
+pairs_unless (Some refusal) ps = []
+pairs_unless None ps = ps
+
+-- the tree and the log after each request of an event
+unfoldable pub event_pairs : World → Event → List Pair
+event_pairs w (event.Quorum ids) = []
+event_pairs w (event.Start id) = []
+event_pairs w (event.Elect id now) = pairs_unless (election_refusal w id) (pair_of (elected_world w id now).shared ∷ [])
+event_pairs w (event.Turn id now) = pairs_unless (running_refusal w id) (event_turn_pairs w now (driver_of id w.drivers))
+event_pairs w (event.Change id records now) = pairs_unless (change_refusal w id records) (pair_of (changed_world w records now).shared ∷ [])
+event_pairs w event.Check = []
+
+-- ---- a run
+
+-- the world after these events
+unfoldable pub after_events : World → List Event → World
+after_events w [] = w
+after_events w (e ∷ es) = after_events (next w e).0 es
+
+-- the answers to these events
+unfoldable pub answers : World → List Event → List Answer
+answers w [] = []
+answers w (e ∷ es) = (next w e).1 ∷ answers (next w e).0 es
+
+-- the tree and the log at the beginning of a run and after each request of it
+unfoldable pub pairs : World → List Event → List Pair
+pairs w [] = pair_of w.shared ∷ []
+pairs w (e ∷ es) = pair_of w.shared ∷ (event_pairs w e ++ pairs (next w e).0 es)

@@ -1,0 +1,4 @@
+pub mod Output
+pub mod Moments
+pub mod Endings
+pub mod InStep

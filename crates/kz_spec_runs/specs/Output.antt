@@ -1,0 +1,115 @@
+-- What `replay` writes for its input, and how it ends.
+use Rattle.std.specs.Prelude.{ℕ, ◌+◌, ◌==◌, ℤ, List, [], ◌∷◌, ◌++◌, length, Option, Some, None, option_map, if◌then◌else◌}
+use Rattle.std.specs.List.{filter_map}
+use Rattle.kz_types.specs.declared.machine.Event.{Event}
+use Rattle.kz_types.specs.declared.machine.Answer.{Answer}
+use Rattle.kz_types.specs.declared.machine.Answer.TheVariants as answer
+use Rattle.kz_types.specs.declared.machine.Reply.{Reply}
+use Rattle.kz_types.specs.declared.machine.Reply.TheVariants as reply
+use Rattle.kz_types.specs.declared.machine.Recorded.{Recorded}
+use Rattle.kz_types.specs.declared.fault.LogFault.{LogFault}
+use Rattle.kz_types.specs.declared.fault.LogFault.TheVariants as fault
+use Rattle.kz_types.specs.declared.outside.Status.{Status}
+use Rattle.kz_types.specs.declared.outside.Status.TheVariants as status
+use Rattle.kz_spec_lines.specs.Lines.{Item, line, long, much, items, max_line, max_input, is_passed_over}
+use Rattle.kz_spec_lines.specs.Events.{line_event}
+use Rattle.kz_spec_lines.specs.Replies.{reply_lines, summary_line}
+use Rattle.kz_spec_stores.specs.Tree.{Tree, recorded}
+use Rattle.kz_spec_stores.specs.Log.{max_records, end_of}
+use Rattle.kz_spec_machine.specs.Machine.{World, empty_world, next}
+
+-- A text, and how the run that writes it ends.
+pub record Outcome : Type 0 where
+  pub text : List ℕ
+  pub status : Status
+
+-- what is written before the rest of a run
+abbrev pub after : List ℕ → Outcome → Outcome
+after text o = record { text = text ++ o.text; status = o.status }
+
+-- the end of a run that writes nothing more
+abbrev pub ended : Status → Outcome
+ended s = record { text = []; status = s }
+
+-- ---- places
+
+-- Where a run stands between two lines: the lines and events read so far, the steps that drivers made, and the world.
+pub record Place : Type 0 where
+  pub lines : ℕ
+  pub events : ℕ
+  pub steps : ℕ
+  pub world : World
+
+abbrev pub opening : Place
+opening = record { lines = 0; events = 0; steps = 0; world = empty_world }
+
+-- the place behind a line that is passed over
+abbrev pub passed : Place → Place
+passed p = record p { lines = p.lines + 1 }
+
+-- the steps that an event took
+abbrev pub steps_of : Answer → ℕ
+steps_of (answer.Turn replies) = length replies
+steps_of a = 0
+
+-- the place behind a line that is this event
+abbrev pub served : Place → Event → Place
+served p e = record { lines = p.lines + 1; events = p.events + 1; steps = p.steps + steps_of (next p.world e).1; world = (next p.world e).0 }
+
+-- the lines that are written for it
+abbrev pub written_for : Place → Event → List ℕ
+written_for p e = reply_lines (p.lines + 1) (next p.world e).1
+
+-- ---- endings
+
+-- the status of a limit of the log: on the records behind its base, or on its offsets
+abbrev pub limit_status : ℕ → Status
+limit_status number = if number == 7 then status.Limit 7 max_records else status.Limit number 9223372036854775807
+
+abbrev pub ending_of_fault : LogFault → Option Status
+ending_of_fault (fault.Limit number) = Some (limit_status number)
+ending_of_fault f = None
+
+-- the status with which a step ends the run: stores in memory fail by a limit of the log alone
+abbrev pub ending_of_reply : Reply → Option Status
+ending_of_reply (reply.LogFailed f) = ending_of_fault f
+ending_of_reply r = None
+
+abbrev pub first_ending : List Status → Option Status
+first_ending [] = None
+first_ending (s ∷ ss) = Some s
+
+-- the status with which an event ends the run
+abbrev pub ending : Answer → Option Status
+ending (answer.Turn replies) = first_ending (filter_map ending_of_reply replies)
+ending a = None
+
+-- ---- outcomes
+
+abbrev pub unless_ended : Option Status → Outcome → Outcome
+unless_ended (Some s) rest = ended s
+unless_ended None rest = rest
+
+-- an event's lines and what follows them, or the end of the run where the line is no event
+abbrev pub on_event : Place → Option Event → (Place → Outcome) → Outcome
+on_event p None go = ended (status.Script (p.lines + 1))
+on_event p (Some e) go = after (written_for p e) (unless_ended (ending (next p.world e).1) (go (served p e)))
+
+abbrev pub recorded_offset : Tree → Option ℤ
+recorded_offset t = option_map (λ (r : Recorded). r.offset) (recorded t)
+
+-- the last line of a run that reads its input to the end
+abbrev pub summary : Place → List ℕ
+summary p = summary_line p.events p.steps p.world.shared.tree.zxid (end_of p.world.shared.log) (recorded_offset p.world.shared.tree)
+
+-- The outcome of these lines from a place on: each event's lines, up to the first line that is no event, or the event
+-- that ends the run, or a limit; and the summary at the end of the input.
+unfoldable pub outcome : Place → List Item → Outcome
+outcome p [] = record { text = summary p; status = status.Done }
+outcome p (long ∷ is) = ended (status.Limit 10 max_line)
+outcome p (much ∷ is) = ended (status.Limit 11 max_input)
+outcome p (line l ∷ is) = if is_passed_over l then outcome (passed p) is else on_event p (line_event l) (λ q. outcome q is)
+
+-- What `replay` makes of its input.
+abbrev pub replayed : List ℕ → Outcome
+replayed bytes = outcome opening (items bytes)

@@ -1,0 +1,144 @@
+-- A committed metadata log, and a view of it.
+use Rattle.std.specs.Prelude.{ℕ, ◌+◌, Bool, nat_lt, ℤ, pos, negsuc, ◌+ℤ◌, ◌-ℤ◌, int_le, int_lt, List, [], ◌∷◌, ◌++◌, length, map, Option, Some, None, Result, Ok, Err, if◌then◌else◌}
+use Rattle.std.specs.Ordering.{int_eq}
+use Rattle.std.specs.List.{filter, sum_by, flat_map}
+use Rattle.kz_types.specs.declared.log.BatchRow.{BatchRow}
+use Rattle.kz_types.specs.declared.log.Entry.{Entry}
+use Rattle.kz_types.specs.declared.record.MetaRecord.{MetaRecord}
+use Rattle.kz_types.specs.declared.fault.LogFault.{LogFault}
+use Rattle.kz_types.specs.declared.fault.LogFault.TheVariants as fault
+use Rattle.kz_spec_stores.specs.Image.{Image, empty_image, applied, is_migrated_state}
+use Rattle.kz_spec_stores.specs.Settlement.{counted, is_open, commit}
+use Rattle.kz_spec_stores.specs.Tree.{max_long}
+
+-- ---- limits
+
+-- the most records behind the base
+abbrev pub max_records : ℕ
+max_records = 1000000
+
+-- the greatest epoch
+abbrev pub max_epoch : ℤ
+max_epoch = pos 2147483647
+
+-- ---- the log
+
+-- The log's epoch, the offset up to which it is an image alone, that image, and the batches behind it. Where the base
+-- is -1 the image is empty.
+pub record Log : Type 0 where
+  pub epoch : ℤ
+  pub base : ℤ
+  pub base_image : Image
+  pub batches : List BatchRow
+
+abbrev pub empty_log : Log
+empty_log = record { epoch = pos 0; base = negsuc 0; base_image = empty_image; batches = [] }
+
+-- the last offset of a batch
+abbrev pub last_of : BatchRow → ℤ
+last_of b = (b.first +ℤ pos (length b.items)) -ℤ pos 1
+
+-- the last batch end, where the first is this offset
+abbrev pub last_end : ℤ → List BatchRow → ℤ
+last_end from [] = from
+last_end from (b ∷ bs) = last_end (last_of b) bs
+
+-- the last offset of the log
+abbrev pub end_of : Log → ℤ
+end_of l = last_end l.base l.batches
+
+-- the base and the last offset of each batch
+abbrev pub batch_ends : Log → List ℤ
+batch_ends l = l.base ∷ map last_of l.batches
+
+abbrev pub record_count : List BatchRow → ℕ
+record_count batches = sum_by (λ (b : BatchRow). length b.items) batches
+
+-- records with the offsets from this one on
+abbrev pub numbered : ℤ → ℤ → List MetaRecord → List Entry
+numbered offset epoch [] = []
+numbered offset epoch (r ∷ rs) = record { offset = offset; epoch = epoch; item = r } ∷ numbered (offset +ℤ pos 1) epoch rs
+
+abbrev pub entries_of_batch : BatchRow → List Entry
+entries_of_batch b = numbered b.first b.epoch b.items
+
+-- the records behind the base, with their offsets and epochs
+abbrev pub entries : List BatchRow → List Entry
+entries batches = flat_map entries_of_batch batches
+
+-- ---- the image
+
+abbrev pub all_entries_applied : List Entry → Image → Image
+all_entries_applied [] i = i
+all_entries_applied (e ∷ es) i = all_entries_applied es (applied e.epoch e.item i)
+
+-- The metadata at an offset: what the records that count there make of the base image.
+unfoldable pub image_at : Log → ℤ → Image
+image_at l at = all_entries_applied (counted (entries l.batches) at) l.base_image
+
+-- the metadata at the log's end
+abbrev pub image_of : Log → Image
+image_of l = image_at l (end_of l)
+
+abbrev pub is_migrated_log : Log → Bool
+is_migrated_log l = is_migrated_state (image_of l).state
+
+abbrev pub is_open_log : Log → Bool
+is_open_log l = is_open (entries l.batches) (end_of l)
+
+abbrev pub commit_of : Log → Option ℤ
+commit_of l = commit (entries l.batches)
+
+-- ---- appends
+
+abbrev pub new_batch : Log → ℤ → ℤ → List MetaRecord → BatchRow
+new_batch l epoch now items = record { first = end_of l +ℤ pos 1; epoch = epoch; time = now; items = items }
+
+-- the log with one batch more, of this epoch, which is the log's from then on
+abbrev pub with_batch : Log → ℤ → ℤ → List MetaRecord → Log
+with_batch l epoch now items = record l { epoch = epoch; batches = l.batches ++ new_batch l epoch now items ∷ [] }
+
+-- why these records can't be added
+abbrev pub full_log : Log → List MetaRecord → Option ℕ
+full_log l items =
+    if nat_lt max_records (record_count l.batches + length items) then Some 7
+    else (if int_lt max_long (end_of l +ℤ pos (length items)) then Some 17
+    else None)
+
+abbrev pub added : Option ℕ → Log → Result Log LogFault
+added (Some number) l = Err (fault.Limit number)
+added None l = Ok l
+
+-- The log after an append by a controller of this epoch: one batch more, or why there is none.
+abbrev pub append : Log → ℤ → ℤ → List MetaRecord → Result Log LogFault
+append l epoch now items =
+    if int_eq epoch l.epoch then added (full_log l items) (with_batch l epoch now items)
+    else Err (fault.Stale l.epoch)
+
+-- ---- views
+
+-- What a controller knows of the log: up to which offset, the epoch of the last batch that it took, and the metadata
+-- there.
+pub record View : Type 0 where
+  pub position : ℤ
+  pub epoch : ℤ
+  pub image : Image
+
+abbrev pub new_view : View
+new_view = record { position = negsuc 0; epoch = pos 0; image = empty_image }
+
+-- the epoch of the last batch, or this one where there is none
+abbrev pub last_epoch : ℤ → List BatchRow → ℤ
+last_epoch epoch [] = epoch
+last_epoch epoch (b ∷ bs) = last_epoch b.epoch bs
+
+abbrev pub is_behind : ℤ → BatchRow → Bool
+is_behind position b = int_lt position b.first
+
+-- the epoch of a view that has read to the log's end
+abbrev pub read_epoch : Log → View → ℤ
+read_epoch l v = last_epoch (if int_lt v.position l.base then pos 0 else v.epoch) (filter (is_behind v.position) l.batches)
+
+-- the view that has read to the log's end
+abbrev pub read_view : Log → View → View
+read_view l v = record { position = end_of l; epoch = read_epoch l v; image = image_of l }

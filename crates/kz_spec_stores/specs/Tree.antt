@@ -1,0 +1,255 @@
+-- A tree of znodes, after ZooKeeper: what a multi makes of it, its migrated area, and what it records.
+use Rattle.std.specs.Prelude.{ℕ, ◌+◌, Bool, true, false, not, ◌&&◌, ◌||◌, ◌==◌, nat_lt, nat_le, ℤ, pos, negsuc, ◌+ℤ◌, int_lt, int_le, List, [], ◌∷◌, length, map, take, Option, Some, None, is_some, option_map, option_and_then, Result, Ok, Err, if◌then◌else◌, codes}
+use Rattle.std.specs.Ordering.{int_eq, int_cmp, match_ordering}
+use Rattle.std.specs.Str.{bytes_eq}
+use Rattle.std.specs.List.{filter, filter_map, list_any, count_by}
+use Rattle.kz_types.specs.declared.tree.Row.{Row}
+use Rattle.kz_types.specs.declared.tree.Op.{Op}
+use Rattle.kz_types.specs.declared.tree.Op.TheVariants.{Create, Set, Delete, Check}
+use Rattle.kz_types.specs.declared.tree.Rendered.{Rendered}
+use Rattle.kz_types.specs.declared.machine.Recorded.{Recorded}
+use Rattle.kz_types.specs.declared.fault.TreeFault.{TreeFault}
+use Rattle.kz_types.specs.declared.fault.TreeFault.TheVariants as fault
+use Rattle.kz_types.specs.Numbers.{canonical}
+use Rattle.kz_types.specs.Paths.{is_migrated}
+use Rattle.kz_ordered.specs.Order.{bytes_cmp}
+use Rattle.kz_ordered.specs.Ordered.{find, put, without, all_put}
+use Rattle.kz_spec_values.specs.Control.{recorded_of, migration_path, broker_ids_path}
+
+-- ---- limits
+
+-- the most bytes of a znode's data
+abbrev pub max_body : ℕ
+max_body = 1048575
+
+-- the most znodes of the migrated area, and the most of all others but the root
+abbrev pub max_znodes : ℕ
+max_znodes = 200000
+
+-- the greatest data version
+abbrev pub max_version : ℤ
+max_version = pos 2147483647
+
+-- the greatest zxid, and the greatest offset of a log
+abbrev pub max_long : ℤ
+max_long = pos 9223372036854775807
+
+-- ---- the tree
+
+-- The last zxid, the live sessions, which rise, and the znodes but the root, by rising path.
+pub record Tree : Type 0 where
+  pub zxid : ℤ
+  pub sessions : List ℤ
+  pub rows : List Row
+
+-- no znode but the root, and no session
+abbrev pub empty_tree : Tree
+empty_tree = record { zxid = pos 0; sessions = []; rows = [] }
+
+abbrev pub path_of_row : Row → List ℕ
+path_of_row r = r.path
+
+-- the znode at a path
+abbrev pub row_at : List ℕ → List Row → Option Row
+row_at path rows = find bytes_cmp path_of_row path rows
+
+-- the znodes with this one at its place
+abbrev pub put_row : Row → List Row → List Row
+put_row r rows = put bytes_cmp path_of_row r rows
+
+-- the znodes without that of a path
+abbrev pub without_row : List ℕ → List Row → List Row
+without_row path rows = without bytes_cmp path_of_row path rows
+
+-- The path of the parent: what stands before the last `/`. It is empty where the parent is the root.
+abbrev pub parent_of : List ℕ → List ℕ
+parent_of [] = []
+parent_of (b ∷ bs) = if list_any (λ x. x == 47) bs then b ∷ parent_of bs else []
+
+abbrev pub is_root : List ℕ → Bool
+is_root [] = true
+is_root (b ∷ bs) = false
+
+abbrev pub has_parent : List ℕ → List Row → Bool
+has_parent path rows = is_root (parent_of path) || is_some (row_at (parent_of path) rows)
+
+abbrev pub has_children : List ℕ → List Row → Bool
+has_children path rows = list_any (λ (r : Row). bytes_eq (parent_of r.path) path) rows
+
+-- whether a znode is there and ends with a session
+abbrev pub is_ephemeral : Option Row → Bool
+is_ephemeral None = false
+is_ephemeral (Some r) = is_some r.owner
+
+-- whether the owner, if there is one, is a live session
+abbrev pub may_own : Option ℤ → List ℤ → Bool
+may_own None sessions = true
+may_own (Some session) sessions = list_any (λ live. int_eq live session) sessions
+
+-- whether an operation's version is any, or that of the znode
+abbrev pub fits_version : ℤ → Row → Bool
+fits_version version r = int_eq version (negsuc 0) || int_eq version r.version
+
+-- how many znodes there are on this side of the border of the migrated area
+abbrev pub count_beside : List ℕ → List Row → ℕ
+count_beside path rows = count_by (λ (r : Row). if is_migrated path then is_migrated r.path else not (is_migrated r.path)) rows
+
+-- the number of the limit on znodes beside a path
+abbrev pub limit_beside : List ℕ → ℕ
+limit_beside path = if is_migrated path then 3 else 4
+
+-- ---- one operation
+
+-- Why an operation is refused: ZooKeeper's code, or the number of a limit.
+pub data Refusal : Type 0 where
+  code : ℤ → Refusal
+  limit : ℕ → Refusal
+
+-- the first refusal whose test holds
+abbrev pub first_refusal : List (Bool × Refusal) → Option Refusal
+first_refusal [] = None
+first_refusal (c ∷ cs) = if c.0 then Some c.1 else first_refusal cs
+
+-- no node: -101; version mismatch: -103; ephemerals have no children: -108; node exists: -110; not empty: -111;
+-- session expired: -112
+abbrev pub create_refusal : List ℤ → List ℕ → List ℕ → Option ℤ → List Row → Option Refusal
+create_refusal sessions path body owner rows = first_refusal (
+    (not (may_own owner sessions), code (negsuc 111))
+    ∷ (not (has_parent path rows), code (negsuc 100))
+    ∷ (is_some (row_at path rows), code (negsuc 109))
+    ∷ (is_ephemeral (row_at (parent_of path) rows), code (negsuc 107))
+    ∷ (nat_lt max_body (length body), limit 2)
+    ∷ (nat_le max_znodes (count_beside path rows), limit (limit_beside path))
+    ∷ [])
+
+abbrev pub set_refusal : List ℕ → ℤ → Option Row → Option Refusal
+set_refusal body version None = Some (code (negsuc 100))
+set_refusal body version (Some r) = first_refusal (
+    (not (fits_version version r), code (negsuc 102))
+    ∷ (nat_lt max_body (length body), limit 2)
+    ∷ (int_le max_version r.version, limit 5)
+    ∷ [])
+
+abbrev pub delete_refusal : List ℕ → ℤ → List Row → Option Row → Option Refusal
+delete_refusal path version rows None = Some (code (negsuc 100))
+delete_refusal path version rows (Some r) = first_refusal (
+    (not (fits_version version r), code (negsuc 102))
+    ∷ (has_children path rows, code (negsuc 110))
+    ∷ [])
+
+abbrev pub check_refusal : ℤ → Option Row → Option Refusal
+check_refusal version None = Some (code (negsuc 100))
+check_refusal version (Some r) = first_refusal ((not (fits_version version r), code (negsuc 102)) ∷ [])
+
+-- why an operation is refused on these znodes
+abbrev pub op_refusal : List ℤ → Op → List Row → Option Refusal
+op_refusal sessions (Create path body owner) rows = create_refusal sessions path body owner rows
+op_refusal sessions (Set path body version) rows = set_refusal body version (row_at path rows)
+op_refusal sessions (Delete path version) rows = delete_refusal path version rows (row_at path rows)
+op_refusal sessions (Check path version) rows = check_refusal version (row_at path rows)
+
+abbrev pub created_row : ℤ → List ℕ → List ℕ → Option ℤ → Row
+created_row zxid path body owner = record { path = path; body = body; version = pos 0; owner = owner; czxid = zxid; mzxid = zxid; pzxid = zxid }
+
+abbrev pub set_row : ℤ → List ℕ → Row → Row
+set_row zxid body r = record r { body = body; version = r.version +ℤ pos 1; mzxid = zxid }
+
+-- the znodes after the one at a path got or lost a child
+abbrev pub touched : ℤ → Option Row → List Row → List Row
+touched zxid None rows = rows
+touched zxid (Some r) rows = put_row (record r { pzxid = zxid }) rows
+
+abbrev pub after_set : ℤ → List ℕ → Option Row → List Row → List Row
+after_set zxid body None rows = rows
+after_set zxid body (Some r) rows = put_row (set_row zxid body r) rows
+
+-- what an operation that isn't refused makes of these znodes
+abbrev pub after_op : ℤ → Op → List Row → List Row
+after_op zxid (Create path body owner) rows = put_row (created_row zxid path body owner) (touched zxid (row_at (parent_of path) rows) rows)
+after_op zxid (Set path body version) rows = after_set zxid body (row_at path rows) rows
+after_op zxid (Delete path version) rows = without_row path (touched zxid (row_at (parent_of path) rows) rows)
+after_op zxid (Check path version) rows = rows
+
+-- ---- a multi
+
+abbrev pub refused : ℕ → Option Refusal → Result (List Row) TreeFault → Result (List Row) TreeFault
+refused index None rest = rest
+refused index (Some (code c)) rest = Err (fault.Refused index c)
+refused index (Some (limit n)) rest = Err (fault.Limit index n)
+
+-- the znodes after these operations, one after another, or the first that is refused, numbered from this index on
+abbrev pub after_ops : List ℤ → ℤ → ℕ → List Op → List Row → Result (List Row) TreeFault
+after_ops sessions zxid index [] rows = Ok rows
+after_ops sessions zxid index (o ∷ os) rows = refused index (op_refusal sessions o rows) (after_ops sessions zxid (index + 1) os (after_op zxid o rows))
+
+abbrev pub with_zxid : Tree → Result (List Row) TreeFault → Result Tree TreeFault
+with_zxid t (Err e) = Err e
+with_zxid t (Ok rows) = if int_le max_long t.zxid then Err (fault.Limit 0 17) else Ok (record { zxid = t.zxid +ℤ pos 1; sessions = t.sessions; rows = rows })
+
+-- The tree after a multi: all its operations with one new zxid, or none and the first that is refused.
+unfoldable pub multi : Tree → List Op → Result Tree TreeFault
+multi t ops = with_zxid t (after_ops t.sessions (t.zxid +ℤ pos 1) 0 ops t.rows)
+
+-- ---- what is read
+
+-- the znodes of the migrated area
+abbrev pub migrated_rows : Tree → List Row
+migrated_rows t = filter (λ (r : Row). is_migrated r.path) t.rows
+
+abbrev pub rendered_row : Row → Rendered
+rendered_row r = record { path = r.path; body = r.body }
+
+-- the paths and bodies of the migrated area
+abbrev pub area : Tree → List Rendered
+area t = map rendered_row (migrated_rows t)
+
+abbrev pub is_after : Option (List ℕ) → Row → Bool
+is_after None r = true
+is_after (Some path) r = match_ordering (bytes_cmp path r.path) true false false
+
+-- the first znodes of the migrated area behind a path, at most so many
+abbrev pub scan : Tree → Option (List ℕ) → ℕ → List Row
+scan t after most = take most (filter (is_after after) (migrated_rows t))
+
+-- the znodes at these paths
+abbrev pub look : Tree → List (List ℕ) → List (Option Row)
+look t paths = map (λ path. row_at path t.rows) paths
+
+-- the last part of a path
+abbrev pub name_of : List ℕ → List ℕ
+name_of [] = []
+name_of (b ∷ bs) = if list_any (λ x. x == 47) (b ∷ bs) then name_of bs else b ∷ bs
+
+-- the id of a broker that is there
+abbrev pub broker_id_of : Row → Option ℤ
+broker_id_of r = if bytes_eq (parent_of r.path) broker_ids_path then option_map pos (canonical (name_of r.path)) else None
+
+-- the ids of the brokers that are there, rising
+abbrev pub broker_ids : Tree → List ℤ
+broker_ids t = all_put int_cmp (λ i. i) (filter_map broker_id_of t.rows) []
+
+-- ---- closed and recorded
+
+-- what `/migration` records, where it can be read
+abbrev pub recorded : Tree → Option Recorded
+recorded t = option_and_then (λ (r : Row). recorded_of r.body) (row_at migration_path t.rows)
+
+abbrev pub has_offset : Option Recorded → Bool
+has_offset None = false
+has_offset (Some r) = int_le (pos 0) r.offset
+
+abbrev pub is_later : ℤ → Row → Bool
+is_later zxid r = int_lt zxid r.mzxid || int_lt zxid r.pzxid
+
+abbrev pub first_path : List Row → Option (List ℕ)
+first_path [] = None
+first_path (r ∷ rs) = Some r.path
+
+abbrev pub unclosed_below : Option Row → List Row → Option (List ℕ)
+unclosed_below None rows = Some migration_path
+unclosed_below (Some m) rows = if has_offset (recorded_of m.body) then first_path (filter (is_later m.mzxid) rows) else Some migration_path
+
+-- Where the tree isn't closed: `/migration` where no offset is recorded, else the first znode of the migrated area that
+-- was written, or whose children were, after `/migration`.
+abbrev pub unclosed : Tree → Option (List ℕ)
+unclosed t = unclosed_below (row_at migration_path t.rows) (migrated_rows t)
