@@ -20,6 +20,6 @@ migration_events = event.Quorum (pos 3000 ∷ []) ∷ event.Start (pos 3000) ∷
 abbrev pub migration_answers : List Answer
 migration_answers = answer.Done ∷ answer.Done ∷ answer.Elected (pos 1) (pos 1)
     ∷ answer.Turn (reply.Moved state.WaitForBrokers ∷ reply.Looked ∷ reply.Moved state.BecomeController ∷ reply.Looked
-        ∷ reply.Claimed (pos 1) ∷ reply.Read 0 ∷ reply.Appended (pos 2) ∷ reply.Appended (pos 4) ∷ reply.Looked ∷ reply.Read 0
-        ∷ reply.Recorded (pos 4) ∷ reply.Moved state.DualWrite ∷ reply.Idle ∷ [])
+    ∷ reply.Claimed (pos 1) ∷ reply.Read 0 ∷ reply.Appended (pos 2) ∷ reply.Appended (pos 4) ∷ reply.Looked ∷ reply.Read 0
+    ∷ reply.Recorded (pos 4) ∷ reply.Moved state.DualWrite ∷ reply.Idle ∷ [])
     ∷ []

@@ -15,15 +15,13 @@ ghost use Rattle.kz_spec_machine.specs.Examples.{one_member, migration_events, m
 pub fn first_election()
     ensures { answers empty_world (event.Quorum (pos 3000 ∷ []) ∷ event.Start (pos 3000) ∷ event.Elect (pos 3000) (pos 0) ∷ [])
         ≡ answer.Done ∷ answer.Done ∷ answer.Elected (pos 1) (pos 1) ∷ [] }
-{
-}
+{}
 
 /// One controller migrates an empty tree.
 #[tactic(auto, unfolding(crate::proofs::OnLiterals::machine_on_literals))]
 pub fn first_migration()
     ensures { answers empty_world (migration_events ++ event.Check ∷ []) ≡ migration_answers ++ answer.Check (verdict.Closed (pos 4)) ∷ [] }
-{
-}
+{}
 
 /// A change of a broker's configuration is written back by the next turn.
 #[tactic(auto, unfolding(crate::proofs::OnLiterals::machine_on_literals))]
@@ -31,13 +29,11 @@ pub fn write_back()
     ensures { answers empty_world (migration_events ++ event.Change (pos 3000) (one_member ∷ []) (pos 0) ∷ event.Check ∷ event.Turn (pos 3000) (pos 0) ∷ event.Check ∷ [])
         ≡ migration_answers ++ answer.Appended (pos 5) ∷ answer.Check (verdict.Closed (pos 4))
         ∷ answer.Turn (reply.Looked ∷ reply.Recorded (pos 5) ∷ reply.Idle ∷ []) ∷ answer.Check (verdict.Closed (pos 5)) ∷ [] }
-{
-}
+{}
 
 /// Refusals of starts, and of a change by a controller that wasn't elected.
 #[tactic(auto, unfolding(crate::proofs::OnLiterals::machine_on_literals))]
 pub fn refusals()
     ensures { answers empty_world (event.Quorum (pos 3000 ∷ []) ∷ event.Start (pos 3001) ∷ event.Start (pos 3000) ∷ event.Start (pos 3000) ∷ event.Change (pos 3000) (one_member ∷ []) (pos 0) ∷ [])
         ≡ answer.Done ∷ answer.UnknownController ∷ answer.Done ∷ answer.AlreadyRunning ∷ answer.NotLeader ∷ [] }
-{
-}
+{}

@@ -30,23 +30,40 @@ pub enum Stage {
     /// BECOME_CONTROLLER, before the look
     Look,
     /// BECOME_CONTROLLER, before the claim
-    Claim { seen: ClaimSeen },
+    Claim {
+        seen: ClaimSeen,
+    },
     /// ZK_MIGRATION, reading: the znodes read so far
-    ReadSource { rows: Sequence<Row> },
+    ReadSource {
+        rows: Sequence<Row>,
+    },
     /// ZK_MIGRATION, beginning: all znodes
-    Begin { rows: Sequence<Row> },
+    Begin {
+        rows: Sequence<Row>,
+    },
     /// ZK_MIGRATION, filling and, where there are none, ending: the records that are still to be appended
-    Fill { records: Sequence<MetaRecord> },
+    Fill {
+        records: Sequence<MetaRecord>,
+    },
     /// SYNC_KRAFT_TO_ZK, before the log is read
     ReadLog,
     /// SYNC_KRAFT_TO_ZK, reading: what will be recorded, and the znodes read so far
-    ReadArea { target: Recorded, rows: Sequence<Row> },
+    ReadArea {
+        target: Recorded,
+        rows: Sequence<Row>,
+    },
     /// SYNC_KRAFT_TO_ZK, writing: what will be recorded, and the operations that are still to be written
-    WriteAll { target: Recorded, ops: Sequence<Op> },
+    WriteAll {
+        target: Recorded,
+        ops: Sequence<Op>,
+    },
     /// KRAFT_CONTROLLER_TO_BROKER_COMM
     InformBrokers,
     /// DUAL_WRITE, no write under way
     Rest,
     /// DUAL_WRITE, writing: what will be recorded, and the operations that are still to be written
-    WriteChange { target: Recorded, ops: Sequence<Op> },
+    WriteChange {
+        target: Recorded,
+        ops: Sequence<Op>,
+    },
 }
