@@ -2,3 +2,4 @@ pub mod Driver
 pub mod Verdicts
 pub mod Machine
 pub mod Examples
+pub mod Sound
