@@ -3,3 +3,5 @@ pub mod Lookup
 pub mod Append
 pub mod Difference
 pub mod Edits
+pub mod Puts
+pub mod Maps
