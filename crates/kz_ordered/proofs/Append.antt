@@ -16,6 +16,10 @@ pub find-append : {A K : Type 0} (cmp : K → K → Ordering) (key : A → K) (k
 find-append cmp key k [] ys = refl
 find-append cmp key k (x ∷ xs) ys = found_first (is_eq (cmp k (key x))) x (find cmp key k (xs ++ ys)) (find cmp key k xs) (find cmp key k ys) (find-append cmp key k xs ys)
 
+-- what holds of each item of the one list beside each of the other holds the other way round
+pub All-turned : {X Y : Type 0} (R : X → Y → Type 0) (xs : List X) (ys : List Y) → All (λ x. All (λ y. R x y) ys) xs → All (λ y. All (λ x. R x y) xs) ys
+All-turned R xs ys h j e within i d before = h i d before j e within
+
 module _ {A K : Type 0} {cmp : K → K → Ordering} (o : TotalOrder cmp) (key : A → K) where
   first_below : (k : K) (x : A) (xs : List A) → AllBelow cmp key (x ∷ xs) k → cmp (key x) k ≡ Less
   first_below k x xs h = All-head (λ y. cmp (key y) k ≡ Less) x xs h
@@ -96,9 +100,12 @@ module _ {A K : Type 0} {cmp : K → K → Ordering} (o : TotalOrder cmp) (key :
   RisesAbove-append k [] ys h g over apart = rises_above_from_all k ys g over
   RisesAbove-append k (x ∷ xs) ys h g over apart = (h.0, RisesAbove-append (key x) xs ys h.1 g (All-head (λ z. All (λ y. cmp (key z) (key y) ≡ Less) ys) x xs apart) (All-tail (λ z. All (λ y. cmp (key z) (key y) ≡ Less) ys) x xs apart))
 
-  pub Rises-append : (xs ys : List A) → Rises cmp key xs → Rises cmp key ys → All (λ x. All (λ y. cmp (key x) (key y) ≡ Less) ys) xs → Rises cmp key (xs ++ ys)
-  Rises-append [] ys h g apart = g
-  Rises-append (x ∷ xs) ys h g apart = RisesAbove-append (key x) xs ys h g (All-head (λ z. All (λ y. cmp (key z) (key y) ≡ Less) ys) x xs apart) (All-tail (λ z. All (λ y. cmp (key z) (key y) ≡ Less) ys) x xs apart)
+  Rises-append_by : (xs ys : List A) → Rises cmp key xs → Rises cmp key ys → All (λ x. All (λ y. cmp (key x) (key y) ≡ Less) ys) xs → Rises cmp key (xs ++ ys)
+  Rises-append_by [] ys h g apart = g
+  Rises-append_by (x ∷ xs) ys h g apart = RisesAbove-append (key x) xs ys h g (All-head (λ z. All (λ y. cmp (key z) (key y) ≡ Less) ys) x xs apart) (All-tail (λ z. All (λ y. cmp (key z) (key y) ≡ Less) ys) x xs apart)
+
+  pub Rises-append : (xs ys : List A) → Rises cmp key xs → Rises cmp key ys → All (λ y. AllBelow cmp key xs (key y)) ys → Rises cmp key (xs ++ ys)
+  Rises-append xs ys h g apart = Rises-append_by xs ys h g (All-turned (λ y x. cmp (key x) (key y) ≡ Less) ys xs apart)
 
   -- one more item behind all others
   RisesAbove-push : (k : K) (xs : List A) (y : A) → RisesAbove cmp key k xs → cmp k (key y) ≡ Less → AllBelow cmp key xs (key y) → RisesAbove cmp key k (xs ++ y ∷ [])
@@ -127,10 +134,13 @@ module _ {A K : Type 0} {cmp : K → K → Ordering} (o : TotalOrder cmp) (key :
   all_of_right P [] ys h = h
   all_of_right P (x ∷ xs) ys h = all_of_right P xs ys (All-tail P x (xs ++ ys) h)
 
+  parts_apart_by : (xs ys : List A) → Rises cmp key (xs ++ ys) → All (λ x. All (λ y. cmp (key x) (key y) ≡ Less) ys) xs
+  parts_apart_by [] ys h = All-nil (λ z. All (λ y. cmp (key z) (key y) ≡ Less) ys)
+  parts_apart_by (x ∷ xs) ys h = All-cons (λ z. All (λ y. cmp (key z) (key y) ≡ Less) ys) x xs (all_of_right (λ y. cmp (key x) (key y) ≡ Less) xs ys (all_from_rises_above (key x) (xs ++ ys) h)) (parts_apart_by xs ys (rises_from_above o key (key x) (xs ++ ys) h))
+
   -- each key of the first part is below each of the second
-  pub parts_apart : (xs ys : List A) → Rises cmp key (xs ++ ys) → All (λ x. All (λ y. cmp (key x) (key y) ≡ Less) ys) xs
-  parts_apart [] ys h = All-nil (λ z. All (λ y. cmp (key z) (key y) ≡ Less) ys)
-  parts_apart (x ∷ xs) ys h = All-cons (λ z. All (λ y. cmp (key z) (key y) ≡ Less) ys) x xs (all_of_right (λ y. cmp (key x) (key y) ≡ Less) xs ys (all_from_rises_above (key x) (xs ++ ys) h)) (parts_apart xs ys (rises_from_above o key (key x) (xs ++ ys) h))
+  pub parts_apart : (xs ys : List A) → Rises cmp key (xs ++ ys) → All (λ y. AllBelow cmp key xs (key y)) ys
+  parts_apart xs ys h = All-turned (λ x y. cmp (key x) (key y) ≡ Less) xs ys (parts_apart_by xs ys h)
 
   -- the first part is below the item that follows, and what follows that item rises above its key
   pub below_split : (xs : List A) (y : A) (ys : List A) → Rises cmp key (xs ++ y ∷ ys) → AllBelow cmp key xs (key y)

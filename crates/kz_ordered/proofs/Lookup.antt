@@ -87,6 +87,9 @@ module _ {A K : Type 0} {cmp : K → K → Ordering} (o : TotalOrder cmp) (key :
   pub find_below : (j k : K) (xs : List A) → cmp j k ≡ Less → RisesAbove cmp key k xs → find cmp key j xs ≡ None
   find_below j k xs lt h = find_at_bound j xs (rises_above_smaller j k xs lt h)
 
+  pub find_below_first : (k : K) (x : A) (xs : List A) → Rises cmp key (x ∷ xs) → cmp k (key x) ≡ Less → find cmp key k (x ∷ xs) ≡ None
+  find_below_first k x xs h lt = find_skip k x xs (less_differs o k (key x) lt) ∙ find_below k (key x) xs lt h
+
   -- what is found stands above the key above which the list rises
   pub found_above : (k j : K) (xs : List A) (y : A) → RisesAbove cmp key k xs → find cmp key j xs ≡ Some y → cmp k j ≡ Less
   found_above k j xs y h e = elim (place o k j) [

@@ -2,3 +2,5 @@ pub mod Order
 pub mod Ordered
 pub mod Difference
 pub mod Edits
+pub mod OrderedLaws
+pub mod DifferenceLaws

@@ -1,0 +1,71 @@
+-- Laws of lists that rise by a key, for items and keys of any type and any total order.
+use Rattle.std.specs.Prelude.{◌≡◌, ◌≢◌, ℕ, ◌<◌, List, [], ◌∷◌, ◌++◌, map, reverse, length, Option, Some, None, All, Contains, slice_index_or, option_map}
+use Rattle.std.specs.Option.{option_or}
+use Rattle.std.specs.declared.cmp.Ordering.{Ordering}
+use Rattle.std.specs.declared.cmp.Ordering.TheVariants.{Less}
+use Rattle.kz_ordered.specs.Order.{TotalOrder}
+use Rattle.kz_ordered.specs.Ordered.{find, put, without, all_put, RisesAbove, Rises, AllBelow}
+
+-- ---- look-ups after a change
+
+abbrev pub PutIsFound : (A K : Type 0) → Type 0
+PutIsFound A K = (cmp : K → K → Ordering) (key : A → K) → TotalOrder cmp → (x : A) (ys : List A) → find cmp key (key x) (put cmp key x ys) ≡ Some x
+
+abbrev pub PutLeavesOthers : (A K : Type 0) → Type 0
+PutLeavesOthers A K = (cmp : K → K → Ordering) (key : A → K) → TotalOrder cmp → (x : A) (ys : List A) (k : K) → k ≢ key x → find cmp key k (put cmp key x ys) ≡ find cmp key k ys
+
+abbrev pub WithoutIsNotFound : (A K : Type 0) → Type 0
+WithoutIsNotFound A K = (cmp : K → K → Ordering) (key : A → K) → TotalOrder cmp → (k : K) (xs : List A) → Rises cmp key xs → find cmp key k (without cmp key k xs) ≡ None
+
+abbrev pub WithoutLeavesOthers : (A K : Type 0) → Type 0
+WithoutLeavesOthers A K = (cmp : K → K → Ordering) (key : A → K) → TotalOrder cmp → (j : K) (xs : List A) (k : K) → k ≢ j → find cmp key k (without cmp key j xs) ≡ find cmp key k xs
+
+-- Of many items, the last one with a key is found, and else what was there.
+abbrev pub AllPutFindsLast : (A K : Type 0) → Type 0
+AllPutFindsLast A K = (cmp : K → K → Ordering) (key : A → K) → TotalOrder cmp → (k : K) (xs ys : List A) → find cmp key k (all_put cmp key xs ys) ≡ find cmp key k (reverse xs ++ ys)
+
+-- ---- the order is kept
+
+abbrev pub PutRises : (A K : Type 0) → Type 0
+PutRises A K = (cmp : K → K → Ordering) (key : A → K) → TotalOrder cmp → (x : A) (ys : List A) → Rises cmp key ys → Rises cmp key (put cmp key x ys)
+
+abbrev pub WithoutRises : (A K : Type 0) → Type 0
+WithoutRises A K = (cmp : K → K → Ordering) (key : A → K) → TotalOrder cmp → (k : K) (xs : List A) → Rises cmp key xs → Rises cmp key (without cmp key k xs)
+
+abbrev pub AllPutRises : (A K : Type 0) → Type 0
+AllPutRises A K = (cmp : K → K → Ordering) (key : A → K) → TotalOrder cmp → (xs ys : List A) → Rises cmp key ys → Rises cmp key (all_put cmp key xs ys)
+
+-- ---- what is found
+
+abbrev pub FoundHasTheKey : (A K : Type 0) → Type 0
+FoundHasTheKey A K = (cmp : K → K → Ordering) (key : A → K) → TotalOrder cmp → (k : K) (xs : List A) (y : A) → find cmp key k xs ≡ Some y → Contains xs y × (key y ≡ k)
+
+abbrev pub ItemIsFound : (A K : Type 0) → Type 0
+ItemIsFound A K = (cmp : K → K → Ordering) (key : A → K) → TotalOrder cmp → (xs : List A) (y : A) → Rises cmp key xs → Contains xs y → find cmp key (key y) xs ≡ Some y
+
+abbrev pub NothingBelowTheFirst : (A K : Type 0) → Type 0
+NothingBelowTheFirst A K = (cmp : K → K → Ordering) (key : A → K) → TotalOrder cmp → (k : K) (x : A) (xs : List A) → Rises cmp key (x ∷ xs) → cmp k (key x) ≡ Less → find cmp key k (x ∷ xs) ≡ None
+
+-- Two lists that rise and find the same under each key are equal.
+abbrev pub SameItems : (A K : Type 0) → Type 0
+SameItems A K = (cmp : K → K → Ordering) (key : A → K) → TotalOrder cmp → (xs ys : List A) → Rises cmp key xs → Rises cmp key ys → ((k : K) → find cmp key k xs ≡ find cmp key k ys) → xs ≡ ys
+
+-- ---- lists joined end to end
+
+abbrev pub FoundInEither : (A K : Type 0) → Type 0
+FoundInEither A K = (cmp : K → K → Ordering) (key : A → K) (k : K) (xs ys : List A) → find cmp key k (xs ++ ys) ≡ option_or (find cmp key k xs) (find cmp key k ys)
+
+abbrev pub JoinedRises : (A K : Type 0) → Type 0
+JoinedRises A K = (cmp : K → K → Ordering) (key : A → K) → TotalOrder cmp → (xs ys : List A) → Rises cmp key xs → Rises cmp key ys → All (λ y. AllBelow cmp key xs (key y)) ys → Rises cmp key (xs ++ ys)
+
+abbrev pub GreatestIsPutLast : (A K : Type 0) → Type 0
+GreatestIsPutLast A K = (cmp : K → K → Ordering) (key : A → K) → TotalOrder cmp → (x : A) (xs : List A) → AllBelow cmp key xs (key x) → put cmp key x xs ≡ xs ++ x ∷ []
+
+-- ---- items changed in place
+
+-- Where a change keeps each key, a changed list rises, and finds what the item that was found becomes.
+abbrev pub MappedIsFound : (A B K : Type 0) → Type 0
+MappedIsFound A B K = (cmp : K → K → Ordering) (key : A → K) (name : B → K) (f : A → B) → ((x : A) → name (f x) ≡ key x) → (k : K) (xs : List A) → find cmp name k (map f xs) ≡ option_map f (find cmp key k xs)
+
+abbrev pub MappedRises : (A B K : Type 0) → Type 0
+MappedRises A B K = (cmp : K → K → Ordering) (key : A → K) (name : B → K) (f : A → B) → ((x : A) → name (f x) ≡ key x) → (xs : List A) → Rises cmp key xs → Rises cmp name (map f xs)
