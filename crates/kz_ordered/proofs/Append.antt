@@ -1,10 +1,10 @@
 -- Lists joined end to end, and what stands at a place that splits a list.
-use Rattle.std.proofs.Common.{◌≡◌, ◌≢◌, Bool, true, false, cond, List, [], ◌∷◌, ◌++◌, Option, Some, None, Ordering, Less, Equal, Greater, is_eq, All, refl, sym, ap, ◌∙◌, subst}
+use Rattle.std.proofs.Common.{◌≡◌, Bool, true, false, cond, List, [], ◌∷◌, ◌++◌, Option, Some, None, Ordering, Less, is_eq, All, refl, sym, ap, ◌∙◌}
 use Rattle.std.specs.Option.{option_or}
 use Rattle.std.proofs.lemmas.List.Elements.{All-head, All-tail, All-nil, All-cons}
 use Rattle.kz_ordered.specs.Order.{TotalOrder}
 use Rattle.kz_ordered.specs.Ordered.{find, put, without, RisesAbove, Rises, AllBelow}
-use Rattle.kz_ordered.proofs.Order.{Place, below, equal, above, place, cmp_equal, cmp_greater, less_differs, less_differs_back, is_eq_same, is_eq_other}
+use Rattle.kz_ordered.proofs.Order.{below, equal, above, place, cmp_equal, cmp_greater, less_differs, less_differs_back}
 use Rattle.kz_ordered.proofs.Lookup.{find_here, find_skip, without_here, without_skip, find_at_bound, rises_from_above}
 
 -- whatever the order is, an item of the first list is found before those of the second
@@ -76,10 +76,10 @@ module _ {A K : Type 0} {cmp : K → K → Ordering} (o : TotalOrder cmp) (key :
   pub without_absent : (k : K) (xs : List A) → find cmp key k xs ≡ None → without cmp key k xs ≡ xs
   without_absent k [] e = refl
   without_absent k (x ∷ xs) e = elim (place o k (key x)) [
-    below h ↦ without_skip o key k x xs (less_differs o k (key x) h) ∙ ap (λ zs. x ∷ zs) (without_absent k xs (sym (find_skip o key k x xs (less_differs o k (key x) h)) ∙ e))
+    | below h ↦ without_skip o key k x xs (less_differs o k (key x) h) ∙ ap (λ zs. x ∷ zs) (without_absent k xs (sym (find_skip o key k x xs (less_differs o k (key x) h)) ∙ e))
     | equal h ↦ absurd (let found = find_here o key k x xs h in cc)
     | above h ↦ without_skip o key k x xs (less_differs_back o k (key x) h) ∙ ap (λ zs. x ∷ zs) (without_absent k xs (sym (find_skip o key k x xs (less_differs_back o k (key x) h)) ∙ e))
-    ]
+  ]
 
   -- ---- lists that rise, joined
 

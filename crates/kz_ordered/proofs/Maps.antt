@@ -1,9 +1,9 @@
 -- A list whose items are changed but keep their keys, and a list of which some items are kept.
-use Rattle.std.proofs.Common.{◌≡◌, ◌≢◌, Bool, true, false, cond, List, [], ◌∷◌, map, filter, Option, Some, None, Ordering, Less, Equal, Greater, is_eq, option_map, refl, sym, ap, ◌∙◌, subst}
+use Rattle.std.proofs.Common.{◌≡◌, ◌≢◌, Bool, true, false, cond, List, [], ◌∷◌, map, filter, Option, Some, None, Ordering, Less, Equal, Greater, is_eq, option_map, refl, sym, ap, ◌∙◌}
 use Rattle.std.specs.Ordering.{match_ordering}
 use Rattle.kz_ordered.specs.Order.{TotalOrder}
 use Rattle.kz_ordered.specs.Ordered.{find, put, without, RisesAbove, Rises}
-use Rattle.kz_ordered.proofs.Order.{Place, below, equal, above, place, less_differs, less_differs_back}
+use Rattle.kz_ordered.proofs.Order.{below, equal, above, place, less_differs, less_differs_back}
 use Rattle.kz_ordered.proofs.Lookup.{some_is_none, same_some, find_here, find_skip, find_at_bound, rises_above_smaller, rises_from_above}
 
 -- whatever the order is, `name` gives the key of what an item becomes
@@ -72,15 +72,15 @@ module _ {A K : Type 0} {cmp : K → K → Ordering} (o : TotalOrder cmp) (key :
   pub find-filter_absent : (k : K) (xs : List A) → find cmp key k xs ≡ None → find cmp key k (filter p xs) ≡ None
   find-filter_absent k [] e = refl
   find-filter_absent k (x ∷ xs) e = elim (place o k (key x)) [
-    below h ↦ skip_kept k x (p x) (filter p xs) (less_differs o k (key x) h) ∙ find-filter_absent k xs (sym (find_skip o key k x xs (less_differs o k (key x) h)) ∙ e)
+    | below h ↦ skip_kept k x (p x) (filter p xs) (less_differs o k (key x) h) ∙ find-filter_absent k xs (sym (find_skip o key k x xs (less_differs o k (key x) h)) ∙ e)
     | equal h ↦ absurd (some_is_none (sym (find_here o key k x xs h) ∙ e))
     | above h ↦ skip_kept k x (p x) (filter p xs) (less_differs_back o k (key x) h) ∙ find-filter_absent k xs (sym (find_skip o key k x xs (less_differs_back o k (key x) h)) ∙ e)
-    ]
+  ]
 
   pub find-filter_found : (k : K) (xs : List A) (y : A) → Rises cmp key xs → find cmp key k xs ≡ Some y → find cmp key k (filter p xs) ≡ cond (p y) (Some y) None
   find-filter_found k [] y h e = absurd (some_is_none (sym e))
   find-filter_found k (x ∷ xs) y h e = elim (place o k (key x)) [
-    below lt ↦ skip_kept k x (p x) (filter p xs) (less_differs o k (key x) lt) ∙ find-filter_found k xs y (rises_from_above o key (key x) xs h) (sym (find_skip o key k x xs (less_differs o k (key x) lt)) ∙ e)
+    | below lt ↦ skip_kept k x (p x) (filter p xs) (less_differs o k (key x) lt) ∙ find-filter_found k xs y (rises_from_above o key (key x) xs h) (sym (find_skip o key k x xs (less_differs o k (key x) lt)) ∙ e)
     | equal is ↦ own_kept k x (p x) (filter p xs) is (ap (λ q. find cmp key q (filter p xs)) is ∙ find_at_bound o key (key x) (filter p xs) (RisesAbove-filter (key x) xs h)) ∙ ap (λ z. cond (p z) (Some z) None) (same_some x y (sym (find_here o key k x xs is) ∙ e))
     | above gt ↦ skip_kept k x (p x) (filter p xs) (less_differs_back o k (key x) gt) ∙ find-filter_found k xs y (rises_from_above o key (key x) xs h) (sym (find_skip o key k x xs (less_differs_back o k (key x) gt)) ∙ e)
-    ]
+  ]

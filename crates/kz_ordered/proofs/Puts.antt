@@ -1,10 +1,10 @@
 -- Many items put, one after another.
-use Rattle.std.proofs.Common.{◌≡◌, ◌≢◌, ◌⊎◌, List, [], ◌∷◌, ◌++◌, reverse, Option, Some, None, Ordering, Less, Contains, refl, sym, ap, ◌∙◌, subst, inl, inr, append_assoc, append-nil}
+use Rattle.std.proofs.Common.{◌≡◌, ◌⊎◌, List, [], ◌∷◌, ◌++◌, reverse, Ordering, Contains, refl, sym, ap, ◌∙◌, subst, inl, inr, append_assoc, append-nil}
 use Rattle.std.specs.Option.{option_or}
 use Rattle.std.proofs.lemmas.List.{reverse-append}
 use Rattle.kz_ordered.specs.Order.{TotalOrder}
 use Rattle.kz_ordered.specs.Ordered.{find, put, all_put, Rises}
-use Rattle.kz_ordered.proofs.Order.{Place, below, equal, above, place, less_differs, less_differs_back}
+use Rattle.kz_ordered.proofs.Order.{below, equal, above, place, less_differs, less_differs_back}
 use Rattle.kz_ordered.proofs.Lookup.{find_here, find_skip, find-put_same, find-put_other, Rises-put, Contains-put_cases, Contains-head, Contains-tail}
 use Rattle.kz_ordered.proofs.Append.{find-append, put_last, below_split}
 
@@ -12,10 +12,10 @@ module _ {A K : Type 0} {cmp : K → K → Ordering} (o : TotalOrder cmp) (key :
   -- to look up after a put is to look up with the item in front
   pub find-put : (k : K) (x : A) (ys : List A) → find cmp key k (put cmp key x ys) ≡ find cmp key k (x ∷ ys)
   find-put k x ys = elim (place o k (key x)) [
-    below h ↦ find-put_other o key x ys k (less_differs o k (key x) h) ∙ sym (find_skip o key k x ys (less_differs o k (key x) h))
+    | below h ↦ find-put_other o key x ys k (less_differs o k (key x) h) ∙ sym (find_skip o key k x ys (less_differs o k (key x) h))
     | equal h ↦ ap (λ q. find cmp key q (put cmp key x ys)) h ∙ find-put_same o key x ys ∙ sym (find_here o key k x ys h)
     | above h ↦ find-put_other o key x ys k (less_differs_back o k (key x) h) ∙ sym (find_skip o key k x ys (less_differs_back o k (key x) h))
-    ]
+  ]
 
   -- the last item with the key is found, and else what was there
   pub find-all_put : (k : K) (xs ys : List A) → find cmp key k (all_put cmp key xs ys) ≡ find cmp key k (reverse xs ++ ys)
@@ -40,6 +40,7 @@ module _ {A K : Type 0} {cmp : K → K → Ordering} (o : TotalOrder cmp) (key :
       put_before : (x : A) (xs ys : List A) (z : A) → (x ≡ z) ⊎ Contains ys z → Contains (x ∷ xs) z ⊎ Contains ys z
       put_before x xs ys z (inl e) = inl (subst (Contains (x ∷ xs)) e (Contains-head x xs))
       put_before x xs ys z (inr has) = inr has
+
       before : (x : A) (xs ys : List A) (z : A) → Contains xs z ⊎ Contains (put cmp key x ys) z → Contains (x ∷ xs) z ⊎ Contains ys z
       before x xs ys z (inl has) = inl (Contains-tail x xs z has)
       before x xs ys z (inr has) = put_before x xs ys z (Contains-put_cases o key x ys z has)

@@ -1,5 +1,5 @@
 -- What the edits of a difference are, and in which order they stand.
-use Rattle.std.specs.Prelude.{◌≡◌, Bool, false, List, ◌++◌, Option, Some, None, All, ⊤}
+use Rattle.std.specs.Prelude.{◌≡◌, Bool, false, List, ◌++◌, Some, None, All, ⊤}
 use Rattle.std.specs.declared.cmp.Ordering.{Ordering}
 use Rattle.std.specs.Ordering.{flip_args}
 use Rattle.kz_ordered.specs.Ordered.{find, Rises}

@@ -1,10 +1,10 @@
 -- Laws of lists that rise by a key, for items and keys of any type and any total order.
-use Rattle.std.specs.Prelude.{◌≡◌, ◌≢◌, ℕ, ◌<◌, List, [], ◌∷◌, ◌++◌, map, reverse, length, Option, Some, None, All, Contains, slice_index_or, option_map}
+use Rattle.std.specs.Prelude.{◌≡◌, ◌≢◌, List, [], ◌∷◌, ◌++◌, map, reverse, Some, None, All, Contains, option_map}
 use Rattle.std.specs.Option.{option_or}
 use Rattle.std.specs.declared.cmp.Ordering.{Ordering}
 use Rattle.std.specs.declared.cmp.Ordering.TheVariants.{Less}
 use Rattle.kz_ordered.specs.Order.{TotalOrder}
-use Rattle.kz_ordered.specs.Ordered.{find, put, without, all_put, RisesAbove, Rises, AllBelow}
+use Rattle.kz_ordered.specs.Ordered.{find, put, without, all_put, Rises, AllBelow}
 
 -- ---- look-ups after a change
 

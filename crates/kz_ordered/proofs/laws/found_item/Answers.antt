@@ -1,4 +1,3 @@
-use Rattle.kz_ordered.proofs.Order.{less_differs}
 use Rattle.kz_ordered.proofs.Lookup.{key_of_found, found_is_contained, contained_is_found, find_below_first}
 use Rattle.kz_ordered.proofs.laws.found_item.Goals as goal
 
