@@ -6,18 +6,9 @@ use Rattle.kz_ordered.specs.Order.{TotalOrder}
 use Rattle.kz_ordered.specs.Ordered.{find, RisesAbove, Rises, AllBelow}
 use Rattle.kz_ordered.specs.Difference.{Edit, drop_key, make, alter, drop_unless, drops, make_or_alter, makes, difference}
 use Rattle.kz_ordered.specs.Edits.{IsDue, edit_key, IsDrop, IsNoDrop, DropsFallOthersRise}
-use Rattle.kz_ordered.proofs.Order.{below, equal, above, place, less_differs, less_differs_back}
+use Rattle.kz_ordered.proofs.Order.{below, equal, above, place, less_differs, less_differs_back, flipped}
 use Rattle.kz_ordered.proofs.Lookup.{some_is_none, same_some, find_here, find_skip, rest_rises, rises_above_smaller, contained_is_above, contained_is_found, Contains-head, Contains-tail, rises_from_above}
 use Rattle.kz_ordered.proofs.Append.{Rises-push}
-
--- the order the other way round
-pub flipped : {K : Type 0} {cmp : K → K → Ordering} → TotalOrder cmp → TotalOrder (flip_args cmp)
-flipped o = record {
-  itself = o.itself;
-  same = λ x y e. sym (o.same y x e);
-  mirror = λ x y. o.mirror y x;
-  chain = λ x y z h g. o.chain z y x g h;
-}
 
 module _ {A K : Type 0} {cmp : K → K → Ordering} (o : TotalOrder cmp) (key : A → K) where
   -- ---- what holds of each edit
@@ -84,6 +75,18 @@ module _ {A K : Type 0} {cmp : K → K → Ordering} (o : TotalOrder cmp) (key :
     -- the difference has just the edits that are due
     pub due_exactly : (a b : List A) (e : Edit A K) → Rises cmp key a → Rises cmp key b → Contains (difference cmp key same a b) e ↔ IsDue cmp key same a b e
     due_exactly a b e ha hb = (λ has. All-contains (IsDue cmp key same a b) (difference cmp key same a b) e (each_is_due a b ha hb) has, due_is_there a b e)
+
+    -- at most one edit is due at a key
+    pub due_once : (a b : List A) (e f : Edit A K) → IsDue cmp key same a b e → IsDue cmp key same a b f → edit_key key e ≡ edit_key key f → e ≡ f
+    due_once a b (drop_key k) (drop_key j) p q keys = ap drop_key keys
+    due_once a b (drop_key k) (make x) p q keys = absurd (some_is_none (sym q.1 ∙ ap (λ z. find cmp key z b) (sym keys) ∙ p.2))
+    due_once a b (drop_key k) (alter x) p q keys = absurd (some_is_none (sym q.2 ∙ ap (λ z. find cmp key z b) (sym keys) ∙ p.2))
+    due_once a b (make x) (drop_key k) p q keys = absurd (some_is_none (sym p.1 ∙ ap (λ z. find cmp key z b) keys ∙ q.2))
+    due_once a b (make x) (make y) p q keys = ap make (same_some x y (sym p.1 ∙ ap (λ z. find cmp key z b) keys ∙ q.1))
+    due_once a b (make x) (alter y) p q keys = absurd (some_is_none (sym q.1 ∙ ap (λ z. find cmp key z a) (sym keys) ∙ p.0))
+    due_once a b (alter x) (drop_key k) p q keys = absurd (some_is_none (sym p.2 ∙ ap (λ z. find cmp key z b) keys ∙ q.2))
+    due_once a b (alter x) (make y) p q keys = absurd (some_is_none (sym p.1 ∙ ap (λ z. find cmp key z a) keys ∙ q.0))
+    due_once a b (alter x) (alter y) p q keys = ap alter (same_some x y (sym p.2 ∙ ap (λ z. find cmp key z b) keys ∙ q.2))
 
     -- ---- their order
 

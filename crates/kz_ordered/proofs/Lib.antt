@@ -5,3 +5,4 @@ pub mod Difference
 pub mod Edits
 pub mod Puts
 pub mod Maps
+pub mod Covering

@@ -4,7 +4,8 @@ use Rattle.std.specs.declared.cmp.Ordering.{Ordering}
 use Rattle.kz_ordered.specs.Order.{TotalOrder}
 use Rattle.kz_ordered.specs.Ordered.{Rises}
 use Rattle.kz_ordered.specs.Difference.{DecidesEqual, Edit, all_edited, difference}
-use Rattle.kz_ordered.specs.Edits.{IsDue, DropsFallOthersRise}
+use Rattle.kz_ordered.specs.Covering.{at_keys, Covers}
+use Rattle.kz_ordered.specs.Edits.{IsDue, edit_key, DropsFallOthersRise}
 
 -- The difference makes the second list of the first.
 abbrev pub DifferenceLeads : (A K : Type 0) → Type 0
@@ -26,7 +27,16 @@ abbrev pub DueExactly : (A K : Type 0) → Type 0
 DueExactly A K = (cmp : K → K → Ordering) (key : A → K) (same : A → A → Bool) → TotalOrder cmp → (a b : List A) (e : Edit A K) → Rises cmp key a → Rises cmp key b
     → Contains (difference cmp key same a b) e ↔ IsDue cmp key same a b e
 
+-- The edits of a difference concern each key at most once.
+abbrev pub DueOnce : (A K : Type 0) → Type 0
+DueOnce A K = (cmp : K → K → Ordering) (key : A → K) (same : A → A → Bool) → TotalOrder cmp → (a b : List A) (e f : Edit A K) → IsDue cmp key same a b e → IsDue cmp key same a b f → edit_key key e ≡ edit_key key f → e ≡ f
+
 -- Drops stand first and fall, and the others rise.
 abbrev pub EditsInOrder : (A K : Type 0) → Type 0
 EditsInOrder A K = (cmp : K → K → Ordering) (key : A → K) (same : A → A → Bool) → TotalOrder cmp → (a b : List A) → Rises cmp key a → Rises cmp key b
     → DropsFallOthersRise cmp key (difference cmp key same a b)
+
+-- Keys that cover two lists suffice to find their difference.
+abbrev pub CoveredDifference : (A K : Type 0) → Type 0
+CoveredDifference A K = (cmp : K → K → Ordering) (key : A → K) (same : A → A → Bool) → TotalOrder cmp → DecidesEqual key same → (ks : List K) (a b : List A) → Rises cmp (λ k. k) ks → Rises cmp key a → Rises cmp key b → Covers cmp key ks a b
+    → difference cmp key same a b ≡ difference cmp key same (at_keys cmp key ks a) (at_keys cmp key ks b)

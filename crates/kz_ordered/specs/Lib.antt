@@ -2,5 +2,6 @@ pub mod Order
 pub mod Ordered
 pub mod Difference
 pub mod Edits
+pub mod Covering
 pub mod OrderedLaws
 pub mod DifferenceLaws

@@ -7,7 +7,7 @@ ghost use Rattle.kz_ordered.specs.Order.{TotalOrder, bytes_cmp};
 ghost use Rattle.kz_ordered.specs.Ordered.{find, put, without, all_put};
 ghost use Rattle.kz_ordered.specs.Difference.{difference, drop_key, make, alter};
 ghost use Rattle.kz_ordered.specs.OrderedLaws.{PutIsFound, PutLeavesOthers, WithoutIsNotFound, WithoutLeavesOthers, AllPutFindsLast, PutRises, WithoutRises, AllPutRises, FoundHasTheKey, ItemIsFound, NothingBelowTheFirst, SameItems, FoundInEither, JoinedRises, GreatestIsPutLast, MappedIsFound, MappedRises};
-ghost use Rattle.kz_ordered.specs.DifferenceLaws.{DifferenceLeads, PartLeavesRest, NoDifference, DueExactly, EditsInOrder};
+ghost use Rattle.kz_ordered.specs.DifferenceLaws.{DifferenceLeads, PartLeavesRest, NoDifference, DueExactly, DueOnce, EditsInOrder, CoveredDifference};
 
 /// Numbers, signed numbers and byte strings are totally ordered.
 pub fn total_orders()
@@ -71,7 +71,13 @@ pub fn difference_leads<A, K>()
 /// Which edits the difference has, and in which order.
 pub fn edits_of_difference<A, K>()
     ensures due { DueExactly A K }
+    ensures once { DueOnce A K }
     ensures order { EditsInOrder A K }
+{}
+
+/// The difference of two lists is that of their items under the keys at which they may differ.
+pub fn covered_difference<A, K>()
+    ensures { CoveredDifference A K }
 {}
 
 /// An item is put at its place.
