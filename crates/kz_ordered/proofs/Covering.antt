@@ -51,14 +51,14 @@ module _ {A K : Type 0} {cmp : K → K → Ordering} (o : TotalOrder cmp) (key :
   pub find-drops : (k : K) (a b : List A) → Rises cmp key a → find (flip_args cmp) (edit_key key) k (drops cmp key a b) ≡ drop_at k (find cmp key k a) (find cmp key k b)
   find-drops k [] b h = refl
   find-drops k (x ∷ a) b h = elim (place o k (key x)) [
-    below p ↦ skipped_drop k x a b (less_differs o k (key x) p) (find-drops k a b (rest_rises o key x a h))
+    | below p ↦ skipped_drop k x a b (less_differs o k (key x) p) (find-drops k a b (rest_rises o key x a h))
     | equal p ↦
         let gone : find cmp key k a ≡ None = ap (λ j. find cmp key j a) p ∙ find_at_bound o key (key x) a h in
         let later = find-drops k a b (rest_rises o key x a h) ∙ ap (λ r. drop_at k r (find cmp key k b)) gone in
         let own = own_drop k x (find cmp key (key x) b) p ∙ ap (λ j. drop_at k (Some x) (find cmp key j b)) (sym p) in
         joined_drops k x a b None (drop_at k (Some x) (find cmp key k b)) later own ∙ ap (λ r. drop_at k r (find cmp key k b)) (sym (find_here o key k x a p))
     | above p ↦ skipped_drop k x a b (less_differs_back o k (key x) p) (find-drops k a b (rest_rises o key x a h))
-    ]
+  ]
 
   -- ---- look-ups in what is made and altered
 
@@ -88,20 +88,20 @@ module _ {A K : Type 0} {cmp : K → K → Ordering} (o : TotalOrder cmp) (key :
     pub find-makes : (k : K) (a b : List A) → Rises cmp key b → find cmp (edit_key key) k (makes cmp key same a b) ≡ make_at same (find cmp key k a) (find cmp key k b)
     find-makes k a [] h = refl
     find-makes k a (x ∷ b) h = elim (place o k (key x)) [
-      below p ↦ skipped_make k x a b (less_differs o k (key x) p) (find-makes k a b (rest_rises o key x b h))
+      | below p ↦ skipped_make k x a b (less_differs o k (key x) p) (find-makes k a b (rest_rises o key x b h))
       | equal p ↦
           let gone : find cmp key k b ≡ None = ap (λ j. find cmp key j b) p ∙ find_at_bound o key (key x) b h in
           let later = find-makes k a b (rest_rises o key x b h) ∙ ap (make_at same (find cmp key k a)) gone in
           let own = own_make k x (find cmp key (key x) a) p ∙ ap (λ j. made_at same x (find cmp key j a)) (sym p) in
           joined_makes k x a b (made_at same x (find cmp key k a)) None own later ∙ or_none (made_at same x (find cmp key k a)) ∙ ap (make_at same (find cmp key k a)) (sym (find_here o key k x b p))
       | above p ↦ skipped_make k x a b (less_differs_back o k (key x) p) (find-makes k a b (rest_rises o key x b h))
-      ]
+    ]
 
     -- two differences are equal where the look-ups call for the same edit at each key
     pub same_differences : (a b c d : List A) → Rises cmp key a → Rises cmp key b → Rises cmp key c → Rises cmp key d
-      → ((k : K) → drop_at k (find cmp key k a) (find cmp key k b) ≡ drop_at k (find cmp key k c) (find cmp key k d))
-      → ((k : K) → ◌≡◌ {A = Option (Edit A K)} (make_at same (find cmp key k a) (find cmp key k b)) (make_at same (find cmp key k c) (find cmp key k d)))
-      → difference cmp key same a b ≡ difference cmp key same c d
+        → ((k : K) → drop_at k (find cmp key k a) (find cmp key k b) ≡ drop_at k (find cmp key k c) (find cmp key k d))
+        → ((k : K) → ◌≡◌ {A = Option (Edit A K)} (make_at same (find cmp key k a) (find cmp key k b)) (make_at same (find cmp key k c) (find cmp key k d)))
+        → difference cmp key same a b ≡ difference cmp key same c d
     same_differences a b c d ha hb hc hd dropped made =
         let first = same_items (flipped o) (edit_key key) (drops cmp key a b) (drops cmp key c d) (drops_fall o key same a b ha) (drops_fall o key same c d hc) (λ k. find-drops k a b ha ∙ dropped k ∙ sym (find-drops k c d hc)) in
         let others = same_items o (edit_key key) (makes cmp key same a b) (makes cmp key same c d) (makes_rise o key same a b hb) (makes_rise o key same c d hd) (λ k. find-makes k a b hb ∙ made k ∙ sym (find-makes k c d hd)) in
@@ -136,28 +136,28 @@ module _ {A K : Type 0} {cmp : K → K → Ordering} (o : TotalOrder cmp) (key :
   absent_at_keys : (k : K) (ks : List K) (xs : List A) → find cmp key k xs ≡ None → find cmp key k (at_keys cmp key ks xs) ≡ None
   absent_at_keys k [] xs e = refl
   absent_at_keys k (j ∷ ks) xs e = elim (place o k j) [
-    below p ↦ passed_over k j (find cmp key j xs) (at_keys cmp key ks xs) (λ y f. key_of_found o key j xs y f) (less_differs o k j p) ∙ absent_at_keys k ks xs e
+    | below p ↦ passed_over k j (find cmp key j xs) (at_keys cmp key ks xs) (λ y f. key_of_found o key j xs y f) (less_differs o k j p) ∙ absent_at_keys k ks xs e
     | equal p ↦ own_or_later k (find cmp key j xs) None (at_keys cmp key ks xs) (ap (λ q. find cmp key q xs) (sym p) ∙ e) (λ y f. key_of_found o key j xs y f ∙ sym p) (λ none. absent_at_keys k ks xs e)
     | above p ↦ passed_over k j (find cmp key j xs) (at_keys cmp key ks xs) (λ y f. key_of_found o key j xs y f) (less_differs_back o k j p) ∙ absent_at_keys k ks xs e
-    ]
+  ]
 
   -- under one of the keys, what the list finds
   pub find-at_keys_in : (k : K) (ks : List K) (xs : List A) (j : K) → find cmp (λ q. q) k ks ≡ Some j → find cmp key k (at_keys cmp key ks xs) ≡ find cmp key k xs
   find-at_keys_in k [] xs i e = absurd (some_is_none (sym e))
   find-at_keys_in k (j ∷ ks) xs i e = elim (place o k j) [
-    below p ↦ passed_over k j (find cmp key j xs) (at_keys cmp key ks xs) (λ y f. key_of_found o key j xs y f) (less_differs o k j p) ∙ find-at_keys_in k ks xs i (sym (find_skip o (λ q. q) k j ks (less_differs o k j p)) ∙ e)
+    | below p ↦ passed_over k j (find cmp key j xs) (at_keys cmp key ks xs) (λ y f. key_of_found o key j xs y f) (less_differs o k j p) ∙ find-at_keys_in k ks xs i (sym (find_skip o (λ q. q) k j ks (less_differs o k j p)) ∙ e)
     | equal p ↦ own_or_later k (find cmp key j xs) (find cmp key k xs) (at_keys cmp key ks xs) (ap (λ q. find cmp key q xs) (sym p)) (λ y f. key_of_found o key j xs y f ∙ sym p) (λ none. absent_at_keys k ks xs none)
     | above p ↦ passed_over k j (find cmp key j xs) (at_keys cmp key ks xs) (λ y f. key_of_found o key j xs y f) (less_differs_back o k j p) ∙ find-at_keys_in k ks xs i (sym (find_skip o (λ q. q) k j ks (less_differs_back o k j p)) ∙ e)
-    ]
+  ]
 
   -- under another key, nothing
   pub find-at_keys_other : (k : K) (ks : List K) (xs : List A) → find cmp (λ q. q) k ks ≡ None → find cmp key k (at_keys cmp key ks xs) ≡ None
   find-at_keys_other k [] xs e = refl
   find-at_keys_other k (j ∷ ks) xs e = elim (place o k j) [
-    below p ↦ passed_over k j (find cmp key j xs) (at_keys cmp key ks xs) (λ y f. key_of_found o key j xs y f) (less_differs o k j p) ∙ find-at_keys_other k ks xs (sym (find_skip o (λ q. q) k j ks (less_differs o k j p)) ∙ e)
+    | below p ↦ passed_over k j (find cmp key j xs) (at_keys cmp key ks xs) (λ y f. key_of_found o key j xs y f) (less_differs o k j p) ∙ find-at_keys_other k ks xs (sym (find_skip o (λ q. q) k j ks (less_differs o k j p)) ∙ e)
     | equal p ↦ absurd (some_is_none (sym (find_here o (λ q. q) k j ks p) ∙ e))
     | above p ↦ passed_over k j (find cmp key j xs) (at_keys cmp key ks xs) (λ y f. key_of_found o key j xs y f) (less_differs_back o k j p) ∙ find-at_keys_other k ks xs (sym (find_skip o (λ q. q) k j ks (less_differs_back o k j p)) ∙ e)
-    ]
+  ]
 
   -- ---- keys that cover a difference
 

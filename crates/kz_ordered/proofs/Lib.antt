@@ -6,3 +6,4 @@ pub mod Edits
 pub mod Puts
 pub mod Maps
 pub mod Covering
+pub mod Spot

@@ -1,9 +1,11 @@
 -- Laws of lists that rise by a key, for items and keys of any type and any total order.
-use Rattle.std.specs.Prelude.{◌≡◌, ◌≢◌, List, [], ◌∷◌, ◌++◌, map, reverse, Some, None, All, Contains, option_map}
+use Rattle.std.specs.Prelude.{ℕ, ◌≡◌, ◌≢◌, List, [], ◌∷◌, ◌++◌, map, reverse, Some, None, All, Contains, option_map, Result, Ok, Err, slice_set, slice_index_or, length, insert, remove}
 use Rattle.std.specs.Option.{option_or}
 use Rattle.std.specs.declared.cmp.Ordering.{Ordering}
 use Rattle.std.specs.declared.cmp.Ordering.TheVariants.{Less}
+use Rattle.std.specs.List.Sorted.{IsBinarySearchResult, IsSearchInRange}
 use Rattle.kz_ordered.specs.Order.{TotalOrder}
+use Rattle.kz_ordered.specs.Spot.{IsSpot}
 use Rattle.kz_ordered.specs.Ordered.{find, put, without, all_put, Rises, AllBelow}
 
 -- ---- look-ups after a change
@@ -69,3 +71,19 @@ MappedIsFound A B K = (cmp : K → K → Ordering) (key : A → K) (name : B →
 
 abbrev pub MappedRises : (A B K : Type 0) → Type 0
 MappedRises A B K = (cmp : K → K → Ordering) (key : A → K) (name : B → K) (f : A → B) → ((x : A) → name (f x) ≡ key x) → (xs : List A) → Rises cmp key xs → Rises cmp name (map f xs)
+
+-- ---- the place of a key
+
+-- The item at the place of a key is found, a put writes over it, and without it the list is what removing it leaves.
+abbrev pub PlaceOfItem : (A K : Type 0) → Type 0
+PlaceOfItem A K = (cmp : K → K → Ordering) (key : A → K) → TotalOrder cmp → (k : K) (xs : List A) (i : ℕ) → Rises cmp key xs → IsSpot cmp key k xs (Ok i)
+    → ((d : A) → find cmp key k xs ≡ Some (slice_index_or xs i d)) × (without cmp key k xs ≡ remove xs i) × ((x : A) → key x ≡ k → put cmp key x xs ≡ slice_set xs i x)
+
+-- At the place of a key that no item has, nothing is found, a put inserts, and without the key the list is as it was.
+abbrev pub PlaceInGap : (A K : Type 0) → Type 0
+PlaceInGap A K = (cmp : K → K → Ordering) (key : A → K) → TotalOrder cmp → (k : K) (xs : List A) (i : ℕ) → IsSpot cmp key k xs (Err i)
+    → (find cmp key k xs ≡ None) × (without cmp key k xs ≡ xs) × ((x : A) → key x ≡ k → put cmp key x xs ≡ insert xs i x)
+
+-- What std's binary search answers in a list that rises is the place of the key.
+abbrev pub BinarySearchTellsPlace : (A K : Type 0) → Type 0
+BinarySearchTellsPlace A K = (cmp : K → K → Ordering) (key : A → K) → TotalOrder cmp → (k : K) (xs : List A) (r : Result ℕ ℕ) → Rises cmp key xs → IsSearchInRange r (length xs) → IsBinarySearchResult (λ y. cmp (key y) k) xs r → IsSpot cmp key k xs r

@@ -1,12 +1,12 @@
 //! Laws of the definitions. Each stands on a function that does nothing.
 //!
 //! `A` is the type of the items and `K` that of the keys. First come the laws, and then examples.
-ghost use Rattle.std.specs.Prelude.{◌≡◌, ℕ, [], ◌∷◌, Some, None, ◌==◌};
+ghost use Rattle.std.specs.Prelude.{◌≡◌, ℕ, [], ◌∷◌, Some, None, ◌==◌, codes};
 ghost use Rattle.std.specs.Ordering.{nat_cmp, int_cmp};
 ghost use Rattle.kz_ordered.specs.Order.{TotalOrder, bytes_cmp};
 ghost use Rattle.kz_ordered.specs.Ordered.{find, put, without, all_put};
 ghost use Rattle.kz_ordered.specs.Difference.{difference, drop_key, make, alter};
-ghost use Rattle.kz_ordered.specs.OrderedLaws.{PutIsFound, PutLeavesOthers, WithoutIsNotFound, WithoutLeavesOthers, AllPutFindsLast, PutRises, WithoutRises, AllPutRises, FoundHasTheKey, ItemIsFound, NothingBelowTheFirst, SameItems, FoundInEither, JoinedRises, GreatestIsPutLast, MappedIsFound, MappedRises};
+ghost use Rattle.kz_ordered.specs.OrderedLaws.{PutIsFound, PutLeavesOthers, WithoutIsNotFound, WithoutLeavesOthers, AllPutFindsLast, PutRises, WithoutRises, AllPutRises, FoundHasTheKey, ItemIsFound, NothingBelowTheFirst, SameItems, FoundInEither, JoinedRises, GreatestIsPutLast, MappedIsFound, MappedRises, PlaceOfItem, PlaceInGap, BinarySearchTellsPlace};
 ghost use Rattle.kz_ordered.specs.DifferenceLaws.{DifferenceLeads, PartLeavesRest, NoDifference, DueExactly, DueOnce, EditsInOrder, CoveredDifference};
 
 /// Numbers, signed numbers and byte strings are totally ordered.
@@ -55,6 +55,13 @@ pub fn joined_lists<A, K>()
     ensures put_last { GreatestIsPutLast A K }
 {}
 
+/// What a list that rises finds, and becomes, at the place of a key.
+pub fn place_of_key<A, K>()
+    ensures item { PlaceOfItem A K }
+    ensures gap { PlaceInGap A K }
+    ensures searched { BinarySearchTellsPlace A K }
+{}
+
 /// A list whose items are changed but keep their keys.
 pub fn mapped_list<A, B, K>()
     ensures found { MappedIsFound A B K }
@@ -83,6 +90,11 @@ pub fn covered_difference<A, K>()
 /// An item is put at its place.
 pub fn put_at_its_place()
     ensures { put nat_cmp (λ x. x) 2 (1 ∷ 3 ∷ []) ≡ 1 ∷ 2 ∷ 3 ∷ [] }
+{}
+
+/// Byte strings are put by their bytes, and not by their parts between slashes: `-` is below `/`.
+pub fn path_put_by_bytes()
+    ensures { put bytes_cmp (λ x. x) (codes "/a-b") (codes "/a" ∷ codes "/a/b" ∷ []) ≡ codes "/a" ∷ codes "/a-b" ∷ codes "/a/b" ∷ [] }
 {}
 
 /// An item is found by its key.
