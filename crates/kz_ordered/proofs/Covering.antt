@@ -7,8 +7,8 @@ use Rattle.kz_ordered.specs.Ordered.{find, RisesAbove, Rises}
 use Rattle.kz_ordered.specs.Difference.{DecidesEqual, Edit, drop_key, make, alter, drop_unless, drops, make_or_alter, makes, difference}
 use Rattle.kz_ordered.specs.Edits.{edit_key}
 use Rattle.kz_ordered.specs.Covering.{at_keys, Covers}
-use Rattle.kz_ordered.proofs.Order.{Place, below, equal, above, place, less_differs, less_differs_back, flipped}
-use Rattle.kz_ordered.proofs.Lookup.{some_is_none, find_here, find_head, find_skip, key_of_found, find_at_bound, rest_rises, rises_from_above, rises_above_smaller, same_items, found_is_contained, contained_is_found}
+use Rattle.kz_ordered.proofs.Order.{below, equal, above, place, less_differs, less_differs_back, flipped}
+use Rattle.kz_ordered.proofs.Lookup.{some_is_none, find_here, find_skip, key_of_found, find_at_bound, rest_rises, rises_from_above, rises_above_smaller, same_items, contained_is_found}
 use Rattle.kz_ordered.proofs.Append.{find-append}
 use Rattle.kz_ordered.proofs.Edits.{drops_fall, makes_rise}
 

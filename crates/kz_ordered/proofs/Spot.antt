@@ -1,13 +1,13 @@
 -- What a list that rises finds, and becomes, at the place of a key.
-use Rattle.std.proofs.Common.{◌≡◌, ◌≢◌, ◌⊎◌, ℕ, zero, suc, ◌+◌, ◌<◌, ◌≤◌, Bool, true, false, List, [], ◌∷◌, ◌++◌, Option, Some, None, Result, Ok, Err, Ordering, Less, Equal, Greater, length, get_or, take, drop, set, insert, remove, HoldsAt, refl, sym, ap, ◌∙◌, subst, inl, inr, arith, eq-or-lt_of_le}
+use Rattle.std.proofs.Common.{◌≡◌, ◌⊎◌, ℕ, zero, suc, ◌<◌, ◌≤◌, List, [], ◌∷◌, Some, None, Result, Ok, Err, Ordering, Less, Equal, Greater, length, get_or, set, insert, remove, HoldsAt, refl, sym, ap, ◌∙◌, subst, inl, inr, arith, eq-or-lt_of_le}
 use Rattle.std.specs.List.{AllWithin}
-use Rattle.std.specs.List.Sorted.{IsBinarySearchResult, IsNonDecreasingBy, IsSearchInRange}
+use Rattle.std.specs.List.Sorted.{IsBinarySearchResult, IsSearchInRange}
 use Rattle.std.specs.Ordering.{ordering_index, ordering_reverse}
-use Rattle.std.proofs.lemmas.List.Elements.{AllWithin-none, AllWithin-more}
+use Rattle.std.proofs.lemmas.List.Elements.{AllWithin-none}
 use Rattle.kz_ordered.specs.Order.{TotalOrder}
-use Rattle.kz_ordered.specs.Ordered.{find, put, without, RisesAbove, Rises}
+use Rattle.kz_ordered.specs.Ordered.{find, put, without, Rises}
 use Rattle.kz_ordered.specs.Spot.{IsSpot}
-use Rattle.kz_ordered.proofs.Order.{Place, below, equal, above, place, cmp_equal, cmp_greater, less_differs, less_differs_back}
+use Rattle.kz_ordered.proofs.Order.{below, equal, above, place, cmp_equal, cmp_greater, less_differs, less_differs_back}
 use Rattle.kz_ordered.proofs.Lookup.{find_skip, rest_rises, found_at, less_by_place, without_here, without_skip}
 use Rattle.kz_ordered.proofs.Append.{without_absent}
 
