@@ -12,7 +12,7 @@ abbrev pub DifferenceLeads : (A K : Type 0) → Type 0
 DifferenceLeads A K = (cmp : K → K → Ordering) (key : A → K) (same : A → A → Bool) → TotalOrder cmp → DecidesEqual key same → (a b : List A) → Rises cmp key a → Rises cmp key b
     → all_edited cmp key (difference cmp key same a b) a ≡ b
 
--- Once the first n edits are applied, the difference is the rest of the edits.
+-- Once the first n edits are applied, for any n, the difference is the rest of the edits.
 abbrev pub PartLeavesRest : (A K : Type 0) → Type 0
 PartLeavesRest A K = (cmp : K → K → Ordering) (key : A → K) (same : A → A → Bool) → TotalOrder cmp → DecidesEqual key same → (n : ℕ) (a b : List A) → Rises cmp key a → Rises cmp key b
     → difference cmp key same (all_edited cmp key (take n (difference cmp key same a b)) a) b ≡ drop n (difference cmp key same a b)
@@ -36,7 +36,7 @@ abbrev pub EditsInOrder : (A K : Type 0) → Type 0
 EditsInOrder A K = (cmp : K → K → Ordering) (key : A → K) (same : A → A → Bool) → TotalOrder cmp → (a b : List A) → Rises cmp key a → Rises cmp key b
     → DropsFallOthersRise cmp key (difference cmp key same a b)
 
--- Keys that cover two lists suffice to find their difference.
+-- The difference of two lists is that of their items under keys that cover all keys at which the lists differ.
 abbrev pub CoveredDifference : (A K : Type 0) → Type 0
 CoveredDifference A K = (cmp : K → K → Ordering) (key : A → K) (same : A → A → Bool) → TotalOrder cmp → DecidesEqual key same → (ks : List K) (a b : List A) → Rises cmp (λ k. k) ks → Rises cmp key a → Rises cmp key b → Covers cmp key ks a b
     → difference cmp key same a b ≡ difference cmp key same (at_keys cmp key ks a) (at_keys cmp key ks b)

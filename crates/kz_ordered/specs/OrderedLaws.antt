@@ -10,15 +10,19 @@ use Rattle.kz_ordered.specs.Ordered.{find, put, without, all_put, Rises, AllBelo
 
 -- ---- look-ups after a change
 
+-- An item that was put is found under its key.
 abbrev pub PutIsFound : (A K : Type 0) → Type 0
 PutIsFound A K = (cmp : K → K → Ordering) (key : A → K) → TotalOrder cmp → (x : A) (ys : List A) → find cmp key (key x) (put cmp key x ys) ≡ Some x
 
+-- Under each other key a put leaves what was found.
 abbrev pub PutLeavesOthers : (A K : Type 0) → Type 0
 PutLeavesOthers A K = (cmp : K → K → Ordering) (key : A → K) → TotalOrder cmp → (x : A) (ys : List A) (k : K) → k ≢ key x → find cmp key k (put cmp key x ys) ≡ find cmp key k ys
 
+-- Nothing is found under a key that was taken out of a list that rises.
 abbrev pub WithoutIsNotFound : (A K : Type 0) → Type 0
 WithoutIsNotFound A K = (cmp : K → K → Ordering) (key : A → K) → TotalOrder cmp → (k : K) (xs : List A) → Rises cmp key xs → find cmp key k (without cmp key k xs) ≡ None
 
+-- Under each other key, what was found is found.
 abbrev pub WithoutLeavesOthers : (A K : Type 0) → Type 0
 WithoutLeavesOthers A K = (cmp : K → K → Ordering) (key : A → K) → TotalOrder cmp → (j : K) (xs : List A) (k : K) → k ≢ j → find cmp key k (without cmp key j xs) ≡ find cmp key k xs
 
@@ -28,23 +32,29 @@ AllPutFindsLast A K = (cmp : K → K → Ordering) (key : A → K) → TotalOrde
 
 -- ---- the order is kept
 
+-- A list that rises still does after a put.
 abbrev pub PutRises : (A K : Type 0) → Type 0
 PutRises A K = (cmp : K → K → Ordering) (key : A → K) → TotalOrder cmp → (x : A) (ys : List A) → Rises cmp key ys → Rises cmp key (put cmp key x ys)
 
+-- It does after an item is taken out.
 abbrev pub WithoutRises : (A K : Type 0) → Type 0
 WithoutRises A K = (cmp : K → K → Ordering) (key : A → K) → TotalOrder cmp → (k : K) (xs : List A) → Rises cmp key xs → Rises cmp key (without cmp key k xs)
 
+-- It does after many items are put, whatever their order.
 abbrev pub AllPutRises : (A K : Type 0) → Type 0
 AllPutRises A K = (cmp : K → K → Ordering) (key : A → K) → TotalOrder cmp → (xs ys : List A) → Rises cmp key ys → Rises cmp key (all_put cmp key xs ys)
 
 -- ---- what is found
 
+-- What is found is an item of the list, and has the key that was asked.
 abbrev pub FoundHasTheKey : (A K : Type 0) → Type 0
 FoundHasTheKey A K = (cmp : K → K → Ordering) (key : A → K) → TotalOrder cmp → (k : K) (xs : List A) (y : A) → find cmp key k xs ≡ Some y → Contains xs y × (key y ≡ k)
 
+-- In a list that rises each item is found under its key.
 abbrev pub ItemIsFound : (A K : Type 0) → Type 0
 ItemIsFound A K = (cmp : K → K → Ordering) (key : A → K) → TotalOrder cmp → (xs : List A) (y : A) → Rises cmp key xs → Contains xs y → find cmp key (key y) xs ≡ Some y
 
+-- Nothing is found under a key below that of the first item.
 abbrev pub NothingBelowTheFirst : (A K : Type 0) → Type 0
 NothingBelowTheFirst A K = (cmp : K → K → Ordering) (key : A → K) → TotalOrder cmp → (k : K) (x : A) (xs : List A) → Rises cmp key (x ∷ xs) → cmp k (key x) ≡ Less → find cmp key k (x ∷ xs) ≡ None
 
@@ -54,21 +64,25 @@ SameItems A K = (cmp : K → K → Ordering) (key : A → K) → TotalOrder cmp 
 
 -- ---- lists joined end to end
 
+-- In two lists joined end to end, what the first finds is found, and else what the second finds. No order is needed.
 abbrev pub FoundInEither : (A K : Type 0) → Type 0
 FoundInEither A K = (cmp : K → K → Ordering) (key : A → K) (k : K) (xs ys : List A) → find cmp key k (xs ++ ys) ≡ option_or (find cmp key k xs) (find cmp key k ys)
 
+-- Two lists that rise make one that rises, where each key of the first is below each key of the second.
 abbrev pub JoinedRises : (A K : Type 0) → Type 0
 JoinedRises A K = (cmp : K → K → Ordering) (key : A → K) → TotalOrder cmp → (xs ys : List A) → Rises cmp key xs → Rises cmp key ys → All (λ y. AllBelow cmp key xs (key y)) ys → Rises cmp key (xs ++ ys)
 
+-- An item whose key is above all others is put at the end.
 abbrev pub GreatestIsPutLast : (A K : Type 0) → Type 0
 GreatestIsPutLast A K = (cmp : K → K → Ordering) (key : A → K) → TotalOrder cmp → (x : A) (xs : List A) → AllBelow cmp key xs (key x) → put cmp key x xs ≡ xs ++ x ∷ []
 
 -- ---- items changed in place
 
--- Where a change keeps each key, a changed list rises, and finds what the item that was found becomes.
+-- Where a change keeps each key, the changed list finds what the item that was found becomes. No order is needed.
 abbrev pub MappedIsFound : (A B K : Type 0) → Type 0
 MappedIsFound A B K = (cmp : K → K → Ordering) (key : A → K) (name : B → K) (f : A → B) → ((x : A) → name (f x) ≡ key x) → (k : K) (xs : List A) → find cmp name k (map f xs) ≡ option_map f (find cmp key k xs)
 
+-- The changed list rises too.
 abbrev pub MappedRises : (A B K : Type 0) → Type 0
 MappedRises A B K = (cmp : K → K → Ordering) (key : A → K) (name : B → K) (f : A → B) → ((x : A) → name (f x) ≡ key x) → (xs : List A) → Rises cmp key xs → Rises cmp name (map f xs)
 
