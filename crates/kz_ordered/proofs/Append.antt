@@ -1,10 +1,10 @@
 -- Lists joined end to end, and what stands at a place that splits a list.
-use Rattle.std.proofs.Common.{◌≡◌, ◌≢◌, Bool, true, false, cond, List, [], ◌∷◌, ◌++◌, Option, Some, None, Ordering, Less, Equal, Greater, is_eq, All, refl, sym, ap, ◌∙◌, subst}
+use Rattle.std.proofs.Common.{◌≡◌, Bool, true, false, cond, List, [], ◌∷◌, ◌++◌, Option, Some, None, Ordering, Less, is_eq, All, refl, sym, ap, ◌∙◌}
 use Rattle.std.specs.Option.{option_or}
 use Rattle.std.proofs.lemmas.List.Elements.{All-head, All-tail, All-nil, All-cons}
 use Rattle.kz_ordered.specs.Order.{TotalOrder}
 use Rattle.kz_ordered.specs.Ordered.{find, put, without, RisesAbove, Rises, AllBelow}
-use Rattle.kz_ordered.proofs.Order.{Place, below, equal, above, place, cmp_equal, cmp_greater, less_differs, less_differs_back, is_eq_same, is_eq_other}
+use Rattle.kz_ordered.proofs.Order.{below, equal, above, place, cmp_equal, cmp_greater, less_differs, less_differs_back}
 use Rattle.kz_ordered.proofs.Lookup.{find_here, find_skip, without_here, without_skip, find_at_bound, rises_from_above}
 
 -- whatever the order is, an item of the first list is found before those of the second
@@ -15,6 +15,10 @@ found_first false x r s t e = e
 pub find-append : {A K : Type 0} (cmp : K → K → Ordering) (key : A → K) (k : K) (xs ys : List A) → find cmp key k (xs ++ ys) ≡ option_or (find cmp key k xs) (find cmp key k ys)
 find-append cmp key k [] ys = refl
 find-append cmp key k (x ∷ xs) ys = found_first (is_eq (cmp k (key x))) x (find cmp key k (xs ++ ys)) (find cmp key k xs) (find cmp key k ys) (find-append cmp key k xs ys)
+
+-- what holds of each item of the one list beside each of the other holds the other way round
+pub All-turned : {X Y : Type 0} (R : X → Y → Type 0) (xs : List X) (ys : List Y) → All (λ x. All (λ y. R x y) ys) xs → All (λ y. All (λ x. R x y) xs) ys
+All-turned R xs ys h j e within i d before = h i d before j e within
 
 module _ {A K : Type 0} {cmp : K → K → Ordering} (o : TotalOrder cmp) (key : A → K) where
   first_below : (k : K) (x : A) (xs : List A) → AllBelow cmp key (x ∷ xs) k → cmp (key x) k ≡ Less
@@ -72,10 +76,10 @@ module _ {A K : Type 0} {cmp : K → K → Ordering} (o : TotalOrder cmp) (key :
   pub without_absent : (k : K) (xs : List A) → find cmp key k xs ≡ None → without cmp key k xs ≡ xs
   without_absent k [] e = refl
   without_absent k (x ∷ xs) e = elim (place o k (key x)) [
-    below h ↦ without_skip o key k x xs (less_differs o k (key x) h) ∙ ap (λ zs. x ∷ zs) (without_absent k xs (sym (find_skip o key k x xs (less_differs o k (key x) h)) ∙ e))
+    | below h ↦ without_skip o key k x xs (less_differs o k (key x) h) ∙ ap (λ zs. x ∷ zs) (without_absent k xs (sym (find_skip o key k x xs (less_differs o k (key x) h)) ∙ e))
     | equal h ↦ absurd (let found = find_here o key k x xs h in cc)
     | above h ↦ without_skip o key k x xs (less_differs_back o k (key x) h) ∙ ap (λ zs. x ∷ zs) (without_absent k xs (sym (find_skip o key k x xs (less_differs_back o k (key x) h)) ∙ e))
-    ]
+  ]
 
   -- ---- lists that rise, joined
 
@@ -96,9 +100,12 @@ module _ {A K : Type 0} {cmp : K → K → Ordering} (o : TotalOrder cmp) (key :
   RisesAbove-append k [] ys h g over apart = rises_above_from_all k ys g over
   RisesAbove-append k (x ∷ xs) ys h g over apart = (h.0, RisesAbove-append (key x) xs ys h.1 g (All-head (λ z. All (λ y. cmp (key z) (key y) ≡ Less) ys) x xs apart) (All-tail (λ z. All (λ y. cmp (key z) (key y) ≡ Less) ys) x xs apart))
 
-  pub Rises-append : (xs ys : List A) → Rises cmp key xs → Rises cmp key ys → All (λ x. All (λ y. cmp (key x) (key y) ≡ Less) ys) xs → Rises cmp key (xs ++ ys)
-  Rises-append [] ys h g apart = g
-  Rises-append (x ∷ xs) ys h g apart = RisesAbove-append (key x) xs ys h g (All-head (λ z. All (λ y. cmp (key z) (key y) ≡ Less) ys) x xs apart) (All-tail (λ z. All (λ y. cmp (key z) (key y) ≡ Less) ys) x xs apart)
+  Rises-append_by : (xs ys : List A) → Rises cmp key xs → Rises cmp key ys → All (λ x. All (λ y. cmp (key x) (key y) ≡ Less) ys) xs → Rises cmp key (xs ++ ys)
+  Rises-append_by [] ys h g apart = g
+  Rises-append_by (x ∷ xs) ys h g apart = RisesAbove-append (key x) xs ys h g (All-head (λ z. All (λ y. cmp (key z) (key y) ≡ Less) ys) x xs apart) (All-tail (λ z. All (λ y. cmp (key z) (key y) ≡ Less) ys) x xs apart)
+
+  pub Rises-append : (xs ys : List A) → Rises cmp key xs → Rises cmp key ys → All (λ y. AllBelow cmp key xs (key y)) ys → Rises cmp key (xs ++ ys)
+  Rises-append xs ys h g apart = Rises-append_by xs ys h g (All-turned (λ y x. cmp (key x) (key y) ≡ Less) ys xs apart)
 
   -- one more item behind all others
   RisesAbove-push : (k : K) (xs : List A) (y : A) → RisesAbove cmp key k xs → cmp k (key y) ≡ Less → AllBelow cmp key xs (key y) → RisesAbove cmp key k (xs ++ y ∷ [])
@@ -127,10 +134,13 @@ module _ {A K : Type 0} {cmp : K → K → Ordering} (o : TotalOrder cmp) (key :
   all_of_right P [] ys h = h
   all_of_right P (x ∷ xs) ys h = all_of_right P xs ys (All-tail P x (xs ++ ys) h)
 
+  parts_apart_by : (xs ys : List A) → Rises cmp key (xs ++ ys) → All (λ x. All (λ y. cmp (key x) (key y) ≡ Less) ys) xs
+  parts_apart_by [] ys h = All-nil (λ z. All (λ y. cmp (key z) (key y) ≡ Less) ys)
+  parts_apart_by (x ∷ xs) ys h = All-cons (λ z. All (λ y. cmp (key z) (key y) ≡ Less) ys) x xs (all_of_right (λ y. cmp (key x) (key y) ≡ Less) xs ys (all_from_rises_above (key x) (xs ++ ys) h)) (parts_apart_by xs ys (rises_from_above o key (key x) (xs ++ ys) h))
+
   -- each key of the first part is below each of the second
-  pub parts_apart : (xs ys : List A) → Rises cmp key (xs ++ ys) → All (λ x. All (λ y. cmp (key x) (key y) ≡ Less) ys) xs
-  parts_apart [] ys h = All-nil (λ z. All (λ y. cmp (key z) (key y) ≡ Less) ys)
-  parts_apart (x ∷ xs) ys h = All-cons (λ z. All (λ y. cmp (key z) (key y) ≡ Less) ys) x xs (all_of_right (λ y. cmp (key x) (key y) ≡ Less) xs ys (all_from_rises_above (key x) (xs ++ ys) h)) (parts_apart xs ys (rises_from_above o key (key x) (xs ++ ys) h))
+  pub parts_apart : (xs ys : List A) → Rises cmp key (xs ++ ys) → All (λ y. AllBelow cmp key xs (key y)) ys
+  parts_apart xs ys h = All-turned (λ x y. cmp (key x) (key y) ≡ Less) xs ys (parts_apart_by xs ys h)
 
   -- the first part is below the item that follows, and what follows that item rises above its key
   pub below_split : (xs : List A) (y : A) (ys : List A) → Rises cmp key (xs ++ y ∷ ys) → AllBelow cmp key xs (key y)

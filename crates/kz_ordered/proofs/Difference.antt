@@ -1,10 +1,10 @@
 -- The difference of two lists that rise: it leads from the first to the second, also in parts.
-use Rattle.std.proofs.Common.{◌≡◌, ◌≢◌, ◌⊎◌, ◌↔◌, ℕ, zero, suc, Bool, true, false, cond, List, [], ◌∷◌, ◌++◌, Option, Some, None, Ordering, Less, Equal, Greater, is_eq, Contains, take, drop, refl, sym, ap, ◌∙◌, subst, inl, inr}
+use Rattle.std.proofs.Common.{◌≡◌, ◌≢◌, ◌⊎◌, ◌↔◌, ℕ, zero, suc, Bool, true, false, cond, List, [], ◌∷◌, ◌++◌, Option, Some, None, Ordering, Less, Contains, take, drop, refl, sym, ap, ◌∙◌, subst, inl, inr}
 use Rattle.kz_ordered.specs.Order.{TotalOrder}
-use Rattle.kz_ordered.specs.Ordered.{find, put, without, RisesAbove, Rises}
+use Rattle.kz_ordered.specs.Ordered.{find, put, without, Rises}
 use Rattle.kz_ordered.specs.Difference.{DecidesEqual, Edit, drop_key, make, alter, edited, all_edited, drop_unless, drops, make_or_alter, makes, difference}
-use Rattle.kz_ordered.proofs.Order.{Place, below, equal, above, place, less_differs, less_differs_back}
-use Rattle.kz_ordered.proofs.Lookup.{some_is_none, find_here, find_head, find_skip, key_of_found, find-put_same, find-put_other, rest_rises, found_above, Rises-put, without_here, without_skip, Rises-without, find-without_other, same_items, found_is_contained, contained_is_above, contained_is_found, Contains-head, Contains-tail, Contains-nil, Contains-cons_cases, Contains-put_cases}
+use Rattle.kz_ordered.proofs.Order.{less_differs, less_differs_back}
+use Rattle.kz_ordered.proofs.Lookup.{some_is_none, find_head, find_skip, key_of_found, find-put_same, find-put_other, rest_rises, found_above, Rises-put, without_here, without_skip, Rises-without, find-without_other, same_items, found_is_contained, contained_is_above, contained_is_found, Contains-head, Contains-tail, Contains-nil, Contains-cons_cases, Contains-put_cases}
 
 empty_left : {X : Type 0} (xs ys : List X) → xs ++ ys ≡ [] → xs ≡ []
 empty_left [] ys e = refl
@@ -44,9 +44,9 @@ module _ {A K : Type 0} {cmp : K → K → Ordering} (o : TotalOrder cmp) (key :
   no_drops : (a b : List A) (z : A) → drops cmp key a b ≡ [] → Contains a z → find cmp key (key z) b ≢ None
   no_drops [] b z e has = absurd (Contains-nil z has)
   no_drops (x ∷ a) b z e has = elim (Contains-cons_cases x a z has) [
-    inl is ↦ subst (λ y. find cmp key (key y) b ≢ None) is (none_dropped (key x) (find cmp key (key x) b) (empty_right (drops cmp key a b) (drop_unless (key x) (find cmp key (key x) b)) e))
+    | inl is ↦ subst (λ y. find cmp key (key y) b ≢ None) is (none_dropped (key x) (find cmp key (key x) b) (empty_right (drops cmp key a b) (drop_unless (key x) (find cmp key (key x) b)) e))
     | inr later ↦ no_drops a b z (empty_left (drops cmp key a b) (drop_unless (key x) (find cmp key (key x) b)) e) later
-    ]
+  ]
 
   kept : (k : K) (r : Option A) → r ≢ None → ◌≡◌ {A = List (Edit A K)} (drop_unless k r) []
   kept k (Some y) some = refl
@@ -133,9 +133,9 @@ module _ {A K : Type 0} {cmp : K → K → Ordering} (o : TotalOrder cmp) (key :
       no_makes : (a b : List A) (z : A) → makes cmp key same a b ≡ [] → Contains b z → find cmp key (key z) a ≡ Some z
       no_makes a [] z e has = absurd (Contains-nil z has)
       no_makes a (x ∷ b) z e has = elim (Contains-cons_cases x b z has) [
-        inl is ↦ subst (λ y. find cmp key (key y) a ≡ Some y) is (found_as_it_is x (find cmp key (key x) a) (λ y f. key_of_found o key (key x) a y f) (empty_left (make_or_alter same x (find cmp key (key x) a)) (makes cmp key same a b) e))
+        | inl is ↦ subst (λ y. find cmp key (key y) a ≡ Some y) is (found_as_it_is x (find cmp key (key x) a) (λ y f. key_of_found o key (key x) a y f) (empty_left (make_or_alter same x (find cmp key (key x) a)) (makes cmp key same a b) e))
         | inr later ↦ no_makes a b z (empty_right (make_or_alter same x (find cmp key (key x) a)) (makes cmp key same a b) e) later
-        ]
+      ]
 
       unmade : (x : A) → make_or_alter {K = K} same x (Some x) ≡ []
       unmade x = rw (d.itself x)

@@ -1,23 +1,14 @@
 -- What the edits of a difference are, and in which order they stand.
-use Rattle.std.proofs.Common.{◌≡◌, ◌≢◌, ◌⊎◌, ◌↔◌, ℕ, zero, suc, Bool, true, false, cond, List, [], ◌∷◌, ◌++◌, Option, Some, None, Ordering, Less, Equal, Greater, is_eq, All, Contains, refl, sym, ap, ◌∙◌, subst, inl, inr, append-nil}
-use Rattle.std.specs.Ordering.{flip_args, ordering_reverse}
-use Rattle.std.proofs.lemmas.List.Elements.{All-nil, All-cons, All-append, All-contains_itself, All-weaker, All-contains, Contains-append_left, Contains-append_right}
+use Rattle.std.proofs.Common.{◌≡◌, ◌↔◌, Bool, true, false, cond, List, [], ◌∷◌, ◌++◌, Option, Some, None, Ordering, Less, All, Contains, refl, sym, ap, ◌∙◌, subst, append-nil}
+use Rattle.std.specs.Ordering.{flip_args}
+use Rattle.std.proofs.lemmas.List.Elements.{All-nil, All-cons, All-append, All-contains, Contains-append_left, Contains-append_right}
 use Rattle.kz_ordered.specs.Order.{TotalOrder}
 use Rattle.kz_ordered.specs.Ordered.{find, RisesAbove, Rises, AllBelow}
 use Rattle.kz_ordered.specs.Difference.{Edit, drop_key, make, alter, drop_unless, drops, make_or_alter, makes, difference}
 use Rattle.kz_ordered.specs.Edits.{IsDue, edit_key, IsDrop, IsNoDrop, DropsFallOthersRise}
-use Rattle.kz_ordered.proofs.Order.{Place, below, equal, above, place, less_differs, less_differs_back}
-use Rattle.kz_ordered.proofs.Lookup.{some_is_none, same_some, find_here, find_head, find_skip, key_of_found, rest_rises, rises_above_smaller, found_above, contained_is_above, contained_is_found, Contains-head, Contains-tail, rises_from_above}
+use Rattle.kz_ordered.proofs.Order.{below, equal, above, place, less_differs, less_differs_back, flipped}
+use Rattle.kz_ordered.proofs.Lookup.{some_is_none, same_some, find_here, find_skip, rest_rises, rises_above_smaller, contained_is_above, contained_is_found, Contains-head, Contains-tail, rises_from_above}
 use Rattle.kz_ordered.proofs.Append.{Rises-push}
-
--- the order the other way round
-pub flipped : {K : Type 0} {cmp : K → K → Ordering} → TotalOrder cmp → TotalOrder (flip_args cmp)
-flipped o = record {
-  itself = o.itself;
-  same = λ x y e. sym (o.same y x e);
-  mirror = λ x y. o.mirror y x;
-  chain = λ x y z h g. o.chain z y x g h;
-}
 
 module _ {A K : Type 0} {cmp : K → K → Ordering} (o : TotalOrder cmp) (key : A → K) where
   -- ---- what holds of each edit
@@ -63,18 +54,18 @@ module _ {A K : Type 0} {cmp : K → K → Ordering} (o : TotalOrder cmp) (key :
     due_drop : (k : K) (a b : List A) (y : A) → find cmp key k a ≡ Some y → find cmp key k b ≡ None → Contains (drops cmp key a b) (drop_key k)
     due_drop k [] b y at gone = absurd (some_is_none (sym at))
     due_drop k (x ∷ a) b y at gone = elim (place o k (key x)) [
-      below h ↦ Contains-append_left (drops cmp key a b) (drop_unless (key x) (find cmp key (key x) b)) (drop_key k) (due_drop k a b y (sym (find_skip o key k x a (less_differs o k (key x) h)) ∙ at) gone)
+      | below h ↦ Contains-append_left (drops cmp key a b) (drop_unless (key x) (find cmp key (key x) b)) (drop_key k) (due_drop k a b y (sym (find_skip o key k x a (less_differs o k (key x) h)) ∙ at) gone)
       | equal h ↦ Contains-append_right (drops cmp key a b) (drop_unless (key x) (find cmp key (key x) b)) (drop_key k) (rw (ap (λ q. find cmp key q b) (sym h) ∙ gone, h) (Contains-head (drop_key (key x)) []))
       | above h ↦ Contains-append_left (drops cmp key a b) (drop_unless (key x) (find cmp key (key x) b)) (drop_key k) (due_drop k a b y (sym (find_skip o key k x a (less_differs_back o k (key x) h)) ∙ at) gone)
-      ]
+    ]
 
     due_make : (x : A) (a b : List A) (e : Edit A K) → Contains (make_or_alter same x (find cmp key (key x) a)) e → find cmp key (key x) b ≡ Some x → Contains (makes cmp key same a b) e
     due_make x a [] e own at = absurd (some_is_none (sym at))
     due_make x a (z ∷ b) e own at = elim (place o (key x) (key z)) [
-      below h ↦ Contains-append_right (make_or_alter same z (find cmp key (key z) a)) (makes cmp key same a b) e (due_make x a b e own (sym (find_skip o key (key x) z b (less_differs o (key x) (key z) h)) ∙ at))
+      | below h ↦ Contains-append_right (make_or_alter same z (find cmp key (key z) a)) (makes cmp key same a b) e (due_make x a b e own (sym (find_skip o key (key x) z b (less_differs o (key x) (key z) h)) ∙ at))
       | equal h ↦ Contains-append_left (make_or_alter same z (find cmp key (key z) a)) (makes cmp key same a b) e (subst (λ w. Contains (make_or_alter same w (find cmp key (key w) a)) e) (same_some x z (sym at ∙ find_here o key (key x) z b h)) own)
       | above h ↦ Contains-append_right (make_or_alter same z (find cmp key (key z) a)) (makes cmp key same a b) e (due_make x a b e own (sym (find_skip o key (key x) z b (less_differs_back o (key x) (key z) h)) ∙ at))
-      ]
+    ]
 
     pub due_is_there : (a b : List A) (e : Edit A K) → IsDue cmp key same a b e → Contains (difference cmp key same a b) e
     due_is_there a b (drop_key k) due = Contains-append_left (drops cmp key a b) (makes cmp key same a b) (drop_key k) (due_drop k a b due.0 due.1 due.2)
@@ -84,6 +75,18 @@ module _ {A K : Type 0} {cmp : K → K → Ordering} (o : TotalOrder cmp) (key :
     -- the difference has just the edits that are due
     pub due_exactly : (a b : List A) (e : Edit A K) → Rises cmp key a → Rises cmp key b → Contains (difference cmp key same a b) e ↔ IsDue cmp key same a b e
     due_exactly a b e ha hb = (λ has. All-contains (IsDue cmp key same a b) (difference cmp key same a b) e (each_is_due a b ha hb) has, due_is_there a b e)
+
+    -- at most one edit is due at a key
+    pub due_once : (a b : List A) (e f : Edit A K) → IsDue cmp key same a b e → IsDue cmp key same a b f → edit_key key e ≡ edit_key key f → e ≡ f
+    due_once a b (drop_key k) (drop_key j) p q keys = ap drop_key keys
+    due_once a b (drop_key k) (make x) p q keys = absurd (some_is_none (sym q.1 ∙ ap (λ z. find cmp key z b) (sym keys) ∙ p.2))
+    due_once a b (drop_key k) (alter x) p q keys = absurd (some_is_none (sym q.2 ∙ ap (λ z. find cmp key z b) (sym keys) ∙ p.2))
+    due_once a b (make x) (drop_key k) p q keys = absurd (some_is_none (sym p.1 ∙ ap (λ z. find cmp key z b) keys ∙ q.2))
+    due_once a b (make x) (make y) p q keys = ap make (same_some x y (sym p.1 ∙ ap (λ z. find cmp key z b) keys ∙ q.1))
+    due_once a b (make x) (alter y) p q keys = absurd (some_is_none (sym q.1 ∙ ap (λ z. find cmp key z a) (sym keys) ∙ p.0))
+    due_once a b (alter x) (drop_key k) p q keys = absurd (some_is_none (sym p.2 ∙ ap (λ z. find cmp key z b) keys ∙ q.2))
+    due_once a b (alter x) (make y) p q keys = absurd (some_is_none (sym p.1 ∙ ap (λ z. find cmp key z a) keys ∙ q.0))
+    due_once a b (alter x) (alter y) p q keys = ap alter (same_some x y (sym p.2 ∙ ap (λ z. find cmp key z b) keys ∙ q.2))
 
     -- ---- their order
 

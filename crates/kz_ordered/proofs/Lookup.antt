@@ -1,10 +1,10 @@
 -- Look-ups in a list after an item is put or taken out, and lists that rise.
-use Rattle.std.proofs.Common.{◌≡◌, ◌≢◌, ℕ, zero, suc, ◌+◌, ◌<◌, ◌≤◌, ◌⊎◌, Bool, true, false, cond, List, [], ◌∷◌, Option, Some, None, Ordering, Less, Equal, Greater, is_eq, Contains, length, get_or, refl, sym, ap, ◌∙◌, subst, arith, inl, inr}
+use Rattle.std.proofs.Common.{◌≡◌, ◌≢◌, ℕ, zero, suc, ◌+◌, ◌<◌, ◌⊎◌, Bool, true, false, cond, List, [], ◌∷◌, Some, None, Ordering, Less, Equal, Greater, is_eq, Contains, length, get_or, refl, sym, ap, ◌∙◌, subst, arith, inl, inr}
 use Rattle.std.specs.Ordering.{match_ordering}
 use Rattle.std.proofs.lemmas.List.Elements.{Contains-get_or}
 use Rattle.kz_ordered.specs.Order.{TotalOrder}
 use Rattle.kz_ordered.specs.Ordered.{find, put, without, RisesAbove, Rises}
-use Rattle.kz_ordered.proofs.Order.{Place, below, equal, above, place, cmp_equal, cmp_greater, less_differs, less_differs_back, is_eq_same, is_eq_other}
+use Rattle.kz_ordered.proofs.Order.{below, equal, above, place, cmp_equal, cmp_greater, less_differs, less_differs_back, is_eq_same, is_eq_other}
 
 pub some_is_none : {A : Type 0} {x : A} → Some x ≡ None → ⊥
 some_is_none e = cc
@@ -42,28 +42,28 @@ module _ {A K : Type 0} {cmp : K → K → Ordering} (o : TotalOrder cmp) (key :
   pub key_of_found : (k : K) (xs : List A) (y : A) → find cmp key k xs ≡ Some y → key y ≡ k
   key_of_found k [] y e = absurd (some_is_none (sym e))
   key_of_found k (x ∷ xs) y e = elim (place o k (key x)) [
-    below h ↦ key_of_found k xs y (sym (find_skip k x xs (less_differs o k (key x) h)) ∙ e)
+    | below h ↦ key_of_found k xs y (sym (find_skip k x xs (less_differs o k (key x) h)) ∙ e)
     | equal h ↦ ap key (same_some y x (sym e ∙ find_here k x xs h)) ∙ sym h
     | above h ↦ key_of_found k xs y (sym (find_skip k x xs (less_differs_back o k (key x) h)) ∙ e)
-    ]
+  ]
 
   -- ---- after an item is put
 
   pub find-put_same : (x : A) (ys : List A) → find cmp key (key x) (put cmp key x ys) ≡ Some x
   find-put_same x [] = find_head x []
   find-put_same x (y ∷ ys) = elim (place o (key x) (key y)) [
-    below h ↦ rw h (find_head x (y ∷ ys))
+    | below h ↦ rw h (find_head x (y ∷ ys))
     | equal h ↦ rw (cmp_equal o (key x) (key y) h) (find_head x ys)
     | above h ↦ rw (cmp_greater o (key x) (key y) h) (find_skip (key x) y (put cmp key x ys) (less_differs_back o (key x) (key y) h) ∙ find-put_same x ys)
-    ]
+  ]
 
   pub find-put_other : (x : A) (ys : List A) (k : K) → k ≢ key x → find cmp key k (put cmp key x ys) ≡ find cmp key k ys
   find-put_other x [] k ne = find_skip k x [] ne
   find-put_other x (y ∷ ys) k ne = elim (place o (key x) (key y)) [
-    below h ↦ rw h (find_skip k x (y ∷ ys) ne)
+    | below h ↦ rw h (find_skip k x (y ∷ ys) ne)
     | equal h ↦ rw (cmp_equal o (key x) (key y) h) (find_skip k x ys ne ∙ sym (find_skip k y ys (λ e. ne (e ∙ sym h))))
     | above h ↦ rw (cmp_greater o (key x) (key y) h) (ap (λ r. cond (is_eq (cmp k (key y))) (Some y) r) (find-put_other x ys k ne))
-    ]
+  ]
 
   -- ---- lists that rise
 
@@ -87,29 +87,32 @@ module _ {A K : Type 0} {cmp : K → K → Ordering} (o : TotalOrder cmp) (key :
   pub find_below : (j k : K) (xs : List A) → cmp j k ≡ Less → RisesAbove cmp key k xs → find cmp key j xs ≡ None
   find_below j k xs lt h = find_at_bound j xs (rises_above_smaller j k xs lt h)
 
+  pub find_below_first : (k : K) (x : A) (xs : List A) → Rises cmp key (x ∷ xs) → cmp k (key x) ≡ Less → find cmp key k (x ∷ xs) ≡ None
+  find_below_first k x xs h lt = find_skip k x xs (less_differs o k (key x) lt) ∙ find_below k (key x) xs lt h
+
   -- what is found stands above the key above which the list rises
   pub found_above : (k j : K) (xs : List A) (y : A) → RisesAbove cmp key k xs → find cmp key j xs ≡ Some y → cmp k j ≡ Less
   found_above k j xs y h e = elim (place o k j) [
-    below lt ↦ lt
+    | below lt ↦ lt
     | equal is ↦ absurd (some_is_none (sym e ∙ ap (λ q. find cmp key q xs) (sym is) ∙ find_at_bound k xs h))
     | above gt ↦ absurd (some_is_none (sym e ∙ find_below j k xs gt h))
-    ]
+  ]
 
   pub RisesAbove-put : (k : K) (x : A) (ys : List A) → cmp k (key x) ≡ Less → RisesAbove cmp key k ys → RisesAbove cmp key k (put cmp key x ys)
   RisesAbove-put k x [] lt h = (lt, tt)
   RisesAbove-put k x (y ∷ ys) lt h = elim (place o (key x) (key y)) [
-    below p ↦ rw p (lt, (p, h.1))
+    | below p ↦ rw p (lt, (p, h.1))
     | equal p ↦ rw (cmp_equal o (key x) (key y) p) (lt, subst (λ q. RisesAbove cmp key q ys) (sym p) h.1)
     | above p ↦ rw (cmp_greater o (key x) (key y) p) (h.0, RisesAbove-put (key y) x ys p h.1)
-    ]
+  ]
 
   pub Rises-put : (x : A) (ys : List A) → Rises cmp key ys → Rises cmp key (put cmp key x ys)
   Rises-put x [] h = tt
   Rises-put x (y ∷ ys) h = elim (place o (key x) (key y)) [
-    below p ↦ rw p (p, h)
+    | below p ↦ rw p (p, h)
     | equal p ↦ rw (cmp_equal o (key x) (key y) p) (subst (λ q. RisesAbove cmp key q ys) (sym p) h)
     | above p ↦ rw (cmp_greater o (key x) (key y) p) (RisesAbove-put (key y) x ys p h)
-    ]
+  ]
 
   -- ---- after an item is taken out
 
@@ -122,52 +125,52 @@ module _ {A K : Type 0} {cmp : K → K → Ordering} (o : TotalOrder cmp) (key :
   pub RisesAbove-without : (k j : K) (xs : List A) → RisesAbove cmp key k xs → RisesAbove cmp key k (without cmp key j xs)
   RisesAbove-without k j [] h = tt
   RisesAbove-without k j (x ∷ xs) h = elim (place o j (key x)) [
-    below p ↦ rw (is_eq_other o j (key x) (less_differs o j (key x) p)) (h.0, RisesAbove-without (key x) j xs h.1)
+    | below p ↦ rw (is_eq_other o j (key x) (less_differs o j (key x) p)) (h.0, RisesAbove-without (key x) j xs h.1)
     | equal p ↦ rw (is_eq_same o j (key x) p) (rises_above_smaller k (key x) xs h.0 h.1)
     | above p ↦ rw (is_eq_other o j (key x) (less_differs_back o j (key x) p)) (h.0, RisesAbove-without (key x) j xs h.1)
-    ]
+  ]
 
   pub Rises-without : (j : K) (xs : List A) → Rises cmp key xs → Rises cmp key (without cmp key j xs)
   Rises-without j [] h = tt
   Rises-without j (x ∷ xs) h = elim (place o j (key x)) [
-    below p ↦ rw (is_eq_other o j (key x) (less_differs o j (key x) p)) (RisesAbove-without (key x) j xs h)
+    | below p ↦ rw (is_eq_other o j (key x) (less_differs o j (key x) p)) (RisesAbove-without (key x) j xs h)
     | equal p ↦ rw (is_eq_same o j (key x) p) (rest_rises x xs h)
     | above p ↦ rw (is_eq_other o j (key x) (less_differs_back o j (key x) p)) (RisesAbove-without (key x) j xs h)
-    ]
+  ]
 
   pub find-without_same : (k : K) (xs : List A) → Rises cmp key xs → find cmp key k (without cmp key k xs) ≡ None
   find-without_same k [] h = refl
   find-without_same k (x ∷ xs) h = elim (place o k (key x)) [
-    below p ↦ ap (find cmp key k) (without_skip k x xs (less_differs o k (key x) p)) ∙ find_skip k x (without cmp key k xs) (less_differs o k (key x) p) ∙ find-without_same k xs (rest_rises x xs h)
+    | below p ↦ ap (find cmp key k) (without_skip k x xs (less_differs o k (key x) p)) ∙ find_skip k x (without cmp key k xs) (less_differs o k (key x) p) ∙ find-without_same k xs (rest_rises x xs h)
     | equal p ↦ ap (find cmp key k) (without_here k x xs p) ∙ ap (λ q. find cmp key q xs) p ∙ find_at_bound (key x) xs h
     | above p ↦ ap (find cmp key k) (without_skip k x xs (less_differs_back o k (key x) p)) ∙ find_skip k x (without cmp key k xs) (less_differs_back o k (key x) p) ∙ find-without_same k xs (rest_rises x xs h)
-    ]
+  ]
 
   pub find-without_other : (j : K) (xs : List A) (k : K) → k ≢ j → find cmp key k (without cmp key j xs) ≡ find cmp key k xs
   find-without_other j [] k ne = refl
   find-without_other j (x ∷ xs) k ne = elim (place o j (key x)) [
-    below p ↦ rw (is_eq_other o j (key x) (less_differs o j (key x) p)) (ap (λ r. cond (is_eq (cmp k (key x))) (Some x) r) (find-without_other j xs k ne))
+    | below p ↦ rw (is_eq_other o j (key x) (less_differs o j (key x) p)) (ap (λ r. cond (is_eq (cmp k (key x))) (Some x) r) (find-without_other j xs k ne))
     | equal p ↦ rw (is_eq_same o j (key x) p) (sym (find_skip k x xs (λ e. ne (e ∙ sym p))))
     | above p ↦ rw (is_eq_other o j (key x) (less_differs_back o j (key x) p)) (ap (λ r. cond (is_eq (cmp k (key x))) (Some x) r) (find-without_other j xs k ne))
-    ]
+  ]
 
   -- ---- lists that rise and answer alike are one list
 
   -- below the first two items, which have one key, the look-ups agree too
   alike_behind : (x y : A) (xs ys : List A) → key x ≡ key y → RisesAbove cmp key (key x) xs → RisesAbove cmp key (key y) ys → ((k : K) → find cmp key k (x ∷ xs) ≡ find cmp key k (y ∷ ys)) → (k : K) → find cmp key k xs ≡ find cmp key k ys
   alike_behind x y xs ys e hx hy alike k = elim (place o k (key x)) [
-    below p ↦ find_below k (key x) xs p hx ∙ sym (find_below k (key y) ys (subst (λ q. cmp k q ≡ Less) e p) hy)
+    | below p ↦ find_below k (key x) xs p hx ∙ sym (find_below k (key y) ys (subst (λ q. cmp k q ≡ Less) e p) hy)
     | equal p ↦ ap (λ q. find cmp key q xs) p ∙ find_at_bound (key x) xs hx ∙ sym (ap (λ q. find cmp key q ys) (p ∙ e) ∙ find_at_bound (key y) ys hy)
     | above p ↦ let ne : k ≢ key x = less_differs_back o k (key x) p in sym (find_skip k x xs ne) ∙ alike k ∙ find_skip k y ys (λ f. ne (f ∙ sym e))
-    ]
+  ]
 
   -- of two lists that answer alike, the first keys are the same
   first_keys : (x y : A) (xs ys : List A) → RisesAbove cmp key (key x) xs → RisesAbove cmp key (key y) ys → ((k : K) → find cmp key k (x ∷ xs) ≡ find cmp key k (y ∷ ys)) → key x ≡ key y
   first_keys x y xs ys hx hy alike = elim (place o (key x) (key y)) [
-    below p ↦ absurd (some_is_none (sym (find_head x xs) ∙ alike (key x) ∙ find_skip (key x) y ys (less_differs o (key x) (key y) p) ∙ find_below (key x) (key y) ys p hy))
+    | below p ↦ absurd (some_is_none (sym (find_head x xs) ∙ alike (key x) ∙ find_skip (key x) y ys (less_differs o (key x) (key y) p) ∙ find_below (key x) (key y) ys p hy))
     | equal p ↦ p
     | above p ↦ absurd (some_is_none (sym (find_head y ys) ∙ sym (alike (key y)) ∙ find_skip (key y) x xs (less_differs o (key y) (key x) p) ∙ find_below (key y) (key x) xs p hx))
-    ]
+  ]
 
   pub same_items : (xs ys : List A) → Rises cmp key xs → Rises cmp key ys → ((k : K) → find cmp key k xs ≡ find cmp key k ys) → xs ≡ ys
   same_items [] [] hx hy alike = refl
@@ -184,24 +187,24 @@ module _ {A K : Type 0} {cmp : K → K → Ordering} (o : TotalOrder cmp) (key :
   pub found_is_contained : (k : K) (xs : List A) (y : A) → find cmp key k xs ≡ Some y → Contains xs y
   found_is_contained k [] y e = absurd (some_is_none (sym e))
   found_is_contained k (x ∷ xs) y e = elim (place o k (key x)) [
-    below h ↦ Contains-tail x xs y (found_is_contained k xs y (sym (find_skip k x xs (less_differs o k (key x) h)) ∙ e))
+    | below h ↦ Contains-tail x xs y (found_is_contained k xs y (sym (find_skip k x xs (less_differs o k (key x) h)) ∙ e))
     | equal h ↦ subst (Contains (x ∷ xs)) (same_some x y (sym (find_here k x xs h) ∙ e)) (Contains-head x xs)
     | above h ↦ Contains-tail x xs y (found_is_contained k xs y (sym (find_skip k x xs (less_differs_back o k (key x) h)) ∙ e))
-    ]
+  ]
 
   pub contained_is_above : (k : K) (xs : List A) (y : A) → RisesAbove cmp key k xs → Contains xs y → cmp k (key y) ≡ Less
   contained_is_above k [] y h has = absurd (Contains-nil y has)
   contained_is_above k (x ∷ xs) y h has = elim (Contains-cons_cases x xs y has) [
-    inl is ↦ subst (λ z. cmp k (key z) ≡ Less) is h.0
+    | inl is ↦ subst (λ z. cmp k (key z) ≡ Less) is h.0
     | inr later ↦ o.chain k (key x) (key y) h.0 (contained_is_above (key x) xs y h.1 later)
-    ]
+  ]
 
   pub contained_is_found : (xs : List A) (y : A) → Rises cmp key xs → Contains xs y → find cmp key (key y) xs ≡ Some y
   contained_is_found [] y h has = absurd (Contains-nil y has)
   contained_is_found (x ∷ xs) y h has = elim (Contains-cons_cases x xs y has) [
-    inl is ↦ subst (λ z. find cmp key (key z) (x ∷ xs) ≡ Some z) is (find_head x xs)
+    | inl is ↦ subst (λ z. find cmp key (key z) (x ∷ xs) ≡ Some z) is (find_head x xs)
     | inr later ↦ find_skip (key y) x xs (less_differs_back o (key y) (key x) (contained_is_above (key x) xs y h later)) ∙ contained_is_found xs y (rest_rises x xs h) later
-    ]
+  ]
 
   -- the item at each place is found under its key
   pub found_at : (xs : List A) (i : ℕ) (d : A) → Rises cmp key xs → i < length xs → find cmp key (key (get_or xs i d)) xs ≡ Some (get_or xs i d)
@@ -229,9 +232,11 @@ module _ {A K : Type 0} {cmp : K → K → Ordering} (o : TotalOrder cmp) (key :
       behind : (x y : A) (ys : List A) (z : A) → (x ≡ z) ⊎ Contains ys z → (x ≡ z) ⊎ Contains (y ∷ ys) z
       behind x y ys z (inl e) = inl e
       behind x y ys z (inr has) = inr (Contains-tail y ys z has)
+
       first_or : (x y : A) (ys zs : List A) (z : A) → (y ≡ z) ⊎ Contains zs z → (Contains zs z → (x ≡ z) ⊎ Contains ys z) → (x ≡ z) ⊎ Contains (y ∷ ys) z
       first_or x y ys zs z (inl e) later = inr (subst (Contains (y ∷ ys)) e (Contains-head y ys))
       first_or x y ys zs z (inr has) later = behind x y ys z (later has)
+
       put_cases_by : (x y : A) (ys : List A) (z : A) (r : Ordering) → Contains (match_ordering r (x ∷ y ∷ ys) (x ∷ ys) (y ∷ put cmp key x ys)) z → (Contains (put cmp key x ys) z → (x ≡ z) ⊎ Contains ys z) → (x ≡ z) ⊎ Contains (y ∷ ys) z
       put_cases_by x y ys z Less has later = Contains-cons_cases x (y ∷ ys) z has
       put_cases_by x y ys z Equal has later = behind x y ys z (Contains-cons_cases x ys z has)
@@ -244,6 +249,7 @@ module _ {A K : Type 0} {cmp : K → K → Ordering} (o : TotalOrder cmp) (key :
       first_or : (x : A) (xs zs : List A) (z : A) → (x ≡ z) ⊎ Contains zs z → (Contains zs z → Contains xs z) → Contains (x ∷ xs) z
       first_or x xs zs z (inl e) later = subst (Contains (x ∷ xs)) e (Contains-head x xs)
       first_or x xs zs z (inr has) later = Contains-tail x xs z (later has)
+
       without_by : (k : K) (x : A) (xs : List A) (z : A) (b : Bool) → Contains (cond b xs (x ∷ without cmp key k xs)) z → (Contains (without cmp key k xs) z → Contains xs z) → Contains (x ∷ xs) z
       without_by k x xs z true has later = Contains-tail x xs z has
       without_by k x xs z false has later = first_or x xs (without cmp key k xs) z (Contains-cons_cases x (without cmp key k xs) z has) later

@@ -1,7 +1,7 @@
 -- Total orders: the three cases of two keys, and the orders of numbers and of byte strings.
-use Rattle.std.proofs.Common.{◌≡◌, ◌≢◌, ℕ, ℤ, Bool, true, false, Ordering, Less, Equal, Greater, is_eq, nat_cmp, int_cmp, refl, sym, ap, ◌∙◌, subst}
+use Rattle.std.proofs.Common.{◌≡◌, ◌≢◌, true, false, Ordering, Less, Equal, Greater, is_eq, nat_cmp, int_cmp, refl, sym, ap, ◌∙◌, subst}
 use Rattle.std.specs.Cmp.{IsTotalOrder}
-use Rattle.std.specs.Ordering.{ordering_reverse}
+use Rattle.std.specs.Ordering.{ordering_reverse, flip_args}
 use Rattle.std.proofs.lemmas.Cmp.{nat_cmp_total, int_cmp_total, nat_list_cmp_total, tied_itself}
 use Rattle.std.proofs.lemmas.Map.Lookups.{exact_unsigned, exact_signed, exact_bytes}
 use Rattle.kz_ordered.specs.Order.{TotalOrder, bytes_cmp}
@@ -18,6 +18,15 @@ int_order = total_from_std int_cmp_total exact_signed
 
 pub bytes_order : TotalOrder bytes_cmp
 bytes_order = total_from_std nat_list_cmp_total exact_bytes
+
+-- the order the other way round
+pub flipped : {K : Type 0} {cmp : K → K → Ordering} → TotalOrder cmp → TotalOrder (flip_args cmp)
+flipped o = record {
+  itself = o.itself;
+  same = λ x y e. sym (o.same y x e);
+  mirror = λ x y. o.mirror y x;
+  chain = λ x y z h g. o.chain z y x g h;
+}
 
 -- Where one key stands beside another.
 pub data Place {K : Type 0} (cmp : K → K → Ordering) (x y : K) : Type 0 where

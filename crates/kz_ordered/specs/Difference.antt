@@ -8,7 +8,7 @@ pub record DecidesEqual {A K : Type 0} (key : A → K) (same : A → A → Bool)
   pub itself : (x : A) → same x x ≡ true
   pub equal : (x y : A) → key x ≡ key y → same x y ≡ true → x ≡ y
 
--- One edit of a list.
+-- One edit of a list: the item with a key goes, a new item comes, or an item takes the place of the one with its key.
 pub data Edit (A K : Type 0) : Type 0 where
   drop_key : K → Edit A K
   make : A → Edit A K
@@ -25,6 +25,7 @@ abbrev pub all_edited : {A K : Type 0} → (K → K → Ordering) → (A → K) 
 all_edited cmp key [] xs = xs
 all_edited cmp key (e ∷ es) xs = all_edited cmp key es (edited cmp key e xs)
 
+-- a drop of the key, unless an item was found under it
 abbrev pub drop_unless : {A K : Type 0} → K → Option A → List (Edit A K)
 drop_unless k (Some y) = []
 drop_unless k None = drop_key k ∷ []
@@ -34,6 +35,7 @@ abbrev pub drops : {A K : Type 0} → (K → K → Ordering) → (A → K) → L
 drops cmp key [] b = []
 drops cmp key (x ∷ a) b = drops cmp key a b ++ drop_unless (key x) (find cmp key (key x) b)
 
+-- the edit that gives a list this item, where this was found under its key
 abbrev pub make_or_alter : {A K : Type 0} → (A → A → Bool) → A → Option A → List (Edit A K)
 make_or_alter same x None = make x ∷ []
 make_or_alter same x (Some y) = if same y x then [] else alter x ∷ []

@@ -1,5 +1,5 @@
 -- What the edits of a difference are, and in which order they stand.
-use Rattle.std.specs.Prelude.{◌≡◌, Bool, false, List, ◌++◌, Option, Some, None, All, ⊤}
+use Rattle.std.specs.Prelude.{◌≡◌, Bool, false, List, ◌++◌, Some, None, All, ⊤}
 use Rattle.std.specs.declared.cmp.Ordering.{Ordering}
 use Rattle.std.specs.Ordering.{flip_args}
 use Rattle.kz_ordered.specs.Ordered.{find, Rises}
@@ -17,12 +17,13 @@ edit_key key (drop_key k) = k
 edit_key key (make x) = key x
 edit_key key (alter x) = key x
 
--- an edit is a drop, or it is none
+-- the edit is a drop
 abbrev pub IsDrop : {A K : Type 0} → Edit A K → Type 0
 IsDrop (drop_key k) = ⊤
 IsDrop (make x) = ⊥
 IsDrop (alter x) = ⊥
 
+-- the edit makes or alters an item
 abbrev pub IsNoDrop : {A K : Type 0} → Edit A K → Type 0
 IsNoDrop (drop_key k) = ⊥
 IsNoDrop (make x) = ⊤
