@@ -6,9 +6,11 @@
 
 mod bodies;
 mod duplicate;
+mod examples;
 mod fault;
 mod id;
 mod key;
+mod kind;
 mod log;
 mod machine;
 mod memory;
@@ -19,12 +21,14 @@ mod row;
 mod sequence;
 mod text;
 mod tree;
+mod value_fault;
 
 pub use bodies::{AssignmentRow, Body, Pair, QuotaRow, ScramPair};
 pub use duplicate::{Duplicate, copy_all};
 pub use fault::{BodyFault, LogFault, ReadWhy, TreeFault};
 pub use id::Id;
 pub use key::EntityKey;
+pub use kind::Kind;
 pub use log::BatchRow;
 pub use machine::{AheadPath, Answer, DriverState, Event, Recorded, Reply, Verdict};
 pub use memory::NoMemory;
@@ -39,3 +43,4 @@ pub use row::{AclRow, PartitionRow, QuotaValue, ScramRow};
 pub use sequence::Sequence;
 pub use text::Text;
 pub use tree::{Op, Rendered, Row};
+pub use value_fault::{PathFault, QuotaFault};
