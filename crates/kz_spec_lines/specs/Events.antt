@@ -74,10 +74,14 @@ abbrev pub is_changeable : MetaRecord → Bool
 is_changeable (Config c) = is_broker_config c
 is_changeable r = false
 
+-- the record that a JSON value is, where a change may hold it
+abbrev pub changeable_of : Data → Option MetaRecord
+changeable_of d = option_and_then (λ r. if is_changeable r then Some r else None) (record_of d)
+
 -- the record in a list of one
 abbrev pub only_record : Items → Option MetaRecord
 only_record no_items = None
-only_record (item d no_items) = option_and_then (λ r. if is_changeable r then Some r else None) (record_of d)
+only_record (item d no_items) = changeable_of d
 only_record (item d (item e ds)) = None
 
 -- `change`, with a list of exactly one record
