@@ -1,5 +1,5 @@
 -- Which event a line of a script is: a JSON object with the event's name as `event`, and exactly its members.
-use Rattle.std.specs.Prelude.{ℕ, Bool, false, not, ◌&&◌, ◌||◌, ◌==◌, ℤ, pos, List, [], ◌∷◌, length, Option, Some, None, option_map, option_and_then, if◌then◌else◌, codes}
+use Rattle.std.specs.Prelude.{ℕ, Bool, false, not, ◌&&◌, ◌||◌, ◌==◌, ℤ, pos, List, [], ◌∷◌, length, Option, Some, None, option_map, option_and_then, is_some, if◌then◌else◌, codes}
 use Rattle.std.specs.Ordering.{int_eq}
 use Rattle.serde_json.specs.Data.{Data, Items, no_items, item}
 use Rattle.serde_json.specs.Find.{get, as_array}
@@ -8,7 +8,7 @@ use Rattle.kz_types.specs.declared.machine.Event.TheVariants.{Quorum, Start, Ele
 use Rattle.kz_types.specs.declared.record.ConfigRecord.{ConfigRecord}
 use Rattle.kz_types.specs.declared.record.MetaRecord.{MetaRecord}
 use Rattle.kz_types.specs.declared.record.MetaRecord.TheVariants.{Config}
-use Rattle.kz_spec_lines.specs.Decimals.{is_decimal_up_to}
+use Rattle.kz_types.specs.Numbers.{canonical}
 use Rattle.kz_spec_lines.specs.Json.{json_of, member_count, count_with, whole_up_to, text_member, by_name}
 use Rattle.kz_spec_lines.specs.Records.{record_of}
 
@@ -66,7 +66,7 @@ turn_of d = if member_count d == timed_count 2 d
 abbrev pub is_broker_config : ConfigRecord → Bool
 is_broker_config c =
     int_eq c.resource_type (pos 4)
-    && (length c.resource_name == 0 || is_decimal_up_to 2147483647 c.resource_name)
+    && (length c.resource_name == 0 || is_some (canonical c.resource_name))
     && not (length c.name == 0)
 
 -- a record that a change may hold
@@ -74,10 +74,14 @@ abbrev pub is_changeable : MetaRecord → Bool
 is_changeable (Config c) = is_broker_config c
 is_changeable r = false
 
+-- the record that a JSON value is, where a change may hold it
+abbrev pub changeable_of : Data → Option MetaRecord
+changeable_of d = option_and_then (λ r. if is_changeable r then Some r else None) (record_of d)
+
 -- the record in a list of one
 abbrev pub only_record : Items → Option MetaRecord
 only_record no_items = None
-only_record (item d no_items) = option_and_then (λ r. if is_changeable r then Some r else None) (record_of d)
+only_record (item d no_items) = changeable_of d
 only_record (item d (item e ds)) = None
 
 -- `change`, with a list of exactly one record

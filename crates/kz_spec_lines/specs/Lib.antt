@@ -1,6 +1,5 @@
 pub mod Lines
 pub mod Json
-pub mod Decimals
 pub mod Records
 pub mod Events
 pub mod Replies

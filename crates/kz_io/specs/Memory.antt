@@ -1,0 +1,45 @@
+-- Sources and sinks in memory.
+use Rattle.std.specs.Prelude.{ℕ, Bool, ◌==◌, List, drop}
+use Rattle.std.specs.List.{list_any}
+use Rattle.kz_io.specs.declared.memory.MemorySource.{MemorySource}
+use Rattle.kz_io.specs.declared.memory.MemorySink.{MemorySink}
+
+-- what a source has left
+abbrev pub source_left : MemorySource → List ℕ
+source_left s = drop s.at s.bytes.items
+
+-- the number of its next read
+abbrev pub source_call : MemorySource → ℕ
+source_call s = s.calls
+
+-- the numbers of the reads that fail
+abbrev pub source_plan : MemorySource → List ℕ
+source_plan s = s.fail.items
+
+-- how often it has failed
+abbrev pub source_faults : MemorySource → ℕ
+source_faults s = s.faults
+
+-- what a sink has taken
+abbrev pub sink_taken : MemorySink → List ℕ
+sink_taken s = s.bytes.items
+
+-- the number of its next write
+abbrev pub sink_call : MemorySink → ℕ
+sink_call s = s.calls
+
+-- the numbers of the writes that fail
+abbrev pub sink_plan : MemorySink → List ℕ
+sink_plan s = s.fail.items
+
+-- the numbers of the writes that take nothing, where they don't fail
+abbrev pub sink_none : MemorySink → List ℕ
+sink_none s = s.none.items
+
+-- how often it has failed, or has taken nothing of a piece that wasn't empty
+abbrev pub sink_faults : MemorySink → ℕ
+sink_faults s = s.faults
+
+-- a call of this number is listed
+abbrev pub is_listed : ℕ → List ℕ → Bool
+is_listed call calls = list_any (λ n. n == call) calls

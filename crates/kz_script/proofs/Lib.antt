@@ -1,0 +1,2 @@
+mod Json
+mod Canonical

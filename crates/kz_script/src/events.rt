@@ -1,0 +1,216 @@
+//! The events that lines are.
+ghost use Rattle.std.specs.Prelude.{◌≡◌, IfOk, None, Some, Err};
+ghost use Rattle.serde_json.specs.View.{view, items_view};
+ghost use Rattle.kz_spec_lines.specs.Events.{controller_of, now_of, timed_count, only_id, quorum_of, start_of, elect_of, turn_of, is_broker_config, is_changeable, changeable_of, only_record, change_of, check_of, event_of, line_event};
+
+use crate::decimals::is_canonical;
+use crate::fault::LineFault;
+use crate::members::{id_of, member_count, read_json, text_member, time_of};
+use crate::records::record_of;
+use kz_types::{ConfigRecord, Event, MetaRecord, NoMemory, Sequence};
+use serde_json::Value;
+use std::alloc::Global;
+
+fn controller_of(value: &Value) -> Option<i32>
+    ensures { result ≡ controller_of (view value.now) }
+{
+    id_of(value.get("controller")?)
+}
+
+fn now_of(value: &Value) -> Option<i64>
+    ensures { result ≡ now_of (view value.now) }
+{
+    time_of(value.get("now"))
+}
+
+// How many members there are with `now`, which may be absent, where there are `more` others.
+fn timed_count(more: u8, value: &Value) -> usize
+    ensures { result ≡ timed_count more (view value.now) }
+{
+    if value.get("now").is_some() {
+        more as usize + 1
+    } else {
+        more as usize
+    }
+}
+
+fn only_id(values: &[Value]) -> Option<i32>
+    ensures { result ≡ only_id (items_view values.now) }
+{
+    match values {
+        [] => None,
+        [value] => id_of(value),
+        [_, _, ..] => None,
+    }
+}
+
+fn quorum_of(alloc: Global, value: &Value) -> Result<Option<Event>, NoMemory>
+    ensures { IfOk result (λ event. event ≡ quorum_of (view value.now)) }
+{
+    if member_count(value) != 2 {
+        return Ok(None);
+    }
+    let Some(values) = value.get("ids").and_then(Value::as_array) else {
+        return Ok(None);
+    };
+    let Some(id) = only_id(values) else {
+        return Ok(None);
+    };
+    let mut ids = Sequence::new(alloc);
+    ids.push(id)?;
+    Ok(Some(Event::Quorum { ids }))
+}
+
+fn start_of(value: &Value) -> Option<Event>
+    ensures { result ≡ start_of (view value.now) }
+{
+    if member_count(value) != 2 {
+        return None;
+    }
+    let controller = controller_of(value)?;
+    Some(Event::Start { controller })
+}
+
+fn elect_of(value: &Value) -> Option<Event>
+    ensures { result ≡ elect_of (view value.now) }
+{
+    if member_count(value) != timed_count(2, value) {
+        return None;
+    }
+    let controller = controller_of(value)?;
+    let now = now_of(value)?;
+    Some(Event::Elect { controller, now })
+}
+
+fn turn_of(value: &Value) -> Option<Event>
+    ensures { result ≡ turn_of (view value.now) }
+{
+    if member_count(value) != timed_count(2, value) {
+        return None;
+    }
+    let controller = controller_of(value)?;
+    let now = now_of(value)?;
+    Some(Event::Turn { controller, now })
+}
+
+// The configuration of all brokers, or of one broker.
+fn is_broker_config(config: &ConfigRecord) -> bool
+    ensures { result ≡ is_broker_config config.now }
+{
+    config.resource_type == 4
+        && (config.resource_name.bytes().is_empty() || is_canonical(config.resource_name.as_str()))
+        && !config.name.bytes().is_empty()
+}
+
+fn is_changeable(item: &MetaRecord) -> bool
+    ensures { result ≡ is_changeable item.now }
+{
+    match item {
+        MetaRecord::Config(config) => is_broker_config(config),
+        _ => false,
+    }
+}
+
+fn changeable_of(alloc: Global, value: &Value) -> Result<Option<MetaRecord>, NoMemory>
+    ensures { IfOk result (λ made. made ≡ changeable_of (view value.now)) }
+{
+    match record_of(alloc, value)? {
+        Some(record) => {
+            if is_changeable(&record) {
+                Ok(Some(record))
+            } else {
+                Ok(None)
+            }
+        }
+        None => Ok(None),
+    }
+}
+
+fn only_record(alloc: Global, values: &[Value]) -> Result<Option<MetaRecord>, NoMemory>
+    ensures { IfOk result (λ made. made ≡ only_record (items_view values.now)) }
+{
+    match values {
+        [] => Ok(None),
+        [value] => changeable_of(alloc, value),
+        [_, _, ..] => Ok(None),
+    }
+}
+
+fn change_of(alloc: Global, value: &Value) -> Result<Option<Event>, NoMemory>
+    ensures { IfOk result (λ event. event ≡ change_of (view value.now)) }
+{
+    if member_count(value) != timed_count(3, value) {
+        return Ok(None);
+    }
+    let Some(controller) = controller_of(value) else {
+        return Ok(None);
+    };
+    let Some(now) = now_of(value) else {
+        return Ok(None);
+    };
+    let Some(values) = value.get("records").and_then(Value::as_array) else {
+        return Ok(None);
+    };
+    let Some(record) = only_record(alloc, values)? else {
+        return Ok(None);
+    };
+    let mut records = Sequence::new(alloc);
+    records.push(record)?;
+    Ok(Some(Event::Change {
+        controller,
+        records,
+        now,
+    }))
+}
+
+fn check_of(value: &Value) -> Option<Event>
+    ensures { result ≡ check_of (view value.now) }
+{
+    if member_count(value) == 1 {
+        Some(Event::Check)
+    } else {
+        None
+    }
+}
+
+fn event_of(alloc: Global, value: &Value) -> Result<Option<Event>, NoMemory>
+    ensures { IfOk result (λ event. event ≡ event_of (view value.now)) }
+{
+    let Some(name) = text_member(value, "event") else {
+        return Ok(None);
+    };
+    match name {
+        "quorum" => quorum_of(alloc, value),
+        "start" => Ok(start_of(value)),
+        "elect" => Ok(elect_of(value)),
+        "turn" => Ok(turn_of(value)),
+        "change" => change_of(alloc, value),
+        "check" => Ok(check_of(value)),
+        _ => Ok(None),
+    }
+}
+
+#[tactic(auto, unfolding(kz_spec_lines::specs::Events::line_event))]
+fn line_event(alloc: Global, line: &[u8]) -> Result<Option<Event>, NoMemory>
+    ensures { IfOk result (λ event. event ≡ line_event line.now) }
+{
+    match read_json(alloc, line)? {
+        Some(value) => event_of(alloc, &value),
+        None => Ok(None),
+    }
+}
+
+/// The event that a line of a script is. Lines have JSON objects, with the event's name as `event` and exactly its
+/// members.
+///
+/// `BadLine`: the line is no event, as an empty line and a comment aren't. `NoMemory`: memory ran out.
+pub fn read_event(alloc: Global, line: &[u8]) -> Result<Event, LineFault>
+    ensures ok { IfOk result (λ event. line_event line.now ≡ Some event) }
+    ensures bad { result ≡ Err LineFault.BadLine → line_event line.now ≡ None }
+{
+    match line_event(alloc, line) {
+        Ok(Some(event)) => Ok(event),
+        Ok(None) => Err(LineFault::BadLine),
+        Err(NoMemory) => Err(LineFault::NoMemory),
+    }
+}

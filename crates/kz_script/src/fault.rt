@@ -1,0 +1,11 @@
+//! Why a line can't be read.
+use kz_types::NoMemory;
+
+/// Why a line can't be read.
+#[derive(Clone, Copy, Debug, PartialEq, Eq)]
+pub enum LineFault {
+    /// The line is no event.
+    BadLine,
+    /// Memory ran out.
+    NoMemory,
+}

@@ -1,0 +1,17 @@
+//! Reads the lines of a script, and writes the lines that the program prints.
+#![tactic(auto)]
+
+mod decimals;
+mod events;
+mod fault;
+mod members;
+mod records;
+mod replies;
+mod statuses;
+
+pub use events::read_event;
+pub use fault::LineFault;
+pub use kz_types::{Answer, Event};
+
+#[cfg(test)]
+mod tests;
