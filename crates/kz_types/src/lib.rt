@@ -17,6 +17,7 @@ mod machine;
 mod memory;
 mod outside;
 mod path;
+mod path_rule;
 mod record;
 mod row;
 mod sequence;
