@@ -2,3 +2,6 @@
 //!
 //! The definitions stand in specs/. A law is the contract of a function that does nothing.
 #![tactic(auto)]
+
+pub mod batches;
+pub mod records;
