@@ -1,1 +1,2 @@
 pub mod BodiesOnLiterals
+pub mod Ascii

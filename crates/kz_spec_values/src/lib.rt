@@ -4,3 +4,5 @@
 #![tactic(auto)]
 
 mod body_examples;
+pub mod batches;
+pub mod records;
