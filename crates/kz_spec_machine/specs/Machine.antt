@@ -16,7 +16,7 @@ use Rattle.kz_types.specs.declared.record.MetaRecord.{MetaRecord}
 use Rattle.kz_types.specs.declared.record.MetaRecord.TheVariants as meta
 use Rattle.kz_spec_stores.specs.Tree.{Tree, empty_tree, area, migrated_rows}
 use Rattle.kz_spec_stores.specs.Image.{empty_image, all_applied, is_migrated_state}
-use Rattle.kz_spec_stores.specs.Log.{Log, empty_log, end_of, image_at, image_of, is_migrated_log, is_open_log, batch_ends, with_batch, full_log, max_epoch}
+use Rattle.kz_spec_stores.specs.Log.{Log, empty_log, end_of, image_at, image_of, is_migrated_log, is_open_log, batch_ends, with_batch, with_next_epoch, full_log, max_epoch}
 use Rattle.kz_spec_stores.specs.Rendering.{Excess, render, excess}
 use Rattle.kz_spec_stores.specs.Translation.{Unreadable, translate}
 use Rattle.kz_spec_machine.specs.Driver.{Shared, Driver, new_driver, elected_driver, is_one_of, least, Request, nothing, asked, Stepped, step}
@@ -212,7 +212,7 @@ abbrev pub next_epoch : Log → ℤ
 next_epoch l = l.epoch +ℤ pos 1
 
 abbrev pub elected_log : Log → ℤ → Log
-elected_log l now = with_batch (record l { epoch = next_epoch l }) (next_epoch l) now (election_records l)
+elected_log l now = with_batch (with_next_epoch l) (next_epoch l) now (election_records l)
 
 abbrev pub election_refusal : World → ℤ → Option Answer
 election_refusal w id = first_of (running_refusal w id) (first_of (unless (int_lt w.shared.log.epoch max_epoch) (over 15)) (full w.shared.log (election_records w.shared.log)))

@@ -3,6 +3,7 @@ use Rattle.std.specs.Prelude.{ℕ, Bool, true, false, not, ◌&&◌, ℤ, pos, i
 use Rattle.std.specs.Ordering.{int_eq, int_cmp}
 use Rattle.std.specs.Str.{bytes_eq}
 use Rattle.kz_types.specs.declared.bodies.Pair.{Pair}
+use Rattle.kz_types.specs.declared.image.Configuration.{Configuration}
 use Rattle.kz_types.specs.declared.record.MetaRecord.{MetaRecord}
 use Rattle.kz_types.specs.declared.record.MetaRecord.TheVariants as meta
 use Rattle.kz_types.specs.declared.record.ConfigRecord.{ConfigRecord}
@@ -10,11 +11,6 @@ use Rattle.kz_types.specs.declared.record.RegisterBrokerRecord.{RegisterBrokerRe
 use Rattle.kz_types.specs.Numbers.{canonical}
 use Rattle.kz_ordered.specs.Order.{bytes_cmp}
 use Rattle.kz_ordered.specs.Ordered.{find, put, without}
-
--- The configuration of a resource: its name, and its members by rising name.
-pub record Configuration : Type 0 where
-  pub name : List ℕ
-  pub pairs : List Pair
 
 -- The metadata: the configurations of brokers by rising name, where the empty name stands for all brokers, none of them
 -- empty; the registered brokers by rising id; and the state of the migration.

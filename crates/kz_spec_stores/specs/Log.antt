@@ -115,6 +115,16 @@ append l epoch now items =
     if int_eq epoch l.epoch then added (full_log l items) (with_batch l epoch now items)
     else Err (fault.Stale l.epoch)
 
+-- the log with the next epoch
+abbrev pub with_next_epoch : Log → Log
+with_next_epoch l = record l { epoch = l.epoch +ℤ pos 1 }
+
+-- The log after an election: one batch of the next epoch, or why there is none.
+abbrev pub elect : Log → ℤ → List MetaRecord → Result Log LogFault
+elect l now items =
+    if int_lt l.epoch max_epoch then added (full_log l items) (with_batch (with_next_epoch l) (l.epoch +ℤ pos 1) now items)
+    else Err (fault.Limit 15)
+
 -- ---- views
 
 -- What a controller knows of the log: up to which offset, the epoch of the last batch that it took, and the metadata

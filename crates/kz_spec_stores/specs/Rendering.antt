@@ -5,13 +5,14 @@ use Rattle.kz_types.specs.declared.tree.Rendered.{Rendered}
 use Rattle.kz_types.specs.declared.key.EntityKey.{EntityKey}
 use Rattle.kz_types.specs.declared.key.EntityKey.TheVariants.{BrokerConfig}
 use Rattle.kz_types.specs.declared.bodies.Body.TheVariants as body
+use Rattle.kz_types.specs.declared.image.Configuration.{Configuration}
 use Rattle.kz_types.specs.Numbers.{canonical}
 use Rattle.kz_types.specs.Paths.{roots, path_of}
 use Rattle.kz_spec_values.specs.Bodies.{written}
 use Rattle.kz_ordered.specs.Order.{bytes_cmp}
 use Rattle.kz_ordered.specs.Ordered.{all_put}
 use Rattle.kz_spec_stores.specs.Tree.{max_body, max_znodes}
-use Rattle.kz_spec_stores.specs.Image.{Image, Configuration}
+use Rattle.kz_spec_stores.specs.Image.{Image}
 
 abbrev pub path_of_rendered : Rendered → List ℕ
 path_of_rendered r = r.path
