@@ -132,7 +132,11 @@ impl EntityKey {
                 pattern,
                 kind,
                 name,
-            } => 3 <= *pattern && *pattern <= 4 && 2 <= *kind && *kind <= 6 && may_be_part(name.bytes()),
+            } => 3 <= *pattern
+                && *pattern <= 4
+                && 2 <= *kind
+                && *kind <= 6
+                && may_be_part(name.bytes()),
             EntityKey::Producer => true,
         }
     }
