@@ -7,9 +7,8 @@ use Rattle.serde_json.specs.Data.{Data, null, boolean, number, string, array, ob
 use Rattle.serde_json.specs.Read.{read}
 use Rattle.serde_json.specs.Find.{get, get_member, as_number, as_i64, as_str, as_array, as_object, of_integer}
 use Rattle.serde_json.specs.Written.{compact_text}
-use Rattle.kz_types.specs.Numbers.{canonical, number_of}
+use Rattle.kz_types.specs.Numbers.{canonical, digits_up_to}
 use Rattle.kz_types.specs.Ids.{id_of, id_text, zero_id}
-use Rattle.kz_types.specs.Quotas.{is_digit}
 use Rattle.kz_types.specs.declared.id.Id.{Id}
 use Rattle.kz_types.specs.declared.row.AclRow.{AclRow}
 use Rattle.kz_types.specs.declared.bodies.Pair.{Pair}
@@ -245,7 +244,7 @@ acls_of_data pattern kind name d =
 
 -- one or more digits, leading zeros among them
 abbrev pub digits_number : List ℕ → Option ℤ
-digits_number text = if nat_lt 0 (length text) && list_all is_digit text && nat_le (number_of text) 9223372036854775807 then Some (pos (number_of text)) else None
+digits_number text = if length text == 0 then None else option_map (λ n. pos n) (digits_up_to 9223372036854775807 text)
 
 abbrev pub digits_of_data : Data → Option ℤ
 digits_of_data d = option_and_then digits_number (as_str d)

@@ -1,2 +1,4 @@
 pub mod OnLiterals
 pub mod PathRules
+pub mod IdLemmas
+pub mod NumberLemmas

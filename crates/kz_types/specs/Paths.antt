@@ -5,7 +5,7 @@ use Rattle.std.specs.Str.{is_utf8}
 use Rattle.std.specs.List.{list_any, list_all, starts_with, flat_map}
 use Rattle.std.specs.Fmt.{signed_decimal}
 use Rattle.std.specs.Bool.{nat_eq}
-use Rattle.kz_types.specs.Numbers.{canonical}
+use Rattle.kz_types.specs.Numbers.{canonical, number_in}
 use Rattle.kz_types.specs.declared.kind.Kind.{Kind}
 use Rattle.kz_types.specs.declared.kind.Kind.TheVariants.{Entity, Scaffold, Stray, Base, Control, Reserved, Outside}
 use Rattle.kz_types.specs.declared.key.EntityKey.{EntityKey}
@@ -105,9 +105,9 @@ sanitised_byte b = if is_plain b then b ∷ [] else 37 ∷ hex_digit (b / 16) �
 unfoldable pub sanitised : List ℕ → List ℕ
 sanitised name = flat_map sanitised_byte name
 
--- the value of an upper-case hexadecimal digit
+-- the value of an upper-case hexadecimal digit, and 0 of another byte
 abbrev pub hex_value : ℕ → ℕ
-hex_value c = if nat_le 65 c then c - 55 else c - 48
+hex_value c = if nat_le 48 c && nat_le c 57 then c - 48 else if nat_le 65 c && nat_le c 70 then c - 55 else 0
 
 -- the bytes that a part's plain bytes and escapes stand for
 unfoldable pub unescaped : List ℕ → List ℕ
@@ -124,9 +124,6 @@ restored part = if bytes_eq (sanitised (unescaped part)) part && is_utf8 (unesca
 
 abbrev pub topic_of : List ℕ → Option (List ℕ)
 topic_of part = if is_topic_name part then Some part else None
-
-abbrev pub number_in : List ℕ → Option ℤ
-number_in part = option_map pos (canonical part)
 
 -- a part other than `<default>`
 abbrev pub address_of : List ℕ → Option (List ℕ)
