@@ -1,5 +1,5 @@
 //! How a run tells how it ended.
-ghost use Rattle.std.specs.Prelude.{◌≡◌, IfOk, string_bytes};
+ghost use Rattle.std.specs.Prelude.{◌≡◌, IfOk};
 ghost use Rattle.kz_spec_lines.specs.Statuses.{status_code, status_text};
 
 use kz_types::{NoMemory, Status};
@@ -21,8 +21,8 @@ pub fn status_code(status: &Status) -> u8
 }
 
 /// The text on standard error, without a line feed: empty where the run is done.
-pub fn status_text(alloc: Global, status: &Status) -> Result<String, NoMemory>
-    ensures { IfOk result (λ text. string_bytes text ≡ status_text status.now) }
+pub fn status_text(alloc: Global, status: &Status) -> Result<Vec<u8>, NoMemory>
+    ensures { IfOk result (λ text. text.items ≡ status_text status.now) }
 {
     let text = match status {
         Status::Done => format!(in alloc; ""),
@@ -33,5 +33,5 @@ pub fn status_text(alloc: Global, status: &Status) -> Result<String, NoMemory>
         Status::NoMemory => format!(in alloc; "no memory"),
         Status::Limit { which, .. } => format!(in alloc; "limit {which}"),
     };
-    Ok(text?)
+    Ok(text?.into_bytes())
 }

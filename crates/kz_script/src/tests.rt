@@ -382,7 +382,7 @@ fn a_status_has_a_code_and_a_text(rt: HostRuntime) -> Result<(), Fail> {
     for (status, code, text) in statuses {
         assert_eq!(rt; status_code(&status), code);
         let printed = status_text(alloc, &status)?;
-        assert_eq!(rt; printed.as_str(), text);
+        assert_eq!(rt; printed.as_slice(), text.as_bytes());
     }
     Ok(())
 }
