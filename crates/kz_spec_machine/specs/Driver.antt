@@ -300,14 +300,15 @@ made s epoch now (add records) = with_log s (append s.log epoch now records)
 
 -- ---- the driver that gets its answer
 
+-- the less of a number and another, where there is one
+abbrev pub less_of : ℤ → Option ℤ → Option ℤ
+less_of i None = Some i
+less_of i (Some j) = if int_lt j i then Some j else Some i
+
 -- the least of these numbers
 abbrev pub least : List ℤ → Option ℤ
 least [] = None
 least (i ∷ is) = less_of i (least is)
-  where
-    less_of : ℤ → Option ℤ → Option ℤ
-    less_of i None = Some i
-    less_of i (Some j) = if int_lt j i then Some j else Some i
 
 abbrev pub is_one_of : List ℤ → ℤ → Bool
 is_one_of ids id = list_any (λ i. int_eq i id) ids

@@ -229,12 +229,13 @@ election_answer w now = answer.Elected (next_epoch w.shared.log) (end_of (electe
 
 -- ---- turn
 
+-- the world after a turn of one driver, and its replies
+abbrev pub turned_world : World → Turned → World × Answer
+turned_world w t = (record { shared = t.shared; drivers = with_driver t.driver w.drivers }, answer.Turn t.replies)
+
 abbrev pub turn_result : World → ℤ → Option Driver → World × Answer
 turn_result w now None = (w, answer.NotRunning)
 turn_result w now (Some d) = turned_world w (turn (work w.shared d) w.shared (running_ids w.drivers) now d)
-  where
-    turned_world : World → Turned → World × Answer
-    turned_world w t = (record { shared = t.shared; drivers = with_driver t.driver w.drivers }, answer.Turn t.replies)
 
 abbrev pub event_turn_pairs : World → ℤ → Option Driver → List Pair
 event_turn_pairs w now None = []
