@@ -1,0 +1,9 @@
+//! The migration driver of a controller: a state machine whose step makes at most one request of the tree or the log.
+//!
+//! After KIP-866. The driver reaches the tree and the log that it is handed for the step, and keeps nothing of them but
+//! what it has read.
+#![tactic(auto)]
+
+mod peers;
+
+pub use peers::{Peers, missing_broker, missing_controller};
