@@ -4,6 +4,9 @@
 //! what it has read.
 #![tactic(auto)]
 
+mod fence;
+mod paths;
 mod peers;
 
+pub use fence::{Claimer, claim_ops, is_last_write, write_ops};
 pub use peers::{Peers, missing_broker, missing_controller};
