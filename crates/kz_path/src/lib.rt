@@ -1,0 +1,7 @@
+//! Which entity a path of ZooKeeper's tree holds, and the path of an entity.
+#![tactic(auto)]
+
+mod cut;
+mod names;
+
+pub use names::{restore, sanitise};
