@@ -7,31 +7,29 @@ ghost use Rattle.kz_path.specs.Cut.{IsCut};
 /// The parts of a path, up to six.
 #[derive(Clone, Copy)]
 pub enum Parts<'a> {
-    One(&'a [u8]),
-    Two(&'a [u8], &'a [u8]),
-    Three(&'a [u8], &'a [u8], &'a [u8]),
-    Four(&'a [u8], &'a [u8], &'a [u8], &'a [u8]),
-    Five(&'a [u8], &'a [u8], &'a [u8], &'a [u8], &'a [u8]),
-    Six(&'a [u8], &'a [u8], &'a [u8], &'a [u8], &'a [u8], &'a [u8]),
+    One(&'a str),
+    Two(&'a str, &'a str),
+    Three(&'a str, &'a str, &'a str),
+    Four(&'a str, &'a str, &'a str, &'a str),
+    Five(&'a str, &'a str, &'a str, &'a str, &'a str),
+    Six(&'a str, &'a str, &'a str, &'a str, &'a str, &'a str),
     More,
 }
 
 /// What stands before the first slash, and what behind it.
-fn first_part(bytes: &[u8]) -> (&[u8], Option<&[u8]>)
+fn first_part(text: &str) -> (&str, Option<&str>)
     ensures { MatchOption result.1
-        (slice_split (λ b. b == 47) bytes.now ≡ result.0.now ∷ [])
-        (λ rest. slice_split (λ b. b == 47) bytes.now ≡ result.0.now ∷ slice_split (λ b. b == 47) rest.now) }
+        (slice_split (λ b. b == 47) text.now ≡ result.0.now ∷ [])
+        (λ rest. slice_split (λ b. b == 47) text.now ≡ result.0.now ∷ slice_split (λ b. b == 47) rest.now) }
 {
-    for at in 0..bytes.len() {
-        if bytes[at] == b'/' {
-            return (&bytes[..at], Some(&bytes[at + 1..]));
-        }
+    match text.split_once('/') {
+        Some((part, rest)) => (part, Some(rest)),
+        None => (text, None),
     }
-    (bytes, None)
 }
 
 /// The parts of what stands behind a path's first slash.
-fn cut_rest(rest: &[u8]) -> Parts<'_>
+fn cut_rest(rest: &str) -> Parts<'_>
     ensures { IsCut (slice_split (λ b. b == 47) rest.now) result }
 {
     let (a, rest) = first_part(rest);
@@ -62,9 +60,13 @@ fn cut_rest(rest: &[u8]) -> Parts<'_>
 }
 
 /// The parts of a path.
-pub fn cut(path: &[u8]) -> Parts<'_>
+pub fn cut(path: &str) -> Parts<'_>
     requires { is_path path.now ≡ true }
     ensures { IsCut (parts path.now) result }
 {
-    cut_rest(&path[1..])
+    let (_, rest) = first_part(path);
+    match rest {
+        Some(rest) => cut_rest(rest),
+        None => unreachable!(),
+    }
 }

@@ -4,4 +4,7 @@
 mod cut;
 mod names;
 
+pub use keys::key_of;
 pub use names::{restore, sanitise};
+
+mod keys;

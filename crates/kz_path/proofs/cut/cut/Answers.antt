@@ -1,17 +1,14 @@
-use Rattle.std.proofs.Common.{◌∙◌, ◌==◌, ap, sym, subst}
-use Rattle.std.proofs.lemmas.List.{take_rest}
-use Rattle.std.specs.List.{slice_split}
+use Rattle.std.proofs.Common.{◌∙◌, ◌==◌, length, drop, ap, sym, subst, arith}
+use Rattle.std.proofs.lemmas.List.Splits.{length-slice_split}
 use Rattle.kz_types.proofs.PathRules.{parts_behind}
 use Rattle.kz_path.specs.Cut.{IsCut}
 use Rattle.kz_path.proofs.cut.cut.Goals as goal
 
-pub slice_bounds-cut_rest-count : goal.slice_bounds-cut_rest-count
-slice_bounds-cut_rest-count c = (parts_behind c.args.path.now c.requires).0
-
-pub slice_bounds-cut_rest-start : goal.slice_bounds-cut_rest-start
-slice_bounds-cut_rest-start c = (parts_behind c.args.path.now c.requires).0
-
 pub returns : goal.returns
-returns c =
+returns c = let e = rw c.in-Some.is at c.first_part.ensures in
+    subst (λ ps. IsCut ps c.cut_rest.result) (sym (ap (drop 1) e)) c.cut_rest.ensures
+
+pub unreachable-requires : goal.unreachable-requires
+unreachable-requires c = let e = rw c.in-None.is at c.first_part.ensures in
     let k = parts_behind c.args.path.now c.requires in
-    subst (λ ps. IsCut ps c.cut_rest.result) (ap (slice_split (λ b. b == 47)) (take_rest c.args.path.now 1) ∙ sym k.1) c.cut_rest.ensures
+    omega (arith, ap length (sym k.1 ∙ ap (drop 1) e), length-slice_split (λ b. b == 47) (drop 1 c.args.path.now))

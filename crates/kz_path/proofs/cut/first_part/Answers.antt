@@ -1,20 +1,16 @@
-use Rattle.std.proofs.Common.{◌≡◌, ◌+◌, ◌-◌, take, length, drop, ◌∙◌, sym, ap, ◌∷◌, ◌==◌, arith}
-use Rattle.std.proofs.lemmas.Bool.{eq-eqb}
-use Rattle.std.proofs.lemmas.List.{take_rest}
+use Rattle.std.proofs.Common.{◌∙◌, ◌==◌, ◌∷◌, sym, arith, Some, None}
 use Rattle.std.specs.List.{slice_split}
-use Rattle.kz_types.proofs.PathRules.{split_next, split_last, none_more}
+use Rattle.std.proofs.lemmas.List.Splits.{slice_split_none, slice_split_first}
+use Rattle.std.proofs.lemmas.List.Sums.{fails_before_first}
+use Rattle.std.proofs.lemmas.Str.Pattern.{split_once_first}
 use Rattle.kz_path.proofs.cut.first_part.Goals as goal
 
-pub returns-then-bytes-at-eq47 : goal.returns-then-bytes-at-eq47
-returns-then-bytes-at-eq47 c =
-    split_next c.args.bytes.now 0 c.loop-at.at (omega arith) c.loop-at-test.true c.loop-at.invariant (eq-eqb _ 47 c.if-bytes-at-eq47.true)
-    ∙ ap (λ n. take n c.args.bytes.now ∷ slice_split (λ b. b == 47) (drop (c.loop-at.at + 1) c.args.bytes.now)) {x = c.loop-at.at - 0} {y = c.loop-at.at} (omega arith)
-    ∙ ap (λ rest. take c.loop-at.at c.args.bytes.now ∷ slice_split (λ b. b == 47) rest) (sym (take_rest c.args.bytes.now (c.loop-at.at + 1)))
+pub returns-in-Some : goal.returns-in-Some
+returns-in-Some c =
+    let k = split_once_first 47 c.args.text.now (Some (c.in-Some.part, c.in-Some.rest)) c.in-Some.ensures.cases (omega arith) in
+    slice_split_first (λ b. b == 47) c.args.text.now 0 k.0 ∙ (λ i. sym k.1 i ∷ slice_split (λ b. b == 47) (sym k.2 i))
 
-pub loop-at-preserved : goal.loop-at-preserved
-loop-at-preserved c = none_more c.args.bytes.now 0 c.loop-at.at c.loop-at.invariant c.if-bytes-at-eq47.false
-
-pub returns : goal.returns
-returns c =
-    let end : c.loop-at.at ≡ length c.args.bytes.now = let past = c.loop-at-test.false in let last = c.loop-at.auto.at-end in omega arith in
-    split_last c.args.bytes.now 0 (omega arith) (rw end at c.loop-at.invariant)
+pub returns-in-None : goal.returns-in-None
+returns-in-None c =
+    let k = split_once_first 47 c.args.text.now None c.in-None.ensures.cases (omega arith) in
+    slice_split_none (λ b. b == 47) c.args.text.now (λ j d l. fails_before_first (λ b. b == 47) c.args.text.now j d (omega (arith, k)))
