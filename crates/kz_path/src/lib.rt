@@ -6,5 +6,7 @@ mod names;
 
 pub use keys::key_of;
 pub use names::{restore, sanitise};
+pub use paths::path_of;
 
 mod keys;
+mod paths;
