@@ -194,18 +194,18 @@ operation_of name =
     else if bytes_eq name (codes "IdempotentWrite") then Some (pos 12)
     else None
 
-abbrev pub operation_name : ℕ → List ℕ
+abbrev pub operation_name : ℤ → List ℕ
 operation_name operation =
-    if operation == 2 then codes "All"
-    else if operation == 3 then codes "Read"
-    else if operation == 4 then codes "Write"
-    else if operation == 5 then codes "Create"
-    else if operation == 6 then codes "Delete"
-    else if operation == 7 then codes "Alter"
-    else if operation == 8 then codes "Describe"
-    else if operation == 9 then codes "ClusterAction"
-    else if operation == 10 then codes "DescribeConfigs"
-    else if operation == 11 then codes "AlterConfigs"
+    if int_eq operation (pos 2) then codes "All"
+    else if int_eq operation (pos 3) then codes "Read"
+    else if int_eq operation (pos 4) then codes "Write"
+    else if int_eq operation (pos 5) then codes "Create"
+    else if int_eq operation (pos 6) then codes "Delete"
+    else if int_eq operation (pos 7) then codes "Alter"
+    else if int_eq operation (pos 8) then codes "Describe"
+    else if int_eq operation (pos 9) then codes "ClusterAction"
+    else if int_eq operation (pos 10) then codes "DescribeConfigs"
+    else if int_eq operation (pos 11) then codes "AlterConfigs"
     else codes "IdempotentWrite"
 
 -- 2 denied, 3 allowed
@@ -215,8 +215,8 @@ permission_of name =
     else if bytes_eq name (codes "Allow") then Some (pos 3)
     else None
 
-abbrev pub permission_name : ℕ → List ℕ
-permission_name permission = if permission == 2 then codes "Deny" else codes "Allow"
+abbrev pub permission_name : ℤ → List ℕ
+permission_name permission = if int_eq permission (pos 2) then codes "Deny" else codes "Allow"
 
 -- the text of a member
 abbrev pub text_at : List ℕ → Data → Option (List ℕ)
@@ -369,8 +369,8 @@ state_data leader leader_epoch controller_epoch isr recovery = object
 abbrev pub acl_data : AclRow → Data
 acl_data row = object
     (member (codes "host") (string row.host)
-    (member (codes "operation") (string (operation_name (nat_abs row.operation)))
-    (member (codes "permissionType") (string (permission_name (nat_abs row.permission)))
+    (member (codes "operation") (string (operation_name row.operation))
+    (member (codes "permissionType") (string (permission_name row.permission))
     (member (codes "principal") (string row.principal) no_members))))
 
 abbrev pub acl_items : List AclRow → Items

@@ -2,3 +2,4 @@ pub mod OnLiterals
 pub mod PathRules
 pub mod IdLemmas
 pub mod NumberLemmas
+pub mod NameLemmas

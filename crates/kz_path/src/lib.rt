@@ -1,0 +1,12 @@
+//! Which entity a path of ZooKeeper's tree holds, and the path of an entity.
+#![tactic(auto)]
+
+mod cut;
+mod names;
+
+pub use keys::key_of;
+pub use names::{restore, sanitise};
+pub use paths::path_of;
+
+mod keys;
+mod paths;
