@@ -1,2 +1,4 @@
 pub mod Prefixes
 pub mod LastSlash
+pub mod Kept
+pub mod Steps
