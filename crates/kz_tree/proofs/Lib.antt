@@ -2,3 +2,4 @@ pub mod Prefixes
 pub mod LastSlash
 pub mod Kept
 pub mod Steps
+pub mod Zxids
