@@ -1,2 +1,5 @@
 pub mod Prefixes
 pub mod LastSlash
+pub mod Kept
+pub mod Steps
+pub mod Zxids

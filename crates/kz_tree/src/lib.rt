@@ -2,7 +2,9 @@
 #![tactic(auto)]
 
 mod migrated;
+mod effects;
 mod names;
+mod refusals;
 mod rows;
 
 pub use kz_types::{Op, Recorded, Rendered, Row, TreeFault};

@@ -14,8 +14,8 @@ fn compare(row: &Row, path: &[u8]) -> Ordering
     row.path.bytes().cmp(&path)
 }
 
-// The place of a path, or that at which it would stand.
-fn spot_of(rows: &[Row], path: &[u8]) -> Result<usize, usize>
+/// The place of a path, or that at which it would stand.
+pub fn spot_of(rows: &[Row], path: &[u8]) -> Result<usize, usize>
     requires { Rises bytes_cmp path_of_row rows.now }
     ensures { IsSpot bytes_cmp path_of_row path.now rows.now result }
 {
