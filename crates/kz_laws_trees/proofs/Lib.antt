@@ -1,0 +1,6 @@
+pub mod Rows
+pub mod Area
+pub mod Runs
+pub mod Each
+pub mod Render
+pub mod Multi
