@@ -4,3 +4,5 @@ pub mod Runs
 pub mod Each
 pub mod Render
 pub mod Multi
+pub mod Claim
+pub mod Logs

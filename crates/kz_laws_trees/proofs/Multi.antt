@@ -108,7 +108,7 @@ migration_outside = refl
 
 -- ---- a write
 
-version_still : (m : Option Row) → option_map (λ (r : Row). r.version) (option_map still m) ≡ option_map (λ (r : Row). r.version) m
+pub version_still : (m : Option Row) → option_map (λ (r : Row). r.version) (option_map still m) ≡ option_map (λ (r : Row). r.version) m
 version_still None = refl
 version_still (Some r) = refl
 
