@@ -1,3 +1,5 @@
 pub mod Logs
 pub mod Groups
 pub mod Steps
+pub mod Turns
+pub mod Worlds
