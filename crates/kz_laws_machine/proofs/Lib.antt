@@ -3,3 +3,4 @@ pub mod Groups
 pub mod Steps
 pub mod Turns
 pub mod Worlds
+pub mod Steady

@@ -244,7 +244,7 @@ change_kept w id records now lone none =
 -- ---- turns
 
 -- the driver of a turn takes the place of its controller's
-placed : (b : Bool) (d e : Driver) → b ≡ true → (if b then e else d) ≡ e
+pub placed : (b : Bool) (d e : Driver) → b ≡ true → (if b then e else d) ≡ e
 placed true d e is = refl
 placed false d e is = absurd (cc)
 
@@ -267,7 +267,7 @@ turned_world w t id d lone is k = record {
     by_drivers (x ∷ []) one found = let same = (driver_is id x d found).1 in turned_one w.shared t x one (subst (λ (y : Driver). TurnKept w.shared y.id t) (sym same) k)
     by_drivers (x ∷ y ∷ ds) one found = one
 
-turn_of : ReadsBack → (w : World) (id now : ℤ) (d : Driver) → Lone w → driver_of id w.drivers ≡ Some d → TurnKept w.shared d.id (turn (work w.shared d) w.shared (running_ids w.drivers) now d)
+pub turn_of : ReadsBack → (w : World) (id now : ℤ) (d : Driver) → Lone w → driver_of id w.drivers ≡ Some d → TurnKept w.shared d.id (turn (work w.shared d) w.shared (running_ids w.drivers) now d)
 turn_of back w id now d lone is =
     let own = own_of w.shared w.drivers id d lone.one is in
     turned back (work w.shared d) w.shared (running_ids w.drivers) now d lone.kept own.fine own.current
