@@ -14,7 +14,6 @@ use Rattle.kz_spec_machine.specs.Driver.{Shared, Driver, state_of, is_one_of}
 use Rattle.kz_spec_machine.specs.Machine.{World, empty_world, running_ids, is_running, driver_of, with_driver, Turned, turn, work, first_of, unless, running_refusal, turn_result, unless_refused, next, after_events}
 use Rattle.kz_spec_machine.specs.Sound.{IsLawful, Sound, Alone, Fine, IsCurrent}
 use Rattle.kz_spec_runs.specs.InStep.{InStep, last_reply, ComesToRest, StaysInStep}
-use Rattle.kz_laws_machine.proofs.Steps.{ReadsBack}
 use Rattle.kz_laws_machine.proofs.Turns.{TurnKept}
 use Rattle.kz_laws_machine.proofs.Worlds.{Own, OneOf, Lone, driver_is, own_of, placed, turn_of, next_kept, empty_lone}
 
@@ -40,12 +39,12 @@ in_state s (x ∷ []) id d e one is same dual =
     state_is h = cc
 in_state s (x ∷ y ∷ ds) id d e one is same dual = absurd one
 
-turn_rests : ReadsBack → (w : World) (id now : ℤ) (new : World) (replies : List Reply) (m : Option Driver) → Lone w → driver_of id w.drivers ≡ m → turn_result w now m ≡ (new, answer.Turn replies)
+turn_rests : (w : World) (id now : ℤ) (new : World) (replies : List Reply) (m : Option Driver) → Lone w → driver_of id w.drivers ≡ m → turn_result w now m ≡ (new, answer.Turn replies)
     → last_reply replies ≡ Some reply.Idle → option_map (λ (x : Driver). state_of x.stage) (driver_of id new.drivers) ≡ Some state.DualWrite → InStep new.shared
-turn_rests back w id now new replies None lone is made idle dual = absurd (let other : answer.NotRunning ≡ answer.Turn replies = ap (λ (x : World × Answer). x.1) made in cc)
-turn_rests back w id now new replies (Some d) lone is made idle dual =
+turn_rests w id now new replies None lone is made idle dual = absurd (let other : answer.NotRunning ≡ answer.Turn replies = ap (λ (x : World × Answer). x.1) made in cc)
+turn_rests w id now new replies (Some d) lone is made idle dual =
     let t = turn (work w.shared d) w.shared (running_ids w.drivers) now d in
-    let k = turn_of back w id now d lone is in
+    let k = turn_of w id now d lone is in
     let world : record { shared = t.shared; drivers = with_driver t.driver w.drivers } ≡ new = ap (λ (x : World × Answer). x.0) made in
     let told : answer.Turn t.replies ≡ answer.Turn replies = ap (λ (x : World × Answer). x.1) made in
     let same : t.replies ≡ replies = cc in
@@ -53,32 +52,32 @@ turn_rests back w id now new replies (Some d) lone is made idle dual =
     subst (λ (x : World). InStep x.shared) world (k.rest (ap last_reply same ∙ idle)
       (in_state w.shared w.drivers id d t.driver lone.one is k.same (ap (λ ds. option_map (λ (x : Driver). state_of x.stage) (driver_of id ds)) drivers ∙ dual)))
 
-by_refusal : ReadsBack → (w : World) (id now : ℤ) (new : World) (replies : List Reply) (m : Option Answer) → Lone w → running_refusal w id ≡ m → unless_refused w m (turn_result w now (driver_of id w.drivers)) ≡ (new, answer.Turn replies)
+by_refusal : (w : World) (id now : ℤ) (new : World) (replies : List Reply) (m : Option Answer) → Lone w → running_refusal w id ≡ m → unless_refused w m (turn_result w now (driver_of id w.drivers)) ≡ (new, answer.Turn replies)
     → last_reply replies ≡ Some reply.Idle → option_map (λ (x : Driver). state_of x.stage) (driver_of id new.drivers) ≡ Some state.DualWrite → InStep new.shared
-by_refusal back w id now new replies (Some a) lone is made idle dual =
+by_refusal w id now new replies (Some a) lone is made idle dual =
     absurd (no_turn (is_one_of w.shared.declared id) (is_running id w.drivers) a replies is (ap (λ (x : World × Answer). x.1) made))
-by_refusal back w id now new replies None lone is made idle dual = turn_rests back w id now new replies (driver_of id w.drivers) lone refl made idle dual
+by_refusal w id now new replies None lone is made idle dual = turn_rests w id now new replies (driver_of id w.drivers) lone refl made idle dual
 
-rests_in_step : ReadsBack → (w : World) (id now : ℤ) (new : World) (replies : List Reply) → Lone w → next w (event.Turn id now) ≡ (new, answer.Turn replies)
+rests_in_step : (w : World) (id now : ℤ) (new : World) (replies : List Reply) → Lone w → next w (event.Turn id now) ≡ (new, answer.Turn replies)
     → last_reply replies ≡ Some reply.Idle → option_map (λ (x : Driver). state_of x.stage) (driver_of id new.drivers) ≡ Some state.DualWrite → InStep new.shared
 unfolding next
-rests_in_step back w id now new replies lone made idle dual = by_refusal back w id now new replies (running_refusal w id) lone refl made idle dual
+rests_in_step w id now new replies lone made idle dual = by_refusal w id now new replies (running_refusal w id) lone refl made idle dual
 
 -- ---- a run
 
-after_kept : ReadsBack → (es : List Event) (w : World) → All IsLawful es → Lone w → Lone (after_events w es)
+after_kept : (es : List Event) (w : World) → All IsLawful es → Lone w → Lone (after_events w es)
 unfolding after_events
-after_kept back [] w lawful lone = lone
-after_kept back (e ∷ es) w lawful lone = after_kept back es (next w e).0 (All-tail IsLawful e es lawful) (next_kept back w e (All-head IsLawful e es lawful) lone)
+after_kept [] w lawful lone = lone
+after_kept (e ∷ es) w lawful lone = after_kept es (next w e).0 (All-tail IsLawful e es lawful) (next_kept w e (All-head IsLawful e es lawful) lone)
 
 lawful_before : (before rest : List Event) → All IsLawful (before ++ rest) → All IsLawful before
 lawful_before [] rest all = All-nil IsLawful
 lawful_before (e ∷ es) rest all = All-cons IsLawful e es (All-head IsLawful e (es ++ rest) all) (lawful_before es rest (All-tail IsLawful e (es ++ rest) all))
 
-pub stays_in_step : ReadsBack → (es : List Event) → All IsLawful es → StaysInStep es
-stays_in_step back es lawful before after id now new replies is rest =
-    rests_in_step back (after_events empty_world before) id now new replies
-    (after_kept back before empty_world (lawful_before before (event.Turn id now ∷ after) (subst (All IsLawful) is lawful)) empty_lone)
+pub stays_in_step : (es : List Event) → All IsLawful es → StaysInStep es
+stays_in_step es lawful before after id now new replies is rest =
+    rests_in_step (after_events empty_world before) id now new replies
+    (after_kept before empty_world (lawful_before before (event.Turn id now ∷ after) (subst (All IsLawful) is lawful)) empty_lone)
     rest.turned rest.idle rest.dual
 
 -- ---- what is true of every world

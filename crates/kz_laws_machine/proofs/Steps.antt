@@ -34,6 +34,7 @@ use Rattle.kz_spec_stores.specs.Difference.{diff, chunk, max_chunk}
 use Rattle.kz_spec_machine.specs.Driver.{Shared, Driver, state_of, at_stage, resigned, begins_again, epoch_or_zero, views_migrated, seen_in, shown_by, unless_fenced, unless_full_epoch, unless_bad_epoch, unless_full_record, looked, claimed_version, claimed_number, claim_ops, remaining_at, is_last_write, write_ops, target_of, page_size, batch_size, last_path, Request, nothing, read_log, list_brokers, look_up, read_page, write, add, begin_record, begin_request, next_records, write_request, asked, with_tree, with_log, made, missing_controller, missing_broker, having_read, unless_finalised, wait_or_move, after_quorum, after_brokers, path_at, after_claim, after_page, after_append, after_translation, after_records, written_driver, is_claim_refused, after_write, writes, after_log, is_recorded_at, after_rest, answered}
 use Rattle.kz_spec_machine.specs.Sound.{IsId, IsEpoch, IsEpochOrNone, IsStamped, TreeShape, LogShape, Kept, claim_version, IsCurrent, Views, Epochs, Elected, Aims, Rests, AtStage, Fine}
 use Rattle.kz_spec_runs.specs.InStep.{InStep}
+use Rattle.kz_laws_values.proofs.Control.{recorded_is_read}
 use Rattle.kz_laws_trees.proofs.Multi.{multi_ran, shape_kept, write_keeps_version, Completed, last_write}
 use Rattle.kz_laws_trees.proofs.Claim.{claim_gives_version}
 use Rattle.kz_laws_machine.proofs.Logs.{Grows, append_appends}
@@ -183,10 +184,6 @@ after_records_stage (r ∷ rs) t d elected = (elected, λ l. tt)
 
 -- ---- writes
 
--- what is recorded can be read
-abbrev pub ReadsBack : Type 0
-ReadsBack = (r : Recorded) → IsId r.id → IsEpochOrNone r.controller_epoch → IsEpochOrNone r.epoch → pos 0 ≤ℤ r.offset → r.offset ≤ℤ max_long → read_recorded (written_recorded r) ≡ Ok r
-
 -- A stage of a driver that writes, the one with more to write, and the one after the last write.
 pub record WritesFrom (target : Recorded) (x : Stage) (more : List Op → Stage) (last : Stage) : Type 0 where
   pub aims : (t : Tree) (l : Log) (d : Driver) → AtStage t l d x → Aims target d.id d.epoch d.view
@@ -223,20 +220,23 @@ some_epoch l (Some x) c epochs is =
     subst IsEpochOrNone (sym same) (record { least = let a = epochs.0.least in omega (arith, ints); most = epochs.0.most })
 
 -- what the driver records is read as it was written
-reads : ReadsBack → (s : Shared) (d : Driver) (target : Recorded) → LogShape s.log → Base s.log d → Aims target d.id d.epoch d.view → recorded_of (written_recorded target) ≡ Some target
-reads back s d target shape base aim = ap result_ok (back target
-    (subst IsId (sym aim.id) base.id)
-    (some_epoch s.log d.epoch target.controller_epoch base.epochs aim.controller_epoch)
-    aim.epoch
-    aim.not_negative
-    (subst (λ (o : ℤ). o ≤ℤ max_long) (sym aim.offset) (let a = base.views.within in let b = shape.end_most in omega (arith, ints))))
+reads : (s : Shared) (d : Driver) (target : Recorded) → LogShape s.log → Base s.log d → Aims target d.id d.epoch d.view → recorded_of (written_recorded target) ≡ Some target
+reads s d target shape base aim =
+    let id : IsId target.id = subst IsId (sym aim.id) base.id in
+    let epoch = some_epoch s.log d.epoch target.controller_epoch base.epochs aim.controller_epoch in
+    ap result_ok (recorded_is_read target (record {
+      id = (id.least, id.most);
+      controller_epoch = (epoch.least, epoch.most);
+      offset = (let low = aim.not_negative in omega (arith, ints), subst (λ (o : ℤ). o ≤ℤ max_long) (sym aim.offset) (let a = base.views.within in let b = shape.end_most in omega (arith, ints)));
+      epoch = (let low = aim.epoch.least in omega (arith, ints), aim.epoch.most);
+    }))
 
 not_below : (n : ℤ) → pos 0 ≤ℤ n → int_le (pos 0) n ≡ true
 not_below n low = grind (arith, ints)
 
-rests_there : ReadsBack → (s : Shared) (d : Driver) (t : Tree) (target : Recorded) → Kept s → Base s.log d → Aims target d.id d.epoch d.view → Completed t (image_at s.log target.offset) (written_recorded target) → Rests t s.log d.view (Some target.offset)
-rests_there back s d t target kept base aim done-all =
-    let read = reads back s d target kept.log base aim in
+rests_there : (s : Shared) (d : Driver) (t : Tree) (target : Recorded) → Kept s → Base s.log d → Aims target d.id d.epoch d.view → Completed t (image_at s.log target.offset) (written_recorded target) → Rests t s.log d.view (Some target.offset)
+rests_there s d t target kept base aim done-all =
+    let read = reads s d target kept.log base aim in
     record {
       closed = done-all.closed (ap has_offset read ∙ not_below target.offset aim.not_negative);
       same = ap (option_map (λ (r : Recorded). r.offset)) (done-all.recorded ∙ read);
@@ -244,10 +244,10 @@ rests_there back s d t target kept base aim done-all =
       area = done-all.area ∙ ap (λ (o : ℤ). render (image_at s.log o)) aim.offset;
     }
 
-written_by : ReadsBack → (s : Shared) (d : Driver) (claim : ℤ) (target : Recorded) (x : Stage) (more : List Op → Stage) (last : Stage) (t : Tree) → WritesFrom target x more last
+written_by : (s : Shared) (d : Driver) (claim : ℤ) (target : Recorded) (x : Stage) (more : List Op → Stage) (last : Stage) (t : Tree) → WritesFrom target x more last
     → Kept s → Base s.log d → Current s d → d.claim ≡ Some claim → d.epoch ≢ None → Aims target d.id d.epoch d.view → multi s.tree (write_ops claim (remaining_at s.tree s.log target.offset) target) ≡ Ok t
     → Owed (record s { tree = t }) d.id (written_driver (remaining_at s.tree s.log target.offset) target more last d)
-written_by back s d claim target x more last t from kept base current claimed elected aim made-is =
+written_by s d claim target x more last t from kept base current claimed elected aim made-is =
     let ops = remaining_at s.tree s.log target.offset in
     let version = write_keeps_version s.tree t (image_at s.log target.offset) claim target made-is in
     let new : Shared = record s { tree = t } in
@@ -261,7 +261,7 @@ written_by back s d claim target x more last t from kept base current claimed el
         epochs = base.epochs;
         elected = from.last_elected d.epoch elected;
         views = base.views;
-        stage = from.last_at t s.log e (λ none. absurd (cc (claimed, none))) (rests_there back s d t target kept base aim (last_write s.tree t (image_at s.log target.offset) claim target kept.tree is made-is));
+        stage = from.last_at t s.log e (λ none. absurd (cc (claimed, none))) (rests_there s d t target kept base aim (last_write s.tree t (image_at s.log target.offset) claim target kept.tree is made-is));
       };
       current = now_current;
       same = refl;
@@ -270,29 +270,29 @@ written_by back s d claim target x more last t from kept base current claimed el
     (λ is. moves new d (more (drop max_chunk ops)) (reply.Wrote (length (chunk ops))) base now_current (from.more_elected d.epoch (drop max_chunk ops) elected)
       (from.more_at t s.log (at_stage (more (drop max_chunk ops)) d) (drop max_chunk ops) aim) (λ i. cc))
 
-writes_by : ReadsBack → (s : Shared) (d : Driver) (claim : ℤ) (target : Recorded) (x : Stage) (more : List Op → Stage) (last : Stage) (r : Result Tree TreeFault) → WritesFrom target x more last
+writes_by : (s : Shared) (d : Driver) (claim : ℤ) (target : Recorded) (x : Stage) (more : List Op → Stage) (last : Stage) (r : Result Tree TreeFault) → WritesFrom target x more last
     → d.stage ≡ x → Kept s → Base s.log d → Current s d → d.claim ≡ Some claim → Elected d.epoch x → AtStage s.tree s.log d x → multi s.tree (write_ops claim (remaining_at s.tree s.log target.offset) target) ≡ r
     → Owed (with_tree s r) d.id (after_write claim (remaining_at s.tree s.log target.offset) target more last d r)
-writes_by back s d claim target x more last (Ok t) from is kept base current claimed elected at made-is =
-    written_by back s d claim target x more last t from kept base current claimed (from.elected d.epoch elected) (from.aims s.tree s.log d at) made-is
-writes_by back s d claim target x more last (Err (tree_fault.Refused index code)) from is kept base current claimed elected at made-is =
+writes_by s d claim target x more last (Ok t) from is kept base current claimed elected at made-is =
+    written_by s d claim target x more last t from kept base current claimed (from.elected d.epoch elected) (from.aims s.tree s.log d at) made-is
+writes_by s d claim target x more last (Err (tree_fault.Refused index code)) from is kept base current claimed elected at made-is =
     chosen s d.id (is_claim_refused index code) (resigned d, reply.FencedWrite claim) (begins_again d, reply.Moved state.BecomeController)
     (λ first. resigns s d (reply.FencedWrite claim) base (λ i. cc))
     (λ later. again s d (reply.Moved state.BecomeController) base (from.elected d.epoch elected) (λ i. cc))
-writes_by back s d claim target x more last (Err (tree_fault.Limit index number)) from is kept base current claimed elected at made-is =
+writes_by s d claim target x more last (Err (tree_fault.Limit index number)) from is kept base current claimed elected at made-is =
     stays s d x (reply.Limit (path_at (write_ops claim (remaining_at s.tree s.log target.offset) target) index)) is base current elected at (λ i. cc)
-writes_by back s d claim target x more last (Err tree_fault.NoMemory) from is kept base current claimed elected at made-is = stays s d x (reply.TreeFailed tree_fault.NoMemory) is base current elected at (λ i. cc)
-writes_by back s d claim target x more last (Err tree_fault.Device) from is kept base current claimed elected at made-is = stays s d x (reply.TreeFailed tree_fault.Device) is base current elected at (λ i. cc)
-writes_by back s d claim target x more last (Err tree_fault.Down) from is kept base current claimed elected at made-is = stays s d x (reply.TreeFailed tree_fault.Down) is base current elected at (λ i. cc)
-writes_by back s d claim target x more last (Err (tree_fault.Full length)) from is kept base current claimed elected at made-is = stays s d x (reply.TreeFailed (tree_fault.Full length)) is base current elected at (λ i. cc)
+writes_by s d claim target x more last (Err tree_fault.NoMemory) from is kept base current claimed elected at made-is = stays s d x (reply.TreeFailed tree_fault.NoMemory) is base current elected at (λ i. cc)
+writes_by s d claim target x more last (Err tree_fault.Device) from is kept base current claimed elected at made-is = stays s d x (reply.TreeFailed tree_fault.Device) is base current elected at (λ i. cc)
+writes_by s d claim target x more last (Err tree_fault.Down) from is kept base current claimed elected at made-is = stays s d x (reply.TreeFailed tree_fault.Down) is base current elected at (λ i. cc)
+writes_by s d claim target x more last (Err (tree_fault.Full length)) from is kept base current claimed elected at made-is = stays s d x (reply.TreeFailed (tree_fault.Full length)) is base current elected at (λ i. cc)
 
 -- under its claim, if it has one
-writes_under : ReadsBack → (s : Shared) (now : ℤ) (d : Driver) (m : Option ℤ) (target : Recorded) (x : Stage) (more : List Op → Stage) (last : Stage) → WritesFrom target x more last
+writes_under : (s : Shared) (now : ℤ) (d : Driver) (m : Option ℤ) (target : Recorded) (x : Stage) (more : List Op → Stage) (last : Stage) → WritesFrom target x more last
     → d.stage ≡ x → d.claim ≡ m → Kept s → Base s.log d → Current s d → Elected d.epoch x → AtStage s.tree s.log d x
     → Owed (made s (epoch_or_zero d.epoch) now (write_request m (remaining_at s.tree s.log target.offset) target)) d.id (writes s.tree m (remaining_at s.tree s.log target.offset) target more last d)
-writes_under back s now d None target x more last from is claimed kept base current elected at = again s d (reply.Moved state.BecomeController) base (from.elected d.epoch elected) (λ i. cc)
-writes_under back s now d (Some claim) target x more last from is claimed kept base current elected at =
-    writes_by back s d claim target x more last (multi s.tree (write_ops claim (remaining_at s.tree s.log target.offset) target)) from is kept base current claimed elected at refl
+writes_under s now d None target x more last from is claimed kept base current elected at = again s d (reply.Moved state.BecomeController) base (from.elected d.epoch elected) (λ i. cc)
+writes_under s now d (Some claim) target x more last from is claimed kept base current elected at =
+    writes_by s d claim target x more last (multi s.tree (write_ops claim (remaining_at s.tree s.log target.offset) target)) from is kept base current claimed elected at refl
 
 -- ---- rest
 
@@ -328,47 +328,47 @@ goes_on_resting s d is kept base current elected at up_to_date =
 
 -- ---- every stage
 
-pub owed : ReadsBack → (s : Shared) (running : List ℤ) (now : ℤ) (d : Driver) (x : Stage) → d.stage ≡ x → Kept s → Base s.log d → Current s d → Elected d.epoch x → AtStage s.tree s.log d x
+pub owed : (s : Shared) (running : List ℤ) (now : ℤ) (d : Driver) (x : Stage) → d.stage ≡ x → Kept s → Base s.log d → Current s d → Elected d.epoch x → AtStage s.tree s.log d x
     → Owed (made s (epoch_or_zero d.epoch) now (asked s now d x)) d.id (answered s running now d x)
-owed back s running now d stage.Uninitialized is kept base current elected at = moves s d stage.Inactive (reply.Moved state.Inactive) base current tt tt (λ i. cc)
-owed back s running now d stage.Inactive is kept base current elected at = record {
+owed s running now d stage.Uninitialized is kept base current elected at = moves s d stage.Inactive (reply.Moved state.Inactive) base current tt tt (λ i. cc)
+owed s running now d stage.Inactive is kept base current elected at = record {
   own = record { id = base.id; epochs = base.epochs; elected = subst (Elected d.epoch) (sym is) tt; views = base.views; stage = subst (AtStage s.tree s.log d) (sym is) tt };
   current = current;
   same = refl;
   rest = λ idle dual. absurd (let inactive = ap state_of is in cc);
 }
-owed back s running now d stage.WaitForQuorum is kept base current elected at = quorum_waits s running (having_read s.log d) is (base_read s.log d kept.log base) current elected
-owed back s running now d stage.WaitForBrokers is kept base current elected at =
+owed s running now d stage.WaitForQuorum is kept base current elected at = quorum_waits s running (having_read s.log d) is (base_read s.log d kept.log base) current elected
+owed s running now d stage.WaitForBrokers is kept base current elected at =
     let e : Driver = having_read s.log d in
     let base-now = base_read s.log d kept.log base in
     finalised s e (at_stage stage.CompareBrokers e, reply.Looked) base-now (moves s e stage.CompareBrokers reply.Looked base-now current elected tt (λ i. cc))
-owed back s running now d stage.CompareBrokers is kept base current elected at = brokers_wait s d (missing_broker (broker_ids s.tree) d.view.image) base current elected
-owed back s running now d stage.Look is kept base current elected at = looks s d kept is base current elected
-owed back s running now d (stage.Claim seen) is kept base current elected at = claims s d seen now (multi s.tree (claim_ops seen d now)) refl is base current elected at
-owed back s running now d (stage.ReadSource rows) is kept base current elected at =
+owed s running now d stage.CompareBrokers is kept base current elected at = brokers_wait s d (missing_broker (broker_ids s.tree) d.view.image) base current elected
+owed s running now d stage.Look is kept base current elected at = looks s d kept is base current elected
+owed s running now d (stage.Claim seen) is kept base current elected at = claims s d seen now (multi s.tree (claim_ops seen d now)) refl is base current elected at
+owed s running now d (stage.ReadSource rows) is kept base current elected at =
     let page = scan s.tree (last_path rows) page_size in
     paged s d (nat_lt (length page) page_size) (stage.Begin (rows ++ page)) (stage.ReadSource (rows ++ page)) (reply.Read (length page))
     (moves s d (stage.Begin (rows ++ page)) (reply.Read (length page)) base current elected tt (λ i. cc))
     (moves s d (stage.ReadSource (rows ++ page)) (reply.Read (length page)) base current elected tt (λ i. cc))
-owed back s running now d (stage.Begin rows) is kept base current elected at = begins s now d rows (translate rows) is kept base current elected
-owed back s running now d (stage.Fill records) is kept base current elected at =
+owed s running now d (stage.Begin rows) is kept base current elected at = begins s now d rows (translate rows) is kept base current elected
+owed s running now d (stage.Fill records) is kept base current elected at =
     let both = after_records_stage records s.tree d elected in
     appends s d now (next_records records) (stage.Fill records) (after_records records) (append s.log (epoch_or_zero d.epoch) now (next_records records)) refl is kept base current elected at both.0 both.1
-owed back s running now d stage.ReadLog is kept base current elected at =
+owed s running now d stage.ReadLog is kept base current elected at =
     let e : Driver = having_read s.log d in
     let base-now = base_read s.log d kept.log base in
     finalised s e (at_stage (stage.ReadArea (target_of e) []) e, reply.Looked) base-now
     (moves s e (stage.ReadArea (target_of e) []) reply.Looked base-now current elected (aims s.log e kept.log base-now elected refl) (λ i. cc))
-owed back s running now d (stage.ReadArea target rows) is kept base current elected at =
+owed s running now d (stage.ReadArea target rows) is kept base current elected at =
     let page = scan s.tree (last_path rows) page_size in
     let last = stage.WriteAll target (diff (map rendered_row (rows ++ page)) (render d.view.image)) in
     paged s d (nat_lt (length page) page_size) last (stage.ReadArea target (rows ++ page)) (reply.Read (length page))
     (moves s d last (reply.Read (length page)) base current elected at (λ i. cc))
     (moves s d (stage.ReadArea target (rows ++ page)) (reply.Read (length page)) base current elected at (λ i. cc))
-owed back s running now d (stage.WriteAll target ops) is kept base current elected at =
-    writes_under back s now d d.claim target (stage.WriteAll target ops) (λ rest. stage.WriteAll target rest) stage.InformBrokers (all_from target ops) is refl kept base current elected at
-owed back s running now d stage.InformBrokers is kept base current elected at = moves s d stage.Rest (reply.Moved state.DualWrite) base current elected at (λ i. cc)
-owed back s running now d stage.Rest is kept base current elected at =
+owed s running now d (stage.WriteAll target ops) is kept base current elected at =
+    writes_under s now d d.claim target (stage.WriteAll target ops) (λ rest. stage.WriteAll target rest) stage.InformBrokers (all_from target ops) is refl kept base current elected at
+owed s running now d stage.InformBrokers is kept base current elected at = moves s d stage.Rest (reply.Moved state.DualWrite) base current elected at (λ i. cc)
+owed s running now d stage.Rest is kept base current elected at =
     let e : Driver = having_read s.log d in
     let base-now = base_read s.log d kept.log base in
     let ops = diff (render d.view.image) (render e.view.image) in
@@ -376,5 +376,5 @@ owed back s running now d stage.Rest is kept base current elected at =
     (chosen s d.id (is_recorded_at e.recorded e.view.position) (e, reply.Idle) (at_stage (stage.WriteChange (target_of e) ops) e, reply.Looked)
     (λ same. goes_on_resting s d is kept base current elected at same)
     (λ new. moves s e (stage.WriteChange (target_of e) ops) reply.Looked base-now current elected (aims s.log e kept.log base-now elected refl) (λ i. cc)))
-owed back s running now d (stage.WriteChange target ops) is kept base current elected at =
-    writes_under back s now d d.claim target (stage.WriteChange target ops) (λ rest. stage.WriteChange target rest) stage.Rest (change_from target ops) is refl kept base current elected at
+owed s running now d (stage.WriteChange target ops) is kept base current elected at =
+    writes_under s now d d.claim target (stage.WriteChange target ops) (λ rest. stage.WriteChange target rest) stage.Rest (change_from target ops) is refl kept base current elected at

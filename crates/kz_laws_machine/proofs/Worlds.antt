@@ -24,7 +24,6 @@ use Rattle.kz_spec_machine.specs.Sound.{IsId, IsEpoch, IsEpochOrNone, LogShape, 
 use Rattle.kz_spec_runs.specs.InStep.{InStep, last_reply, ComesToRest}
 use Rattle.kz_laws_machine.proofs.Logs.{Grows, batch_shape, grows_batch, grows_election}
 use Rattle.kz_laws_machine.proofs.Groups.{Base, base_of, Current, base_grown}
-use Rattle.kz_laws_machine.proofs.Steps.{ReadsBack}
 use Rattle.kz_laws_machine.proofs.Turns.{TurnKept, turned}
 
 -- ---- a world with at most one driver
@@ -267,14 +266,14 @@ turned_world w t id d lone is k = record {
     by_drivers (x ∷ []) one found = let same = (driver_is id x d found).1 in turned_one w.shared t x one (subst (λ (y : Driver). TurnKept w.shared y.id t) (sym same) k)
     by_drivers (x ∷ y ∷ ds) one found = one
 
-pub turn_of : ReadsBack → (w : World) (id now : ℤ) (d : Driver) → Lone w → driver_of id w.drivers ≡ Some d → TurnKept w.shared d.id (turn (work w.shared d) w.shared (running_ids w.drivers) now d)
-turn_of back w id now d lone is =
+pub turn_of : (w : World) (id now : ℤ) (d : Driver) → Lone w → driver_of id w.drivers ≡ Some d → TurnKept w.shared d.id (turn (work w.shared d) w.shared (running_ids w.drivers) now d)
+turn_of w id now d lone is =
     let own = own_of w.shared w.drivers id d lone.one is in
-    turned back (work w.shared d) w.shared (running_ids w.drivers) now d lone.kept own.fine own.current
+    turned (work w.shared d) w.shared (running_ids w.drivers) now d lone.kept own.fine own.current
 
-turn_kept : ReadsBack → (w : World) (id now : ℤ) (m : Option Driver) → Lone w → driver_of id w.drivers ≡ m → Lone (turn_result w now m).0
-turn_kept back w id now None lone is = lone
-turn_kept back w id now (Some d) lone is = turned_world w (turn (work w.shared d) w.shared (running_ids w.drivers) now d) id d lone is (turn_of back w id now d lone is)
+turn_kept : (w : World) (id now : ℤ) (m : Option Driver) → Lone w → driver_of id w.drivers ≡ m → Lone (turn_result w now m).0
+turn_kept w id now None lone is = lone
+turn_kept w id now (Some d) lone is = turned_world w (turn (work w.shared d) w.shared (running_ids w.drivers) now d) id d lone is (turn_of w id now d lone is)
 
 unless_kept : (P : World → Type 0) (w : World) (refusal : Option Answer) (rest : World × Answer) → P w → P rest.0 → P (unless_refused w refusal rest).0
 unless_kept P w (Some a) rest old made = old
@@ -282,14 +281,14 @@ unless_kept P w None rest old made = made
 
 -- ---- every event
 
-pub next_kept : ReadsBack → (w : World) (e : Event) → IsLawful e → Lone w → Lone (next w e).0
+pub next_kept : (w : World) (e : Event) → IsLawful e → Lone w → Lone (next w e).0
 unfolding next
-next_kept back w (event.Quorum ids) lawful lone = decided_kept Lone w (quorum_refusal w) (declared_world w ids) answer.Done lone (quorum_kept w ids lawful.1 lone)
-next_kept back w (event.Start id) lawful lone = decided_kept Lone w (start_refusal w id) (started_world w id) answer.Done lone (start_kept w id lawful lone)
-next_kept back w (event.Elect id now) lawful lone = decided_kept Lone w (election_refusal w id) (elected_world w id now) (election_answer w now) lone (election_kept w id now lone)
-next_kept back w (event.Turn id now) lawful lone = unless_kept Lone w (running_refusal w id) (turn_result w now (driver_of id w.drivers)) lone (turn_kept back w id now (driver_of id w.drivers) lone refl)
-next_kept back w (event.Change id records now) lawful lone = decided_kept Lone w (change_refusal w id records) (changed_world w records now) (answer.Appended (end_of (changed_log w.shared.log records now))) lone (change_kept w id records now lone)
-next_kept back w event.Check lawful lone = lone
+next_kept w (event.Quorum ids) lawful lone = decided_kept Lone w (quorum_refusal w) (declared_world w ids) answer.Done lone (quorum_kept w ids lawful.1 lone)
+next_kept w (event.Start id) lawful lone = decided_kept Lone w (start_refusal w id) (started_world w id) answer.Done lone (start_kept w id lawful lone)
+next_kept w (event.Elect id now) lawful lone = decided_kept Lone w (election_refusal w id) (elected_world w id now) (election_answer w now) lone (election_kept w id now lone)
+next_kept w (event.Turn id now) lawful lone = unless_kept Lone w (running_refusal w id) (turn_result w now (driver_of id w.drivers)) lone (turn_kept w id now (driver_of id w.drivers) lone refl)
+next_kept w (event.Change id records now) lawful lone = decided_kept Lone w (change_refusal w id records) (changed_world w records now) (answer.Appended (end_of (changed_log w.shared.log records now))) lone (change_kept w id records now lone)
+next_kept w event.Check lawful lone = lone
 
 pub empty_lone : Lone empty_world
 empty_lone = record {
