@@ -4,3 +4,4 @@ pub mod Steps
 pub mod Turns
 pub mod Worlds
 pub mod Steady
+pub mod Lawful
