@@ -1,8 +1,7 @@
 -- What is true of every world of a run. Each group of facts is a record over the values that it reads, so that what
 -- changes anything else keeps the group as it stands.
-use Rattle.std.specs.Prelude.{◌≡◌, ◌≢◌, ◌≤◌, ℕ, ℤ, pos, negsuc, ◌+ℤ◌, ◌-ℤ◌, ◌≤ℤ◌, ◌<ℤ◌, List, [], ◌∷◌, ◌++◌, length, Option, Some, None, option_map, All, IsTrue, ⊤}
+use Rattle.std.specs.Prelude.{◌≡◌, ◌≢◌, ◌≤◌, ℕ, Bool, true, ℤ, pos, negsuc, ◌+ℤ◌, ◌-ℤ◌, ◌≤ℤ◌, ◌<ℤ◌, List, [], ◌∷◌, ◌++◌, length, Option, Some, None, option_map, All, IsTrue, ⊤}
 use Rattle.kz_types.specs.declared.tree.Row.{Row}
-use Rattle.kz_types.specs.declared.tree.Op.{Op}
 use Rattle.kz_types.specs.declared.log.BatchRow.{BatchRow}
 use Rattle.kz_types.specs.declared.driver.Stage.{Stage}
 use Rattle.kz_types.specs.declared.driver.Stage.TheVariants as stage
@@ -13,12 +12,12 @@ use Rattle.kz_types.specs.declared.record.MetaRecord.{MetaRecord}
 use Rattle.kz_types.specs.declared.record.MetaRecord.TheVariants as meta
 use Rattle.kz_ordered.specs.Order.{bytes_cmp}
 use Rattle.kz_ordered.specs.Ordered.{Rises}
-use Rattle.kz_spec_values.specs.Control.{control_path, epoch_path}
-use Rattle.kz_spec_stores.specs.Tree.{Tree, row_at, path_of_row, area, recorded, unclosed}
-use Rattle.kz_spec_stores.specs.Image.{empty_image, is_broker_config}
-use Rattle.kz_spec_stores.specs.Log.{Log, View, end_of, batch_ends, record_count, image_at, max_records, max_epoch}
+use Rattle.kz_spec_values.specs.Control.{epoch_path}
+use Rattle.kz_spec_stores.specs.Tree.{Tree, row_at, path_of_row, area, recorded, unclosed, max_long}
+use Rattle.kz_spec_stores.specs.Image.{is_broker_config}
+use Rattle.kz_spec_stores.specs.Log.{Log, View, end_of, image_at, max_epoch}
 use Rattle.kz_spec_stores.specs.Rendering.{render}
-use Rattle.kz_spec_machine.specs.Driver.{Shared, Driver, shown_by, remaining_at}
+use Rattle.kz_spec_machine.specs.Driver.{Shared, Driver, is_one_of}
 use Rattle.kz_spec_machine.specs.Machine.{World, driver_of}
 
 -- ---- numbers
@@ -33,48 +32,36 @@ pub record IsEpoch (epoch : ℤ) : Type 0 where
   pub least : pos 1 ≤ℤ epoch
   pub most : epoch ≤ℤ max_epoch
 
+-- from 0, which stands for none, to the greatest of 32 bits
+pub record IsEpochOrNone (epoch : ℤ) : Type 0 where
+  pub least : pos 0 ≤ℤ epoch
+  pub most : epoch ≤ℤ max_epoch
+
 -- ---- the tree and the log
 
--- no transaction of a znode is above the tree's last one
+-- no transaction of a znode is above the tree's last one, and its version isn't negative
 pub record IsStamped (zxid : ℤ) (r : Row) : Type 0 where
   pub created : r.czxid ≤ℤ zxid
   pub modified : r.mzxid ≤ℤ zxid
   pub children : r.pzxid ≤ℤ zxid
+  pub version : pos 0 ≤ℤ r.version
 
 -- The znodes rise by path, and their transactions are those of the tree.
 pub record TreeShape (t : Tree) : Type 0 where
   pub rise : Rises bytes_cmp path_of_row t.rows
   pub stamped : All (IsStamped t.zxid) t.rows
 
--- each batch begins behind the one before it
-abbrev pub Follows : ℤ → List BatchRow → Type 0
-Follows end [] = ⊤
-Follows end (b ∷ bs) = (b.first ≡ end +ℤ pos 1) × Follows ((b.first +ℤ pos (length b.items)) -ℤ pos 1) bs
-
--- The log begins at its base, its batches follow each other, and there are few enough of them.
+-- The epochs of the batches are in range, the last offset is, and a log that has an epoch has a record.
 pub record LogShape (l : Log) : Type 0 where
-  pub base : l.base ≡ negsuc 0
-  pub empty : l.base_image ≡ empty_image
-  pub follows : Follows l.base l.batches
-  pub few : record_count l.batches ≤ max_records
-  pub epoch_least : pos 0 ≤ℤ l.epoch
-  pub epoch_most : l.epoch ≤ℤ max_epoch
-
--- an offset is the base or the last of a batch
-pub record IsBatchEnd (l : Log) (offset : ℤ) : Type 0 where
-  pub before : List ℤ
-  pub after : List ℤ
-  pub among : batch_ends l ≡ before ++ offset ∷ after
-
--- What is recorded is a batch end; and where the tree is closed, its migrated area is the rendering of the metadata there.
-pub record Agreement (t : Tree) (l : Log) : Type 0 where
-  pub end : (r : Recorded) → recorded t ≡ Some r → pos 0 ≤ℤ r.offset → IsBatchEnd l r.offset
-  pub same : (r : Recorded) → recorded t ≡ Some r → unclosed t ≡ None → area t ≡ render (image_at l r.offset)
+  pub epoch : IsEpochOrNone l.epoch
+  pub epochs : All (λ (b : BatchRow). IsEpochOrNone b.epoch) l.batches
+  pub end_least : negsuc 0 ≤ℤ end_of l
+  pub end_most : end_of l ≤ℤ max_long
+  pub begun : pos 1 ≤ℤ l.epoch → pos 0 ≤ℤ end_of l
 
 pub record Kept (s : Shared) : Type 0 where
   pub tree : TreeShape s.tree
   pub log : LogShape s.log
-  pub agreement : Agreement s.tree s.log
 
 -- ---- one driver
 
@@ -82,33 +69,25 @@ pub record Kept (s : Shared) : Type 0 where
 abbrev pub claim_version : Tree → Option ℤ
 claim_version t = option_map (λ (r : Row). r.version) (row_at epoch_path t.rows)
 
--- the epoch that `/controller` shows
-abbrev pub shown_in : Tree → Option ℤ
-shown_in t = shown_by (row_at control_path t.rows)
-
 -- A driver's claim is current where it is the data version of `/controller_epoch`.
 abbrev pub IsCurrent : Tree → Option ℤ → Type 0
 IsCurrent t claim = (claim ≡ claim_version t) × (claim ≢ None)
 
--- A claim is never above the data version; while it is current, `/controller` shows the driver's epoch.
-pub record Claimed (version shown epoch : Option ℤ) (v : ℤ) : Type 0 where
-  pub low : (now : ℤ) → version ≡ Some now → v ≤ℤ now
-  pub there : version ≢ None
-  pub shows : version ≡ Some v → shown ≡ epoch
-
-abbrev pub Claims : Option ℤ → Option ℤ → Option ℤ → Option ℤ → Type 0
-Claims version shown epoch None = ⊤
-Claims version shown epoch (Some v) = Claimed version shown epoch v
-
--- What a driver knows of the log is the metadata at a batch end.
+-- What a driver knows of the log ends within it.
 pub record Views (l : Log) (v : View) : Type 0 where
-  pub end : IsBatchEnd l v.position
-  pub image : v.image ≡ image_at l v.position
+  pub within : v.position ≤ℤ end_of l
+  pub epoch : IsEpochOrNone v.epoch
 
 -- The driver's epoch, where it has one, isn't above the log's.
 abbrev pub Epochs : ℤ → Option ℤ → Type 0
 Epochs log_epoch None = ⊤
 Epochs log_epoch (Some e) = IsEpoch e × (e ≤ℤ log_epoch)
+
+-- A driver that does anything was elected and hasn't resigned.
+abbrev pub Elected : Option ℤ → Stage → Type 0
+Elected epoch stage.Uninitialized = ⊤
+Elected epoch stage.Inactive = ⊤
+Elected epoch s = epoch ≢ None
 
 -- what a driver that writes will record: its view's end of the log
 pub record Aims (target : Recorded) (own : ℤ) (own_epoch : Option ℤ) (v : View) : Type 0 where
@@ -116,33 +95,31 @@ pub record Aims (target : Recorded) (own : ℤ) (own_epoch : Option ℤ) (v : Vi
   pub controller_epoch : Some target.controller_epoch ≡ own_epoch
   pub offset : target.offset ≡ v.position
   pub not_negative : pos 0 ≤ℤ target.offset
-  pub epoch_least : pos 0 ≤ℤ target.epoch
-  pub epoch_most : target.epoch ≤ℤ max_epoch
+  pub epoch : IsEpochOrNone target.epoch
 
--- A current driver that writes: the operations that it holds are all that remains.
-pub record Writes (t : Tree) (l : Log) (target : Recorded) (ops : List Op) : Type 0 where
-  pub remaining : ops ≡ remaining_at t l target.offset
-
--- A current driver that rests: the tree is closed, and what it recorded is what the driver recorded, where its view ends.
-pub record Rests (t : Tree) (v : View) (offset : Option ℤ) : Type 0 where
+-- A current driver that rests: the tree is closed, what it recorded is what the driver recorded, where its view ends, and
+-- the migrated area is the rendering of the metadata there.
+pub record Rests (t : Tree) (l : Log) (v : View) (offset : Option ℤ) : Type 0 where
   pub closed : unclosed t ≡ None
   pub same : option_map (λ (r : Recorded). r.offset) (recorded t) ≡ offset
   pub view : offset ≡ Some v.position
+  pub area : area t ≡ render (image_at l v.position)
 
 -- What holds at each stage, by cases. What is said of the tree is said of a current driver alone.
 abbrev pub AtStage : Tree → Log → Driver → Stage → Type 0
+AtStage t l d (stage.Claim seen) = (r : Row) → seen.epoch ≡ Some r → pos 0 ≤ℤ r.version
 AtStage t l d (stage.ReadArea target rows) = Aims target d.id d.epoch d.view
-AtStage t l d (stage.WriteAll target ops) = Aims target d.id d.epoch d.view × (IsCurrent t d.claim → Writes t l target ops)
-AtStage t l d stage.InformBrokers = IsCurrent t d.claim → Rests t d.view d.recorded
-AtStage t l d stage.Rest = IsCurrent t d.claim → Rests t d.view d.recorded
-AtStage t l d (stage.WriteChange target ops) = Aims target d.id d.epoch d.view × (IsCurrent t d.claim → Writes t l target ops)
+AtStage t l d (stage.WriteAll target ops) = Aims target d.id d.epoch d.view
+AtStage t l d stage.InformBrokers = (d.claim ≢ None) × (IsCurrent t d.claim → Rests t l d.view d.recorded)
+AtStage t l d stage.Rest = (d.claim ≢ None) × (IsCurrent t d.claim → Rests t l d.view d.recorded)
+AtStage t l d (stage.WriteChange target ops) = Aims target d.id d.epoch d.view
 AtStage t l d s = ⊤
 
 -- What one driver believes, against what is shared. No other driver is named.
 pub record Fine (s : Shared) (d : Driver) : Type 0 where
   pub id : IsId d.id
   pub epochs : Epochs s.log.epoch d.epoch
-  pub claims : Claims (claim_version s.tree) (shown_in s.tree) d.epoch d.claim
+  pub elected : Elected d.epoch d.stage
   pub views : Views s.log d.view
   pub stage : AtStage s.tree s.log d d.stage
 
@@ -156,10 +133,16 @@ pub record Sound (w : World) : Type 0 where
 
 -- ---- one controller
 
+-- At most one driver, of a declared controller.
+abbrev pub AtMostOne : List ℤ → List Driver → Type 0
+AtMostOne declared [] = ⊤
+AtMostOne declared (d ∷ []) = is_one_of declared d.id ≡ true
+AtMostOne declared (d ∷ e ∷ ds) = ⊥
+
 -- While one controller alone is declared, it alone runs, and its claim stays current.
 pub record Alone (w : World) : Type 0 where
   pub declared : length w.shared.declared ≤ 1
-  pub running : length w.drivers ≤ 1
+  pub running : AtMostOne w.shared.declared w.drivers
   pub current : (id : ℤ) (d : Driver) → driver_of id w.drivers ≡ Some d → d.claim ≢ None → IsCurrent w.shared.tree d.claim
 
 -- ---- events

@@ -1,0 +1,7 @@
+pub mod Logs
+pub mod Groups
+pub mod Steps
+pub mod Turns
+pub mod Worlds
+pub mod Steady
+pub mod Lawful
