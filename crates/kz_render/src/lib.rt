@@ -1,0 +1,2 @@
+//! The znodes that stand for the metadata.
+#![tactic(auto)]
