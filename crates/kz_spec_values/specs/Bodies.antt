@@ -1,9 +1,9 @@
 -- What the body of a migrated znode says, and the text that is written for it.
-use Rattle.std.specs.Prelude.{ℕ, Bool, true, false, not, ◌&&◌, ◌==◌, nat_lt, nat_le, ℤ, pos, negsuc, int_le, nat_abs, List, [], ◌∷◌, ◌++◌, map, length, Option, Some, None, option_map, option_and_then, unwrap_or, Result, Ok, Err, if◌then◌else◌, codes, bytes_eq, decimal}
+use Rattle.std.specs.Prelude.{ℕ, Bool, true, false, not, ◌&&◌, ◌==◌, nat_lt, ℤ, pos, negsuc, int_le, nat_abs, List, [], ◌∷◌, ◌++◌, map, length, Option, Some, None, option_map, option_and_then, unwrap_or, Result, Ok, Err, if◌then◌else◌, codes, bytes_eq, decimal}
 use Rattle.std.specs.Str.{is_utf8}
 use Rattle.std.specs.List.{list_all, list_any}
 use Rattle.std.specs.Ordering.{int_eq}
-use Rattle.serde_json.specs.Data.{Data, null, boolean, number, string, array, object, Items, no_items, item, Members, no_members, member, put}
+use Rattle.serde_json.specs.Data.{Data, number, string, array, object, Items, no_items, item, Members, no_members, member, put}
 use Rattle.serde_json.specs.Read.{read}
 use Rattle.serde_json.specs.Find.{get, get_member, as_number, as_i64, as_str, as_array, as_object, of_integer}
 use Rattle.serde_json.specs.Written.{compact_text}
@@ -290,14 +290,19 @@ abbrev pub json_of : List ℕ → Option Data
 json_of bytes = if is_utf8 bytes then read bytes else None
 
 -- only an object is a body
+abbrev pub object_if : Data → Option Members → Option Data
+object_if d None = None
+object_if d (Some ms) = Some d
+
+abbrev pub object_of : Option Data → Option Data
+object_of o = option_and_then (λ d. object_if d (as_object d)) o
+
+abbrev pub body_of_object : EntityKey → Option Data → Result Body BodyFault
+body_of_object key None = Err NotJson
+body_of_object key (Some d) = body_of key d
+
 abbrev pub body_of_json : EntityKey → Option Data → Result Body BodyFault
-body_of_json key None = Err NotJson
-body_of_json key (Some null) = Err NotJson
-body_of_json key (Some (boolean b)) = Err NotJson
-body_of_json key (Some (number n)) = Err NotJson
-body_of_json key (Some (string s)) = Err NotJson
-body_of_json key (Some (array ds)) = Err NotJson
-body_of_json key (Some (object ms)) = body_of key (object ms)
+body_of_json key o = body_of_object key (object_of o)
 
 abbrev pub body_unless_empty : EntityKey → List ℕ → Option Body → Result Body BodyFault
 body_unless_empty key bytes (Some empty) = if length bytes == 0 then Ok empty else body_of_json key (json_of bytes)
