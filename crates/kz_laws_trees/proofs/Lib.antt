@@ -6,3 +6,5 @@ pub mod Render
 pub mod Multi
 pub mod Claim
 pub mod Logs
+pub mod Ends
+pub mod Pages
