@@ -125,5 +125,5 @@ pub epochs_grown : (l more : Log) (e : Option ℤ) → Grows l more → Epochs l
 epochs_grown l more None grows old = tt
 epochs_grown l more (Some e) grows old = (old.0, let a = old.1 in let b = grows.epoch in omega (arith, ints))
 
-pub base_grown : (l more : Log) (d : Driver) → Grows l more → Base l d → Base more d
-base_grown l more d grows base = record { id = base.id; epochs = epochs_grown l more d.epoch grows base.epochs; views = view_grown l more d.view grows base.views }
+pub base_grown : (l more : Log) (d : Driver) → LogShape l → Grows l more → Base l d → Base more d
+base_grown l more d shape grows base = record { id = base.id; epochs = epochs_grown l more d.epoch grows base.epochs; views = view_grown l more d.view shape grows base.views }
