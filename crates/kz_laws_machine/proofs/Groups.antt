@@ -17,7 +17,7 @@ use Rattle.kz_spec_stores.specs.Log.{Log, end_of, max_epoch, read_view}
 use Rattle.kz_spec_machine.specs.Driver.{Shared, Driver, state_of, at_stage, resigned, begins_again, epoch_or_zero, unless_finalised, having_read, target_of}
 use Rattle.kz_spec_machine.specs.Sound.{IsId, IsEpoch, IsEpochOrNone, LogShape, Kept, IsCurrent, Views, Epochs, Elected, Aims, Rests, AtStage, Fine}
 use Rattle.kz_spec_runs.specs.InStep.{InStep}
-use Rattle.kz_laws_machine.proofs.Logs.{Grows, view_read, view_grown}
+use Rattle.kz_laws_trees.proofs.Growth.{Grows, view_read, view_grown}
 
 -- what is true of a driver whatever its stage
 pub record Base (l : Log) (d : Driver) : Type 0 where

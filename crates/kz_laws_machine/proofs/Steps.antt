@@ -39,11 +39,12 @@ use Rattle.kz_spec_machine.specs.Driver.{Shared, Driver, state_of, at_stage, res
 use Rattle.kz_spec_machine.specs.Sound.{IsId, IsEpoch, IsEpochOrNone, IsStamped, TreeShape, LogShape, Kept, claim_version, IsCurrent, Views, Epochs, Elected, Aims, Reads, Writes, Rests, AtStage, Fine}
 use Rattle.kz_spec_runs.specs.InStep.{InStep}
 use Rattle.kz_laws_values.proofs.Control.{recorded_is_read}
-use Rattle.kz_laws_trees.proofs.Multi.{multi_ran, shape_kept, write_keeps_version, Completed, last_write, remaining_after_write}
+use Rattle.kz_laws_trees.proofs.Multi.{multi_ran, shape_kept, write_keeps_version, last_write, remaining_after_write}
+use Rattle.kz_laws_trees.specs.TreeLaws.{Completed}
 use Rattle.kz_laws_trees.proofs.Pages.{behind_last, short_page, one_page_more}
 use Rattle.kz_laws_trees.proofs.Ends.{end_most}
 use Rattle.kz_laws_trees.proofs.Claim.{claim_gives_version}
-use Rattle.kz_laws_machine.proofs.Logs.{Grows, append_appends, view_within}
+use Rattle.kz_laws_trees.proofs.Growth.{Grows, append_appends, view_within}
 use Rattle.kz_laws_machine.proofs.Groups.{Base, base_of, Current, Owed, moves, stays, resigns, again, chosen, finalised, base_read, aims, base_grown}
 
 -- ---- the tree and the log after any request

@@ -26,7 +26,7 @@ use Rattle.kz_spec_machine.specs.Machine.{World, empty_world, running_ids, is_ru
 use Rattle.kz_spec_machine.specs.Sound.{IsId, IsEpoch, IsEpochOrNone, LogShape, IsBatchEnd, TreeShape, Kept, IsCurrent, Views, Epochs, Elected, Aims, Rests, AtStage, Fine, Each, Sound, AtMostOne, Alone, IsLawful}
 use Rattle.kz_spec_runs.specs.InStep.{InStep, last_reply, ComesToRest}
 use Rattle.kz_laws_trees.proofs.Ends.{end_least, base_is_batch_end, image_before}
-use Rattle.kz_laws_machine.proofs.Logs.{Grows, batch_shape, grows_batch, view_within}
+use Rattle.kz_laws_trees.proofs.Growth.{Grows, batch_shape, grows_batch, view_within}
 use Rattle.kz_laws_machine.proofs.Groups.{Base, base_of, Current, base_grown}
 use Rattle.kz_laws_machine.proofs.Turns.{TurnKept, turned}
 

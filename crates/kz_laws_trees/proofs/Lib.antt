@@ -8,3 +8,4 @@ pub mod Claim
 pub mod Logs
 pub mod Ends
 pub mod Pages
+pub mod Growth

@@ -7,7 +7,7 @@ use Rattle.std.proofs.lemmas.Bool.{cases_Bool}
 use Rattle.std.proofs.lemmas.Bool.Decides.{nat_tests, Decides-int_eq}
 use Rattle.std.proofs.lemmas.Int.{ints}
 use Rattle.std.proofs.lemmas.List.{take_all}
-use Rattle.std.proofs.lemmas.List.Elements.{All-weaker, All-filter, All-contains}
+use Rattle.std.proofs.lemmas.List.Elements.{All-head, All-tail, All-weaker, All-filter, All-contains}
 use Rattle.std.proofs.lemmas.Slice.Eq.{bytes_eq-Decides}
 use Rattle.kz_types.specs.declared.tree.Row.{Row}
 use Rattle.kz_types.specs.declared.tree.Op.{Op}
@@ -31,7 +31,8 @@ use Rattle.kz_spec_stores.specs.Rendering.{path_of_rendered, render}
 use Rattle.kz_spec_stores.specs.Difference.{same_body, op_of, diff, max_chunk, chunk}
 use Rattle.kz_spec_machine.specs.Driver.{Driver, is_last_write, record_ops, write_ops}
 use Rattle.kz_spec_machine.specs.Sound.{IsStamped, TreeShape, claim_version}
-use Rattle.kz_laws_trees.proofs.Rows.{still, op_path, set_found, created_found}
+use Rattle.kz_laws_trees.specs.TreeLaws.{path_of_op, Completed}
+use Rattle.kz_laws_trees.proofs.Rows.{still, set_found, created_found}
 use Rattle.kz_laws_trees.proofs.Area.{area_of, edit_path, area_rises, area_left}
 use Rattle.kz_laws_trees.proofs.Runs.{ran, Passes, passed, ran_is, ran_append, passes_left, passes_right, ran_rises, Avoids, avoids_append, ran_keeps, Inside, Outside, area_ran, area_ran_left, inside_take, avoids_inside}
 use Rattle.kz_laws_trees.proofs.Each.{Lasts, all_ran, none_later}
@@ -161,12 +162,6 @@ write_keeps_version t new i claim target is = version_by t new i claim target (m
 
 -- ---- the last write
 
--- What the last write makes of a tree: the area is what it should be, and what is recorded is what was written.
-pub record Completed (new : Tree) (i : Image) (body : List ℕ) : Type 0 where
-  pub area : area new ≡ render i
-  pub recorded : recorded new ≡ recorded_of body
-  pub closed : has_offset (recorded_of body) ≡ true → unclosed new ≡ None
-
 -- the znodes before `/migration` is set
 abbrev before_set : Tree → Image → List Row
 before_set t i = ran (t.zxid +ℤ pos 1) (map op_of (edits_to t (render i))) t.rows
@@ -259,3 +254,14 @@ remaining_after_write t new i claim target shape is =
     ap (λ have. map op_of (difference bytes_cmp path_of_rendered same_body have (render i))) (area_after_write t new i claim target shape is)
     ∙ ap (map op_of) (prefix_leaves_rest bytes_order path_of_rendered same_body decides_body max_chunk (area t) (render i) (area_rises t.rows shape.rise) (render_rises i))
     ∙ map_drop max_chunk (edits_to t (render i))
+
+-- ---- outside of the area
+
+outside_all : (os : List Op) → All (λ o. is_migrated (path_of_op o) ≡ false) os → Outside os
+outside_all [] all = tt
+outside_all (o ∷ os) all = (All-head (λ x. is_migrated (path_of_op x) ≡ false) o os all, outside_all os (All-tail (λ x. is_migrated (path_of_op x) ≡ false) o os all))
+
+pub outside_left : (t new : Tree) (ops : List Op) → multi t ops ≡ Ok new → TreeShape t → All (λ o. is_migrated (path_of_op o) ≡ false) ops → area new ≡ area t
+outside_left t new ops is shape outside =
+    let m = multi_ran t new ops is in
+    ap area_of m.rows ∙ area_ran_left (t.zxid +ℤ pos 1) ops t.rows shape.rise (outside_all ops outside)
