@@ -17,7 +17,7 @@ use Rattle.kz_spec_stores.specs.Log.{Log, end_of, max_epoch, read_view}
 use Rattle.kz_spec_machine.specs.Driver.{Shared, Driver, state_of, at_stage, resigned, begins_again, epoch_or_zero, unless_finalised, having_read, target_of}
 use Rattle.kz_spec_machine.specs.Sound.{IsId, IsEpoch, IsEpochOrNone, LogShape, Kept, IsCurrent, Views, Epochs, Elected, Aims, Rests, AtStage, Fine}
 use Rattle.kz_spec_runs.specs.InStep.{InStep}
-use Rattle.kz_laws_machine.proofs.Logs.{Grows, view_read, view_grown}
+use Rattle.kz_laws_trees.proofs.Growth.{Grows, view_read, view_grown}
 
 -- what is true of a driver whatever its stage
 pub record Base (l : Log) (d : Driver) : Type 0 where
@@ -125,5 +125,5 @@ pub epochs_grown : (l more : Log) (e : Option ℤ) → Grows l more → Epochs l
 epochs_grown l more None grows old = tt
 epochs_grown l more (Some e) grows old = (old.0, let a = old.1 in let b = grows.epoch in omega (arith, ints))
 
-pub base_grown : (l more : Log) (d : Driver) → Grows l more → Base l d → Base more d
-base_grown l more d grows base = record { id = base.id; epochs = epochs_grown l more d.epoch grows base.epochs; views = view_grown l more d.view grows base.views }
+pub base_grown : (l more : Log) (d : Driver) → LogShape l → Grows l more → Base l d → Base more d
+base_grown l more d shape grows base = record { id = base.id; epochs = epochs_grown l more d.epoch grows base.epochs; views = view_grown l more d.view shape grows base.views }

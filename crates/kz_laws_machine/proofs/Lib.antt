@@ -1,4 +1,3 @@
-pub mod Logs
 pub mod Groups
 pub mod Steps
 pub mod Turns

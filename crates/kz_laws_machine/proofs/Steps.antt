@@ -1,5 +1,5 @@
 -- A step of a driver, by its stage: what is kept of the tree and the log, and what is owed of the driver.
-use Rattle.std.proofs.Common.{◌≡◌, ◌≢◌, ⊎_elim, ℕ, ◌+◌, ◌≤◌, nat_lt, nat_le, ℤ, pos, negsuc, ◌+ℤ◌, ◌≤ℤ◌, int_le, int_lt, Bool, true, false, not, ◌&&◌, if◌then◌else◌, List, [], ◌∷◌, ◌++◌, length, drop, map, Option, Some, None, option_map, is_some, All, refl, sym, ap, ◌∙◌, subst, arith}
+use Rattle.std.proofs.Common.{◌≡◌, ◌≢◌, ⊎_elim, ℕ, ◌+◌, ◌≤◌, nat_lt, nat_le, ℤ, pos, negsuc, ◌+ℤ◌, ◌≤ℤ◌, int_le, int_lt, Bool, true, false, not, ◌&&◌, if◌then◌else◌, List, [], ◌∷◌, ◌++◌, length, take, drop, map, filter, Option, Some, None, option_map, is_some, All, refl, sym, ap, ◌∙◌, subst, arith}
 use Rattle.std.specs.Prelude.{Result, Ok, Err, ⊤}
 use Rattle.std.specs.Ordering.{int_eq}
 use Rattle.std.specs.Result.{result_ok}
@@ -22,22 +22,29 @@ use Rattle.kz_types.specs.declared.fault.LogFault.{LogFault}
 use Rattle.kz_types.specs.declared.fault.LogFault.TheVariants as log_fault
 use Rattle.kz_types.specs.declared.fault.ReadWhy.TheVariants as why
 use Rattle.kz_types.specs.declared.record.MetaRecord.{MetaRecord}
+use Rattle.kz_types.specs.Paths.{is_migrated}
+use Rattle.kz_ordered.specs.Order.{bytes_cmp}
+use Rattle.kz_ordered.specs.Ordered.{Rises}
 use Rattle.kz_ordered.proofs.Order.{bytes_order}
+use Rattle.kz_ordered.proofs.Maps.{Rises-filter}
 use Rattle.kz_ordered.proofs.Lookup.{found_is_contained}
 use Rattle.kz_spec_values.specs.Control.{epoch_path, migration_path, read_epoch, recorded_of, read_recorded, written_recorded}
-use Rattle.kz_spec_stores.specs.Tree.{Tree, row_at, path_of_row, multi, scan, broker_ids, recorded, unclosed, area, has_offset, rendered_row, max_version, max_long}
+use Rattle.kz_spec_stores.specs.Tree.{Tree, row_at, path_of_row, multi, migrated_rows, is_after, scan, broker_ids, recorded, unclosed, area, has_offset, rendered_row, max_version, max_long}
 use Rattle.kz_spec_stores.specs.Image.{Image}
 use Rattle.kz_spec_stores.specs.Log.{Log, append, end_of, image_at, image_of, read_view, max_epoch}
 use Rattle.kz_spec_stores.specs.Rendering.{render}
 use Rattle.kz_spec_stores.specs.Translation.{Unreadable, translate}
 use Rattle.kz_spec_stores.specs.Difference.{diff, chunk, max_chunk}
 use Rattle.kz_spec_machine.specs.Driver.{Shared, Driver, state_of, at_stage, resigned, begins_again, epoch_or_zero, views_migrated, seen_in, shown_by, unless_fenced, unless_full_epoch, unless_bad_epoch, unless_full_record, looked, claimed_version, claimed_number, claim_ops, remaining_at, is_last_write, write_ops, target_of, page_size, batch_size, last_path, Request, nothing, read_log, list_brokers, look_up, read_page, write, add, begin_record, begin_request, next_records, write_request, asked, with_tree, with_log, made, missing_controller, missing_broker, having_read, unless_finalised, wait_or_move, after_quorum, after_brokers, path_at, after_claim, after_page, after_append, after_translation, after_records, written_driver, is_claim_refused, after_write, writes, after_log, is_recorded_at, after_rest, answered}
-use Rattle.kz_spec_machine.specs.Sound.{IsId, IsEpoch, IsEpochOrNone, IsStamped, TreeShape, LogShape, Kept, claim_version, IsCurrent, Views, Epochs, Elected, Aims, Rests, AtStage, Fine}
+use Rattle.kz_spec_machine.specs.Sound.{IsId, IsEpoch, IsEpochOrNone, IsStamped, TreeShape, LogShape, Kept, claim_version, IsCurrent, Views, Epochs, Elected, Aims, Reads, Writes, Rests, AtStage, Fine}
 use Rattle.kz_spec_runs.specs.InStep.{InStep}
 use Rattle.kz_laws_values.proofs.Control.{recorded_is_read}
-use Rattle.kz_laws_trees.proofs.Multi.{multi_ran, shape_kept, write_keeps_version, Completed, last_write}
+use Rattle.kz_laws_trees.proofs.Multi.{multi_ran, shape_kept, write_keeps_version, last_write, remaining_after_write}
+use Rattle.kz_laws_trees.specs.TreeLaws.{Completed}
+use Rattle.kz_laws_trees.proofs.Pages.{behind_last, short_page, one_page_more}
+use Rattle.kz_laws_trees.proofs.Ends.{end_most}
 use Rattle.kz_laws_trees.proofs.Claim.{claim_gives_version}
-use Rattle.kz_laws_machine.proofs.Logs.{Grows, append_appends}
+use Rattle.kz_laws_trees.proofs.Growth.{Grows, append_appends, view_within}
 use Rattle.kz_laws_machine.proofs.Groups.{Base, base_of, Current, Owed, moves, stays, resigns, again, chosen, finalised, base_read, aims, base_grown}
 
 -- ---- the tree and the log after any request
@@ -164,7 +171,7 @@ appends : (s : Shared) (d : Driver) (now : ℤ) (items : List MetaRecord) (x nex
     → Elected d.epoch x → AtStage s.tree s.log d x → Elected d.epoch next → ((l : Log) → AtStage s.tree l (at_stage next d) next) → Owed (with_log s r) d.id (after_append next d r)
 appends s d now items x next (Ok l) made-is is kept base current elected at elected-next at-next =
     let grows = (append_appends s.log (epoch_or_zero d.epoch) now items l made-is kept.log).grows in
-    moves (record s { log = l }) d next (reply.Appended (end_of l)) (base_grown s.log l d grows base) current elected-next (at-next l) (λ e. cc)
+    moves (record s { log = l }) d next (reply.Appended (end_of l)) (base_grown s.log l d kept.log grows base) current elected-next (at-next l) (λ e. cc)
 appends s d now items x next (Err (log_fault.Stale epoch)) made-is is kept base current elected at elected-next at-next = resigns s d (reply.Stale epoch) base (λ e. cc)
 appends s d now items x next (Err log_fault.Failed) made-is is kept base current elected at elected-next at-next = stays s d x (reply.LogFailed log_fault.Failed) is base current elected at (λ e. cc)
 appends s d now items x next (Err (log_fault.Limit number)) made-is is kept base current elected at elected-next at-next = stays s d x (reply.LogFailed (log_fault.Limit number)) is base current elected at (λ e. cc)
@@ -184,20 +191,24 @@ after_records_stage (r ∷ rs) t d elected = (elected, λ l. tt)
 
 -- ---- writes
 
+-- what is said of a current driver that holds these operations
+abbrev pub HoldsWrites : Tree → Log → Driver → Recorded → List Op → Type 0
+HoldsWrites t l d target ops = IsCurrent t d.claim → Writes t l target ops
+
 -- A stage of a driver that writes, the one with more to write, and the one after the last write.
 pub record WritesFrom (target : Recorded) (x : Stage) (more : List Op → Stage) (last : Stage) : Type 0 where
   pub aims : (t : Tree) (l : Log) (d : Driver) → AtStage t l d x → Aims target d.id d.epoch d.view
   pub elected : (e : Option ℤ) → Elected e x → e ≢ None
-  pub more_at : (t : Tree) (l : Log) (d : Driver) (ops : List Op) → Aims target d.id d.epoch d.view → AtStage t l d (more ops)
+  pub more_at : (t : Tree) (l : Log) (d : Driver) (ops : List Op) → Aims target d.id d.epoch d.view → HoldsWrites t l d target ops → AtStage t l d (more ops)
   pub more_elected : (e : Option ℤ) (ops : List Op) → e ≢ None → Elected e (more ops)
   pub last_at : (t : Tree) (l : Log) (d : Driver) → d.claim ≢ None → Rests t l d.view d.recorded → AtStage t l d last
   pub last_elected : (e : Option ℤ) → e ≢ None → Elected e last
 
 all_from : (target : Recorded) (ops : List Op) → WritesFrom target (stage.WriteAll target ops) (λ rest. stage.WriteAll target rest) stage.InformBrokers
 all_from target ops = record {
-  aims = λ t l d at. at;
+  aims = λ t l d at. at.0;
   elected = λ e h. h;
-  more_at = λ t l d more at. at;
+  more_at = λ t l d more aim writes. (aim, writes);
   more_elected = λ e more h. h;
   last_at = λ t l d some rests. (some, λ current. rests);
   last_elected = λ e h. h;
@@ -205,9 +216,9 @@ all_from target ops = record {
 
 change_from : (target : Recorded) (ops : List Op) → WritesFrom target (stage.WriteChange target ops) (λ rest. stage.WriteChange target rest) stage.Rest
 change_from target ops = record {
-  aims = λ t l d at. at;
+  aims = λ t l d at. at.0;
   elected = λ e h. h;
-  more_at = λ t l d more at. at;
+  more_at = λ t l d more aim writes. (aim, writes);
   more_elected = λ e more h. h;
   last_at = λ t l d some rests. (some, λ current. rests);
   last_elected = λ e h. h;
@@ -227,7 +238,7 @@ reads s d target shape base aim =
     ap result_ok (recorded_is_read target (record {
       id = (id.least, id.most);
       controller_epoch = (epoch.least, epoch.most);
-      offset = (let low = aim.not_negative in omega (arith, ints), subst (λ (o : ℤ). o ≤ℤ max_long) (sym aim.offset) (let a = base.views.within in let b = shape.end_most in omega (arith, ints)));
+      offset = (let low = aim.not_negative in omega (arith, ints), subst (λ (o : ℤ). o ≤ℤ max_long) (sym aim.offset) (let a = view_within s.log d.view shape base.views in let b = end_most s.log shape in omega (arith, ints)));
       epoch = (let low = aim.epoch.least in omega (arith, ints), aim.epoch.most);
     }))
 
@@ -268,7 +279,8 @@ written_by s d claim target x more last t from kept base current claimed elected
       rest = λ idle dual. absurd (cc);
     })
     (λ is. moves new d (more (drop max_chunk ops)) (reply.Wrote (length (chunk ops))) base now_current (from.more_elected d.epoch (drop max_chunk ops) elected)
-      (from.more_at t s.log (at_stage (more (drop max_chunk ops)) d) (drop max_chunk ops) aim) (λ i. cc))
+      (from.more_at t s.log (at_stage (more (drop max_chunk ops)) d) (drop max_chunk ops) aim
+        (λ c. record { remaining = sym (remaining_after_write s.tree t (image_at s.log target.offset) claim target kept.tree made-is) })) (λ i. cc))
 
 writes_by : (s : Shared) (d : Driver) (claim : ℤ) (target : Recorded) (x : Stage) (more : List Op → Stage) (last : Stage) (r : Result Tree TreeFault) → WritesFrom target x more last
     → d.stage ≡ x → Kept s → Base s.log d → Current s d → d.claim ≡ Some claim → Elected d.epoch x → AtStage s.tree s.log d x → multi s.tree (write_ops claim (remaining_at s.tree s.log target.offset) target) ≡ r
@@ -326,6 +338,44 @@ goes_on_resting s d is kept base current elected at up_to_date =
       rest = λ idle dual. record { closed = old.closed; same = image };
     }
 
+-- what a driver at rest holds when it begins to write: the tree is as it was at the end of its old view
+change_writes : (s : Shared) (d : Driver) → LogShape s.log → Base s.log d → AtStage s.tree s.log d stage.Rest → IsCurrent s.tree d.claim
+    → Writes s.tree s.log (target_of (having_read s.log d)) (diff (render d.view.image) (render (having_read s.log d).view.image))
+change_writes s d shape base at current = record { remaining = ap (λ have. diff have (render (image_of s.log))) (ap render base.views.image ∙ sym (at.1 current).area) }
+
+-- ---- the migrated area is read
+
+page_is : (t : Tree) (rows : List Row) → TreeShape t → (so_far : Reads t rows) → scan t (last_path rows) page_size ≡ take page_size so_far.rest
+page_is t rows shape so_far =
+    let rise : Rises bytes_cmp path_of_row (rows ++ so_far.rest) = subst (Rises bytes_cmp path_of_row) so_far.whole (Rises-filter bytes_order path_of_row (λ (r : Row). is_migrated r.path) t.rows shape.rise) in
+    ap (take page_size) (ap (filter (is_after (last_path rows))) so_far.whole ∙ behind_last rows so_far.rest rise)
+
+read_more : (t : Tree) (rows : List Row) → TreeShape t → Reads t rows → Reads t (rows ++ scan t (last_path rows) page_size)
+read_more t rows shape reads-so-far =
+    let page : scan t (last_path rows) page_size ≡ take page_size reads-so-far.rest = page_is t rows shape reads-so-far in
+    record {
+      rest = drop page_size reads-so-far.rest;
+      whole = reads-so-far.whole ∙ sym (one_page_more page_size rows reads-so-far.rest) ∙ ap (λ l. (rows ++ l) ++ drop page_size reads-so-far.rest) (sym page);
+    }
+
+read_all : (t : Tree) (rows : List Row) → TreeShape t → Reads t rows → nat_lt (length (scan t (last_path rows) page_size)) page_size ≡ true → map rendered_row (rows ++ scan t (last_path rows) page_size) ≡ area t
+read_all t rows shape reads-so-far short =
+    let page : scan t (last_path rows) page_size ≡ take page_size reads-so-far.rest = page_is t rows shape reads-so-far in
+    let rest : scan t (last_path rows) page_size ≡ reads-so-far.rest = page ∙ short_page page_size reads-so-far.rest (sym (ap (λ l. nat_lt (length l) page_size) page) ∙ short) in
+    ap (λ l. map rendered_row (rows ++ l)) rest ∙ ap (map rendered_row) (sym reads-so-far.whole)
+
+area_writes : (s : Shared) (d : Driver) (target : Recorded) (rows : List Row) → Kept s → Base s.log d → Aims target d.id d.epoch d.view → Reads s.tree rows
+    → nat_lt (length (scan s.tree (last_path rows) page_size)) page_size ≡ true → Writes s.tree s.log target (diff (map rendered_row (rows ++ scan s.tree (last_path rows) page_size)) (render d.view.image))
+area_writes s d target rows kept base aim reads-so-far short = record {
+  remaining = ap (λ have. diff have (render d.view.image)) (read_all s.tree rows kept.tree reads-so-far short)
+    ∙ ap (λ i. diff (area s.tree) (render i)) (base.views.image ∙ ap (image_at s.log) (sym aim.offset));
+}
+
+-- a page is the last where it isn't full
+paged_by : (s : Shared) (d : Driver) (b : Bool) (x y : Stage) (r : Reply) → (b ≡ true → Owed s d.id (at_stage x d, r)) → (b ≡ false → Owed s d.id (at_stage y d, r)) → Owed s d.id (at_stage (if b then x else y) d, r)
+paged_by s d true x y r first second = first refl
+paged_by s d false x y r first second = second refl
+
 -- ---- every stage
 
 pub owed : (s : Shared) (running : List ℤ) (now : ℤ) (d : Driver) (x : Stage) → d.stage ≡ x → Kept s → Base s.log d → Current s d → Elected d.epoch x → AtStage s.tree s.log d x
@@ -358,13 +408,13 @@ owed s running now d stage.ReadLog is kept base current elected at =
     let e : Driver = having_read s.log d in
     let base-now = base_read s.log d kept.log base in
     finalised s e (at_stage (stage.ReadArea (target_of e) []) e, reply.Looked) base-now
-    (moves s e (stage.ReadArea (target_of e) []) reply.Looked base-now current elected (aims s.log e kept.log base-now elected refl) (λ i. cc))
+    (moves s e (stage.ReadArea (target_of e) []) reply.Looked base-now current elected (aims s.log e kept.log base-now elected refl, λ c. record { rest = migrated_rows s.tree; whole = refl }) (λ i. cc))
 owed s running now d (stage.ReadArea target rows) is kept base current elected at =
     let page = scan s.tree (last_path rows) page_size in
     let last = stage.WriteAll target (diff (map rendered_row (rows ++ page)) (render d.view.image)) in
-    paged s d (nat_lt (length page) page_size) last (stage.ReadArea target (rows ++ page)) (reply.Read (length page))
-    (moves s d last (reply.Read (length page)) base current elected at (λ i. cc))
-    (moves s d (stage.ReadArea target (rows ++ page)) (reply.Read (length page)) base current elected at (λ i. cc))
+    paged_by s d (nat_lt (length page) page_size) last (stage.ReadArea target (rows ++ page)) (reply.Read (length page))
+    (λ short. moves s d last (reply.Read (length page)) base current elected (at.0, λ c. area_writes s d target rows kept base at.0 (at.1 c) short) (λ i. cc))
+    (λ full. moves s d (stage.ReadArea target (rows ++ page)) (reply.Read (length page)) base current elected (at.0, λ c. read_more s.tree rows kept.tree (at.1 c)) (λ i. cc))
 owed s running now d (stage.WriteAll target ops) is kept base current elected at =
     writes_under s now d d.claim target (stage.WriteAll target ops) (λ rest. stage.WriteAll target rest) stage.InformBrokers (all_from target ops) is refl kept base current elected at
 owed s running now d stage.InformBrokers is kept base current elected at = moves s d stage.Rest (reply.Moved state.DualWrite) base current elected at (λ i. cc)
@@ -375,6 +425,6 @@ owed s running now d stage.Rest is kept base current elected at =
     finalised s e (if is_recorded_at e.recorded e.view.position then (e, reply.Idle) else (at_stage (stage.WriteChange (target_of e) ops) e, reply.Looked)) base-now
     (chosen s d.id (is_recorded_at e.recorded e.view.position) (e, reply.Idle) (at_stage (stage.WriteChange (target_of e) ops) e, reply.Looked)
     (λ same. goes_on_resting s d is kept base current elected at same)
-    (λ new. moves s e (stage.WriteChange (target_of e) ops) reply.Looked base-now current elected (aims s.log e kept.log base-now elected refl) (λ i. cc)))
+    (λ new. moves s e (stage.WriteChange (target_of e) ops) reply.Looked base-now current elected (aims s.log e kept.log base-now elected refl, λ c. change_writes s d kept.log base at c) (λ i. cc)))
 owed s running now d (stage.WriteChange target ops) is kept base current elected at =
     writes_under s now d d.claim target (stage.WriteChange target ops) (λ rest. stage.WriteChange target rest) stage.Rest (change_from target ops) is refl kept base current elected at

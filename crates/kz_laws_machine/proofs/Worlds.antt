@@ -16,13 +16,17 @@ use Rattle.kz_types.specs.declared.machine.Reply.{Reply}
 use Rattle.kz_types.specs.declared.machine.Reply.TheVariants as reply
 use Rattle.kz_types.specs.declared.record.MetaRecord.{MetaRecord}
 use Rattle.kz_types.specs.declared.record.MetaRecord.TheVariants as meta
+use Rattle.kz_types.specs.declared.machine.Recorded.{Recorded}
+use Rattle.kz_spec_stores.specs.Tree.{area}
+use Rattle.kz_spec_stores.specs.Difference.{diff}
 use Rattle.kz_spec_stores.specs.Log.{Log, end_of, image_at, max_epoch, full_log, with_next_epoch, image_of, is_open_log, is_migrated_log}
 use Rattle.kz_spec_stores.specs.Rendering.{render}
 use Rattle.kz_spec_machine.specs.Driver.{Shared, Driver, new_driver, elected_driver, state_of, is_one_of, least}
 use Rattle.kz_spec_machine.specs.Machine.{World, empty_world, running_ids, is_running, driver_of, with_driver, Turned, turn, work, decided, first_of, unless, over, full, running_refusal, driver_refusal, leader_refusal, quorum_refusal, declared_world, start_refusal, started_world, election_records, next_epoch, elected_log, election_refusal, elected_world, election_answer, turn_result, over_excess, change_refusal, changed_log, changed_world, unless_refused, next, after_events}
-use Rattle.kz_spec_machine.specs.Sound.{IsId, IsEpoch, IsEpochOrNone, LogShape, TreeShape, Kept, IsCurrent, Views, Epochs, Elected, Aims, Rests, AtStage, Fine, Each, Sound, AtMostOne, Alone, IsLawful}
+use Rattle.kz_spec_machine.specs.Sound.{IsId, IsEpoch, IsEpochOrNone, LogShape, IsBatchEnd, TreeShape, Kept, IsCurrent, Views, Epochs, Elected, Aims, Rests, AtStage, Fine, Each, Sound, AtMostOne, Alone, IsLawful}
 use Rattle.kz_spec_runs.specs.InStep.{InStep, last_reply, ComesToRest}
-use Rattle.kz_laws_machine.proofs.Logs.{Grows, batch_shape, grows_batch, grows_election}
+use Rattle.kz_laws_trees.proofs.Ends.{end_least, base_is_batch_end, image_before}
+use Rattle.kz_laws_trees.proofs.Growth.{Grows, batch_shape, grows_batch, view_within}
 use Rattle.kz_laws_machine.proofs.Groups.{Base, base_of, Current, base_grown}
 use Rattle.kz_laws_machine.proofs.Turns.{TurnKept, turned}
 
@@ -64,28 +68,31 @@ own_of s (x ∷ y ∷ ds) id d one is = absurd one
 
 -- ---- a log that grows
 
-at_grown : (s : Shared) (l : Log) (d : Driver) → Grows s.log l → Views s.log d.view → (x : _) → AtStage s.tree s.log d x → AtStage s.tree l d x
-at_grown s l d grows views stage.Uninitialized at = tt
-at_grown s l d grows views stage.Inactive at = tt
-at_grown s l d grows views stage.WaitForQuorum at = tt
-at_grown s l d grows views stage.WaitForBrokers at = tt
-at_grown s l d grows views stage.CompareBrokers at = tt
-at_grown s l d grows views stage.Look at = tt
-at_grown s l d grows views (stage.Claim seen) at = at
-at_grown s l d grows views (stage.ReadSource rows) at = tt
-at_grown s l d grows views (stage.Begin rows) at = tt
-at_grown s l d grows views (stage.Fill records) at = tt
-at_grown s l d grows views stage.ReadLog at = tt
-at_grown s l d grows views (stage.ReadArea target rows) at = at
-at_grown s l d grows views (stage.WriteAll target ops) at = at
-at_grown s l d grows views stage.InformBrokers at = (at.0, λ c. let old = at.1 c in record { closed = old.closed; same = old.same; view = old.view; area = old.area ∙ ap render (sym (grows.image d.view.position views.within)) })
-at_grown s l d grows views stage.Rest at = (at.0, λ c. let old = at.1 c in record { closed = old.closed; same = old.same; view = old.view; area = old.area ∙ ap render (sym (grows.image d.view.position views.within)) })
-at_grown s l d grows views (stage.WriteChange target ops) at = at
+image_there : (s : Shared) (l : Log) (d : Driver) (target : Recorded) → Grows s.log l → d.view.position ≤ℤ end_of s.log → Aims target d.id d.epoch d.view → image_at l target.offset ≡ image_at s.log target.offset
+image_there s l d target grows within aim = grows.image target.offset (subst (λ (o : ℤ). o ≤ℤ end_of s.log) (sym aim.offset) within)
 
-fine_grown : (s : Shared) (l : Log) (d : Driver) → Grows s.log l → Fine s d → Fine (record s { log = l }) d
-fine_grown s l d grows fine =
-    let base = base_grown s.log l d grows (base_of s d fine) in
-    record { id = base.id; epochs = base.epochs; elected = fine.elected; views = base.views; stage = at_grown s l d grows fine.views d.stage fine.stage }
+at_grown : (s : Shared) (l : Log) (d : Driver) → Grows s.log l → d.view.position ≤ℤ end_of s.log → (x : _) → AtStage s.tree s.log d x → AtStage s.tree l d x
+at_grown s l d grows within stage.Uninitialized at = tt
+at_grown s l d grows within stage.Inactive at = tt
+at_grown s l d grows within stage.WaitForQuorum at = tt
+at_grown s l d grows within stage.WaitForBrokers at = tt
+at_grown s l d grows within stage.CompareBrokers at = tt
+at_grown s l d grows within stage.Look at = tt
+at_grown s l d grows within (stage.Claim seen) at = at
+at_grown s l d grows within (stage.ReadSource rows) at = tt
+at_grown s l d grows within (stage.Begin rows) at = tt
+at_grown s l d grows within (stage.Fill records) at = tt
+at_grown s l d grows within stage.ReadLog at = tt
+at_grown s l d grows within (stage.ReadArea target rows) at = at
+at_grown s l d grows within (stage.WriteAll target ops) at = (at.0, λ c. record { remaining = (at.1 c).remaining ∙ ap (λ i. diff (area s.tree) (render i)) (sym (image_there s l d target grows within at.0)) })
+at_grown s l d grows within stage.InformBrokers at = (at.0, λ c. let old = at.1 c in record { closed = old.closed; same = old.same; view = old.view; area = old.area ∙ ap render (sym (grows.image d.view.position within)) })
+at_grown s l d grows within stage.Rest at = (at.0, λ c. let old = at.1 c in record { closed = old.closed; same = old.same; view = old.view; area = old.area ∙ ap render (sym (grows.image d.view.position within)) })
+at_grown s l d grows within (stage.WriteChange target ops) at = (at.0, λ c. record { remaining = (at.1 c).remaining ∙ ap (λ i. diff (area s.tree) (render i)) (sym (image_there s l d target grows within at.0)) })
+
+fine_grown : (s : Shared) (l : Log) (d : Driver) → LogShape s.log → Grows s.log l → Fine s d → Fine (record s { log = l }) d
+fine_grown s l d shape grows fine =
+    let base = base_grown s.log l d shape grows (base_of s d fine) in
+    record { id = base.id; epochs = base.epochs; elected = fine.elected; views = base.views; stage = at_grown s l d grows (view_within s.log d.view shape fine.views) d.stage fine.stage }
 
 -- ---- refusals
 
@@ -135,7 +142,7 @@ new_fine s id shape is = record {
   id = is;
   epochs = tt;
   elected = tt;
-  views = record { within = shape.end_least; epoch = record { least = omega (arith, ints); most = omega (arith, ints) } };
+  views = record { end = subst (IsBatchEnd s.log) shape.base (base_is_batch_end s.log); image = sym (image_before s.log shape); epoch = record { least = omega (arith, ints); most = omega (arith, ints) } };
   stage = tt;
 }
 
@@ -175,8 +182,8 @@ no_refusal w id none =
 elected_shape : (l : Log) (now : ℤ) → LogShape l → int_lt l.epoch max_epoch ≡ true → full_log l (election_records l) ≡ None → LogShape (elected_log l now)
 elected_shape l now shape less room =
     let range = next_range l.epoch shape.epoch less in
-    batch_shape (with_next_epoch l) (next_epoch l) now (election_records l) shape.epochs shape.end_least (record { least = let a = range.least in omega (arith, ints); most = range.most }) room
-    (λ high. begun (end_of l) (length (election_records l)) shape.end_least (omega arith))
+    batch_shape l (next_epoch l) now (election_records l) shape (record { least = let a = range.least in omega (arith, ints); most = range.most }) room
+    (λ high. begun (end_of l) (length (election_records l)) (end_least l shape) (omega arith))
   where
     begun : (e : ℤ) (n : ℕ) → negsuc 0 ≤ℤ e → 1 ≤ n → pos 0 ≤ℤ (e +ℤ pos n)
     begun e n low some = omega (arith, ints)
@@ -185,15 +192,15 @@ elected_one : (s : Shared) (now : ℤ) (d : Driver) (b : Bool) → LogShape s.lo
     → Own (record s { log = elected_log s.log now }) (if b then elected_driver (next_epoch s.log) d else d)
 elected_one s now d true shape less own =
     let l = elected_log s.log now in
-    let grows = grows_election s.log now (election_records s.log) in
-    let base = base_grown s.log l d grows (base_of s d own.fine) in
+    let grows = grows_batch s.log (next_epoch s.log) now (election_records s.log) (omega (arith, ints)) in
+    let base = base_grown s.log l d shape grows (base_of s d own.fine) in
     record {
       fine = record { id = base.id; epochs = (next_range s.log.epoch shape.epoch less, omega (arith, ints)); elected = λ none. cc; views = base.views; stage = tt };
       declared = own.declared;
       current = λ some. absurd (some refl);
     }
 elected_one s now d false shape less own = record {
-  fine = fine_grown s (elected_log s.log now) d (grows_election s.log now (election_records s.log)) own.fine;
+  fine = fine_grown s (elected_log s.log now) d shape (grows_batch s.log (next_epoch s.log) now (election_records s.log) (omega (arith, ints))) own.fine;
   declared = own.declared;
   current = own.current;
 }
@@ -222,10 +229,10 @@ change_room w id records none =
     let c = first_none _ (full w.shared.log records) b.1 in
     full_none w.shared.log records (full_log w.shared.log records) refl c.1
 
-changed_one : (s : Shared) (l : Log) (ds : List Driver) → Grows s.log l → OneOf s ds → OneOf (record s { log = l }) ds
-changed_one s l [] grows one = tt
-changed_one s l (d ∷ []) grows one = record { fine = fine_grown s l d grows one.fine; declared = one.declared; current = one.current }
-changed_one s l (d ∷ e ∷ ds) grows one = one
+changed_one : (s : Shared) (l : Log) (ds : List Driver) → LogShape s.log → Grows s.log l → OneOf s ds → OneOf (record s { log = l }) ds
+changed_one s l [] shape grows one = tt
+changed_one s l (d ∷ []) shape grows one = record { fine = fine_grown s l d shape grows one.fine; declared = one.declared; current = one.current }
+changed_one s l (d ∷ e ∷ ds) shape grows one = one
 
 change_kept : (w : World) (id : ℤ) (records : List MetaRecord) (now : ℤ) → Lone w → change_refusal w id records ≡ None → Lone (changed_world w records now)
 change_kept w id records now lone none =
@@ -234,10 +241,10 @@ change_kept w id records now lone none =
     record {
       kept = record {
         tree = lone.kept.tree;
-        log = batch_shape l l.epoch now records shape.epochs shape.end_least shape.epoch (change_room w id records none) (λ high. let old = shape.begun high in omega (arith, ints));
+        log = batch_shape l l.epoch now records shape shape.epoch (change_room w id records none) (λ high. let old = shape.begun high in omega (arith, ints));
       };
       declared = lone.declared;
-      one = changed_one w.shared (changed_log l records now) w.drivers (grows_batch l l.epoch now records (omega (arith, ints))) lone.one;
+      one = changed_one w.shared (changed_log l records now) w.drivers shape (grows_batch l l.epoch now records (omega (arith, ints))) lone.one;
     }
 
 -- ---- turns
@@ -295,10 +302,12 @@ empty_lone = record {
   kept = record {
     tree = record { rise = tt; stamped = All-nil _ };
     log = record {
-      epoch = record { least = omega (arith, ints); most = omega (arith, ints) };
+      base = refl;
+      empty = refl;
+      follows = tt;
+      few = omega arith;
       epochs = All-nil _;
-      end_least = omega (arith, ints);
-      end_most = omega (arith, ints);
+      epoch = record { least = omega (arith, ints); most = omega (arith, ints) };
       begun = λ high. absurd (omega (arith, ints));
     };
   };

@@ -16,7 +16,8 @@ use Rattle.kz_ordered.proofs.Difference.{Rises-edited}
 use Rattle.kz_spec_stores.specs.Tree.{path_of_row, row_at, put_row, created_row, set_row, set_refusal, after_op, op_refusal, rendered_row}
 use Rattle.kz_spec_stores.specs.Rendering.{path_of_rendered}
 use Rattle.kz_spec_stores.specs.Difference.{op_of}
-use Rattle.kz_laws_trees.proofs.Rows.{still, op_path, Same, same, other, compare, others_kept, op_rises, created_found, set_found, deleted_found}
+use Rattle.kz_laws_trees.specs.TreeLaws.{path_of_op}
+use Rattle.kz_laws_trees.proofs.Rows.{still, Same, same, other, compare, others_kept, op_rises, created_found, set_found, deleted_found}
 
 -- the paths and bodies of the migrated area of these znodes
 abbrev pub area_of : List Row → List Rendered
@@ -65,7 +66,7 @@ shown_outside : (p : List ℕ) (m : Option Row) → is_migrated p ≡ false → 
 shown_outside p m is = ap (λ b. cond b (option_map rendered_row m) None) is
 
 -- another path shows what it did
-find_other : (zxid : ℤ) (o : Op) (p : List ℕ) (rows : List Row) → Rises bytes_cmp path_of_row rows → p ≢ op_path o → find_rendered p (area_of (after_op zxid o rows)) ≡ find_rendered p (area_of rows)
+find_other : (zxid : ℤ) (o : Op) (p : List ℕ) (rows : List Row) → Rises bytes_cmp path_of_row rows → p ≢ path_of_op o → find_rendered p (area_of (after_op zxid o rows)) ≡ find_rendered p (area_of rows)
 find_other zxid o p rows h differ =
     find_area p (after_op zxid o rows) (op_rises zxid o rows h)
     ∙ shown_alike p (row_at p (after_op zxid o rows)) (row_at p rows) (others_kept zxid o p rows differ)
@@ -73,11 +74,11 @@ find_other zxid o p rows h differ =
 
 -- ---- an operation outside the area leaves it
 
-pub area_left : (zxid : ℤ) (o : Op) (rows : List Row) → Rises bytes_cmp path_of_row rows → is_migrated (op_path o) ≡ false → area_of (after_op zxid o rows) ≡ area_of rows
+pub area_left : (zxid : ℤ) (o : Op) (rows : List Row) → Rises bytes_cmp path_of_row rows → is_migrated (path_of_op o) ≡ false → area_of (after_op zxid o rows) ≡ area_of rows
 area_left zxid o rows h outside = same_items bytes_order path_of_rendered (area_of (after_op zxid o rows)) (area_of rows) (area_rises (after_op zxid o rows) (op_rises zxid o rows h)) (area_rises rows h) each
   where
     each : (p : List ℕ) → find_rendered p (area_of (after_op zxid o rows)) ≡ find_rendered p (area_of rows)
-    each p = elim (compare p (op_path o)) [
+    each p = elim (compare p (path_of_op o)) [
       | same e ↦
         let none : is_migrated p ≡ false = ap is_migrated e ∙ outside in
         find_area p (after_op zxid o rows) (op_rises zxid o rows h) ∙ shown_outside p (row_at p (after_op zxid o rows)) none ∙ sym (shown_outside p (row_at p rows) none) ∙ sym (find_area p rows h)
@@ -92,7 +93,7 @@ edit_path = edit_key path_of_rendered
 abbrev pub area_edited : Edit Rendered (List ℕ) → List Rendered → List Rendered
 area_edited = edited bytes_cmp path_of_rendered
 
-path_of_edit : (e : Edit Rendered (List ℕ)) → op_path (op_of e) ≡ edit_path e
+path_of_edit : (e : Edit Rendered (List ℕ)) → path_of_op (op_of e) ≡ edit_path e
 path_of_edit (drop_key p) = refl
 path_of_edit (make r) = refl
 path_of_edit (alter r) = refl

@@ -6,3 +6,6 @@ pub mod Render
 pub mod Multi
 pub mod Claim
 pub mod Logs
+pub mod Ends
+pub mod Pages
+pub mod Growth

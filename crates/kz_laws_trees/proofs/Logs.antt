@@ -13,7 +13,7 @@ use Rattle.kz_spec_stores.specs.Log.{Log, last_of, last_end, end_of, numbered, e
 
 -- ---- records behind an offset
 
-abbrev AllAfter : ℤ → List Entry → Type 0
+abbrev pub AllAfter : ℤ → List Entry → Type 0
 AllAfter at [] = ⊤
 AllAfter at (e ∷ es) = (at <ℤ e.offset) × AllAfter at es
 
@@ -112,7 +112,7 @@ counted_same at es new after =
 
 -- ---- the image
 
-numbered_after : (at offset epoch : ℤ) (items : List MetaRecord) → at <ℤ offset → AllAfter at (numbered offset epoch items)
+pub numbered_after : (at offset epoch : ℤ) (items : List MetaRecord) → at <ℤ offset → AllAfter at (numbered offset epoch items)
 numbered_after at offset epoch [] later = tt
 numbered_after at offset epoch (r ∷ rs) later = (later, numbered_after at (offset +ℤ pos 1) epoch rs (omega (arith, ints)))
 

@@ -1,5 +1,5 @@
 -- The tree after a multi that isn't refused, after a write, and after a claim.
-use Rattle.std.proofs.Common.{◌≡◌, ◌≢◌, ◌⊎◌, ℕ, zero, suc, ◌≤◌, nat_le, ℤ, pos, negsuc, ◌+ℤ◌, ◌≤ℤ◌, int_le, Bool, true, false, not, ◌&&◌, ◌||◌, cond, if◌then◌else◌, List, [], ◌∷◌, ◌++◌, length, Option, Some, None, option_map, All, refl, sym, ap, ◌∙◌, subst, map, filter, take, arith, inl, inr, ⊎_elim}
+use Rattle.std.proofs.Common.{◌≡◌, ◌≢◌, ◌⊎◌, ℕ, zero, suc, ◌≤◌, nat_le, ℤ, pos, negsuc, ◌+ℤ◌, ◌≤ℤ◌, int_le, Bool, true, false, not, ◌&&◌, ◌||◌, cond, if◌then◌else◌, List, [], ◌∷◌, ◌++◌, length, Option, Some, None, option_map, All, refl, sym, ap, ◌∙◌, subst, map, filter, take, drop, arith, inl, inr, ⊎_elim}
 use Rattle.std.specs.Prelude.{Result, Ok, Err, option_and_then, is_some}
 use Rattle.std.specs.Ordering.{int_eq}
 use Rattle.std.specs.Str.{bytes_eq}
@@ -7,7 +7,7 @@ use Rattle.std.proofs.lemmas.Bool.{cases_Bool}
 use Rattle.std.proofs.lemmas.Bool.Decides.{nat_tests, Decides-int_eq}
 use Rattle.std.proofs.lemmas.Int.{ints}
 use Rattle.std.proofs.lemmas.List.{take_all}
-use Rattle.std.proofs.lemmas.List.Elements.{All-weaker, All-filter, All-contains}
+use Rattle.std.proofs.lemmas.List.Elements.{All-head, All-tail, All-weaker, All-filter, All-contains}
 use Rattle.std.proofs.lemmas.Slice.Eq.{bytes_eq-Decides}
 use Rattle.kz_types.specs.declared.tree.Row.{Row}
 use Rattle.kz_types.specs.declared.tree.Op.{Op}
@@ -22,7 +22,7 @@ use Rattle.kz_ordered.specs.Order.{bytes_cmp}
 use Rattle.kz_ordered.specs.Ordered.{Rises}
 use Rattle.kz_ordered.specs.Difference.{Edit, all_edited, difference}
 use Rattle.kz_ordered.proofs.Order.{bytes_order}
-use Rattle.kz_ordered.proofs.Difference.{difference_leads}
+use Rattle.kz_ordered.proofs.Difference.{difference_leads, prefix_leaves_rest}
 use Rattle.kz_ordered.proofs.Lookup.{found_is_contained}
 use Rattle.kz_spec_values.specs.Control.{control_path, epoch_path, migration_path, recorded_of, written_epoch, written_recorded}
 use Rattle.kz_spec_stores.specs.Tree.{Tree, path_of_row, row_at, op_refusal, set_refusal, check_refusal, set_row, with_zxid, max_long, after_ops, multi, migrated_rows, rendered_row, area, recorded, has_offset, is_later, first_path, unclosed_below, unclosed}
@@ -31,7 +31,8 @@ use Rattle.kz_spec_stores.specs.Rendering.{path_of_rendered, render}
 use Rattle.kz_spec_stores.specs.Difference.{same_body, op_of, diff, max_chunk, chunk}
 use Rattle.kz_spec_machine.specs.Driver.{Driver, is_last_write, record_ops, write_ops}
 use Rattle.kz_spec_machine.specs.Sound.{IsStamped, TreeShape, claim_version}
-use Rattle.kz_laws_trees.proofs.Rows.{still, op_path, set_found, created_found}
+use Rattle.kz_laws_trees.specs.TreeLaws.{path_of_op, Completed}
+use Rattle.kz_laws_trees.proofs.Rows.{still, set_found, created_found}
 use Rattle.kz_laws_trees.proofs.Area.{area_of, edit_path, area_rises, area_left}
 use Rattle.kz_laws_trees.proofs.Runs.{ran, Passes, passed, ran_is, ran_append, passes_left, passes_right, ran_rises, Avoids, avoids_append, ran_keeps, Inside, Outside, area_ran, area_ran_left, inside_take, avoids_inside}
 use Rattle.kz_laws_trees.proofs.Each.{Lasts, all_ran, none_later}
@@ -161,12 +162,6 @@ write_keeps_version t new i claim target is = version_by t new i claim target (m
 
 -- ---- the last write
 
--- What the last write makes of a tree: the area is what it should be, and what is recorded is what was written.
-pub record Completed (new : Tree) (i : Image) (body : List ℕ) : Type 0 where
-  pub area : area new ≡ render i
-  pub recorded : recorded new ≡ recorded_of body
-  pub closed : has_offset (recorded_of body) ≡ true → unclosed new ≡ None
-
 -- the znodes before `/migration` is set
 abbrev before_set : Tree → Image → List Row
 before_set t i = ran (t.zxid +ℤ pos 1) (map op_of (edits_to t (render i))) t.rows
@@ -224,3 +219,49 @@ last_write t new i claim target shape last is =
       (m.rows ∙ ap (λ os. ran zxid os t.rows) rest ∙ ran_append zxid edits (Set migration_path body (negsuc 0) ∷ []) t.rows)
       (passes_left t.sessions zxid edits (Set migration_path body (negsuc 0) ∷ []) t.rows passes)
       (passes_right t.sessions zxid edits (Set migration_path body (negsuc 0) ∷ []) t.rows passes).0
+
+-- ---- every write
+
+record_outside : (b : Bool) (target : Recorded) → Outside (record_ops b target)
+record_outside true target = (migration_outside, tt)
+record_outside false target = tt
+
+-- a write applies the first edits, as many as it may have
+pub area_after_write : (t new : Tree) (i : Image) (claim : ℤ) (target : Recorded) → TreeShape t → multi t (write_ops claim (diff (area t) (render i)) target) ≡ Ok new
+    → area new ≡ all_edited bytes_cmp path_of_rendered (take max_chunk (edits_to t (render i))) (area t)
+area_after_write t new i claim target shape is =
+    let m = multi_ran t new (write_ops claim (diff (area t) (render i)) target) is in
+    let zxid = t.zxid +ℤ pos 1 in
+    let chunk-ops = chunk (diff (area t) (render i)) in
+    let last-ops = record_ops (is_last_write (diff (area t) (render i))) target in
+    let edits = take max_chunk (edits_to t (render i)) in
+    let passes : Passes t.sessions zxid (map op_of edits) t.rows = subst (λ os. Passes t.sessions zxid os t.rows) (chunk_is t i) (passes_left t.sessions zxid chunk-ops last-ops t.rows m.passes.1) in
+    ap area_of (m.rows ∙ ran_append zxid chunk-ops last-ops t.rows)
+    ∙ area_ran_left zxid last-ops (ran zxid chunk-ops t.rows) (ran_rises zxid chunk-ops t.rows shape.rise) (record_outside (is_last_write (diff (area t) (render i))) target)
+    ∙ ap (λ os. area_of (ran zxid os t.rows)) (chunk_is t i)
+    ∙ area_ran t.sessions zxid edits t.rows shape.rise (inside_take max_chunk (edits_to t (render i)) (edits_inside t i)) passes
+
+map_drop : (n : ℕ) (es : List (Edit Rendered (List ℕ))) → map op_of (drop n es) ≡ drop n (map op_of es)
+map_drop zero es = refl
+map_drop (suc n) [] = refl
+map_drop (suc n) (e ∷ es) = map_drop n es
+
+-- and leaves the others to be written
+pub remaining_after_write : (t new : Tree) (i : Image) (claim : ℤ) (target : Recorded) → TreeShape t → multi t (write_ops claim (diff (area t) (render i)) target) ≡ Ok new
+    → diff (area new) (render i) ≡ drop max_chunk (diff (area t) (render i))
+unfolding diff
+remaining_after_write t new i claim target shape is =
+    ap (λ have. map op_of (difference bytes_cmp path_of_rendered same_body have (render i))) (area_after_write t new i claim target shape is)
+    ∙ ap (map op_of) (prefix_leaves_rest bytes_order path_of_rendered same_body decides_body max_chunk (area t) (render i) (area_rises t.rows shape.rise) (render_rises i))
+    ∙ map_drop max_chunk (edits_to t (render i))
+
+-- ---- outside of the area
+
+outside_all : (os : List Op) → All (λ o. is_migrated (path_of_op o) ≡ false) os → Outside os
+outside_all [] all = tt
+outside_all (o ∷ os) all = (All-head (λ x. is_migrated (path_of_op x) ≡ false) o os all, outside_all os (All-tail (λ x. is_migrated (path_of_op x) ≡ false) o os all))
+
+pub outside_left : (t new : Tree) (ops : List Op) → multi t ops ≡ Ok new → TreeShape t → All (λ o. is_migrated (path_of_op o) ≡ false) ops → area new ≡ area t
+outside_left t new ops is shape outside =
+    let m = multi_ran t new ops is in
+    ap area_of m.rows ∙ area_ran_left (t.zxid +ℤ pos 1) ops t.rows shape.rise (outside_all ops outside)

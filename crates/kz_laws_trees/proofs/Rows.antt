@@ -12,16 +12,11 @@ use Rattle.kz_ordered.proofs.Lookup.{find-put_same, find-put_other, find-without
 use Rattle.kz_ordered.proofs.Maps.{find-map, Rises-map, Rises-filter, find-filter_absent, find-filter_found}
 use Rattle.kz_spec_stores.specs.Tree.{path_of_row, row_at, put_row, without_row, parent_of, created_row, set_row, touched, after_set, after_op, op_refusal, rendered_row}
 use Rattle.kz_spec_stores.specs.Rendering.{path_of_rendered}
+use Rattle.kz_laws_trees.specs.TreeLaws.{path_of_op}
 
 -- all of a znode but the transaction of its children
 abbrev pub still : Row → Row
 still r = record r { pzxid = pos 0 }
-
-abbrev pub op_path : Op → List ℕ
-op_path (Create path body owner) = path
-op_path (Set path body version) = path
-op_path (Delete path version) = path
-op_path (Check path version) = path
 
 -- two paths are the same or differ
 pub data Same (p q : List ℕ) : Type 0 where
@@ -61,7 +56,7 @@ set_other zxid p q body rows (Some r) is differ =
     let path : r.path ≡ q = key_of_found bytes_order path_of_row q rows r is in
     ap (option_map still) (find-put_other bytes_order path_of_row (set_row zxid body r) rows p (λ e. differ (e ∙ path)))
 
-pub others_kept : (zxid : ℤ) (o : Op) (p : List ℕ) (rows : List Row) → p ≢ op_path o → option_map still (row_at p (after_op zxid o rows)) ≡ option_map still (row_at p rows)
+pub others_kept : (zxid : ℤ) (o : Op) (p : List ℕ) (rows : List Row) → p ≢ path_of_op o → option_map still (row_at p (after_op zxid o rows)) ≡ option_map still (row_at p rows)
 others_kept zxid (Create path body owner) p rows differ =
     ap (option_map still) (find-put_other bytes_order path_of_row (created_row zxid path body owner) (touched zxid (row_at (parent_of path) rows) rows) p differ)
     ∙ touched_keeps zxid p (parent_of path) rows

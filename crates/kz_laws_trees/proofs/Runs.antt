@@ -15,7 +15,8 @@ use Rattle.kz_ordered.specs.Edits.{edit_key}
 use Rattle.kz_spec_stores.specs.Tree.{path_of_row, row_at, put_row, after_op, after_ops, refused, Refusal, code, limit, op_refusal, rendered_row}
 use Rattle.kz_spec_stores.specs.Rendering.{path_of_rendered}
 use Rattle.kz_spec_stores.specs.Difference.{op_of}
-use Rattle.kz_laws_trees.proofs.Rows.{still, op_path, others_kept, op_rises}
+use Rattle.kz_laws_trees.specs.TreeLaws.{path_of_op}
+use Rattle.kz_laws_trees.proofs.Rows.{still, others_kept, op_rises}
 use Rattle.kz_laws_trees.proofs.Area.{area_of, edit_path, area_edited, area_changed, area_left}
 
 -- the znodes after these operations, were none refused
@@ -64,7 +65,7 @@ ran_rises zxid (o ∷ os) rows h = ran_rises zxid os (after_op zxid o rows) (op_
 -- none of these is at the path
 abbrev pub Avoids : List ℕ → List Op → Type 0
 Avoids p [] = ⊤
-Avoids p (o ∷ os) = (p ≢ op_path o) × Avoids p os
+Avoids p (o ∷ os) = (p ≢ path_of_op o) × Avoids p os
 
 pub avoids_append : (p : List ℕ) (xs ys : List Op) → Avoids p xs → Avoids p ys → Avoids p (xs ++ ys)
 avoids_append p [] ys a b = b
@@ -91,7 +92,7 @@ area_ran sessions zxid (e ∷ es) rows h inside pass =
 -- these operations are outside of the area
 abbrev pub Outside : List Op → Type 0
 Outside [] = ⊤
-Outside (o ∷ os) = (is_migrated (op_path o) ≡ false) × Outside os
+Outside (o ∷ os) = (is_migrated (path_of_op o) ≡ false) × Outside os
 
 pub area_ran_left : (zxid : ℤ) (os : List Op) (rows : List Row) → Rises bytes_cmp path_of_row rows → Outside os → area_of (ran zxid os rows) ≡ area_of rows
 area_ran_left zxid [] rows h outside = refl

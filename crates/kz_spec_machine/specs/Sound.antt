@@ -2,6 +2,7 @@
 -- changes anything else keeps the group as it stands.
 use Rattle.std.specs.Prelude.{◌≡◌, ◌≢◌, ◌≤◌, ℕ, Bool, true, ℤ, pos, negsuc, ◌+ℤ◌, ◌-ℤ◌, ◌≤ℤ◌, ◌<ℤ◌, List, [], ◌∷◌, ◌++◌, length, Option, Some, None, option_map, All, IsTrue, ⊤}
 use Rattle.kz_types.specs.declared.tree.Row.{Row}
+use Rattle.kz_types.specs.declared.tree.Op.{Op}
 use Rattle.kz_types.specs.declared.log.BatchRow.{BatchRow}
 use Rattle.kz_types.specs.declared.driver.Stage.{Stage}
 use Rattle.kz_types.specs.declared.driver.Stage.TheVariants as stage
@@ -13,11 +14,11 @@ use Rattle.kz_types.specs.declared.record.MetaRecord.TheVariants as meta
 use Rattle.kz_ordered.specs.Order.{bytes_cmp}
 use Rattle.kz_ordered.specs.Ordered.{Rises}
 use Rattle.kz_spec_values.specs.Control.{epoch_path}
-use Rattle.kz_spec_stores.specs.Tree.{Tree, row_at, path_of_row, area, recorded, unclosed, max_long}
-use Rattle.kz_spec_stores.specs.Image.{is_broker_config}
-use Rattle.kz_spec_stores.specs.Log.{Log, View, end_of, image_at, max_epoch}
+use Rattle.kz_spec_stores.specs.Tree.{Tree, row_at, path_of_row, migrated_rows, area, recorded, unclosed}
+use Rattle.kz_spec_stores.specs.Image.{empty_image, is_broker_config}
+use Rattle.kz_spec_stores.specs.Log.{Log, View, last_of, end_of, batch_ends, record_count, image_at, max_records, max_epoch}
 use Rattle.kz_spec_stores.specs.Rendering.{render}
-use Rattle.kz_spec_machine.specs.Driver.{Shared, Driver, is_one_of}
+use Rattle.kz_spec_machine.specs.Driver.{Shared, Driver, is_one_of, remaining_at}
 use Rattle.kz_spec_machine.specs.Machine.{World, driver_of}
 
 -- ---- numbers
@@ -51,13 +52,27 @@ pub record TreeShape (t : Tree) : Type 0 where
   pub rise : Rises bytes_cmp path_of_row t.rows
   pub stamped : All (IsStamped t.zxid) t.rows
 
--- The epochs of the batches are in range, the last offset is, and a log that has an epoch has a record.
+-- each batch begins behind the one before it
+abbrev pub Follows : ℤ → List BatchRow → Type 0
+Follows end [] = ⊤
+Follows end (b ∷ bs) = (b.first ≡ end +ℤ pos 1) × Follows (last_of b) bs
+
+-- The log begins at its base with nothing, its batches follow each other, and there are few enough records. Epochs are in
+-- range, and a log that has one has a record.
 pub record LogShape (l : Log) : Type 0 where
-  pub epoch : IsEpochOrNone l.epoch
+  pub base : l.base ≡ negsuc 0
+  pub empty : l.base_image ≡ empty_image
+  pub follows : Follows l.base l.batches
+  pub few : record_count l.batches ≤ max_records
   pub epochs : All (λ (b : BatchRow). IsEpochOrNone b.epoch) l.batches
-  pub end_least : negsuc 0 ≤ℤ end_of l
-  pub end_most : end_of l ≤ℤ max_long
+  pub epoch : IsEpochOrNone l.epoch
   pub begun : pos 1 ≤ℤ l.epoch → pos 0 ≤ℤ end_of l
+
+-- an offset is the base or the last of a batch
+pub record IsBatchEnd (l : Log) (offset : ℤ) : Type 0 where
+  pub before : List ℤ
+  pub after : List ℤ
+  pub among : batch_ends l ≡ before ++ offset ∷ after
 
 pub record Kept (s : Shared) : Type 0 where
   pub tree : TreeShape s.tree
@@ -73,9 +88,10 @@ claim_version t = option_map (λ (r : Row). r.version) (row_at epoch_path t.rows
 abbrev pub IsCurrent : Tree → Option ℤ → Type 0
 IsCurrent t claim = (claim ≡ claim_version t) × (claim ≢ None)
 
--- What a driver knows of the log ends within it.
+-- What a driver knows of the log is the metadata at a batch end.
 pub record Views (l : Log) (v : View) : Type 0 where
-  pub within : v.position ≤ℤ end_of l
+  pub end : IsBatchEnd l v.position
+  pub image : v.image ≡ image_at l v.position
   pub epoch : IsEpochOrNone v.epoch
 
 -- The driver's epoch, where it has one, isn't above the log's.
@@ -97,6 +113,15 @@ pub record Aims (target : Recorded) (own : ℤ) (own_epoch : Option ℤ) (v : Vi
   pub not_negative : pos 0 ≤ℤ target.offset
   pub epoch : IsEpochOrNone target.epoch
 
+-- A current driver that reads the migrated area: what it has read is the first part of it.
+pub record Reads (t : Tree) (rows : List Row) : Type 0 where
+  pub rest : List Row
+  pub whole : migrated_rows t ≡ rows ++ rest
+
+-- A current driver that writes: the operations that it holds are all that remains.
+pub record Writes (t : Tree) (l : Log) (target : Recorded) (ops : List Op) : Type 0 where
+  pub remaining : ops ≡ remaining_at t l target.offset
+
 -- A current driver that rests: the tree is closed, what it recorded is what the driver recorded, where its view ends, and
 -- the migrated area is the rendering of the metadata there.
 pub record Rests (t : Tree) (l : Log) (v : View) (offset : Option ℤ) : Type 0 where
@@ -108,11 +133,11 @@ pub record Rests (t : Tree) (l : Log) (v : View) (offset : Option ℤ) : Type 0 
 -- What holds at each stage, by cases. What is said of the tree is said of a current driver alone.
 abbrev pub AtStage : Tree → Log → Driver → Stage → Type 0
 AtStage t l d (stage.Claim seen) = (r : Row) → seen.epoch ≡ Some r → pos 0 ≤ℤ r.version
-AtStage t l d (stage.ReadArea target rows) = Aims target d.id d.epoch d.view
-AtStage t l d (stage.WriteAll target ops) = Aims target d.id d.epoch d.view
+AtStage t l d (stage.ReadArea target rows) = Aims target d.id d.epoch d.view × (IsCurrent t d.claim → Reads t rows)
+AtStage t l d (stage.WriteAll target ops) = Aims target d.id d.epoch d.view × (IsCurrent t d.claim → Writes t l target ops)
 AtStage t l d stage.InformBrokers = (d.claim ≢ None) × (IsCurrent t d.claim → Rests t l d.view d.recorded)
 AtStage t l d stage.Rest = (d.claim ≢ None) × (IsCurrent t d.claim → Rests t l d.view d.recorded)
-AtStage t l d (stage.WriteChange target ops) = Aims target d.id d.epoch d.view
+AtStage t l d (stage.WriteChange target ops) = Aims target d.id d.epoch d.view × (IsCurrent t d.claim → Writes t l target ops)
 AtStage t l d s = ⊤
 
 -- What one driver believes, against what is shared. No other driver is named.

@@ -2,7 +2,7 @@
 use Rattle.std.proofs.Common.{◌≡◌, ◌≢◌, ⊎_elim, ℕ, ◌+◌, ◌≤◌, nat_lt, ℤ, pos, negsuc, ◌+ℤ◌, ◌-ℤ◌, ◌≤ℤ◌, ◌<ℤ◌, int_le, int_lt, Bool, true, false, if◌then◌else◌, List, [], ◌∷◌, ◌++◌, length, Option, Some, None, All, refl, sym, ap, ◌∙◌, subst, filter, arith}
 use Rattle.std.specs.Prelude.{Result, Ok, Err, ⊤}
 use Rattle.std.specs.Ordering.{int_eq}
-use Rattle.std.proofs.lemmas.Bool.Decides.{Decides-int_eq}
+use Rattle.std.proofs.lemmas.Bool.Decides.{nat_tests, Decides-int_eq}
 use Rattle.std.proofs.lemmas.Int.{ints}
 use Rattle.std.proofs.lemmas.List.Elements.{All-push, All-head, All-tail, All-filter}
 use Rattle.kz_types.specs.declared.log.BatchRow.{BatchRow}
@@ -11,37 +11,39 @@ use Rattle.kz_types.specs.declared.fault.LogFault.{LogFault}
 use Rattle.kz_types.specs.declared.fault.LogFault.TheVariants as log_fault
 use Rattle.kz_spec_stores.specs.Tree.{max_long}
 use Rattle.kz_spec_stores.specs.Log.{Log, View, end_of, image_at, new_batch, with_batch, with_next_epoch, record_count, max_records, max_epoch, full_log, added, append, last_epoch, is_behind, read_epoch, read_view}
-use Rattle.kz_spec_machine.specs.Sound.{IsEpochOrNone, LogShape, Views}
+use Rattle.kz_spec_machine.specs.Sound.{IsEpochOrNone, LogShape, IsBatchEnd, Views}
 use Rattle.kz_laws_trees.proofs.Logs.{image_kept, end_more}
+use Rattle.kz_laws_trees.proofs.Ends.{follows_more, count_more, end_is_batch_end, batch_end_kept, batch_end_within}
 
 -- ---- the shape
 
 abbrev limit_by : Bool → Bool → Option ℕ
 limit_by a b = if a then Some 7 else (if b then Some 17 else None)
 
-not_over : (a b : Bool) → limit_by a b ≡ None → b ≡ false
-not_over true b is = absurd (cc)
-not_over false true is = absurd (cc)
-not_over false false is = refl
+few_enough : (a b : Bool) → limit_by a b ≡ None → a ≡ false
+few_enough true b is = absurd (cc)
+few_enough false b is = refl
 
-at_most : (a b : ℤ) → int_lt b a ≡ false → a ≤ℤ b
-at_most a b is = grind (arith, ints)
+not_more : (a b : ℕ) → nat_lt b a ≡ false → a ≤ b
+not_more a b is = grind (arith, nat_tests)
 
-pub within_limit : (l : Log) (items : List MetaRecord) → full_log l items ≡ None → (end_of l +ℤ pos (length items)) ≤ℤ max_long
-within_limit l items is = at_most (end_of l +ℤ pos (length items)) max_long
-    (not_over (nat_lt max_records (record_count l.batches + length items)) (int_lt max_long (end_of l +ℤ pos (length items))) is)
+pub within_count : (l : Log) (items : List MetaRecord) → full_log l items ≡ None → record_count l.batches + length items ≤ max_records
+within_count l items is = not_more (record_count l.batches + length items) max_records
+    (few_enough (nat_lt max_records (record_count l.batches + length items)) (int_lt max_long (end_of l +ℤ pos (length items))) is)
 
-pub batch_shape : (l : Log) (epoch now : ℤ) (items : List MetaRecord) → All (λ (b : BatchRow). IsEpochOrNone b.epoch) l.batches → negsuc 0 ≤ℤ end_of l → IsEpochOrNone epoch → full_log l items ≡ None
+-- one batch more keeps the shape of a log
+pub batch_shape : (l : Log) (epoch now : ℤ) (items : List MetaRecord) → LogShape l → IsEpochOrNone epoch → full_log l items ≡ None
     → (pos 1 ≤ℤ epoch → pos 0 ≤ℤ (end_of l +ℤ pos (length items))) → LogShape (with_batch l epoch now items)
-batch_shape l epoch now items epochs least range room begun =
-    let end = end_more l epoch now items in
-    let most = within_limit l items room in
+batch_shape l epoch now items shape range room begun =
+    let b = new_batch l epoch now items in
     record {
+      base = shape.base;
+      empty = shape.empty;
+      follows = follows_more l.base l.batches b shape.follows refl;
+      few = subst (λ (n : ℕ). n ≤ max_records) (sym (count_more l.batches b)) (within_count l items room);
+      epochs = All-push (λ (x : BatchRow). IsEpochOrNone x.epoch) l.batches b shape.epochs range;
       epoch = range;
-      epochs = All-push (λ (b : BatchRow). IsEpochOrNone b.epoch) l.batches (new_batch l epoch now items) epochs range;
-      end_least = subst (λ (e : ℤ). negsuc 0 ≤ℤ e) (sym end) (omega (arith, ints));
-      end_most = subst (λ (e : ℤ). e ≤ℤ max_long) (sym end) most;
-      begun = λ high. subst (λ (e : ℤ). pos 0 ≤ℤ e) (sym end) (begun high);
+      begun = λ high. subst (λ (e : ℤ). pos 0 ≤ℤ e) (sym (end_more l epoch now items)) (begun high);
     }
 
 -- ---- a log that holds another
@@ -50,27 +52,18 @@ batch_shape l epoch now items epochs least range room begun =
 pub record Grows (l more : Log) : Type 0 where
   pub end : end_of l ≤ℤ end_of more
   pub image : (at : ℤ) → at ≤ℤ end_of l → image_at more at ≡ image_at l at
+  pub batch_end : (at : ℤ) → IsBatchEnd l at → IsBatchEnd more at
   pub epoch : l.epoch ≤ℤ more.epoch
 
 pub grows_itself : (l : Log) → Grows l l
-grows_itself l = record { end = omega (arith, ints); image = λ at low. refl; epoch = omega (arith, ints) }
+grows_itself l = record { end = omega (arith, ints); image = λ at low. refl; batch_end = λ at e. e; epoch = omega (arith, ints) }
 
 pub grows_batch : (l : Log) (epoch now : ℤ) (items : List MetaRecord) → l.epoch ≤ℤ epoch → Grows l (with_batch l epoch now items)
 grows_batch l epoch now items low = record {
   end = subst (λ (e : ℤ). end_of l ≤ℤ e) (sym (end_more l epoch now items)) (omega (arith, ints));
   image = λ at within. image_kept l epoch now items at within;
+  batch_end = λ at e. batch_end_kept l epoch now items at e;
   epoch = low;
-}
-
-same_image : (l : Log) (at : ℤ) → image_at (with_next_epoch l) at ≡ image_at l at
-unfolding image_at
-same_image l at = refl
-
-pub grows_election : (l : Log) (now : ℤ) (items : List MetaRecord) → Grows l (with_batch (with_next_epoch l) (l.epoch +ℤ pos 1) now items)
-grows_election l now items = record {
-  end = subst (λ (e : ℤ). end_of l ≤ℤ e) (sym (end_more (with_next_epoch l) (l.epoch +ℤ pos 1) now items)) (omega (arith, ints));
-  image = λ at within. image_kept (with_next_epoch l) (l.epoch +ℤ pos 1) now items at within ∙ same_image l at;
-  epoch = omega (arith, ints);
 }
 
 -- ---- an append
@@ -85,7 +78,7 @@ appended_by l epoch now items new (Some number) room same is shape = absurd (cc)
 appended_by l epoch now items new None room same is shape =
     let made : with_batch l epoch now items ≡ new = cc in
     subst (Appended l) made (record {
-      shape = batch_shape l epoch now items shape.epochs shape.end_least (subst IsEpochOrNone (sym same) shape.epoch) room
+      shape = batch_shape l epoch now items shape (subst IsEpochOrNone (sym same) shape.epoch) room
         (λ high. let old = shape.begun (subst (λ (e : ℤ). pos 1 ≤ℤ e) same high) in omega (arith, ints));
       grows = grows_batch l epoch now items (omega (arith, ints));
     })
@@ -109,10 +102,18 @@ first_epoch_range false epoch range = range
 
 pub view_read : (l : Log) (v : View) → LogShape l → Views l v → Views l (read_view l v)
 view_read l v shape old = record {
-  within = omega (arith, ints);
+  end = end_is_batch_end l;
+  image = refl;
   epoch = last_epoch_range (if int_lt v.position l.base then pos 0 else v.epoch) (filter (is_behind v.position) l.batches) (first_epoch_range (int_lt v.position l.base) v.epoch old.epoch)
     (All-filter (is_behind v.position) (λ (b : BatchRow). IsEpochOrNone b.epoch) l.batches shape.epochs);
 }
 
-pub view_grown : (l more : Log) (v : View) → Grows l more → Views l v → Views more v
-view_grown l more v grows old = record { within = let a = old.within in let b = grows.end in omega (arith, ints); epoch = old.epoch }
+pub view_grown : (l more : Log) (v : View) → LogShape l → Grows l more → Views l v → Views more v
+view_grown l more v shape grows old = record {
+  end = grows.batch_end v.position old.end;
+  image = old.image ∙ sym (grows.image v.position (batch_end_within l v.position shape old.end));
+  epoch = old.epoch;
+}
+
+pub view_within : (l : Log) (v : View) → LogShape l → Views l v → v.position ≤ℤ end_of l
+view_within l v shape views = batch_end_within l v.position shape views.end
