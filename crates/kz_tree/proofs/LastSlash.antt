@@ -1,5 +1,5 @@
 -- The parts of a path at its last `/`, byte after byte.
-use Rattle.std.proofs.Common.{◌≡◌, ◌≢◌, ℕ, zero, suc, ◌+◌, ◌<◌, ◌≤◌, Bool, true, false, cond, ◌||◌, List, [], ◌∷◌, ◌++◌, length, get_or, take, drop, refl, sym, ap, ◌∙◌, arith, eq-eqb, ne_eqb, length-take}
+use Rattle.std.proofs.Common.{◌≡◌, ◌≢◌, ℕ, ◌+◌, ◌<◌, ◌≤◌, Bool, true, false, cond, ◌||◌, List, [], ◌∷◌, ◌++◌, length, get_or, take, drop, refl, sym, ap, ◌∙◌, arith, ne_eqb, length-take}
 use Rattle.std.specs.Bool.{nat_eq}
 use Rattle.std.specs.List.{list_any}
 use Rattle.std.proofs.lemmas.List.{take_more, drop_all, drop-append-le}
@@ -76,7 +76,7 @@ begins_behind path i h e = record {
 pub begins_before : (path : List ℕ) (i start : ℕ) → i < length path → get_or path i 0 ≢ 47 → BeginsAt path i start → BeginsAt path (i + 1) start
 begins_before path i start h e was = record {
   name =
-    rw (take_more path i 0 h) (name_other (take i path) (get_or path i 0) e ∙ ap (λ l. l ++ get_or path i 0 ∷ []) was.name
-    ∙ sym (drop-append-le start (take i path) (get_or path i 0 ∷ []) (omega (arith, was.within, length-take i path))));
+      rw (take_more path i 0 h) (name_other (take i path) (get_or path i 0) e ∙ ap (λ l. l ++ get_or path i 0 ∷ []) was.name
+      ∙ sym (drop-append-le start (take i path) (get_or path i 0 ∷ []) (omega (arith, was.within, length-take i path))));
   within = omega (arith, was.within);
 }

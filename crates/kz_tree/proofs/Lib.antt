@@ -3,3 +3,7 @@ pub mod LastSlash
 pub mod Kept
 pub mod Steps
 pub mod Zxids
+pub mod Pages
+pub mod Multis
+pub mod Ids
+pub mod Looks

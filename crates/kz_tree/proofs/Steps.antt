@@ -1,5 +1,5 @@
 -- A multi, operation after operation.
-use Rattle.std.proofs.Common.{◌≡◌, ◌<◌, ◌≤◌, ◌+◌, ℕ, suc, ℤ, List, [], ◌∷◌, length, get_or, drop, Option, Some, None, option_map, Result, Ok, Err, sym, ap, ◌∙◌, refl, drop-cons, add-one}
+use Rattle.std.proofs.Common.{◌≡◌, ◌<◌, ◌≤◌, ◌+◌, ℕ, suc, ℤ, List, ◌∷◌, length, get_or, drop, Some, None, Result, Ok, sym, ap, ◌∙◌, refl, drop-cons, add-one}
 use Rattle.std.proofs.lemmas.List.{drop_all}
 use Rattle.kz_types.specs.declared.tree.Row.{Row}
 use Rattle.kz_types.specs.declared.tree.Op.{Op}

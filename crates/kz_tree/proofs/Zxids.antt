@@ -1,15 +1,16 @@
 -- The zxid of a multi plays no part in what is refused.
-use Rattle.std.proofs.Common.{◌≡◌, ℕ, ◌+◌, ℤ, pos, Bool, true, false, cond, not, ◌&&◌, ◌||◌, List, [], ◌∷◌, map, length, Option, Some, None, is_some, option_map, Result, Ok, Err, Less, Equal, Greater, refl, sym, ap, ap₂, ◌∙◌, subst}
+use Rattle.std.proofs.Common.{◌≡◌, ℕ, ◌+◌, ℤ, pos, Bool, true, false, cond, not, ◌||◌, List, [], ◌∷◌, map, Option, Some, None, is_some, option_map, Result, Ok, Err, Less, Equal, Greater, refl, sym, ap, ◌∙◌}
 use Rattle.std.specs.Ordering.{match_ordering, is_eq}
 use Rattle.std.specs.Str.{bytes_eq}
 use Rattle.std.specs.declared.cmp.Ordering.{Ordering}
+use Rattle.std.proofs.lemmas.List.Folds.{fold-map}
 use Rattle.kz_types.specs.Paths.{is_migrated}
 use Rattle.kz_types.specs.declared.tree.Row.{Row}
 use Rattle.kz_types.specs.declared.tree.Op.{Op}
 use Rattle.kz_types.specs.declared.tree.Op.TheVariants.{Create, Set, Delete, Check}
 use Rattle.kz_types.specs.declared.fault.TreeFault.{TreeFault}
 use Rattle.kz_ordered.specs.Order.{bytes_cmp}
-use Rattle.kz_spec_stores.specs.Tree.{Refusal, code, limit, path_of_row, row_at, put_row, without_row, parent_of, is_root, has_parent, has_children, is_ephemeral, may_own, count_beside, limit_beside, max_body, max_znodes, first_refusal, create_refusal, set_refusal, delete_refusal, check_refusal, op_refusal, created_row, set_row, touched, after_set, after_op, refused, after_ops}
+use Rattle.kz_spec_stores.specs.Tree.{Refusal, code, limit, row_at, put_row, without_row, parent_of, has_children, is_ephemeral, count_beside, create_refusal, set_refusal, delete_refusal, check_refusal, op_refusal, created_row, set_row, touched, after_set, after_op, refused, after_ops}
 
 -- a znode without its zxids
 abbrev bare : Row → Row
@@ -65,8 +66,7 @@ children_bare path [] = refl
 children_bare path (r ∷ rs) = ap (λ b. bytes_eq (parent_of r.path) path || b) (children_bare path rs)
 
 count_bare : (path : List ℕ) (rows : List Row) → count_beside path (all_bare rows) ≡ count_beside path rows
-count_bare path [] = refl
-count_bare path (r ∷ rs) = ap (λ n. cond (cond (is_migrated path) (is_migrated r.path) (not (is_migrated r.path))) 1 0 + n) (count_bare path rs)
+count_bare path rows = fold-map (λ n (r : Row). n + cond (cond (is_migrated path) (is_migrated r.path) (not (is_migrated r.path))) 1 0) bare 0 rows
 
 there_bare : (path : List ℕ) (rows : List Row) → is_some (row_at path (all_bare rows)) ≡ is_some (row_at path rows)
 there_bare path rows = ap (λ (o : Option Row). is_some o) (found_bare path rows) ∙ some_bare (row_at path rows)
@@ -137,7 +137,7 @@ ops_alike sessions y z index (o ∷ os) a b h =
     let same : op_refusal sessions o b ≡ op_refusal sessions o a = sym (refusal_bare sessions o b) ∙ ap (op_refusal sessions o) (sym h) ∙ refusal_bare sessions o a in
     let next : all_bare (after_op y o a) ≡ all_bare (after_op z o b) = effect_bare y o a ∙ ap (λ rows. all_bare (after_op (pos 0) o rows)) h ∙ sym (effect_bare z o b) in
     rw same (alike_step index (op_refusal sessions o a) (after_ops sessions y (index + 1) os (after_op y o a)) (after_ops sessions z (index + 1) os (after_op z o b))
-      (ops_alike sessions y z (index + 1) os (after_op y o a) (after_op z o b) next))
+    (ops_alike sessions y z (index + 1) os (after_op y o a) (after_op z o b) next))
 
 refused_alike : (a b : Result (List Row) TreeFault) (e : TreeFault) → Alike a b → a ≡ Err e → b ≡ Err e
 refused_alike (Ok a) b e h is = absurd (cc)
@@ -147,7 +147,6 @@ refused_alike (Err f) (Err g) e h is = ap (λ x. Err x) (sym h) ∙ is
 -- what is refused with one zxid is with another
 pub refused_whatever : (sessions : List ℤ) (y z : ℤ) (ops : List Op) (rows : List Row) (e : TreeFault) → after_ops sessions y 0 ops rows ≡ Err e → after_ops sessions z 0 ops rows ≡ Err e
 refused_whatever sessions y z ops rows e is = refused_alike (after_ops sessions y 0 ops rows) (after_ops sessions z 0 ops rows) e (ops_alike sessions y z 0 ops rows rows refl) is
-
 
 accepted_alike : (a b : Result (List Row) TreeFault) (rows : List Row) → Alike a b → a ≡ Ok rows → (other : List Row) × (b ≡ Ok other)
 accepted_alike (Ok a) (Ok b) rows h is = (b, refl)

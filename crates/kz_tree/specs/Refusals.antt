@@ -1,6 +1,5 @@
 -- What the answers of the code mean, and what a fault tells.
-use Rattle.std.specs.Prelude.{◌≡◌, ℕ, ℤ, pos, List, Result, Err, ⊤}
-use Rattle.kz_types.specs.declared.tree.Row.{Row}
+use Rattle.std.specs.Prelude.{◌≡◌, Result, Err, ⊤}
 use Rattle.kz_types.specs.declared.fault.TreeFault.{TreeFault}
 use Rattle.kz_types.specs.declared.fault.TreeFault.TheVariants as fault
 use Rattle.kz_spec_stores.specs.Tree as tree

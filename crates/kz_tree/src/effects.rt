@@ -109,6 +109,7 @@ pub fn after_ops(
 ) -> Result<Vec<Row>, TreeFault>
     requires { AreRows rows.items }
     ensures ok { IfOk result (λ made. after_ops sessions.now zxid 0 ops.now rows.items ≡ Ok made.items) }
+    ensures rise { IfOk result (λ made. AreRows made.items) }
     ensures err { IfErr result (IsFaultOf (after_ops sessions.now zxid 0 ops.now rows.items)) }
 {
     for (index, op) in ops.iter().enumerate() {

@@ -8,10 +8,17 @@ ghost use Rattle.kz_spec_stores.specs.Tree.{path_of_row, row_at, put_row, withou
 use kz_types::{NoMemory, Row};
 use std::cmp::Ordering;
 
+/// Paths are ordered by bytes.
+pub fn compare_paths(path: &[u8], other: &[u8]) -> Ordering
+    ensures { result ≡ bytes_cmp path.now other.now }
+{
+    path.cmp(&other)
+}
+
 fn compare(row: &Row, path: &[u8]) -> Ordering
     ensures { result ≡ bytes_cmp row.now.path path.now }
 {
-    row.path.bytes().cmp(&path)
+    compare_paths(row.path.bytes(), path)
 }
 
 /// The place of a path, or that at which it would stand.

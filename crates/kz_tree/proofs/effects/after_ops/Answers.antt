@@ -1,4 +1,4 @@
-use Rattle.std.proofs.Common.{rules, ◌≡◌, ◌<◌, Result, Ok, Some, None, List, [], length, sym, ap, ◌∙◌, subst, to_z-of_z}
+use Rattle.std.proofs.Common.{rules, ◌≡◌, Result, Ok, Some, None, List, [], sym, subst, to_z-of_z}
 use Rattle.kz_types.specs.declared.tree.Row.{Row}
 use Rattle.kz_types.specs.declared.fault.TreeFault.{TreeFault}
 use Rattle.kz_spec_stores.specs.Tree.{op_refusal}
@@ -17,7 +17,7 @@ pub loop-index-preserved : goal.loop-index-preserved
 loop-index-preserved c =
     let none : op_refusal c.args.sessions.now c.index-ops-index.result c.loop-index.rows.items ≡ None = search (rules, c.in_default.ensures) in
     rw (to_z-of_z c.ranges.zxid) (op_accepted c.args.sessions.now c.args.zxid c.args.ops.now c.args.rows.items c.loop-index.index c.loop-index.rows.items c.apply.new.rows.items c.index-ops-index.result (rw (to_z-of_z c.ranges.zxid) at c.loop-index.invariant) c.loop-index-test.true c.index-ops-index.is none
-      (search (rules, c.in-Ok.ensures)))
+    (search (rules, c.in-Ok.ensures)))
 
 pub returns-clause-ok : goal.returns-clause-ok
 returns-clause-ok c = all_accepted c.args.sessions.now c.args.zxid c.args.ops.now c.args.rows.items c.loop-index.index c.loop-index.rows.items (rw (to_z-of_z c.ranges.zxid) at c.loop-index.invariant) c.loop-index-test.false

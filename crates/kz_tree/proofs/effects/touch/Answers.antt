@@ -1,4 +1,4 @@
-use Rattle.std.proofs.Common.{rules, ◌≡◌, sym, ap, ◌∙◌, Ok, Err, to_z, of_z, w64, to_z-of_z}
+use Rattle.std.proofs.Common.{Ok, Err, to_z-of_z}
 use Rattle.kz_ordered.specs.Order.{bytes_cmp}
 use Rattle.kz_ordered.specs.Spot.{IsSpot}
 use Rattle.kz_spec_stores.specs.Tree.{path_of_row}

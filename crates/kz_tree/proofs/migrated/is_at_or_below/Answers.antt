@@ -1,4 +1,4 @@
-use Rattle.std.proofs.Common.{◌≡◌, sym, ap, ◌∙◌, arith}
+use Rattle.std.proofs.Common.{arith}
 use Rattle.std.proofs.lemmas.Grind.{common_steps}
 use Rattle.kz_tree.proofs.Prefixes.{at_or_below}
 use Rattle.kz_tree.proofs.migrated.is_at_or_below.Goals as goal

@@ -1,4 +1,3 @@
-use Rattle.std.proofs.Common.{rules, ◌≡◌, sym, ap, ◌∙◌}
 use Rattle.kz_tree.proofs.refusals.op_refusal.Goals as goal
 
 pub returns-in-Create : goal.returns-in-Create

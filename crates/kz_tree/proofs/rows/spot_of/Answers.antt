@@ -1,4 +1,4 @@
-use Rattle.std.proofs.Common.{rules, sym}
+use Rattle.std.proofs.Common.{rules}
 use Rattle.std.proofs.lemmas.Fn.{always_returns_same}
 use Rattle.kz_types.specs.declared.tree.Row.{Row}
 use Rattle.kz_ordered.specs.Order.{bytes_cmp}

@@ -1,5 +1,4 @@
-use Rattle.std.proofs.Common.{rules, ◌≡◌, sym, ap, subst, ◌∙◌, Ok, Err}
-use Rattle.kz_types.specs.declared.tree.Row.{Row}
+use Rattle.std.proofs.Common.{rules, sym, Ok, Err}
 use Rattle.kz_ordered.specs.Order.{bytes_cmp}
 use Rattle.kz_ordered.specs.Spot.{IsSpot}
 use Rattle.kz_ordered.proofs.Order.{bytes_order}
