@@ -2,11 +2,12 @@
 #![tactic(auto)]
 
 mod cut;
+mod keys;
 mod names;
+mod paths;
+mod scaffold;
 
 pub use keys::key_of;
 pub use names::{restore, sanitise};
 pub use paths::path_of;
-
-mod keys;
-mod paths;
+pub use scaffold::{is_root, is_scaffold};
