@@ -4,5 +4,7 @@
 mod configs;
 mod fault;
 mod rows;
+mod whole;
 
 pub use fault::ReadFault;
+pub use whole::translate;

@@ -6,6 +6,6 @@ mod fits;
 mod roots;
 mod znodes;
 
-pub use fits::{MAX_BODIES, MAX_BODY, are_bodies_long, long_znode};
+pub use fits::{Excess, MAX_BODIES, MAX_BODY, MAX_ZNODES, first_excess, whole_path};
 pub use roots::bare_roots;
 pub use znodes::render;
