@@ -163,8 +163,8 @@ impl MemoryLog {
     }
 
     /// The view that has read to the end.
-    pub fn read(&self, alloc: Global, view: View) -> Result<View, NoMemory>
-        ensures { IfOk result (λ new. new ≡ read_view self.now view) }
+    pub fn read(&self, alloc: Global, view: &View) -> Result<View, NoMemory>
+        ensures { IfOk result (λ new. new ≡ read_view self.now view.now) }
     {
         let known = if view.position() < -1 {
             0
