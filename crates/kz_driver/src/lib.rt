@@ -4,9 +4,12 @@
 //! what it has read.
 #![tactic(auto)]
 
+mod claiming;
 mod fence;
 mod paths;
 mod peers;
+mod row;
+mod waiting;
 
 pub use fence::{Claimer, claim_ops, is_last_write, write_ops};
 pub use peers::{Peers, missing_broker, missing_controller};
