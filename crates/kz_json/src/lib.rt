@@ -2,6 +2,7 @@
 #![tactic(auto)]
 
 mod configs;
+mod others;
 mod reading;
 mod written;
 
