@@ -1,6 +1,7 @@
 //! What the bodies of migrated znodes say, and the bodies that are written.
 #![tactic(auto)]
 
+mod acls;
 mod configs;
 mod others;
 mod reading;

@@ -234,10 +234,13 @@ abbrev pub entries_in : ℤ → ℤ → List ℕ → Items → Option (List AclR
 entries_in pattern kind name no_items = Some []
 entries_in pattern kind name (item d ds) = option_and_then (λ row. option_map (λ rows. row ∷ rows) (entries_in pattern kind name ds)) (entry_in pattern kind name d)
 
+abbrev pub entries_of_data : ℤ → ℤ → List ℕ → Data → Option (List AclRow)
+entries_of_data pattern kind name d = option_and_then (entries_in pattern kind name) (as_array d)
+
 abbrev pub acls_of_data : ℤ → ℤ → List ℕ → Data → Result Body BodyFault
 acls_of_data pattern kind name d =
     then_read (field (codes "version") (whole (pos 1) (pos 1)) d)
-    (λ version. then_read (field (codes "acls") (λ acls. option_and_then (entries_in pattern kind name) (as_array acls)) d)
+    (λ version. then_read (field (codes "acls") (entries_of_data pattern kind name) d)
     (λ rows. Ok (body.Acls rows)))
 
 -- ---- producer ids
