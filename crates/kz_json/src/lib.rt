@@ -5,6 +5,7 @@ mod acls;
 mod configs;
 mod others;
 mod reading;
+mod topics;
 mod written;
 
 pub use reading::read_config;
