@@ -1,11 +1,12 @@
 -- What the body of a migrated znode says, and the text that is written for it.
-use Rattle.std.specs.Prelude.{ℕ, Bool, true, false, not, ◌&&◌, ◌==◌, nat_lt, ℤ, pos, negsuc, int_le, nat_abs, List, [], ◌∷◌, ◌++◌, map, length, Option, Some, None, option_map, option_and_then, unwrap_or, Result, Ok, Err, if◌then◌else◌, codes, bytes_eq, decimal}
+use Rattle.std.specs.Prelude.{ℕ, Bool, true, false, not, ◌&&◌, ◌==◌, nat_lt, ℤ, pos, negsuc, int_le, List, [], ◌∷◌, ◌++◌, map, length, Option, Some, None, option_map, option_and_then, unwrap_or, Result, Ok, Err, if◌then◌else◌, codes, bytes_eq}
 use Rattle.std.specs.Str.{is_utf8}
 use Rattle.std.specs.List.{list_all, list_any}
 use Rattle.std.specs.Ordering.{int_eq}
 use Rattle.serde_json.specs.Data.{Data, number, string, array, object, Items, no_items, item, Members, no_members, member, put}
 use Rattle.serde_json.specs.Read.{read}
-use Rattle.serde_json.specs.Find.{get, get_member, as_number, as_i64, as_str, as_array, as_object, of_integer}
+use Rattle.serde_json.specs.Find.{get, as_number, as_i64, as_str, as_array, as_object, of_integer}
+use Rattle.serde_json.specs.View.{items_of}
 use Rattle.serde_json.specs.Written.{compact_text}
 use Rattle.kz_types.specs.Numbers.{number_in, digits_up_to}
 use Rattle.std.specs.Fmt.{signed_decimal}
@@ -325,12 +326,8 @@ read_body key bytes = body_unless_empty key bytes (empty_body key)
 abbrev pub whole_data : ℤ → Data
 whole_data z = number (of_integer z)
 
-abbrev pub items_data : List ℤ → Items
-items_data [] = no_items
-items_data (id ∷ ids) = item (whole_data id) (items_data ids)
-
 abbrev pub brokers_data : List ℤ → Data
-brokers_data ids = array (items_data ids)
+brokers_data ids = array (items_of (map whole_data ids))
 
 -- members with texts, one after another
 abbrev pub with_texts : Members → List Pair → Members
@@ -386,17 +383,13 @@ acl_data row = object
     (member (codes "permissionType") (string (permission_name row.permission))
     (member (codes "principal") (string row.principal) no_members))))
 
-abbrev pub acl_items : List AclRow → Items
-acl_items [] = no_items
-acl_items (row ∷ rows) = item (acl_data row) (acl_items rows)
-
 abbrev pub acls_data : List AclRow → Data
-acls_data rows = object (member (codes "acls") (array (acl_items rows)) (member (codes "version") (whole_data (pos 1)) no_members))
+acls_data rows = object (member (codes "acls") (array (items_of (map acl_data rows))) (member (codes "version") (whole_data (pos 1)) no_members))
 
 abbrev pub producer_data : ℤ → ℤ → ℤ → Data
 producer_data broker start end = object
-    (member (codes "block_end") (string (decimal (nat_abs end)))
-    (member (codes "block_start") (string (decimal (nat_abs start)))
+    (member (codes "block_end") (string (signed_decimal end))
+    (member (codes "block_start") (string (signed_decimal start))
     (member (codes "broker") (whole_data broker)
     (member (codes "version") (whole_data (pos 1)) no_members))))
 
