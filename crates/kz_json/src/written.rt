@@ -1,12 +1,15 @@
 //! Bodies, written.
-ghost use Rattle.std.specs.Prelude.{◌≡◌, ◌∷◌, [], List, IfOk, IfErr, OnOk, codes, string_bytes, pos, map};
+ghost use Rattle.std.specs.Prelude.{◌≡◌, ◌∷◌, [], List, IfOk, IfErr, OnOk, codes, string_bytes, pos, map, false, ℤ};
+ghost use Rattle.std.specs.Fmt.{signed_decimal};
+ghost use Rattle.kz_types.specs.Ids.{id_text};
 ghost use Rattle.serde_json.specs.View.{view, members_view, items_of};
 ghost use Rattle.serde_json.specs.Data.{Data, object, array, member, no_members, string};
-ghost use Rattle.serde_json.specs.Written.{compact_text};
-ghost use Rattle.kz_spec_values.specs.Bodies.{with_texts, config_data, whole_data, brokers_data, with_some, replicas_members, adding_members, removing_members, operation_name, permission_name, acl_data};
+ghost use Rattle.serde_json.specs.Written.{compact_text, has_float};
+ghost use Rattle.kz_spec_values.specs.Bodies.{with_texts, config_data, whole_data, brokers_data, with_some, replicas_members, adding_members, removing_members, operation_name, permission_name, acl_data, acls_data, topic_data, state_data, producer_data};
 
 use crate::topics::number_text;
-use kz_types::{AclRow, AssignmentRow, NoMemory, Pair};
+use base64::engine::general_purpose::URL_SAFE_NO_PAD;
+use kz_types::{AclRow, AssignmentRow, Id, NoMemory, Pair};
 use serde_json::{Map, Value, json};
 use std::alloc::Global;
 
@@ -258,4 +261,84 @@ fn rows_value(alloc: Global, rows: &[AclRow]) -> Result<Value, NoMemory>
         values.push(row_value(alloc, row)?)?;
     }
     Ok(Value::Array(values))
+}
+
+/// The text of a value without floats.
+fn value_text(alloc: Global, value: &Value) -> Result<String, NoMemory>
+    requires { has_float (view value.now) ≡ false }
+    ensures { IfOk result (λ text. string_bytes text ≡ compact_text (view value.now)) }
+{
+    Ok(value.to_string(alloc)?)
+}
+
+/// The text of an id.
+fn id_value(alloc: Global, id: &Id) -> Result<Value, NoMemory>
+    ensures { IfOk result (λ value. view value ≡ string (id_text id.now.bytes)) }
+{
+    Ok(Value::String(URL_SAFE_NO_PAD.encode(alloc, &id.bytes)?))
+}
+
+/// The text of a topic's body.
+#[tactic(auto, using(crate::proofs::WrittenLemmas::topic_no_float))]
+pub fn topic_text(alloc: Global, id: &Id, rows: &[AssignmentRow]) -> Result<String, NoMemory>
+    ensures { IfOk result (λ text. string_bytes text ≡ compact_text (topic_data id.now rows.now)) }
+{
+    let adding = adding_value(alloc, rows)?;
+    let partitions = replicas_value(alloc, rows)?;
+    let removing = removing_value(alloc, rows)?;
+    let id = id_value(alloc, id)?;
+    let value = topic_value(alloc, id, adding, partitions, removing)?;
+    value_text(alloc, &value)
+}
+
+/// The state of a partition, as its body has it.
+pub struct PartitionState<'a> {
+    pub leader: i32,
+    pub leader_epoch: i32,
+    pub controller_epoch: i32,
+    pub isr: &'a [i32],
+    pub recovery: i8,
+}
+
+/// The text of the body of a partition's state.
+#[tactic(auto, using(crate::proofs::WrittenLemmas::state_no_float))]
+pub fn state_text(alloc: Global, state: &PartitionState<'_>) -> Result<String, NoMemory>
+    ensures { IfOk result (λ text. string_bytes text ≡ compact_text (state_data state.now.leader state.now.leader_epoch state.now.controller_epoch state.now.isr.now state.now.recovery)) }
+{
+    let leader = whole_value(state.leader as i64);
+    let leader_epoch = whole_value(state.leader_epoch as i64);
+    let controller_epoch = whole_value(state.controller_epoch as i64);
+    let isr = brokers_value(alloc, state.isr)?;
+    let recovery = whole_value(state.recovery as i64);
+    let value = state_value(alloc, leader, leader_epoch, controller_epoch, isr, recovery)?;
+    value_text(alloc, &value)
+}
+
+/// The text of the body of access control entries.
+#[tactic(auto, using(crate::proofs::WrittenLemmas::acls_no_float))]
+pub fn acls_text(alloc: Global, rows: &[AclRow]) -> Result<String, NoMemory>
+    ensures { IfOk result (λ text. string_bytes text ≡ compact_text (acls_data rows.now)) }
+{
+    let acls = rows_value(alloc, rows)?;
+    let value = acls_value(alloc, acls)?;
+    value_text(alloc, &value)
+}
+
+/// A number as a text.
+fn digits_value(alloc: Global, number: i64) -> Result<Value, NoMemory>
+    ensures { IfOk result (λ value. view value ≡ string (signed_decimal number)) }
+{
+    Ok(Value::String(format!(in alloc; "{number}")?))
+}
+
+/// The text of the body of a block of producer ids.
+#[tactic(auto, using(crate::proofs::WrittenLemmas::producer_no_float))]
+pub fn producer_text(alloc: Global, broker: i32, start: i64, end: i64) -> Result<String, NoMemory>
+    ensures { IfOk result (λ text. string_bytes text ≡ compact_text (producer_data broker start end)) }
+{
+    let broker = whole_value(broker as i64);
+    let start = digits_value(alloc, start)?;
+    let end = digits_value(alloc, end)?;
+    let value = producer_value(alloc, broker, start, end)?;
+    value_text(alloc, &value)
 }
