@@ -4,7 +4,7 @@ ghost use Rattle.serde_json.specs.View.{view, members_view};
 ghost use Rattle.kz_types.specs.declared.fault.BodyFault.{BodyFault};
 ghost use Rattle.kz_spec_values.specs.Bodies.{field, whole, texts_in, texts_of, pairs_of, config_of};
 
-use crate::fields::{bad_field, missing, whole};
+use crate::fields::{bad_field, missing, whole_field};
 use kz_types::{Body, BodyFault, NoMemory, Pair, Sequence, Text};
 use serde_json::{Map, Value};
 use std::alloc::Global;
@@ -35,24 +35,11 @@ fn texts_of(alloc: Global, value: &Value) -> Result<Option<Sequence<Pair>>, NoMe
     }
 }
 
-/// The version of a body, which is 1.
-pub fn version_one(alloc: Global, value: &Value) -> Result<i64, BodyFault>
-    ensures { result ≢ Err BodyFault.NoMemory → result ≡ field (codes "version") (whole (pos 1) (pos 1)) (view value.now) }
-{
-    let Some(member) = value.get("version") else {
-        return Err(missing(alloc, "version"));
-    };
-    match whole(member, 1, 1) {
-        Some(version) => Ok(version),
-        None => Err(bad_field(alloc, "version")),
-    }
-}
-
 /// The names and values of a configuration, by rising name.
 pub fn pairs_of(alloc: Global, value: &Value) -> Result<Sequence<Pair>, BodyFault>
     ensures { result ≢ Err BodyFault.NoMemory → result ≡ pairs_of (view value.now) }
 {
-    match version_one(alloc, value) {
+    match whole_field(alloc, value, "version", 1, 1) {
         Ok(_) => (),
         Err(fault) => return Err(fault),
     }
