@@ -23,7 +23,7 @@ use Rattle.kz_spec_stores.specs.Log.{Log, end_of, image_at, max_epoch, full_log,
 use Rattle.kz_spec_stores.specs.Rendering.{render}
 use Rattle.kz_spec_machine.specs.Driver.{Shared, Driver, new_driver, elected_driver, state_of, is_one_of, least}
 use Rattle.kz_spec_machine.specs.Machine.{World, empty_world, running_ids, is_running, driver_of, with_driver, Turned, turn, work, decided, first_of, unless, over, full, running_refusal, driver_refusal, leader_refusal, quorum_refusal, declared_world, start_refusal, started_world, election_records, next_epoch, elected_log, election_refusal, elected_world, election_answer, turn_result, over_excess, change_refusal, changed_log, changed_world, unless_refused, next, after_events}
-use Rattle.kz_spec_machine.specs.Sound.{IsId, IsEpoch, IsEpochOrNone, LogShape, IsBatchEnd, TreeShape, Kept, IsCurrent, Views, Epochs, Elected, Aims, Rests, AtStage, Fine, Each, Sound, AtMostOne, Alone, IsLawful}
+use Rattle.kz_spec_machine.specs.Sound.{IsId, IsTime, IsEpoch, IsEpochOrNone, LogShape, IsBatchEnd, TreeShape, Kept, IsCurrent, Views, Epochs, Elected, Aims, Rests, AtStage, Fine, Each, Sound, AtMostOne, Alone, IsLawful}
 use Rattle.kz_spec_runs.specs.InStep.{InStep, last_reply, ComesToRest}
 use Rattle.kz_laws_trees.proofs.Ends.{end_least, base_is_batch_end, image_before}
 use Rattle.kz_laws_trees.proofs.Growth.{Grows, batch_shape, grows_batch, view_within}
@@ -91,8 +91,8 @@ at_grown s l d grows within (stage.WriteChange target ops) at = (at.0, λ c. rec
 
 fine_grown : (s : Shared) (l : Log) (d : Driver) → LogShape s.log → Grows s.log l → Fine s d → Fine (record s { log = l }) d
 fine_grown s l d shape grows fine =
-    let base = base_grown s.log l d shape grows (base_of s d fine) in
-    record { id = base.id; epochs = base.epochs; elected = fine.elected; views = base.views; stage = at_grown s l d grows (view_within s.log d.view shape fine.views) d.stage fine.stage }
+    let base = base_grown s l d shape grows (base_of s d fine) in
+    record { id = base.id; epochs = base.epochs; elected = fine.elected; claims = base.claims; views = base.views; stage = at_grown s l d grows (view_within s.log d.view shape fine.views) d.stage fine.stage }
 
 -- ---- refusals
 
@@ -142,6 +142,7 @@ new_fine s id shape is = record {
   id = is;
   epochs = tt;
   elected = tt;
+  claims = tt;
   views = record { end = subst (IsBatchEnd s.log) shape.base (base_is_batch_end s.log); image = sym (image_before s.log shape); epoch = record { least = omega (arith, ints); most = omega (arith, ints) } };
   stage = tt;
 }
@@ -193,9 +194,9 @@ elected_one : (s : Shared) (now : ℤ) (d : Driver) (b : Bool) → LogShape s.lo
 elected_one s now d true shape less own =
     let l = elected_log s.log now in
     let grows = grows_batch s.log (next_epoch s.log) now (election_records s.log) (omega (arith, ints)) in
-    let base = base_grown s.log l d shape grows (base_of s d own.fine) in
+    let base = base_grown s l d shape grows (base_of s d own.fine) in
     record {
-      fine = record { id = base.id; epochs = (next_range s.log.epoch shape.epoch less, omega (arith, ints)); elected = λ none. cc; views = base.views; stage = tt };
+      fine = record { id = base.id; epochs = (next_range s.log.epoch shape.epoch less, omega (arith, ints)); elected = λ none. cc; claims = tt; views = base.views; stage = tt };
       declared = own.declared;
       current = λ some. absurd (some refl);
     }
@@ -273,14 +274,14 @@ turned_world w t id d lone is k = record {
     by_drivers (x ∷ []) one found = let same = (driver_is id x d found).1 in turned_one w.shared t x one (subst (λ (y : Driver). TurnKept w.shared y.id t) (sym same) k)
     by_drivers (x ∷ y ∷ ds) one found = one
 
-pub turn_of : (w : World) (id now : ℤ) (d : Driver) → Lone w → driver_of id w.drivers ≡ Some d → TurnKept w.shared d.id (turn (work w.shared d) w.shared (running_ids w.drivers) now d)
-turn_of w id now d lone is =
+pub turn_of : (w : World) (id now : ℤ) (d : Driver) → IsTime now → Lone w → driver_of id w.drivers ≡ Some d → TurnKept w.shared d.id (turn (work w.shared d) w.shared (running_ids w.drivers) now d)
+turn_of w id now d time lone is =
     let own = own_of w.shared w.drivers id d lone.one is in
-    turned (work w.shared d) w.shared (running_ids w.drivers) now d lone.kept own.fine own.current
+    turned (work w.shared d) w.shared (running_ids w.drivers) now d time lone.kept own.fine own.current
 
-turn_kept : (w : World) (id now : ℤ) (m : Option Driver) → Lone w → driver_of id w.drivers ≡ m → Lone (turn_result w now m).0
-turn_kept w id now None lone is = lone
-turn_kept w id now (Some d) lone is = turned_world w (turn (work w.shared d) w.shared (running_ids w.drivers) now d) id d lone is (turn_of w id now d lone is)
+turn_kept : (w : World) (id now : ℤ) (m : Option Driver) → IsTime now → Lone w → driver_of id w.drivers ≡ m → Lone (turn_result w now m).0
+turn_kept w id now None time lone is = lone
+turn_kept w id now (Some d) time lone is = turned_world w (turn (work w.shared d) w.shared (running_ids w.drivers) now d) id d lone is (turn_of w id now d time lone is)
 
 unless_kept : (P : World → Type 0) (w : World) (refusal : Option Answer) (rest : World × Answer) → P w → P rest.0 → P (unless_refused w refusal rest).0
 unless_kept P w (Some a) rest old made = old
@@ -293,7 +294,7 @@ unfolding next
 next_kept w (event.Quorum ids) lawful lone = decided_kept Lone w (quorum_refusal w) (declared_world w ids) answer.Done lone (quorum_kept w ids lawful.1 lone)
 next_kept w (event.Start id) lawful lone = decided_kept Lone w (start_refusal w id) (started_world w id) answer.Done lone (start_kept w id lawful lone)
 next_kept w (event.Elect id now) lawful lone = decided_kept Lone w (election_refusal w id) (elected_world w id now) (election_answer w now) lone (election_kept w id now lone)
-next_kept w (event.Turn id now) lawful lone = unless_kept Lone w (running_refusal w id) (turn_result w now (driver_of id w.drivers)) lone (turn_kept w id now (driver_of id w.drivers) lone refl)
+next_kept w (event.Turn id now) lawful lone = unless_kept Lone w (running_refusal w id) (turn_result w now (driver_of id w.drivers)) lone (turn_kept w id now (driver_of id w.drivers) lawful.1 lone refl)
 next_kept w (event.Change id records now) lawful lone = decided_kept Lone w (change_refusal w id records) (changed_world w records now) (answer.Appended (end_of (changed_log w.shared.log records now))) lone (change_kept w id records now lone)
 next_kept w event.Check lawful lone = lone
 

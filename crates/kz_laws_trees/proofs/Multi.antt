@@ -103,6 +103,10 @@ epoch_outside : is_migrated epoch_path ≡ false
 unfolding is_migrated roots
 epoch_outside = refl
 
+pub control_outside : is_migrated control_path ≡ false
+unfolding is_migrated roots
+control_outside = refl
+
 migration_outside : is_migrated migration_path ≡ false
 unfolding is_migrated roots
 migration_outside = refl
@@ -140,21 +144,24 @@ chunk_is t i = map_take max_chunk (edits_to t (render i))
 chunk_avoids : (t : Tree) (i : Image) (p : List ℕ) → is_migrated p ≡ false → Avoids p (chunk (diff (area t) (render i)))
 chunk_avoids t i p outside = subst (Avoids p) (sym (chunk_is t i)) (avoids_inside p (take max_chunk (edits_to t (render i))) outside (inside_take max_chunk (edits_to t (render i)) (edits_inside t i)))
 
-record_avoids : (b : Bool) (target : Recorded) → Avoids epoch_path (record_ops b target)
-record_avoids true target = (differ epoch_path migration_path refl, tt)
-record_avoids false target = tt
+record_avoids : (b : Bool) (target : Recorded) (p : List ℕ) → p ≢ migration_path → Avoids p (record_ops b target)
+record_avoids true target p other = (other, tt)
+record_avoids false target p other = tt
 
 -- what stands behind the first operation of a write, which checks the claim
 abbrev pub rest_of_write : Tree → Image → Recorded → List Op
 rest_of_write t i target = chunk (diff (area t) (render i)) ++ record_ops (is_last_write (diff (area t) (render i))) target
 
--- a write leaves the claim's data version. It checks it
+pub rest_of_write_avoids : (t : Tree) (i : Image) (target : Recorded) (p : List ℕ) → is_migrated p ≡ false → p ≢ migration_path → Avoids p (rest_of_write t i target)
+rest_of_write_avoids t i target p outside other = avoids_append p (chunk (diff (area t) (render i))) (record_ops (is_last_write (diff (area t) (render i))) target) (chunk_avoids t i p outside) (record_avoids (is_last_write (diff (area t) (render i))) target p other)
+
+-- a write leaves the claim's data version, which it checks
 version_by : (t new : Tree) (i : Image) (claim : ℤ) (target : Recorded) → Ran t new (write_ops claim (diff (area t) (render i)) target) → claim_version new ≡ claim_version t
 version_by t new i claim target m =
     sym (version_still (row_at epoch_path new.rows))
     ∙ ap (λ rows. option_map (λ (r : Row). r.version) (option_map still (row_at epoch_path rows))) m.rows
     ∙ ap (option_map (λ (r : Row). r.version)) (ran_keeps (t.zxid +ℤ pos 1) epoch_path (rest_of_write t i target) t.rows
-      (avoids_append epoch_path (chunk (diff (area t) (render i))) (record_ops (is_last_write (diff (area t) (render i))) target) (chunk_avoids t i epoch_path epoch_outside) (record_avoids (is_last_write (diff (area t) (render i))) target)))
+      (rest_of_write_avoids t i target epoch_path epoch_outside (differ epoch_path migration_path refl)))
     ∙ version_still (row_at epoch_path t.rows)
 
 pub write_keeps_version : (t new : Tree) (i : Image) (claim : ℤ) (target : Recorded) → multi t (write_ops claim (diff (area t) (render i)) target) ≡ Ok new → claim_version new ≡ claim_version t

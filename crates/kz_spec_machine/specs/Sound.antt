@@ -13,12 +13,12 @@ use Rattle.kz_types.specs.declared.record.MetaRecord.{MetaRecord}
 use Rattle.kz_types.specs.declared.record.MetaRecord.TheVariants as meta
 use Rattle.kz_ordered.specs.Order.{bytes_cmp}
 use Rattle.kz_ordered.specs.Ordered.{Rises}
-use Rattle.kz_spec_values.specs.Control.{epoch_path}
-use Rattle.kz_spec_stores.specs.Tree.{Tree, row_at, path_of_row, migrated_rows, area, recorded, unclosed}
+use Rattle.kz_spec_values.specs.Control.{control_path, epoch_path}
+use Rattle.kz_spec_stores.specs.Tree.{Tree, row_at, path_of_row, migrated_rows, area, recorded, unclosed, max_long}
 use Rattle.kz_spec_stores.specs.Image.{empty_image, is_broker_config}
 use Rattle.kz_spec_stores.specs.Log.{Log, View, last_of, end_of, batch_ends, record_count, image_at, max_records, max_epoch}
 use Rattle.kz_spec_stores.specs.Rendering.{render}
-use Rattle.kz_spec_machine.specs.Driver.{Shared, Driver, is_one_of, remaining_at}
+use Rattle.kz_spec_machine.specs.Driver.{Shared, Driver, is_one_of, shown_by, remaining_at}
 use Rattle.kz_spec_machine.specs.Machine.{World, driver_of}
 
 -- ---- numbers
@@ -37,6 +37,11 @@ pub record IsEpoch (epoch : ℤ) : Type 0 where
 pub record IsEpochOrNone (epoch : ℤ) : Type 0 where
   pub least : pos 0 ≤ℤ epoch
   pub most : epoch ≤ℤ max_epoch
+
+-- from 0 to the greatest of 64 bits
+pub record IsTime (now : ℤ) : Type 0 where
+  pub least : pos 0 ≤ℤ now
+  pub most : now ≤ℤ max_long
 
 -- ---- the tree and the log
 
@@ -87,6 +92,21 @@ claim_version t = option_map (λ (r : Row). r.version) (row_at epoch_path t.rows
 -- A driver's claim is current where it is the data version of `/controller_epoch`.
 abbrev pub IsCurrent : Tree → Option ℤ → Type 0
 IsCurrent t claim = (claim ≡ claim_version t) × (claim ≢ None)
+
+-- the epoch that `/controller` shows
+abbrev pub shown_in : Tree → Option ℤ
+shown_in t = shown_by (row_at control_path t.rows)
+
+-- A claim is never above the data version; while it is current, `/controller` shows the driver's epoch.
+pub record Claimed (version shown epoch : Option ℤ) (v : ℤ) : Type 0 where
+  pub least : pos 0 ≤ℤ v
+  pub low : (now : ℤ) → version ≡ Some now → v ≤ℤ now
+  pub there : version ≢ None
+  pub shows : version ≡ Some v → shown ≡ epoch
+
+abbrev pub Claims : Option ℤ → Option ℤ → Option ℤ → Option ℤ → Type 0
+Claims version shown epoch None = ⊤
+Claims version shown epoch (Some v) = Claimed version shown epoch v
 
 -- What a driver knows of the log is the metadata at a batch end.
 pub record Views (l : Log) (v : View) : Type 0 where
@@ -145,6 +165,7 @@ pub record Fine (s : Shared) (d : Driver) : Type 0 where
   pub id : IsId d.id
   pub epochs : Epochs s.log.epoch d.epoch
   pub elected : Elected d.epoch d.stage
+  pub claims : Claims (claim_version s.tree) (shown_in s.tree) d.epoch d.claim
   pub views : Views s.log d.view
   pub stage : AtStage s.tree s.log d d.stage
 
@@ -177,12 +198,12 @@ abbrev pub IsChange : MetaRecord → Type 0
 IsChange (meta.Config c) = IsTrue (is_broker_config c)
 IsChange r = ⊥
 
--- An event as a line of a script gives it: ids and times aren't negative, one controller is declared, and a change has one
+-- An event as a line of a script gives it: ids and times are in range, one controller is declared, and a change has one
 -- member of the configuration of a broker.
 abbrev pub IsLawful : Event → Type 0
 IsLawful (event.Quorum ids) = All IsId ids × (length ids ≡ 1)
 IsLawful (event.Start id) = IsId id
-IsLawful (event.Elect id now) = IsId id × (pos 0 ≤ℤ now)
-IsLawful (event.Turn id now) = IsId id × (pos 0 ≤ℤ now)
-IsLawful (event.Change id records now) = IsId id × (pos 0 ≤ℤ now) × All IsChange records × (length records ≡ 1)
+IsLawful (event.Elect id now) = IsId id × IsTime now
+IsLawful (event.Turn id now) = IsId id × IsTime now
+IsLawful (event.Change id records now) = IsId id × IsTime now × All IsChange records × (length records ≡ 1)
 IsLawful event.Check = ⊤
