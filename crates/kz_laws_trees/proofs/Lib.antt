@@ -2,8 +2,11 @@ pub mod Rows
 pub mod Area
 pub mod Runs
 pub mod Each
+pub mod Parents
+pub mod Below
 pub mod Render
 pub mod Multi
+pub mod Later
 pub mod Claim
 pub mod Logs
 pub mod Ends

@@ -30,12 +30,13 @@ use Rattle.kz_spec_stores.specs.Image.{Image}
 use Rattle.kz_spec_stores.specs.Rendering.{path_of_rendered, render}
 use Rattle.kz_spec_stores.specs.Difference.{same_body, op_of, diff, max_chunk, chunk}
 use Rattle.kz_spec_machine.specs.Driver.{Driver, is_last_write, record_ops, write_ops}
-use Rattle.kz_spec_machine.specs.Sound.{IsStamped, TreeShape, claim_version}
+use Rattle.kz_spec_machine.specs.Sound.{IsStamped, HaveParents, TreeShape, claim_version}
 use Rattle.kz_laws_trees.specs.TreeLaws.{path_of_op, Completed}
 use Rattle.kz_laws_trees.proofs.Rows.{still, set_found, created_found}
 use Rattle.kz_laws_trees.proofs.Area.{area_of, edit_path, area_rises, area_left}
 use Rattle.kz_laws_trees.proofs.Runs.{ran, Passes, passed, ran_is, ran_append, passes_left, passes_right, ran_rises, Avoids, avoids_append, ran_keeps, Inside, Outside, area_ran, area_ran_left, inside_take, avoids_inside}
 use Rattle.kz_laws_trees.proofs.Each.{Lasts, all_ran, none_later}
+use Rattle.kz_laws_trees.proofs.Parents.{ran_parents}
 use Rattle.kz_laws_trees.proofs.Render.{decides_body, render_rises, render_inside, area_inside, difference_inside}
 
 -- ---- any multi
@@ -90,6 +91,7 @@ shape_kept t new ops m shape =
     let zxid = t.zxid +ℤ pos 1 in
     record {
       rise = subst (Rises bytes_cmp path_of_row) (sym m.rows) (ran_rises zxid ops t.rows shape.rise);
+      parents = subst HaveParents (sym m.rows) (ran_parents t.sessions zxid ops t.rows m.passes shape.rise shape.parents);
       stamped = subst (λ (z : ℤ). All (IsStamped z) new.rows) (sym m.zxid) (subst (All (IsStamped zxid)) (sym m.rows)
         (all_ran (IsStamped zxid) zxid ops t.rows (stamps_last zxid) (All-weaker (IsStamped t.zxid) (IsStamped zxid) (stamped_later t.zxid) t.rows shape.stamped)));
     }
@@ -107,7 +109,7 @@ pub control_outside : is_migrated control_path ≡ false
 unfolding is_migrated roots
 control_outside = refl
 
-migration_outside : is_migrated migration_path ≡ false
+pub migration_outside : is_migrated migration_path ≡ false
 unfolding is_migrated roots
 migration_outside = refl
 
@@ -125,10 +127,10 @@ version_kept t new ops m avoids =
     ∙ ap (option_map (λ (r : Row). r.version)) (ran_keeps (t.zxid +ℤ pos 1) epoch_path ops t.rows avoids)
     ∙ version_still (row_at epoch_path t.rows)
 
-abbrev edits_to : Tree → List Rendered → List (Edit Rendered (List ℕ))
+abbrev pub edits_to : Tree → List Rendered → List (Edit Rendered (List ℕ))
 edits_to t want = difference bytes_cmp path_of_rendered same_body (area t) want
 
-edits_inside : (t : Tree) (i : Image) → Inside (edits_to t (render i))
+pub edits_inside : (t : Tree) (i : Image) → Inside (edits_to t (render i))
 edits_inside t i = difference_inside (area t) (render i) (area_inside t.rows) (render_inside i)
 
 map_take : (n : ℕ) (es : List (Edit Rendered (List ℕ))) → take n (map op_of es) ≡ map op_of (take n es)
@@ -141,7 +143,7 @@ pub chunk_is : (t : Tree) (i : Image) → chunk (diff (area t) (render i)) ≡ m
 unfolding diff
 chunk_is t i = map_take max_chunk (edits_to t (render i))
 
-chunk_avoids : (t : Tree) (i : Image) (p : List ℕ) → is_migrated p ≡ false → Avoids p (chunk (diff (area t) (render i)))
+pub chunk_avoids : (t : Tree) (i : Image) (p : List ℕ) → is_migrated p ≡ false → Avoids p (chunk (diff (area t) (render i)))
 chunk_avoids t i p outside = subst (Avoids p) (sym (chunk_is t i)) (avoids_inside p (take max_chunk (edits_to t (render i))) outside (inside_take max_chunk (edits_to t (render i)) (edits_inside t i)))
 
 record_avoids : (b : Bool) (target : Recorded) (p : List ℕ) → p ≢ migration_path → Avoids p (record_ops b target)

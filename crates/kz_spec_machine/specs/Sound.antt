@@ -1,6 +1,6 @@
 -- What is true of every world of a run. Each group of facts is a record over the values that it reads, so that what
 -- changes anything else keeps the group as it stands.
-use Rattle.std.specs.Prelude.{◌≡◌, ◌≢◌, ◌≤◌, ℕ, Bool, true, ℤ, pos, negsuc, ◌+ℤ◌, ◌-ℤ◌, ◌≤ℤ◌, ◌<ℤ◌, List, [], ◌∷◌, ◌++◌, length, Option, Some, None, option_map, All, IsTrue, ⊤}
+use Rattle.std.specs.Prelude.{◌≡◌, ◌≢◌, ◌≤◌, ℕ, Bool, true, ℤ, pos, negsuc, ◌+ℤ◌, ◌-ℤ◌, ◌≤ℤ◌, ◌<ℤ◌, List, [], ◌∷◌, ◌++◌, length, Option, Some, None, is_some, option_map, All, IsTrue, ⊤}
 use Rattle.kz_types.specs.declared.tree.Row.{Row}
 use Rattle.kz_types.specs.declared.tree.Op.{Op}
 use Rattle.kz_types.specs.declared.log.BatchRow.{BatchRow}
@@ -14,7 +14,7 @@ use Rattle.kz_types.specs.declared.record.MetaRecord.TheVariants as meta
 use Rattle.kz_ordered.specs.Order.{bytes_cmp}
 use Rattle.kz_ordered.specs.Ordered.{Rises}
 use Rattle.kz_spec_values.specs.Control.{control_path, epoch_path}
-use Rattle.kz_spec_stores.specs.Tree.{Tree, row_at, path_of_row, migrated_rows, area, recorded, unclosed, max_long}
+use Rattle.kz_spec_stores.specs.Tree.{Tree, row_at, has_parent, path_of_row, migrated_rows, area, recorded, unclosed, max_long}
 use Rattle.kz_spec_stores.specs.Image.{empty_image, is_broker_config}
 use Rattle.kz_spec_stores.specs.Log.{Log, View, last_of, end_of, batch_ends, record_count, image_at, max_records, max_epoch}
 use Rattle.kz_spec_stores.specs.Rendering.{render}
@@ -52,9 +52,14 @@ pub record IsStamped (zxid : ℤ) (r : Row) : Type 0 where
   pub children : r.pzxid ≤ℤ zxid
   pub version : pos 0 ≤ℤ r.version
 
--- The znodes rise by path, and their transactions are those of the tree.
+-- every znode's parent is there, or is the root
+abbrev pub HaveParents : List Row → Type 0
+HaveParents rows = (path : List ℕ) → is_some (row_at path rows) ≡ true → has_parent path rows ≡ true
+
+-- The znodes rise by path, their parents are there, and their transactions are those of the tree.
 pub record TreeShape (t : Tree) : Type 0 where
   pub rise : Rises bytes_cmp path_of_row t.rows
+  pub parents : HaveParents t.rows
   pub stamped : All (IsStamped t.zxid) t.rows
 
 -- each batch begins behind the one before it
