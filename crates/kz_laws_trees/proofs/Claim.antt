@@ -19,6 +19,7 @@ use Rattle.kz_laws_values.specs.Ranges.{IsLong, IsEpoch}
 use Rattle.kz_laws_values.proofs.Control.{control_is_read}
 use Rattle.kz_spec_machine.specs.Driver.{Driver, epoch_or_zero, views_migrated, epoch_op, epoch_number, control_ops, migration_ops, base_op, base_ops, unrecorded, claimed_version, claim_ops, shown_by, write_ops}
 use Rattle.kz_spec_machine.specs.Sound.{claim_version, shown_in}
+use Rattle.kz_laws_trees.specs.TreeLaws.{path_of_op}
 use Rattle.kz_laws_trees.proofs.Rows.{still, set_found, created_found}
 use Rattle.kz_laws_trees.proofs.Runs.{ran, ran_append, Passes, Avoids, avoids_append, ran_keeps}
 use Rattle.kz_laws_trees.proofs.Multi.{Ran, multi_ran, differ, version_still, control_outside, rest_of_write_avoids}
@@ -64,16 +65,20 @@ first_op sessions zxid (Some r) rows low pass = set_version zxid (written_epoch 
 
 -- ---- the other operations
 
-control_avoids : (seen : Option Row) (body : List ℕ) → Avoids epoch_path (control_ops seen body)
-control_avoids None body = (differ epoch_path control_path refl, tt)
-control_avoids (Some r) body = (differ epoch_path control_path refl, (differ epoch_path control_path refl, tt))
+pub control_avoids_path : (p : List ℕ) (seen : Option Row) (body : List ℕ) → p ≢ control_path → Avoids p (control_ops seen body)
+control_avoids_path p None body other = (other, tt)
+control_avoids_path p (Some r) body other = (other, (other, tt))
+
+pub epoch_avoids : (seen : Option Row) → migration_path ≢ path_of_op (epoch_op seen)
+epoch_avoids None = differ migration_path epoch_path refl
+epoch_avoids (Some r) = differ migration_path epoch_path refl
 
 migration_avoids : (p : List ℕ) (b : Bool) (seen : Option Row) (body : List ℕ) → p ≢ migration_path → Avoids p (migration_ops b seen body)
 migration_avoids p true seen body other = tt
 migration_avoids p false None body other = (other, tt)
 migration_avoids p false (Some r) body other = (other, tt)
 
-abbrev Others : List ℕ → List (List ℕ) → Type 0
+abbrev pub Others : List ℕ → List (List ℕ) → Type 0
 Others p [] = ⊤
 Others p (q ∷ qs) = (p ≢ q) × Others p qs
 
@@ -81,7 +86,7 @@ one_base_avoids : (p : List ℕ) (b : Bool) (q : List ℕ) → p ≢ q → Avoid
 one_base_avoids p true q other = tt
 one_base_avoids p false q other = (other, tt)
 
-base_avoids : (p : List ℕ) (bs : List Bool) (qs : List (List ℕ)) → Others p qs → Avoids p (base_ops bs qs)
+pub base_avoids : (p : List ℕ) (bs : List Bool) (qs : List (List ℕ)) → Others p qs → Avoids p (base_ops bs qs)
 base_avoids p [] qs others = tt
 base_avoids p (b ∷ bs) [] others = tt
 base_avoids p (b ∷ bs) (q ∷ qs) others = avoids_append p (base_op b q) (base_ops bs qs) (one_base_avoids p b q others.0) (base_avoids p bs qs others.1)
@@ -95,7 +100,7 @@ unfolding base_paths
 control_no_base = (differ control_path _ refl, (differ control_path _ refl, (differ control_path _ refl, (differ control_path _ refl, (differ control_path _ refl, tt)))))
 
 rest_avoids : (seen : ClaimSeen) (b : Bool) (control recorded : List ℕ) → Avoids epoch_path (control_ops seen.control control ++ (migration_ops b seen.migration recorded ++ base_ops seen.bases base_paths))
-rest_avoids seen b control recorded = avoids_append epoch_path (control_ops seen.control control) (migration_ops b seen.migration recorded ++ base_ops seen.bases base_paths) (control_avoids seen.control control)
+rest_avoids seen b control recorded = avoids_append epoch_path (control_ops seen.control control) (migration_ops b seen.migration recorded ++ base_ops seen.bases base_paths) (control_avoids_path epoch_path seen.control control (differ epoch_path control_path refl))
     (avoids_append epoch_path (migration_ops b seen.migration recorded) (base_ops seen.bases base_paths) (migration_avoids epoch_path b seen.migration recorded (differ epoch_path migration_path refl)) (base_avoids epoch_path seen.bases base_paths epoch_no_base))
 
 pub claim_gives_version : (t new : Tree) (seen : ClaimSeen) (d : Driver) (now : ℤ) → ((r : Row) → seen.epoch ≡ Some r → pos 0 ≤ℤ r.version) → multi t (claim_ops seen d now) ≡ Ok new

@@ -160,7 +160,7 @@ more_is : (t : Tree) (i : Image) → is_last_write (diff (area t) (render i)) �
 unfolding diff
 more_is t i more = more
 
-nothing_more : (b : Bool) (target : Recorded) (ops : List Op) → b ≡ false → ops ++ record_ops b target ≡ ops
+pub nothing_more : (b : Bool) (target : Recorded) (ops : List Op) → b ≡ false → ops ++ record_ops b target ≡ ops
 nothing_more true target ops is = absurd (cc)
 nothing_more false target ops is = append-nil ops
 
@@ -190,9 +190,10 @@ write_touches t new i claim target shape more m =
     subst (Touched zxid) (sym rows) (edit_touches t.sessions zxid end.last (ran zxid front t.rows) parents inside (λ p is. drop_up t i end.last p inside due is)
       (passes_right t.sessions zxid front (op_of end.last ∷ []) t.rows passes).0)
 
-same_mzxid : (m : Row) (old : Option Row) (rows : List Row) → row_at migration_path rows ≡ old → option_map still (Some m) ≡ option_map still old → (r : Row) × (row_at migration_path rows ≡ Some r) × (m.mzxid ≡ r.mzxid)
-same_mzxid m None rows is alike = absurd (cc)
-same_mzxid m (Some r) rows is alike = (r, is, (let e : still m ≡ still r = cc in ap (λ (x : Row). x.mzxid) e))
+-- what differs in the transaction of its children alone
+pub same_alike : (m : Row) (old : Option Row) (rows : List Row) → row_at migration_path rows ≡ old → option_map still (Some m) ≡ option_map still old → (r : Row) × (row_at migration_path rows ≡ Some r) × (m.mzxid ≡ r.mzxid) × (m.body ≡ r.body)
+same_alike m None rows is alike = absurd (cc)
+same_alike m (Some r) rows is alike = let e : still m ≡ still r = cc in (r, is, ap (λ (x : Row). x.mzxid) e, ap (λ (x : Row). x.body) e)
 
 pub not_last_unclosed : (t new : Tree) (i : Image) (claim : ℤ) (target : Recorded) → TreeShape t → TreeShape new → is_last_write (diff (area t) (render i)) ≡ false → multi t (write_ops claim (diff (area t) (render i)) target) ≡ Ok new → unclosed new ≢ None
 not_last_unclosed t new i claim target shape after more is closed =
@@ -202,7 +203,7 @@ not_last_unclosed t new i claim target shape after more is closed =
     let avoids : Avoids migration_path ops = subst (Avoids migration_path) (sym (nothing_more (is_last_write (diff (area t) (render i))) target (chunk (diff (area t) (render i))) more)) (chunk_avoids t i migration_path migration_outside) in
     let alike : option_map still (Some c.row) ≡ option_map still (row_at migration_path t.rows) =
       ap (option_map still) (sym c.found) ∙ ap (λ rows. option_map still (row_at migration_path rows)) m.rows ∙ ran_keeps (t.zxid +ℤ pos 1) migration_path ops t.rows avoids in
-    let old = same_mzxid c.row (row_at migration_path t.rows) t.rows refl alike in
+    let old = same_alike c.row (row_at migration_path t.rows) t.rows refl alike in
     let stamp = (All-contains (IsStamped t.zxid) t.rows old.0 shape.stamped (found_is_contained bytes_order path_of_row migration_path t.rows old.0 old.1)).modified in
     not_closed new.rows c.row.mzxid (t.zxid +ℤ pos 1) after.rise (write_touches t new i claim target shape more m) (before c.row.mzxid old.0.mzxid t.zxid old.2 stamp) c.none
   where

@@ -8,6 +8,7 @@ pub mod Render
 pub mod Multi
 pub mod Later
 pub mod Claim
+pub mod Beside
 pub mod Logs
 pub mod Ends
 pub mod Pages

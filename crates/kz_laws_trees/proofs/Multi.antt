@@ -179,7 +179,7 @@ found_by : (body : List ℕ) (rows : List Row) (m : Option Row) → row_at migra
 found_by body rows None is pass = absurd (cc)
 found_by body rows (Some r) is pass = (r, is)
 
-closed_by : (t : Tree) (m : Row) (rows : List Row) → row_at migration_path t.rows ≡ Some m → has_offset (recorded_of m.body) ≡ true → filter (is_later m.mzxid) (migrated_rows t) ≡ [] → unclosed t ≡ None
+pub closed_by : (t : Tree) (m : Row) (rows : List Row) → row_at migration_path t.rows ≡ Some m → has_offset (recorded_of m.body) ≡ true → filter (is_later m.mzxid) (migrated_rows t) ≡ [] → unclosed t ≡ None
 closed_by t m rows is offset none =
     ap (λ x. unclosed_below x (migrated_rows t)) is
     ∙ ap (λ (b : Bool). if b then first_path (filter (is_later m.mzxid) (migrated_rows t)) else Some migration_path) offset
