@@ -15,19 +15,21 @@ use Rattle.kz_types.specs.declared.machine.Reply.TheVariants as reply
 use Rattle.kz_spec_stores.specs.Tree.{Tree}
 use Rattle.kz_spec_stores.specs.Log.{Log, end_of, max_epoch, read_view}
 use Rattle.kz_spec_machine.specs.Driver.{Shared, Driver, state_of, at_stage, resigned, begins_again, epoch_or_zero, unless_finalised, having_read, target_of}
-use Rattle.kz_spec_machine.specs.Sound.{IsId, IsEpoch, IsEpochOrNone, LogShape, Kept, claim_version, IsCurrent, shown_in, Claims, Views, Epochs, Elected, Aims, Rests, AtStage, Fine}
+use Rattle.kz_spec_machine.specs.Sound.{IsId, IsEpoch, IsEpochOrNone, LogShape, Agreement, Kept, claim_version, IsCurrent, shown_in, Claims, Views, Epochs, Elected, Aims, Rests, AtStage, Fine}
 use Rattle.kz_spec_runs.specs.InStep.{InStep}
+use Rattle.kz_laws_machine.proofs.Agreements.{agreement_grown}
 use Rattle.kz_laws_trees.proofs.Growth.{Grows, view_read, view_grown}
 
 -- what is true of a driver whatever its stage
 pub record Base (s : Shared) (d : Driver) : Type 0 where
+  pub agreement : Agreement s.tree s.log
   pub id : IsId d.id
   pub epochs : Epochs s.log.epoch d.epoch
   pub claims : Claims (claim_version s.tree) (shown_in s.tree) d.epoch d.claim
   pub views : Views s.log d.view
 
-pub base_of : (s : Shared) (d : Driver) → Fine s d → Base s d
-base_of s d fine = record { id = fine.id; epochs = fine.epochs; claims = fine.claims; views = fine.views }
+pub base_of : (s : Shared) (d : Driver) → Agreement s.tree s.log → Fine s d → Base s d
+base_of s d agreement fine = record { agreement = agreement; id = fine.id; epochs = fine.epochs; claims = fine.claims; views = fine.views }
 
 -- while it is the only driver, a claim that it has is current
 abbrev pub Current : Shared → Driver → Type 0
@@ -36,6 +38,7 @@ Current s d = d.claim ≢ None → IsCurrent s.tree d.claim
 -- What is owed after a step of a driver of this id: the driver is fine, its claim is current, and where it rests the tree
 -- is in step with the log.
 pub record Owed (s : Shared) (id : ℤ) (result : Driver × Reply) : Type 0 where
+  pub agreement : Agreement s.tree s.log
   pub own : Fine s result.0
   pub current : Current s result.0
   pub same : result.0.id ≡ id
@@ -45,6 +48,7 @@ pub record Owed (s : Shared) (id : ℤ) (result : Driver × Reply) : Type 0 wher
 
 pub moves : (s : Shared) (d : Driver) (x : Stage) (r : Reply) → Base s d → Current s d → Elected d.epoch x → AtStage s.tree s.log (at_stage x d) x → r ≢ reply.Idle → Owed s d.id (at_stage x d, r)
 moves s d x r base current elected at busy = record {
+  agreement = base.agreement;
   own = record { id = base.id; epochs = base.epochs; elected = elected; claims = base.claims; views = base.views; stage = at };
   current = current;
   same = refl;
@@ -53,6 +57,7 @@ moves s d x r base current elected at busy = record {
 
 pub stays : (s : Shared) (d : Driver) (x : Stage) (r : Reply) → d.stage ≡ x → Base s d → Current s d → Elected d.epoch x → AtStage s.tree s.log d x → r ≢ reply.Idle → Owed s d.id (d, r)
 stays s d x r is base current elected at busy = record {
+  agreement = base.agreement;
   own = record {
     id = base.id;
     epochs = base.epochs;
@@ -68,6 +73,7 @@ stays s d x r is base current elected at busy = record {
 
 pub resigns : (s : Shared) (d : Driver) (r : Reply) → Base s d → r ≢ reply.Idle → Owed s d.id (resigned d, r)
 resigns s d r base busy = record {
+  agreement = base.agreement;
   own = record { id = base.id; epochs = tt; elected = tt; claims = tt; views = base.views; stage = tt };
   current = λ some. absurd (some refl);
   same = refl;
@@ -76,6 +82,7 @@ resigns s d r base busy = record {
 
 pub again : (s : Shared) (d : Driver) (r : Reply) → Base s d → d.epoch ≢ None → r ≢ reply.Idle → Owed s d.id (begins_again d, r)
 again s d r base elected busy = record {
+  agreement = base.agreement;
   own = record { id = base.id; epochs = base.epochs; elected = elected; claims = tt; views = base.views; stage = tt };
   current = λ some. absurd (some refl);
   same = refl;
@@ -92,7 +99,7 @@ finalised s d rest base owed = chosen s d.id (int_eq d.view.image.state (pos 3))
 -- ---- after a read of the log
 
 pub base_read : (s : Shared) (d : Driver) → LogShape s.log → Base s d → Base s (having_read s.log d)
-base_read s d shape base = record { id = base.id; epochs = base.epochs; claims = base.claims; views = view_read s.log d.view shape base.views }
+base_read s d shape base = record { agreement = base.agreement; id = base.id; epochs = base.epochs; claims = base.claims; views = view_read s.log d.view shape base.views }
 
 pub zero_or : (l : Log) (e : Option ℤ) → Epochs l.epoch e → IsEpochOrNone (epoch_or_zero e)
 zero_or l None epochs = record { least = omega (arith, ints); most = omega (arith, ints) }
@@ -128,11 +135,12 @@ epochs_grown l more None grows old = tt
 epochs_grown l more (Some e) grows old = (old.0, let a = old.1 in let b = grows.epoch in omega (arith, ints))
 
 pub base_grown : (s : Shared) (more : Log) (d : Driver) → LogShape s.log → Grows s.log more → Base s d → Base (record s { log = more }) d
-base_grown s more d shape grows base = record { id = base.id; epochs = epochs_grown s.log more d.epoch grows base.epochs; claims = base.claims; views = view_grown s.log more d.view shape grows base.views }
+base_grown s more d shape grows base = record { agreement = agreement_grown s.tree s.log more shape grows base.agreement; id = base.id; epochs = epochs_grown s.log more d.epoch grows base.epochs; claims = base.claims; views = view_grown s.log more d.view shape grows base.views }
 
 -- a tree in which `/controller_epoch` and `/controller` are as they were
-pub base_written : (s : Shared) (t : Tree) (d : Driver) → claim_version t ≡ claim_version s.tree → shown_in t ≡ shown_in s.tree → Base s d → Base (record s { tree = t }) d
-base_written s t d version shown base = record {
+pub base_written : (s : Shared) (t : Tree) (d : Driver) → claim_version t ≡ claim_version s.tree → shown_in t ≡ shown_in s.tree → Agreement t s.log → Base s d → Base (record s { tree = t }) d
+base_written s t d version shown agreement base = record {
+  agreement = agreement;
   id = base.id;
   epochs = base.epochs;
   claims = subst (λ (v : Option ℤ). Claims v (shown_in t) d.epoch d.claim) (sym version) (subst (λ (e : Option ℤ). Claims (claim_version s.tree) e d.epoch d.claim) (sym shown) base.claims);

@@ -1,3 +1,4 @@
+pub mod Agreements
 pub mod Groups
 pub mod Steps
 pub mod Turns

@@ -36,7 +36,7 @@ use Rattle.kz_spec_stores.specs.Rendering.{render}
 use Rattle.kz_spec_stores.specs.Translation.{Unreadable, translate}
 use Rattle.kz_spec_stores.specs.Difference.{diff, chunk, max_chunk}
 use Rattle.kz_spec_machine.specs.Driver.{Shared, Driver, state_of, at_stage, resigned, begins_again, epoch_or_zero, views_migrated, seen_in, shown_by, unless_fenced, unless_full_epoch, unless_bad_epoch, unless_full_record, looked, claimed_version, claimed_number, claim_ops, remaining_at, is_last_write, write_ops, target_of, page_size, batch_size, last_path, Request, nothing, read_log, list_brokers, look_up, read_page, write, add, begin_record, begin_request, next_records, write_request, asked, with_tree, with_log, made, missing_controller, missing_broker, having_read, unless_finalised, wait_or_move, after_quorum, after_brokers, path_at, after_claim, after_page, after_append, after_translation, after_records, written_driver, is_claim_refused, after_write, writes, after_log, is_recorded_at, after_rest, answered}
-use Rattle.kz_spec_machine.specs.Sound.{IsId, IsEpoch, IsEpochOrNone, IsStamped, TreeShape, LogShape, Kept, IsTime, claim_version, IsCurrent, shown_in, Claimed, Views, Epochs, Elected, Aims, Reads, Writes, Rests, AtStage, Fine}
+use Rattle.kz_spec_machine.specs.Sound.{IsId, IsEpoch, IsEpochOrNone, IsStamped, TreeShape, LogShape, IsBatchEnd, Kept, IsTime, claim_version, IsCurrent, shown_in, Claimed, Views, Epochs, Elected, Aims, Reads, Writes, Rests, AtStage, Fine}
 use Rattle.kz_spec_runs.specs.InStep.{InStep}
 use Rattle.kz_laws_values.proofs.Control.{recorded_is_read}
 use Rattle.kz_laws_trees.proofs.Multi.{multi_ran, shape_kept, write_keeps_version, last_write, remaining_after_write}
@@ -45,26 +45,30 @@ use Rattle.kz_laws_trees.proofs.Pages.{behind_last, short_page, one_page_more}
 use Rattle.kz_laws_trees.proofs.Ends.{end_most}
 use Rattle.kz_laws_trees.proofs.Claim.{claim_gives_version, claim_shows, write_keeps_shown}
 use Rattle.kz_laws_trees.proofs.Growth.{Grows, append_appends, view_within}
+use Rattle.kz_laws_machine.proofs.Agreements.{rest_area, agreement_last, agreement_more, agreement_claim}
 use Rattle.kz_laws_machine.proofs.Groups.{Base, base_of, Current, Owed, moves, stays, resigns, again, chosen, finalised, base_read, zero_or, own_epoch, aims, base_grown, base_written}
 
 -- ---- the tree and the log after any request
 
-with_tree_kept : (s : Shared) (ops : List Op) (r : Result Tree TreeFault) → multi s.tree ops ≡ r → Kept s → Kept (with_tree s r)
-with_tree_kept s ops (Ok t) is kept = record { tree = shape_kept s.tree t ops (multi_ran s.tree t ops is) kept.tree; log = kept.log }
-with_tree_kept s ops (Err e) is kept = kept
+abbrev Shaped : Shared → Type 0
+Shaped s = TreeShape s.tree × LogShape s.log
 
-with_log_kept : (s : Shared) (epoch now : ℤ) (items : List MetaRecord) (r : Result Log LogFault) → append s.log epoch now items ≡ r → Kept s → Kept (with_log s r)
-with_log_kept s epoch now items (Ok l) is kept = record { tree = kept.tree; log = (append_appends s.log epoch now items l is kept.log).shape }
-with_log_kept s epoch now items (Err e) is kept = kept
+with_tree_shaped : (s : Shared) (ops : List Op) (r : Result Tree TreeFault) → multi s.tree ops ≡ r → Kept s → Shaped (with_tree s r)
+with_tree_shaped s ops (Ok t) is kept = (shape_kept s.tree t ops (multi_ran s.tree t ops is) kept.tree, kept.log)
+with_tree_shaped s ops (Err e) is kept = (kept.tree, kept.log)
 
-pub made_kept : (s : Shared) (epoch now : ℤ) (request : Request) → Kept s → Kept (made s epoch now request)
-made_kept s epoch now nothing kept = kept
-made_kept s epoch now read_log kept = kept
-made_kept s epoch now list_brokers kept = kept
-made_kept s epoch now look_up kept = kept
-made_kept s epoch now (read_page after) kept = kept
-made_kept s epoch now (write ops) kept = with_tree_kept s ops (multi s.tree ops) refl kept
-made_kept s epoch now (add records) kept = with_log_kept s epoch now records (append s.log epoch now records) refl kept
+with_log_shaped : (s : Shared) (epoch now : ℤ) (items : List MetaRecord) (r : Result Log LogFault) → append s.log epoch now items ≡ r → Kept s → Shaped (with_log s r)
+with_log_shaped s epoch now items (Ok l) is kept = (kept.tree, (append_appends s.log epoch now items l is kept.log).shape)
+with_log_shaped s epoch now items (Err e) is kept = (kept.tree, kept.log)
+
+pub made_shaped : (s : Shared) (epoch now : ℤ) (request : Request) → Kept s → Shaped (made s epoch now request)
+made_shaped s epoch now nothing kept = (kept.tree, kept.log)
+made_shaped s epoch now read_log kept = (kept.tree, kept.log)
+made_shaped s epoch now list_brokers kept = (kept.tree, kept.log)
+made_shaped s epoch now look_up kept = (kept.tree, kept.log)
+made_shaped s epoch now (read_page after) kept = (kept.tree, kept.log)
+made_shaped s epoch now (write ops) kept = with_tree_shaped s ops (multi s.tree ops) refl kept
+made_shaped s epoch now (add records) kept = with_log_shaped s epoch now records (append s.log epoch now records) refl kept
 
 tree_declared : (s : Shared) (r : Result Tree TreeFault) → (with_tree s r).declared ≡ s.declared
 tree_declared s (Ok t) = refl
@@ -160,24 +164,25 @@ claimed s d t seen now base elected time low version made-is =
       shows = λ is. claim_shows s.tree t seen d now (let a = base.id.least in omega (arith, ints), let a = base.id.most in omega (arith, ints)) (epoch.least, epoch.most) (let a = time.least in omega (arith, ints), time.most) made-is ∙ own_epoch d.epoch elected;
     }
 
-claims : (s : Shared) (d : Driver) (seen : ClaimSeen) (now : ℤ) (r : Result Tree TreeFault) → multi s.tree (claim_ops seen d now) ≡ r → IsTime now → d.stage ≡ stage.Claim seen → Base s d → Current s d → d.epoch ≢ None
+claims : (s : Shared) (d : Driver) (seen : ClaimSeen) (now : ℤ) (r : Result Tree TreeFault) → multi s.tree (claim_ops seen d now) ≡ r → IsTime now → d.stage ≡ stage.Claim seen → TreeShape s.tree → Base s d → Current s d → d.epoch ≢ None
     → ((x : Row) → seen.epoch ≡ Some x → pos 0 ≤ℤ x.version) → Owed (with_tree s r) d.id (after_claim seen d (claim_ops seen d now) r)
-claims s d seen now (Ok t) made-is time is base current elected low =
+claims s d seen now (Ok t) made-is time is shape base current elected low =
     let e : Driver = record d { claim = Some (claimed_version seen.epoch); stage = if views_migrated d then stage.ReadLog else stage.ReadSource [] } in
     let both = after_claim_stage (views_migrated d) s.log t e elected in
     let version = claim_gives_version s.tree t seen d now low made-is in
     record {
+      agreement = agreement_claim s.tree t s.log seen d now shape base.id (zero_or s.log d.epoch base.epochs) base.agreement made-is;
       own = record { id = base.id; epochs = base.epochs; elected = both.0; claims = claimed s d t seen now base elected time low version made-is; views = base.views; stage = both.1 };
       current = λ some. (sym version, λ none. absurd (cc));
       same = refl;
       rest = λ idle dual. absurd (cc);
     }
-claims s d seen now (Err (tree_fault.Refused index code)) made-is time is base current elected low = again s d (reply.Moved state.BecomeController) base elected (λ e. cc)
-claims s d seen now (Err (tree_fault.Limit index number)) made-is time is base current elected low = stays s d (stage.Claim seen) (reply.Limit (path_at (claim_ops seen d now) index)) is base current elected low (λ e. cc)
-claims s d seen now (Err tree_fault.NoMemory) made-is time is base current elected low = stays s d (stage.Claim seen) (reply.TreeFailed tree_fault.NoMemory) is base current elected low (λ e. cc)
-claims s d seen now (Err tree_fault.Device) made-is time is base current elected low = stays s d (stage.Claim seen) (reply.TreeFailed tree_fault.Device) is base current elected low (λ e. cc)
-claims s d seen now (Err tree_fault.Down) made-is time is base current elected low = stays s d (stage.Claim seen) (reply.TreeFailed tree_fault.Down) is base current elected low (λ e. cc)
-claims s d seen now (Err (tree_fault.Full length)) made-is time is base current elected low = stays s d (stage.Claim seen) (reply.TreeFailed (tree_fault.Full length)) is base current elected low (λ e. cc)
+claims s d seen now (Err (tree_fault.Refused index code)) made-is time is shape base current elected low = again s d (reply.Moved state.BecomeController) base elected (λ e. cc)
+claims s d seen now (Err (tree_fault.Limit index number)) made-is time is shape base current elected low = stays s d (stage.Claim seen) (reply.Limit (path_at (claim_ops seen d now) index)) is base current elected low (λ e. cc)
+claims s d seen now (Err tree_fault.NoMemory) made-is time is shape base current elected low = stays s d (stage.Claim seen) (reply.TreeFailed tree_fault.NoMemory) is base current elected low (λ e. cc)
+claims s d seen now (Err tree_fault.Device) made-is time is shape base current elected low = stays s d (stage.Claim seen) (reply.TreeFailed tree_fault.Device) is base current elected low (λ e. cc)
+claims s d seen now (Err tree_fault.Down) made-is time is shape base current elected low = stays s d (stage.Claim seen) (reply.TreeFailed tree_fault.Down) is base current elected low (λ e. cc)
+claims s d seen now (Err (tree_fault.Full length)) made-is time is shape base current elected low = stays s d (stage.Claim seen) (reply.TreeFailed (tree_fault.Full length)) is base current elected low (λ e. cc)
 
 -- ---- pages
 
@@ -221,7 +226,7 @@ pub record WritesFrom (target : Recorded) (x : Stage) (more : List Op → Stage)
   pub elected : (e : Option ℤ) → Elected e x → e ≢ None
   pub more_at : (t : Tree) (l : Log) (d : Driver) (ops : List Op) → Aims target d.id d.epoch d.view → HoldsWrites t l d target ops → AtStage t l d (more ops)
   pub more_elected : (e : Option ℤ) (ops : List Op) → e ≢ None → Elected e (more ops)
-  pub last_at : (t : Tree) (l : Log) (d : Driver) → d.claim ≢ None → Rests t l d.view d.recorded → AtStage t l d last
+  pub last_at : (t : Tree) (l : Log) (d : Driver) → d.claim ≢ None → Rests t d.view d.recorded → AtStage t l d last
   pub last_elected : (e : Option ℤ) → e ≢ None → Elected e last
 
 all_from : (target : Recorded) (ops : List Op) → WritesFrom target (stage.WriteAll target ops) (λ rest. stage.WriteAll target rest) stage.InformBrokers
@@ -265,14 +270,13 @@ reads s d target shape base aim =
 not_below : (n : ℤ) → pos 0 ≤ℤ n → int_le (pos 0) n ≡ true
 not_below n low = grind (arith, ints)
 
-rests_there : (s : Shared) (d : Driver) (t : Tree) (target : Recorded) → Kept s → Base s d → Aims target d.id d.epoch d.view → Completed t (image_at s.log target.offset) (written_recorded target) → Rests t s.log d.view (Some target.offset)
+rests_there : (s : Shared) (d : Driver) (t : Tree) (target : Recorded) → Kept s → Base s d → Aims target d.id d.epoch d.view → Completed t (image_at s.log target.offset) (written_recorded target) → Rests t d.view (Some target.offset)
 rests_there s d t target kept base aim done-all =
     let read = reads s d target kept.log base aim in
     record {
       closed = done-all.closed (ap has_offset read ∙ not_below target.offset aim.not_negative);
       same = ap (option_map (λ (r : Recorded). r.offset)) (done-all.recorded ∙ read);
       view = ap (λ (o : ℤ). Some o) aim.offset;
-      area = done-all.area ∙ ap (λ (o : ℤ). render (image_at s.log o)) aim.offset;
     }
 
 written_by : (s : Shared) (d : Driver) (claim : ℤ) (target : Recorded) (x : Stage) (more : List Op → Stage) (last : Stage) (t : Tree) → WritesFrom target x more last
@@ -282,25 +286,31 @@ written_by s d claim target x more last t from kept base current claimed elected
     let ops = remaining_at s.tree s.log target.offset in
     let version = write_keeps_version s.tree t (image_at s.log target.offset) claim target made-is in
     let new : Shared = record s { tree = t } in
-    let base-now = base_written s t d version (write_keeps_shown s.tree t (image_at s.log target.offset) claim target made-is) base in
+    let shown = write_keeps_shown s.tree t (image_at s.log target.offset) claim target made-is in
+    let after = shape_kept s.tree t (write_ops claim ops target) (multi_ran s.tree t (write_ops claim ops target) made-is) kept.tree in
     let now_current : Current new d = λ some. (let old = current some in (old.0 ∙ sym version, old.1)) in
     chosen new d.id (is_last_write ops) (record d { stage = last; recorded = Some target.offset }, reply.Recorded target.offset) (at_stage (more (drop max_chunk ops)) d, reply.Wrote (length (chunk ops)))
     (λ is.
     let e : Driver = record d { stage = last; recorded = Some target.offset } in
+    let all-done = last_write s.tree t (image_at s.log target.offset) claim target kept.tree is made-is in
+    let agreement = agreement_last t s.log target (subst (IsBatchEnd s.log) (sym aim.offset) base.views.end) (reads s d target kept.log base aim) all-done in
+    let base-now = base_written s t d version shown agreement base in
     record {
+      agreement = agreement;
       own = record {
         id = base.id;
         epochs = base.epochs;
         elected = from.last_elected d.epoch elected;
         claims = base-now.claims;
         views = base.views;
-        stage = from.last_at t s.log e (λ none. absurd (cc (claimed, none))) (rests_there s d t target kept base aim (last_write s.tree t (image_at s.log target.offset) claim target kept.tree is made-is));
+        stage = from.last_at t s.log e (λ none. absurd (cc (claimed, none))) (rests_there s d t target kept base aim all-done);
       };
       current = now_current;
       same = refl;
       rest = λ idle dual. absurd (cc);
     })
-    (λ is. moves new d (more (drop max_chunk ops)) (reply.Wrote (length (chunk ops))) base-now now_current (from.more_elected d.epoch (drop max_chunk ops) elected)
+    (λ is. moves new d (more (drop max_chunk ops)) (reply.Wrote (length (chunk ops)))
+      (base_written s t d version shown (agreement_more s.tree t s.log (image_at s.log target.offset) claim target kept.tree after base.agreement is made-is) base) now_current (from.more_elected d.epoch (drop max_chunk ops) elected)
       (from.more_at t s.log (at_stage (more (drop max_chunk ops)) d) (drop max_chunk ops) aim
         (λ c. record { remaining = sym (remaining_after_write s.tree t (image_at s.log target.offset) claim target kept.tree made-is) })) (λ i. cc))
 
@@ -343,11 +353,12 @@ goes_on_resting s d is kept base current elected at up_to_date =
     let now = recorded_at d.recorded (end_of s.log) up_to_date in
     let old = at.1 (current at.0) in
     let position : d.view.position ≡ end_of s.log = same_offset d.recorded d.view.position (end_of s.log) old.view now in
-    let image : area s.tree ≡ render (image_at s.log (end_of s.log)) = old.area ∙ ap (λ (o : ℤ). render (image_at s.log o)) position in
+    let image : area s.tree ≡ render (image_at s.log (end_of s.log)) = rest_area s.tree s.log d.view d.recorded base.agreement old ∙ ap (λ (o : ℤ). render (image_at s.log o)) position in
     let e : Driver = having_read s.log d in
     let base-now = base_read s d kept.log base in
-    let resting : AtStage s.tree s.log e stage.Rest = (at.0, λ c. record { closed = old.closed; same = old.same; view = now; area = image }) in
+    let resting : AtStage s.tree s.log e stage.Rest = (at.0, λ c. record { closed = old.closed; same = old.same; view = now }) in
     record {
+      agreement = base.agreement;
       own = record {
         id = base.id;
         epochs = base.epochs;
@@ -364,7 +375,7 @@ goes_on_resting s d is kept base current elected at up_to_date =
 -- what a driver at rest holds when it begins to write: the tree is as it was at the end of its old view
 change_writes : (s : Shared) (d : Driver) → LogShape s.log → Base s d → AtStage s.tree s.log d stage.Rest → IsCurrent s.tree d.claim
     → Writes s.tree s.log (target_of (having_read s.log d)) (diff (render d.view.image) (render (having_read s.log d).view.image))
-change_writes s d shape base at current = record { remaining = ap (λ have. diff have (render (image_of s.log))) (ap render base.views.image ∙ sym (at.1 current).area) }
+change_writes s d shape base at current = record { remaining = ap (λ have. diff have (render (image_of s.log))) (ap render base.views.image ∙ sym (rest_area s.tree s.log d.view d.recorded base.agreement (at.1 current))) }
 
 -- ---- the migrated area is read
 
@@ -405,6 +416,7 @@ pub owed : (s : Shared) (running : List ℤ) (now : ℤ) (d : Driver) (x : Stage
     → Owed (made s (epoch_or_zero d.epoch) now (asked s now d x)) d.id (answered s running now d x)
 owed s running now d stage.Uninitialized time is kept base current elected at = moves s d stage.Inactive (reply.Moved state.Inactive) base current tt tt (λ i. cc)
 owed s running now d stage.Inactive time is kept base current elected at = record {
+  agreement = base.agreement;
   own = record { id = base.id; epochs = base.epochs; elected = subst (Elected d.epoch) (sym is) tt; claims = base.claims; views = base.views; stage = subst (AtStage s.tree s.log d) (sym is) tt };
   current = current;
   same = refl;
@@ -417,7 +429,7 @@ owed s running now d stage.WaitForBrokers time is kept base current elected at =
     finalised s e (at_stage stage.CompareBrokers e, reply.Looked) base-now (moves s e stage.CompareBrokers reply.Looked base-now current elected tt (λ i. cc))
 owed s running now d stage.CompareBrokers time is kept base current elected at = brokers_wait s d (missing_broker (broker_ids s.tree) d.view.image) base current elected
 owed s running now d stage.Look time is kept base current elected at = looks s d kept is base current elected
-owed s running now d (stage.Claim seen) time is kept base current elected at = claims s d seen now (multi s.tree (claim_ops seen d now)) refl time is base current elected at
+owed s running now d (stage.Claim seen) time is kept base current elected at = claims s d seen now (multi s.tree (claim_ops seen d now)) refl time is kept.tree base current elected at
 owed s running now d (stage.ReadSource rows) time is kept base current elected at =
     let page = scan s.tree (last_path rows) page_size in
     paged s d (nat_lt (length page) page_size) (stage.Begin (rows ++ page)) (stage.ReadSource (rows ++ page)) (reply.Read (length page))

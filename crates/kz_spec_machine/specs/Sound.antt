@@ -84,9 +84,15 @@ pub record IsBatchEnd (l : Log) (offset : ℤ) : Type 0 where
   pub after : List ℤ
   pub among : batch_ends l ≡ before ++ offset ∷ after
 
+-- What is recorded is a batch end; and where the tree is closed, its migrated area is the rendering of the metadata there.
+pub record Agreement (t : Tree) (l : Log) : Type 0 where
+  pub end : (r : Recorded) → recorded t ≡ Some r → pos 0 ≤ℤ r.offset → IsBatchEnd l r.offset
+  pub same : (r : Recorded) → recorded t ≡ Some r → unclosed t ≡ None → area t ≡ render (image_at l r.offset)
+
 pub record Kept (s : Shared) : Type 0 where
   pub tree : TreeShape s.tree
   pub log : LogShape s.log
+  pub agreement : Agreement s.tree s.log
 
 -- ---- one driver
 
@@ -147,21 +153,19 @@ pub record Reads (t : Tree) (rows : List Row) : Type 0 where
 pub record Writes (t : Tree) (l : Log) (target : Recorded) (ops : List Op) : Type 0 where
   pub remaining : ops ≡ remaining_at t l target.offset
 
--- A current driver that rests: the tree is closed, what it recorded is what the driver recorded, where its view ends, and
--- the migrated area is the rendering of the metadata there.
-pub record Rests (t : Tree) (l : Log) (v : View) (offset : Option ℤ) : Type 0 where
+-- A current driver that rests: the tree is closed, and what it recorded is what the driver recorded, where its view ends.
+pub record Rests (t : Tree) (v : View) (offset : Option ℤ) : Type 0 where
   pub closed : unclosed t ≡ None
   pub same : option_map (λ (r : Recorded). r.offset) (recorded t) ≡ offset
   pub view : offset ≡ Some v.position
-  pub area : area t ≡ render (image_at l v.position)
 
 -- What holds at each stage, by cases. What is said of the tree is said of a current driver alone.
 abbrev pub AtStage : Tree → Log → Driver → Stage → Type 0
 AtStage t l d (stage.Claim seen) = (r : Row) → seen.epoch ≡ Some r → pos 0 ≤ℤ r.version
 AtStage t l d (stage.ReadArea target rows) = Aims target d.id d.epoch d.view × (IsCurrent t d.claim → Reads t rows)
 AtStage t l d (stage.WriteAll target ops) = Aims target d.id d.epoch d.view × (IsCurrent t d.claim → Writes t l target ops)
-AtStage t l d stage.InformBrokers = (d.claim ≢ None) × (IsCurrent t d.claim → Rests t l d.view d.recorded)
-AtStage t l d stage.Rest = (d.claim ≢ None) × (IsCurrent t d.claim → Rests t l d.view d.recorded)
+AtStage t l d stage.InformBrokers = (d.claim ≢ None) × (IsCurrent t d.claim → Rests t d.view d.recorded)
+AtStage t l d stage.Rest = (d.claim ≢ None) × (IsCurrent t d.claim → Rests t d.view d.recorded)
 AtStage t l d (stage.WriteChange target ops) = Aims target d.id d.epoch d.view × (IsCurrent t d.claim → Writes t l target ops)
 AtStage t l d s = ⊤
 
