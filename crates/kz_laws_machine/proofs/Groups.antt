@@ -1,21 +1,15 @@
 -- What is owed of a driver after its answer, and how each way to go on gives it.
-use Rattle.std.proofs.Common.{◌≡◌, ◌≢◌, ⊎_elim, ℕ, ◌≤◌, ℤ, pos, negsuc, ◌+ℤ◌, ◌≤ℤ◌, Bool, true, false, if◌then◌else◌, List, [], ◌∷◌, ◌++◌, length, Option, Some, None, option_map, All, refl, sym, ap, ◌∙◌, subst, arith}
-use Rattle.std.specs.Prelude.{Result, Ok, Err, ⊤}
+use Rattle.std.proofs.Common.{◌≡◌, ◌≢◌, ℤ, pos, ◌≤ℤ◌, Bool, true, false, if◌then◌else◌, Option, Some, None, refl, sym, subst, arith}
 use Rattle.std.specs.Ordering.{int_eq}
-use Rattle.std.proofs.lemmas.Bool.Decides.{Decides-int_eq}
 use Rattle.std.proofs.lemmas.Int.{ints}
-use Rattle.kz_types.specs.declared.tree.Row.{Row}
-use Rattle.kz_types.specs.declared.tree.Op.{Op}
 use Rattle.kz_types.specs.declared.driver.Stage.{Stage}
-use Rattle.kz_types.specs.declared.driver.Stage.TheVariants as stage
 use Rattle.kz_types.specs.declared.machine.DriverState.TheVariants as state
-use Rattle.kz_types.specs.declared.machine.Recorded.{Recorded}
 use Rattle.kz_types.specs.declared.machine.Reply.{Reply}
 use Rattle.kz_types.specs.declared.machine.Reply.TheVariants as reply
 use Rattle.kz_spec_stores.specs.Tree.{Tree}
-use Rattle.kz_spec_stores.specs.Log.{Log, end_of, max_epoch, read_view}
+use Rattle.kz_spec_stores.specs.Log.{Log, end_of}
 use Rattle.kz_spec_machine.specs.Driver.{Shared, Driver, state_of, at_stage, resigned, begins_again, epoch_or_zero, unless_finalised, having_read, target_of}
-use Rattle.kz_spec_machine.specs.Sound.{IsId, IsEpoch, IsEpochOrNone, LogShape, Agreement, Kept, claim_version, IsCurrent, shown_in, Claims, Views, Epochs, Elected, Aims, Rests, AtStage, Fine}
+use Rattle.kz_spec_machine.specs.Sound.{IsId, IsEpochOrNone, LogShape, Agreement, claim_version, IsCurrent, shown_in, Claims, Views, Epochs, Elected, Aims, AtStage, Fine}
 use Rattle.kz_spec_runs.specs.InStep.{InStep}
 use Rattle.kz_laws_machine.proofs.Agreements.{agreement_grown}
 use Rattle.kz_laws_trees.proofs.Growth.{Grows, view_read, view_grown}

@@ -1,5 +1,5 @@
 -- The tree in step with the log after each turn that comes to rest.
-use Rattle.std.proofs.Common.{◌≡◌, ◌≢◌, ℕ, ℤ, Bool, true, false, if◌then◌else◌, cond, List, [], ◌∷◌, ◌++◌, Option, Some, None, option_map, All, refl, sym, ap, ◌∙◌, subst}
+use Rattle.std.proofs.Common.{◌≡◌, ◌≢◌, ℤ, Bool, true, false, if◌then◌else◌, cond, List, [], ◌∷◌, ◌++◌, Option, Some, None, option_map, All, refl, sym, ap, ◌∙◌, subst}
 use Rattle.std.specs.Ordering.{int_eq}
 use Rattle.std.proofs.lemmas.Bool.Decides.{Decides-int_eq}
 use Rattle.std.proofs.lemmas.List.Elements.{All-nil, All-cons, All-head, All-tail}
@@ -11,11 +11,10 @@ use Rattle.kz_types.specs.declared.machine.Answer.TheVariants as answer
 use Rattle.kz_types.specs.declared.machine.Reply.{Reply}
 use Rattle.kz_types.specs.declared.machine.Reply.TheVariants as reply
 use Rattle.kz_spec_machine.specs.Driver.{Shared, Driver, state_of, is_one_of}
-use Rattle.kz_spec_machine.specs.Machine.{World, empty_world, running_ids, is_running, driver_of, with_driver, Turned, turn, work, first_of, unless, running_refusal, turn_result, unless_refused, next, after_events}
+use Rattle.kz_spec_machine.specs.Machine.{World, empty_world, running_ids, is_running, driver_of, with_driver, turn, work, first_of, unless, running_refusal, turn_result, unless_refused, next, after_events}
 use Rattle.kz_spec_machine.specs.Sound.{IsTime, IsLawful, Sound, Alone, AtMostOne, Each, Fine, IsCurrent}
-use Rattle.kz_spec_runs.specs.InStep.{InStep, last_reply, ComesToRest, StaysInStep}
-use Rattle.kz_laws_machine.proofs.Turns.{TurnKept}
-use Rattle.kz_laws_machine.proofs.Worlds.{Own, OneOf, Lone, driver_is, own_of, placed, turn_of, next_kept, empty_lone}
+use Rattle.kz_spec_runs.specs.InStep.{InStep, last_reply, StaysInStep}
+use Rattle.kz_laws_machine.proofs.Worlds.{OneOf, Lone, driver_is, own_of, placed, turn_of, next_kept, empty_lone}
 
 -- ---- one turn
 
@@ -50,7 +49,7 @@ turn_rests w id now new replies (Some d) time lone is made idle dual =
     let same : t.replies ≡ replies = cc in
     let drivers : with_driver t.driver w.drivers ≡ new.drivers = ap (λ (x : World). x.drivers) world in
     subst (λ (x : World). InStep x.shared) world (k.rest (ap last_reply same ∙ idle)
-      (in_state w.shared w.drivers id d t.driver lone.one is k.same (ap (λ ds. option_map (λ (x : Driver). state_of x.stage) (driver_of id ds)) drivers ∙ dual)))
+    (in_state w.shared w.drivers id d t.driver lone.one is k.same (ap (λ ds. option_map (λ (x : Driver). state_of x.stage) (driver_of id ds)) drivers ∙ dual)))
 
 by_refusal : (w : World) (id now : ℤ) (new : World) (replies : List Reply) (m : Option Answer) → IsTime now → Lone w → running_refusal w id ≡ m → unless_refused w m (turn_result w now (driver_of id w.drivers)) ≡ (new, answer.Turn replies)
     → last_reply replies ≡ Some reply.Idle → option_map (λ (x : Driver). state_of x.stage) (driver_of id new.drivers) ≡ Some state.DualWrite → InStep new.shared

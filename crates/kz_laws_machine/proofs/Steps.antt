@@ -1,5 +1,5 @@
 -- A step of a driver, by its stage: what is kept of the tree and the log, and what is owed of the driver.
-use Rattle.std.proofs.Common.{◌≡◌, ◌≢◌, ⊎_elim, ℕ, ◌+◌, ◌≤◌, nat_lt, nat_le, ℤ, pos, negsuc, ◌+ℤ◌, ◌≤ℤ◌, int_le, int_lt, Bool, true, false, not, ◌&&◌, if◌then◌else◌, List, [], ◌∷◌, ◌++◌, length, take, drop, map, filter, Option, Some, None, option_map, is_some, All, refl, sym, ap, ◌∙◌, subst, arith}
+use Rattle.std.proofs.Common.{◌≡◌, ◌≢◌, nat_lt, ℤ, pos, ◌≤ℤ◌, int_le, int_lt, Bool, true, false, not, ◌&&◌, if◌then◌else◌, List, [], ◌∷◌, ◌++◌, length, take, drop, map, filter, Option, Some, None, option_map, refl, sym, ap, ◌∙◌, subst, arith}
 use Rattle.std.specs.Prelude.{Result, Ok, Err, ⊤}
 use Rattle.std.specs.Ordering.{int_eq}
 use Rattle.std.specs.Result.{result_ok}
@@ -28,25 +28,23 @@ use Rattle.kz_ordered.specs.Ordered.{Rises}
 use Rattle.kz_ordered.proofs.Order.{bytes_order}
 use Rattle.kz_ordered.proofs.Maps.{Rises-filter}
 use Rattle.kz_ordered.proofs.Lookup.{found_is_contained}
-use Rattle.kz_spec_values.specs.Control.{epoch_path, migration_path, read_epoch, recorded_of, read_recorded, written_recorded}
-use Rattle.kz_spec_stores.specs.Tree.{Tree, row_at, path_of_row, multi, migrated_rows, is_after, scan, broker_ids, recorded, unclosed, area, has_offset, rendered_row, max_version, max_long}
-use Rattle.kz_spec_stores.specs.Image.{Image}
-use Rattle.kz_spec_stores.specs.Log.{Log, append, end_of, image_at, image_of, read_view, max_epoch}
+use Rattle.kz_spec_values.specs.Control.{epoch_path, migration_path, read_epoch, recorded_of, written_recorded}
+use Rattle.kz_spec_stores.specs.Tree.{Tree, row_at, path_of_row, multi, migrated_rows, is_after, scan, broker_ids, area, has_offset, rendered_row, max_version, max_long}
+use Rattle.kz_spec_stores.specs.Log.{Log, append, end_of, image_at, image_of}
 use Rattle.kz_spec_stores.specs.Rendering.{render}
 use Rattle.kz_spec_stores.specs.Translation.{Unreadable, translate}
 use Rattle.kz_spec_stores.specs.Difference.{diff, chunk, max_chunk}
-use Rattle.kz_spec_machine.specs.Driver.{Shared, Driver, state_of, at_stage, resigned, begins_again, epoch_or_zero, views_migrated, seen_in, shown_by, unless_fenced, unless_full_epoch, unless_bad_epoch, unless_full_record, looked, claimed_version, claimed_number, claim_ops, remaining_at, is_last_write, write_ops, target_of, page_size, batch_size, last_path, Request, nothing, read_log, list_brokers, look_up, read_page, write, add, begin_record, begin_request, next_records, write_request, asked, with_tree, with_log, made, missing_controller, missing_broker, having_read, unless_finalised, wait_or_move, after_quorum, after_brokers, path_at, after_claim, after_page, after_append, after_translation, after_records, written_driver, is_claim_refused, after_write, writes, after_log, is_recorded_at, after_rest, answered}
-use Rattle.kz_spec_machine.specs.Sound.{IsId, IsEpoch, IsEpochOrNone, IsStamped, TreeShape, LogShape, IsBatchEnd, Kept, IsTime, claim_version, IsCurrent, shown_in, Claimed, Views, Epochs, Elected, Aims, Reads, Writes, Rests, AtStage, Fine}
-use Rattle.kz_spec_runs.specs.InStep.{InStep}
+use Rattle.kz_spec_machine.specs.Driver.{Shared, Driver, state_of, at_stage, resigned, begins_again, epoch_or_zero, views_migrated, seen_in, shown_by, unless_fenced, unless_full_epoch, unless_bad_epoch, unless_full_record, looked, claimed_version, claim_ops, remaining_at, is_last_write, write_ops, target_of, page_size, last_path, Request, nothing, read_log, list_brokers, look_up, read_page, write, add, begin_record, begin_request, next_records, write_request, asked, with_tree, with_log, made, missing_controller, missing_broker, having_read, wait_or_move, after_quorum, after_brokers, path_at, after_claim, after_append, after_translation, after_records, written_driver, is_claim_refused, after_write, writes, is_recorded_at, answered}
+use Rattle.kz_spec_machine.specs.Sound.{IsId, IsEpochOrNone, IsStamped, TreeShape, LogShape, IsBatchEnd, Kept, IsTime, claim_version, IsCurrent, shown_in, Claimed, Epochs, Elected, Aims, Reads, Writes, Rests, AtStage}
 use Rattle.kz_laws_values.proofs.Control.{recorded_is_read}
 use Rattle.kz_laws_trees.proofs.Multi.{multi_ran, shape_kept, write_keeps_version, last_write, remaining_after_write}
 use Rattle.kz_laws_trees.specs.TreeLaws.{Completed}
 use Rattle.kz_laws_trees.proofs.Pages.{behind_last, short_page, one_page_more}
 use Rattle.kz_laws_trees.proofs.Ends.{end_most}
 use Rattle.kz_laws_trees.proofs.Claim.{claim_gives_version, claim_shows, write_keeps_shown}
-use Rattle.kz_laws_trees.proofs.Growth.{Grows, append_appends, view_within}
+use Rattle.kz_laws_trees.proofs.Growth.{append_appends, view_within}
 use Rattle.kz_laws_machine.proofs.Agreements.{rest_area, agreement_last, agreement_more, agreement_claim}
-use Rattle.kz_laws_machine.proofs.Groups.{Base, base_of, Current, Owed, moves, stays, resigns, again, chosen, finalised, base_read, zero_or, own_epoch, aims, base_grown, base_written}
+use Rattle.kz_laws_machine.proofs.Groups.{Base, Current, Owed, moves, stays, resigns, again, chosen, finalised, base_read, zero_or, own_epoch, aims, base_grown, base_written}
 
 -- ---- the tree and the log after any request
 
@@ -310,9 +308,9 @@ written_by s d claim target x more last t from kept base current claimed elected
       rest = λ idle dual. absurd (cc);
     })
     (λ is. moves new d (more (drop max_chunk ops)) (reply.Wrote (length (chunk ops)))
-      (base_written s t d version shown (agreement_more s.tree t s.log (image_at s.log target.offset) claim target kept.tree after base.agreement is made-is) base) now_current (from.more_elected d.epoch (drop max_chunk ops) elected)
-      (from.more_at t s.log (at_stage (more (drop max_chunk ops)) d) (drop max_chunk ops) aim
-        (λ c. record { remaining = sym (remaining_after_write s.tree t (image_at s.log target.offset) claim target kept.tree made-is) })) (λ i. cc))
+    (base_written s t d version shown (agreement_more s.tree t s.log (image_at s.log target.offset) claim target kept.tree after base.agreement is made-is) base) now_current (from.more_elected d.epoch (drop max_chunk ops) elected)
+    (from.more_at t s.log (at_stage (more (drop max_chunk ops)) d) (drop max_chunk ops) aim
+    (λ c. record { remaining = sym (remaining_after_write s.tree t (image_at s.log target.offset) claim target kept.tree made-is) })) (λ i. cc))
 
 writes_by : (s : Shared) (d : Driver) (claim : ℤ) (target : Recorded) (x : Stage) (more : List Op → Stage) (last : Stage) (r : Result Tree TreeFault) → WritesFrom target x more last
     → d.stage ≡ x → Kept s → Base s d → Current s d → d.claim ≡ Some claim → Elected d.epoch x → AtStage s.tree s.log d x → multi s.tree (write_ops claim (remaining_at s.tree s.log target.offset) target) ≡ r
@@ -402,7 +400,7 @@ area_writes : (s : Shared) (d : Driver) (target : Recorded) (rows : List Row) �
     → nat_lt (length (scan s.tree (last_path rows) page_size)) page_size ≡ true → Writes s.tree s.log target (diff (map rendered_row (rows ++ scan s.tree (last_path rows) page_size)) (render d.view.image))
 area_writes s d target rows kept base aim reads-so-far short = record {
   remaining = ap (λ have. diff have (render d.view.image)) (read_all s.tree rows kept.tree reads-so-far short)
-    ∙ ap (λ i. diff (area s.tree) (render i)) (base.views.image ∙ ap (image_at s.log) (sym aim.offset));
+      ∙ ap (λ i. diff (area s.tree) (render i)) (base.views.image ∙ ap (image_at s.log) (sym aim.offset));
 }
 
 -- a page is the last where it isn't full

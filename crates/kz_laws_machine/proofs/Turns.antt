@@ -1,9 +1,9 @@
 -- A turn, step by step.
-use Rattle.std.proofs.Common.{◌≡◌, ◌≢◌, ℕ, zero, suc, ℤ, Bool, true, false, if◌then◌else◌, List, [], ◌∷◌, Option, Some, None, refl, sym, ap, ◌∙◌, subst}
+use Rattle.std.proofs.Common.{◌≡◌, ℕ, zero, suc, ℤ, Bool, true, false, if◌then◌else◌, List, [], ◌∷◌, Some, refl, ap, ◌∙◌}
 use Rattle.kz_types.specs.declared.machine.DriverState.TheVariants as state
 use Rattle.kz_types.specs.declared.machine.Reply.{Reply}
 use Rattle.kz_types.specs.declared.machine.Reply.TheVariants as reply
-use Rattle.kz_spec_machine.specs.Driver.{Shared, Driver, state_of, epoch_or_zero, asked, made, answered, Stepped, step}
+use Rattle.kz_spec_machine.specs.Driver.{Shared, Driver, state_of, epoch_or_zero, asked, Stepped, step}
 use Rattle.kz_spec_machine.specs.Machine.{ends, Turned, with_reply, turn}
 use Rattle.kz_spec_machine.specs.Sound.{IsTime, Kept, Fine}
 use Rattle.kz_spec_runs.specs.InStep.{InStep, last_reply}

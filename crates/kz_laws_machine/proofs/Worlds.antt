@@ -1,34 +1,28 @@
 -- Worlds with at most one driver, event by event.
-use Rattle.std.proofs.Common.{◌≡◌, ◌≢◌, ⊎_elim, ℕ, ◌+◌, ◌≤◌, ℤ, pos, negsuc, ◌+ℤ◌, ◌≤ℤ◌, int_lt, Bool, true, false, not, ◌||◌, if◌then◌else◌, cond, List, [], ◌∷◌, ◌++◌, length, map, Option, Some, None, option_map, All, refl, sym, ap, ◌∙◌, subst, arith}
+use Rattle.std.proofs.Common.{◌≡◌, ℕ, ◌≤◌, ℤ, pos, negsuc, ◌+ℤ◌, ◌≤ℤ◌, int_lt, Bool, true, false, not, ◌||◌, if◌then◌else◌, cond, List, [], ◌∷◌, ◌++◌, length, map, Option, Some, None, option_map, refl, sym, ap, ◌∙◌, subst, arith}
 use Rattle.std.specs.Prelude.{⊤}
 use Rattle.std.specs.Ordering.{int_eq}
-use Rattle.std.specs.List.{find, list_any}
 use Rattle.std.proofs.lemmas.Bool.Decides.{Decides-int_eq}
 use Rattle.std.proofs.lemmas.Int.{ints}
 use Rattle.std.proofs.lemmas.List.Elements.{All-nil}
 use Rattle.kz_types.specs.declared.driver.Stage.TheVariants as stage
-use Rattle.kz_types.specs.declared.machine.DriverState.TheVariants as state
 use Rattle.kz_types.specs.declared.machine.Event.{Event}
 use Rattle.kz_types.specs.declared.machine.Event.TheVariants as event
 use Rattle.kz_types.specs.declared.machine.Answer.{Answer}
 use Rattle.kz_types.specs.declared.machine.Answer.TheVariants as answer
-use Rattle.kz_types.specs.declared.machine.Reply.{Reply}
-use Rattle.kz_types.specs.declared.machine.Reply.TheVariants as reply
 use Rattle.kz_types.specs.declared.record.MetaRecord.{MetaRecord}
-use Rattle.kz_types.specs.declared.record.MetaRecord.TheVariants as meta
 use Rattle.kz_types.specs.declared.machine.Recorded.{Recorded}
 use Rattle.kz_spec_stores.specs.Tree.{area}
 use Rattle.kz_spec_stores.specs.Difference.{diff}
-use Rattle.kz_spec_stores.specs.Log.{Log, end_of, image_at, max_epoch, full_log, with_next_epoch, image_of, is_open_log, is_migrated_log}
+use Rattle.kz_spec_stores.specs.Log.{Log, end_of, image_at, max_epoch, full_log, is_migrated_log}
 use Rattle.kz_spec_stores.specs.Rendering.{render}
-use Rattle.kz_spec_machine.specs.Driver.{Shared, Driver, new_driver, elected_driver, state_of, is_one_of, least}
-use Rattle.kz_spec_machine.specs.Machine.{World, empty_world, running_ids, is_running, driver_of, with_driver, Turned, turn, work, decided, first_of, unless, over, full, running_refusal, driver_refusal, leader_refusal, quorum_refusal, declared_world, start_refusal, started_world, election_records, next_epoch, elected_log, election_refusal, elected_world, election_answer, turn_result, over_excess, change_refusal, changed_log, changed_world, unless_refused, next, after_events}
-use Rattle.kz_spec_machine.specs.Sound.{IsId, IsTime, IsEpoch, IsEpochOrNone, LogShape, IsBatchEnd, TreeShape, Kept, IsCurrent, Views, Epochs, Elected, Aims, Rests, AtStage, Fine, Each, Sound, AtMostOne, Alone, IsLawful}
-use Rattle.kz_spec_runs.specs.InStep.{InStep, last_reply, ComesToRest}
+use Rattle.kz_spec_machine.specs.Driver.{Shared, Driver, new_driver, elected_driver, is_one_of}
+use Rattle.kz_spec_machine.specs.Machine.{World, empty_world, running_ids, is_running, driver_of, with_driver, Turned, turn, work, decided, first_of, unless, over, full, running_refusal, leader_refusal, quorum_refusal, declared_world, start_refusal, started_world, election_records, next_epoch, elected_log, election_refusal, elected_world, election_answer, turn_result, change_refusal, changed_log, changed_world, unless_refused, next}
+use Rattle.kz_spec_machine.specs.Sound.{IsId, IsTime, IsEpoch, IsEpochOrNone, LogShape, IsBatchEnd, Kept, Aims, AtStage, Fine, IsLawful}
 use Rattle.kz_laws_trees.proofs.Ends.{end_least, base_is_batch_end, image_before}
 use Rattle.kz_laws_trees.proofs.Growth.{Grows, batch_shape, grows_batch, view_within}
 use Rattle.kz_laws_machine.proofs.Agreements.{agreement_grown}
-use Rattle.kz_laws_machine.proofs.Groups.{Base, base_of, Current, base_grown}
+use Rattle.kz_laws_machine.proofs.Groups.{base_of, Current, base_grown}
 use Rattle.kz_laws_machine.proofs.Turns.{TurnKept, turned}
 
 -- ---- a world with at most one driver
@@ -163,7 +157,7 @@ start_kept w id is lone none =
       kept = lone.kept;
       declared = lone.declared;
       one = start_one w.shared w.drivers id lone.kept.log is lone.declared (unless_none (is_one_of w.shared.declared id) answer.UnknownController both.0)
-        (unless_none (not (is_running id w.drivers)) answer.AlreadyRunning both.1) lone.one;
+          (unless_none (not (is_running id w.drivers)) answer.AlreadyRunning both.1) lone.one;
     }
 
 -- ---- elections

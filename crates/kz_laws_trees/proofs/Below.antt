@@ -1,17 +1,14 @@
 -- The parent of a path below a root of the migrated area is in the area too.
-use Rattle.std.proofs.Common.{◌≡◌, ◌≢◌, ◌⊎◌, ℕ, suc, ◌+◌, ◌<◌, Bool, true, false, not, ◌||◌, ◌==◌, if◌then◌else◌, cond, List, [], ◌∷◌, ◌++◌, length, drop, Option, Some, None, refl, sym, ap, ◌∙◌, subst, inl, inr, ⊎_elim, map, reverse, append_assoc, arith}
+use Rattle.std.proofs.Common.{◌≡◌, ◌≢◌, ◌⊎◌, ℕ, ◌<◌, Bool, true, false, ◌||◌, ◌==◌, if◌then◌else◌, List, [], ◌∷◌, ◌++◌, length, drop, Option, Some, None, refl, sym, ap, ◌∙◌, subst, inl, inr, ⊎_elim, map, reverse, append_assoc, arith}
 use Rattle.std.specs.Prelude.{codes}
 use Rattle.std.specs.Option.{option_or}
 use Rattle.std.specs.Str.{bytes_eq}
-use Rattle.std.specs.List.{list_any, starts_with}
-use Rattle.std.specs.Bool.{nat_eq}
-use Rattle.std.proofs.lemmas.Bool.{cases_Bool}
-use Rattle.std.proofs.lemmas.Bool.Decides.{Decides-eqb, nat_tests}
+use Rattle.std.specs.List.{list_any}
+use Rattle.std.proofs.lemmas.Bool.Decides.{Decides-eqb}
 use Rattle.std.proofs.lemmas.Slice.Eq.{bytes_eq-Decides, starts_is}
 use Rattle.kz_types.specs.Paths.{is_migrated, roots, is_below}
 use Rattle.kz_types.specs.declared.tree.Rendered.{Rendered}
 use Rattle.kz_ordered.specs.Order.{bytes_cmp}
-use Rattle.kz_ordered.specs.Ordered.{find, all_put}
 use Rattle.kz_ordered.proofs.Order.{bytes_order}
 use Rattle.kz_ordered.proofs.Append.{find-append}
 use Rattle.kz_ordered.proofs.Lookup.{find_here, find_skip}
@@ -19,7 +16,7 @@ use Rattle.kz_ordered.proofs.Puts.{find-all_put}
 use Rattle.kz_spec_stores.specs.Image.{Image}
 use Rattle.kz_spec_stores.specs.Tree.{parent_of, is_root}
 use Rattle.kz_spec_stores.specs.Rendering.{path_of_rendered, bare, config_znode, render}
-use Rattle.kz_laws_trees.proofs.Rows.{Same, same, other, compare}
+use Rattle.kz_laws_trees.proofs.Rows.{same, other, compare}
 use Rattle.kz_laws_trees.proofs.Area.{find_rendered}
 
 -- ---- the parent of what stands below a path
@@ -100,7 +97,7 @@ up_by (r ∷ rs) p is none =
     let no_root = neither (bytes_eq p r) (list_any (bytes_eq p) rs) none in
     ⊎_elim
     (λ (here : under p r ≡ true). or_left (under (parent_of p) r) (list_any (under (parent_of p)) rs)
-      (parent_under r p (⊎_elim (λ (same_path : bytes_eq p r ≡ true). absurd (cc (same_path, no_root.0))) (λ (low : is_below r p ≡ true). low) (either (bytes_eq p r) (is_below r p) here))))
+    (parent_under r p (⊎_elim (λ (same_path : bytes_eq p r ≡ true). absurd (cc (same_path, no_root.0))) (λ (low : is_below r p ≡ true). low) (either (bytes_eq p r) (is_below r p) here))))
     (λ (later : list_any (under p) rs ≡ true). or_right (under (parent_of p) r) (list_any (under (parent_of p)) rs) (up_by rs p later no_root.1))
     (either (under p r) (list_any (under p) rs) is)
 
@@ -115,7 +112,7 @@ no_root_found [] p is = refl
 no_root_found (r ∷ rs) p is = elim (compare p r) [
   | same e ↦ absurd (let found = find_here bytes_order path_of_rendered p (bare r) (map bare rs) e in cc)
   | other differ ↦
-    ap (λ b. b || list_any (bytes_eq p) rs) (differs p r differ (bytes_eq p r) refl) ∙ no_root_found rs p (sym (find_skip bytes_order path_of_rendered p (bare r) (map bare rs) differ) ∙ is)
+      ap (λ b. b || list_any (bytes_eq p) rs) (differs p r differ (bytes_eq p r) refl) ∙ no_root_found rs p (sym (find_skip bytes_order path_of_rendered p (bare r) (map bare rs) differ) ∙ is)
 ]
   where
     differs : (p r : List ℕ) → p ≢ r → (b : Bool) → bytes_eq p r ≡ b → b ≡ false
@@ -132,7 +129,7 @@ unfolding render
 rendered_roots i p is =
     let configs = map config_znode i.broker_configs in
     no_root_found roots p (or_none (find_rendered p (reverse configs)) (find_rendered p (map bare roots))
-      (sym (find-append bytes_cmp path_of_rendered p (reverse configs) (map bare roots)) ∙ sym (find-all_put bytes_order path_of_rendered p configs (map bare roots)) ∙ is))
+    (sym (find-append bytes_cmp path_of_rendered p (reverse configs) (map bare roots)) ∙ sym (find-all_put bytes_order path_of_rendered p configs (map bare roots)) ∙ is))
 
 -- ---- a parent is another path
 

@@ -1,7 +1,6 @@
 -- A claim beside the migrated area: what is recorded then, and a closed tree stays one.
-use Rattle.std.proofs.Common.{◌≡◌, ◌≢◌, ℕ, ℤ, pos, negsuc, ◌+ℤ◌, Bool, true, false, if◌then◌else◌, cond, List, [], ◌∷◌, ◌++◌, Option, Some, None, option_map, refl, sym, ap, ◌∙◌, subst, filter}
-use Rattle.std.specs.Prelude.{Result, Ok, ⊤, option_and_then}
-use Rattle.std.proofs.lemmas.Bool.{cases_Bool}
+use Rattle.std.proofs.Common.{◌≡◌, ◌≢◌, ℕ, ℤ, pos, negsuc, ◌+ℤ◌, Bool, true, false, cond, List, [], ◌∷◌, ◌++◌, Option, Some, None, option_map, refl, sym, ap, ◌∙◌, subst, filter}
+use Rattle.std.specs.Prelude.{Ok, ⊤, option_and_then}
 use Rattle.kz_types.specs.declared.tree.Row.{Row}
 use Rattle.kz_types.specs.declared.tree.Op.{Op}
 use Rattle.kz_types.specs.declared.tree.Op.TheVariants.{Create, Set, Delete, Check}
@@ -14,18 +13,18 @@ use Rattle.kz_ordered.proofs.Order.{bytes_order}
 use Rattle.kz_ordered.proofs.Lookup.{find-put_other, find-without_other, key_of_found, same_items}
 use Rattle.kz_ordered.proofs.Maps.{Rises-filter, find-filter_absent, find-filter_found}
 use Rattle.kz_spec_values.specs.Control.{control_path, epoch_path, migration_path, recorded_of, written_control, written_recorded}
-use Rattle.kz_spec_stores.specs.Tree.{Tree, path_of_row, row_at, put_row, without_row, parent_of, touched, after_set, set_row, created_row, after_op, op_refusal, set_refusal, multi, migrated_rows, area, recorded, has_offset, is_later, unclosed}
+use Rattle.kz_spec_stores.specs.Tree.{Tree, path_of_row, row_at, parent_of, touched, after_set, set_row, created_row, after_op, set_refusal, multi, migrated_rows, area, recorded, has_offset, is_later, unclosed}
 use Rattle.kz_spec_stores.specs.Image.{Image}
 use Rattle.kz_spec_stores.specs.Rendering.{render}
 use Rattle.kz_spec_stores.specs.Difference.{diff, chunk}
 use Rattle.kz_spec_machine.specs.Driver.{Driver, epoch_or_zero, views_migrated, epoch_op, control_ops, migration_ops, base_op, base_ops, unrecorded, claim_ops, is_last_write, record_ops, write_ops}
 use Rattle.kz_spec_machine.specs.Sound.{TreeShape}
 use Rattle.kz_laws_trees.specs.TreeLaws.{path_of_op}
-use Rattle.kz_laws_trees.proofs.Rows.{still, Same, same, other, compare, op_rises, set_found, created_found}
+use Rattle.kz_laws_trees.proofs.Rows.{still, op_rises, set_found, created_found}
 use Rattle.kz_laws_trees.proofs.Area.{area_of}
 use Rattle.kz_laws_trees.proofs.Runs.{ran, Passes, passes_left, passes_right, ran_append, ran_keeps, Avoids, avoids_append, Outside, area_ran_left}
 use Rattle.kz_laws_trees.proofs.Multi.{Ran, multi_ran, differ, closed_by, chunk_avoids, migration_outside}
-use Rattle.kz_laws_trees.proofs.Later.{Closed, closed_is, same_alike, nothing_more}
+use Rattle.kz_laws_trees.proofs.Later.{closed_is, same_alike, nothing_more}
 use Rattle.kz_laws_trees.proofs.Claim.{Others, base_avoids, control_avoids_path, epoch_avoids}
 
 -- ---- znodes that stay whole
@@ -83,8 +82,8 @@ rows_left : (zxid : ℤ) (o : Op) (rows : List Row) → Rises bytes_cmp path_of_
 rows_left zxid o rows rise beside = same_items bytes_order path_of_row (filter in_area (after_op zxid o rows)) (filter in_area rows)
     (Rises-filter bytes_order path_of_row in_area (after_op zxid o rows) (op_rises zxid o rows rise)) (Rises-filter bytes_order path_of_row in_area rows rise)
     (λ p. find_migrated p (after_op zxid o rows) (op_rises zxid o rows rise)
-      ∙ pick (is_migrated p) (row_at p (after_op zxid o rows)) (row_at p rows) (λ inside. far_kept zxid o p rows (apart p (path_of_op o) inside beside.0) (apart p (parent_of (path_of_op o)) inside beside.1))
-      ∙ sym (find_migrated p rows rise))
+    ∙ pick (is_migrated p) (row_at p (after_op zxid o rows)) (row_at p rows) (λ inside. far_kept zxid o p rows (apart p (path_of_op o) inside beside.0) (apart p (parent_of (path_of_op o)) inside beside.1))
+    ∙ sym (find_migrated p rows rise))
 
 abbrev AllBeside : List Op → Type 0
 AllBeside [] = ⊤
@@ -143,9 +142,11 @@ migration_beside false seen body is = absurd (cc)
 claim_beside : (seen : ClaimSeen) (d : Driver) (now : ℤ) → views_migrated d ≡ true → AllBeside (claim_ops seen d now)
 claim_beside seen d now migrated =
     let body = written_control d.id (epoch_or_zero d.epoch) now in
-    let recording = migration_ops (views_migrated d) seen.migration (written_recorded (unrecorded d)) in
-    (epoch_beside seen.epoch, beside_append (control_ops seen.control body) (recording ++ base_ops seen.bases base_paths) (control_beside seen.control body)
-    (beside_append recording (base_ops seen.bases base_paths) (migration_beside (views_migrated d) seen.migration (written_recorded (unrecorded d)) migrated) (base_beside seen.bases base_paths bases_aside)))
+    let recording = migration_ops (views_migrated d) seen.migration (written_recorded (unrecorded d)) in (
+      epoch_beside seen.epoch,
+      beside_append (control_ops seen.control body) (recording ++ base_ops seen.bases base_paths) (control_beside seen.control body)
+          (beside_append recording (base_ops seen.bases base_paths) (migration_beside (views_migrated d) seen.migration (written_recorded (unrecorded d)) migrated) (base_beside seen.bases base_paths bases_aside)),
+    )
 
 all_outside : (os : List Op) → AllBeside os → Outside os
 all_outside [] beside = tt
@@ -164,9 +165,11 @@ nothing_recorded false seen body is = absurd (cc)
 claim_avoids : (seen : ClaimSeen) (d : Driver) (now : ℤ) → views_migrated d ≡ true → Avoids migration_path (claim_ops seen d now)
 claim_avoids seen d now migrated =
     let body = written_control d.id (epoch_or_zero d.epoch) now in
-    let recording = migration_ops (views_migrated d) seen.migration (written_recorded (unrecorded d)) in
-    (epoch_avoids seen.epoch, avoids_append migration_path (control_ops seen.control body) (recording ++ base_ops seen.bases base_paths) (control_avoids_path migration_path seen.control body (differ migration_path control_path refl))
-    (avoids_append migration_path recording (base_ops seen.bases base_paths) (nothing_recorded (views_migrated d) seen.migration (written_recorded (unrecorded d)) migrated) (base_avoids migration_path seen.bases base_paths migration_no_base)))
+    let recording = migration_ops (views_migrated d) seen.migration (written_recorded (unrecorded d)) in (
+      epoch_avoids seen.epoch,
+      avoids_append migration_path (control_ops seen.control body) (recording ++ base_ops seen.bases base_paths) (control_avoids_path migration_path seen.control body (differ migration_path control_path refl))
+          (avoids_append migration_path recording (base_ops seen.bases base_paths) (nothing_recorded (views_migrated d) seen.migration (written_recorded (unrecorded d)) migrated) (base_avoids migration_path seen.bases base_paths migration_no_base)),
+    )
 
 recorded_still : (m : Option Row) → option_and_then (λ (r : Row). recorded_of r.body) (option_map still m) ≡ option_and_then (λ (r : Row). recorded_of r.body) m
 recorded_still None = refl

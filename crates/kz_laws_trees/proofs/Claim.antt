@@ -1,16 +1,16 @@
 -- The data version of `/controller_epoch` after a claim.
-use Rattle.std.proofs.Common.{◌≡◌, ◌≢◌, ℕ, ℤ, pos, negsuc, ◌+ℤ◌, ◌≤ℤ◌, Bool, true, false, not, ◌||◌, List, [], ◌∷◌, ◌++◌, Option, Some, None, option_map, refl, sym, ap, ◌∙◌, subst, arith, rules}
-use Rattle.std.specs.Prelude.{Result, Ok, ⊤, nat_lt, int_le, length}
+use Rattle.std.proofs.Common.{◌≡◌, ◌≢◌, ℕ, ℤ, pos, negsuc, ◌+ℤ◌, ◌≤ℤ◌, Bool, true, false, not, ◌||◌, List, [], ◌∷◌, ◌++◌, Option, Some, None, option_map, refl, sym, ap, ◌∙◌, arith}
+use Rattle.std.specs.Prelude.{Ok, ⊤, nat_lt, int_le, length}
 use Rattle.std.specs.Ordering.{int_eq}
 use Rattle.std.proofs.lemmas.Bool.Decides.{Decides-int_eq}
 use Rattle.std.proofs.lemmas.Int.{ints}
 use Rattle.kz_types.specs.declared.tree.Row.{Row}
 use Rattle.kz_types.specs.declared.tree.Op.{Op}
-use Rattle.kz_types.specs.declared.tree.Op.TheVariants.{Create, Set, Delete, Check}
+use Rattle.kz_types.specs.declared.tree.Op.TheVariants.{Set, Delete}
 use Rattle.kz_types.specs.declared.driver.ClaimSeen.{ClaimSeen}
 use Rattle.kz_types.specs.Paths.{base_paths}
 use Rattle.kz_spec_values.specs.Control.{control_path, epoch_path, migration_path, written_epoch, written_control, written_recorded}
-use Rattle.kz_spec_stores.specs.Tree.{Tree, area, row_at, after_op, op_refusal, max_body, max_version, Refusal, code, limit, first_refusal, fits_version, set_refusal, set_row, created_row, multi}
+use Rattle.kz_spec_stores.specs.Tree.{Tree, area, row_at, after_op, op_refusal, max_body, max_version, Refusal, code, limit, first_refusal, fits_version, set_refusal, created_row, multi}
 use Rattle.kz_types.specs.declared.machine.Recorded.{Recorded}
 use Rattle.kz_spec_stores.specs.Image.{Image}
 use Rattle.kz_spec_stores.specs.Rendering.{render}
@@ -21,7 +21,7 @@ use Rattle.kz_spec_machine.specs.Driver.{Driver, epoch_or_zero, views_migrated, 
 use Rattle.kz_spec_machine.specs.Sound.{claim_version, shown_in}
 use Rattle.kz_laws_trees.specs.TreeLaws.{path_of_op}
 use Rattle.kz_laws_trees.proofs.Rows.{still, set_found, created_found}
-use Rattle.kz_laws_trees.proofs.Runs.{ran, ran_append, Passes, Avoids, avoids_append, ran_keeps}
+use Rattle.kz_laws_trees.proofs.Runs.{ran, ran_append, Avoids, avoids_append, ran_keeps}
 use Rattle.kz_laws_trees.proofs.Multi.{Ran, multi_ran, differ, version_still, control_outside, rest_of_write_avoids}
 
 abbrev version_in : List Row → Option ℤ
@@ -135,7 +135,7 @@ claim_shows t new seen d now id epoch time is =
     let rest = migration_ops (views_migrated d) seen.migration recorded ++ base_ops seen.bases base_paths in
     let first = after_op zxid (epoch_op seen.epoch) t.rows in
     let avoids : Avoids control_path rest = avoids_append control_path (migration_ops (views_migrated d) seen.migration recorded) (base_ops seen.bases base_paths)
-      (migration_avoids control_path (views_migrated d) seen.migration recorded (differ control_path migration_path refl)) (base_avoids control_path seen.bases base_paths control_no_base) in
+    (migration_avoids control_path (views_migrated d) seen.migration recorded (differ control_path migration_path refl)) (base_avoids control_path seen.bases base_paths control_no_base) in
     ap (λ rows. shown_by (row_at control_path rows)) (m.rows ∙ ran_append zxid controls rest first)
     ∙ sym (shown_still (row_at control_path (ran zxid rest (ran zxid controls first))))
     ∙ ap shown_by (ran_keeps zxid control_path rest (ran zxid controls first) avoids)

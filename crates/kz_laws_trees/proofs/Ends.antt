@@ -7,8 +7,7 @@ use Rattle.kz_types.specs.declared.log.BatchRow.{BatchRow}
 use Rattle.kz_types.specs.declared.log.Entry.{Entry}
 use Rattle.kz_types.specs.declared.record.MetaRecord.{MetaRecord}
 use Rattle.kz_spec_stores.specs.Image.{empty_image}
-use Rattle.kz_spec_stores.specs.Settlement.{counted}
-use Rattle.kz_spec_stores.specs.Log.{Log, last_of, last_end, end_of, batch_ends, record_count, max_records, numbered, entries_of_batch, entries, all_entries_applied, image_at, new_batch, with_batch}
+use Rattle.kz_spec_stores.specs.Log.{Log, last_of, last_end, end_of, record_count, max_records, entries_of_batch, entries, all_entries_applied, image_at, new_batch, with_batch}
 use Rattle.kz_spec_machine.specs.Sound.{Follows, LogShape, IsBatchEnd}
 use Rattle.kz_laws_trees.proofs.Logs.{AllAfter, counted_same, numbered_after}
 

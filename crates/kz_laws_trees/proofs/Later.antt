@@ -1,37 +1,36 @@
 -- A write that isn't the last leaves the tree unclosed.
-use Rattle.std.proofs.Common.{◌≡◌, ◌≢◌, ◌⊎◌, ℕ, zero, suc, ◌+◌, ◌<◌, ◌≤◌, nat_le, ℤ, pos, negsuc, ◌+ℤ◌, ◌≤ℤ◌, ◌<ℤ◌, int_lt, Bool, true, false, ◌||◌, if◌then◌else◌, cond, List, [], ◌∷◌, ◌++◌, length, Option, Some, None, option_map, is_some, Contains, All, refl, sym, ap, ◌∙◌, subst, inl, inr, ⊎_elim, map, filter, take, arith, append_assoc, append-nil, length-take}
-use Rattle.std.specs.Prelude.{Result, Ok}
+use Rattle.std.proofs.Common.{◌≡◌, ◌≢◌, ◌⊎◌, ℕ, ℤ, pos, negsuc, ◌+ℤ◌, ◌≤ℤ◌, ◌<ℤ◌, int_lt, Bool, true, false, ◌||◌, if◌then◌else◌, cond, List, [], ◌∷◌, ◌++◌, Option, Some, None, option_map, is_some, Contains, All, refl, sym, ap, ◌∙◌, subst, inl, inr, map, filter, take, arith, append-nil}
+use Rattle.std.specs.Prelude.{Ok}
 use Rattle.std.proofs.lemmas.Int.{ints}
-use Rattle.std.proofs.lemmas.Bool.Decides.{nat_tests}
 use Rattle.std.proofs.lemmas.List.{map-append}
 use Rattle.std.proofs.lemmas.List.Elements.{All-nil, All-cons, All-contains, All-take, Contains-append_right}
 use Rattle.kz_types.specs.declared.tree.Row.{Row}
 use Rattle.kz_types.specs.declared.tree.Op.{Op}
-use Rattle.kz_types.specs.declared.tree.Op.TheVariants.{Create, Set, Delete, Check}
+use Rattle.kz_types.specs.declared.tree.Op.TheVariants.{Create, Set, Delete}
 use Rattle.kz_types.specs.declared.tree.Rendered.{Rendered}
 use Rattle.kz_types.specs.declared.machine.Recorded.{Recorded}
-use Rattle.kz_types.specs.Paths.{is_migrated, roots}
+use Rattle.kz_types.specs.Paths.{is_migrated}
 use Rattle.kz_ordered.specs.Order.{bytes_cmp}
 use Rattle.kz_ordered.specs.Ordered.{Rises}
-use Rattle.kz_ordered.specs.Difference.{Edit, drop_key, make, alter, difference}
+use Rattle.kz_ordered.specs.Difference.{Edit, drop_key, make, alter}
 use Rattle.kz_ordered.specs.Edits.{IsDue}
 use Rattle.kz_ordered.proofs.Order.{bytes_order}
 use Rattle.kz_ordered.proofs.Edits.{each_is_due}
 use Rattle.kz_ordered.proofs.Lookup.{found_is_contained, key_of_found, find-put_same, find-without_other, Contains-head}
 use Rattle.kz_ordered.proofs.Maps.{find-filter_found}
 use Rattle.kz_spec_values.specs.Control.{migration_path, recorded_of}
-use Rattle.kz_spec_stores.specs.Tree.{Tree, path_of_row, row_at, put_row, without_row, parent_of, is_root, has_parent, delete_refusal, set_refusal, op_refusal, created_row, set_row, touched, after_op, multi, migrated_rows, area, has_offset, is_later, first_path, unclosed_below, unclosed}
+use Rattle.kz_spec_stores.specs.Tree.{Tree, path_of_row, row_at, put_row, without_row, parent_of, is_root, delete_refusal, set_refusal, op_refusal, created_row, set_row, touched, after_op, multi, migrated_rows, area, has_offset, is_later, first_path, unclosed_below, unclosed}
 use Rattle.kz_spec_stores.specs.Image.{Image}
 use Rattle.kz_spec_stores.specs.Rendering.{path_of_rendered, render}
 use Rattle.kz_spec_stores.specs.Difference.{same_body, op_of, diff, max_chunk, chunk}
 use Rattle.kz_spec_machine.specs.Driver.{is_last_write, record_ops, write_ops}
 use Rattle.kz_spec_machine.specs.Sound.{IsStamped, HaveParents, TreeShape}
 use Rattle.kz_laws_trees.proofs.Rows.{still, created_found, set_found}
-use Rattle.kz_laws_trees.proofs.Area.{edit_path, area_rises, find_rendered}
-use Rattle.kz_laws_trees.proofs.Runs.{ran, Passes, ran_append, passes_left, passes_right, ran_rises, ran_keeps, Avoids, Inside, inside_take}
+use Rattle.kz_laws_trees.proofs.Area.{edit_path, area_rises}
+use Rattle.kz_laws_trees.proofs.Runs.{ran, Passes, ran_append, passes_left, passes_right, ran_keeps, Avoids, Inside, inside_take}
 use Rattle.kz_laws_trees.proofs.Parents.{Is, found_some, ran_parents}
 use Rattle.kz_laws_trees.proofs.Below.{parent_migrated, rendered_roots, parent_differs, not_empty}
-use Rattle.kz_laws_trees.proofs.Render.{render_rises, IsInside}
+use Rattle.kz_laws_trees.proofs.Render.{render_rises}
 use Rattle.kz_laws_trees.proofs.Multi.{Ran, multi_ran, edits_to, edits_inside, chunk_is, chunk_avoids, migration_outside}
 
 -- A znode of the area was written, or its children were, in this transaction.
@@ -73,9 +72,9 @@ edit_touches sessions zxid (drop_key p) rows have inside up pass =
     let key : old.0.path ≡ q = key_of_found bytes_order path_of_row q rows old.0 old.1 in
     let new : Row = record old.0 { pzxid = zxid } in
     let found : row_at q (after_op zxid (Delete p (negsuc 0)) rows) ≡ Some new =
-      ap (λ m. row_at q (without_row p (touched zxid m rows))) old.1
-      ∙ find-without_other bytes_order path_of_row p (put_row new rows) q (parent_differs p inside)
-      ∙ ap (λ x. row_at x (put_row new rows)) (sym key) ∙ find-put_same bytes_order path_of_row new rows in
+    ap (λ m. row_at q (without_row p (touched zxid m rows))) old.1
+    ∙ find-without_other bytes_order path_of_row p (put_row new rows) q (parent_differs p inside)
+    ∙ ap (λ x. row_at x (put_row new rows)) (sym key) ∙ find-put_same bytes_order path_of_row new rows in
     touched_at zxid q (after_op zxid (Delete p (negsuc 0)) rows) new found key inside-up (inr refl)
 
 -- ---- some znode is later than what is recorded
@@ -178,17 +177,17 @@ write_touches t new i claim target shape more m =
     let end = has_last ds (more_is t i more) in
     let front = map op_of end.front in
     let ops : chunk (diff (area t) (render i)) ++ record_ops (is_last_write (diff (area t) (render i))) target ≡ front ++ op_of end.last ∷ [] =
-      nothing_more (is_last_write (diff (area t) (render i))) target (chunk (diff (area t) (render i))) more ∙ chunk_is t i ∙ ap (map op_of) end.whole ∙ map-append op_of end.front (end.last ∷ []) in
+    nothing_more (is_last_write (diff (area t) (render i))) target (chunk (diff (area t) (render i))) more ∙ chunk_is t i ∙ ap (map op_of) end.whole ∙ map-append op_of end.front (end.last ∷ []) in
     let rows : new.rows ≡ after_op zxid (op_of end.last) (ran zxid front t.rows) = m.rows ∙ ap (λ os. ran zxid os t.rows) ops ∙ ran_append zxid front (op_of end.last ∷ []) t.rows in
     let passes : Passes t.sessions zxid (front ++ op_of end.last ∷ []) t.rows = subst (λ os. Passes t.sessions zxid os t.rows) ops m.passes.1 in
     let parents = ran_parents t.sessions zxid front t.rows (passes_left t.sessions zxid front (op_of end.last ∷ []) t.rows passes) shape.rise shape.parents in
     let inside = inside_last end.front end.last (subst Inside end.whole (inside_take max_chunk ds (edits_inside t i))) in
     let IsDueHere : Edit Rendered (List ℕ) → Type 0 = IsDue bytes_cmp path_of_rendered same_body (area t) (render i) in
     let due = All-contains IsDueHere (end.front ++ end.last ∷ []) end.last
-      (subst (All IsDueHere) end.whole (All-take IsDueHere max_chunk ds (each_is_due bytes_order path_of_rendered same_body (area t) (render i) (area_rises t.rows shape.rise) (render_rises i))))
-      (Contains-append_right end.front (end.last ∷ []) end.last (Contains-head end.last [])) in
+    (subst (All IsDueHere) end.whole (All-take IsDueHere max_chunk ds (each_is_due bytes_order path_of_rendered same_body (area t) (render i) (area_rises t.rows shape.rise) (render_rises i))))
+    (Contains-append_right end.front (end.last ∷ []) end.last (Contains-head end.last [])) in
     subst (Touched zxid) (sym rows) (edit_touches t.sessions zxid end.last (ran zxid front t.rows) parents inside (λ p is. drop_up t i end.last p inside due is)
-      (passes_right t.sessions zxid front (op_of end.last ∷ []) t.rows passes).0)
+    (passes_right t.sessions zxid front (op_of end.last ∷ []) t.rows passes).0)
 
 -- what differs in the transaction of its children alone
 pub same_alike : (m : Row) (old : Option Row) (rows : List Row) → row_at migration_path rows ≡ old → option_map still (Some m) ≡ option_map still old → (r : Row) × (row_at migration_path rows ≡ Some r) × (m.mzxid ≡ r.mzxid) × (m.body ≡ r.body)
@@ -202,7 +201,7 @@ not_last_unclosed t new i claim target shape after more is closed =
     let ops = chunk (diff (area t) (render i)) ++ record_ops (is_last_write (diff (area t) (render i))) target in
     let avoids : Avoids migration_path ops = subst (Avoids migration_path) (sym (nothing_more (is_last_write (diff (area t) (render i))) target (chunk (diff (area t) (render i))) more)) (chunk_avoids t i migration_path migration_outside) in
     let alike : option_map still (Some c.row) ≡ option_map still (row_at migration_path t.rows) =
-      ap (option_map still) (sym c.found) ∙ ap (λ rows. option_map still (row_at migration_path rows)) m.rows ∙ ran_keeps (t.zxid +ℤ pos 1) migration_path ops t.rows avoids in
+    ap (option_map still) (sym c.found) ∙ ap (λ rows. option_map still (row_at migration_path rows)) m.rows ∙ ran_keeps (t.zxid +ℤ pos 1) migration_path ops t.rows avoids in
     let old = same_alike c.row (row_at migration_path t.rows) t.rows refl alike in
     let stamp = (All-contains (IsStamped t.zxid) t.rows old.0 shape.stamped (found_is_contained bytes_order path_of_row migration_path t.rows old.0 old.1)).modified in
     not_closed new.rows c.row.mzxid (t.zxid +ℤ pos 1) after.rise (write_touches t new i claim target shape more m) (before c.row.mzxid old.0.mzxid t.zxid old.2 stamp) c.none

@@ -1,5 +1,5 @@
 -- Operations that aren't refused leave each znode its parent.
-use Rattle.std.proofs.Common.{◌≡◌, ◌≢◌, ℕ, ℤ, negsuc, Bool, true, false, not, ◌||◌, cond, List, [], ◌∷◌, Option, Some, None, option_map, is_some, Contains, All, refl, sym, ap, ◌∙◌, subst, rules}
+use Rattle.std.proofs.Common.{◌≡◌, ◌≢◌, ℕ, ℤ, negsuc, Bool, true, false, not, ◌||◌, List, [], ◌∷◌, Option, Some, None, option_map, is_some, All, refl, sym, ap, ◌∙◌, subst}
 use Rattle.std.specs.Prelude.{length, nat_lt, nat_le}
 use Rattle.std.specs.Str.{bytes_eq}
 use Rattle.std.specs.List.{list_any}
@@ -12,10 +12,10 @@ use Rattle.kz_ordered.specs.Order.{bytes_cmp}
 use Rattle.kz_ordered.specs.Ordered.{Rises}
 use Rattle.kz_ordered.proofs.Order.{bytes_order}
 use Rattle.kz_ordered.proofs.Lookup.{found_is_contained, key_of_found}
-use Rattle.kz_spec_stores.specs.Tree.{path_of_row, row_at, parent_of, is_root, has_parent, has_children, is_ephemeral, may_own, fits_version, count_beside, limit_beside, max_body, max_znodes, Refusal, code, limit, first_refusal, create_refusal, set_refusal, delete_refusal, op_refusal, created_row, set_row, after_op}
+use Rattle.kz_spec_stores.specs.Tree.{path_of_row, row_at, parent_of, is_root, has_parent, has_children, is_ephemeral, may_own, fits_version, count_beside, limit_beside, max_body, max_znodes, Refusal, code, limit, first_refusal, create_refusal, set_refusal, delete_refusal, op_refusal, after_op}
 use Rattle.kz_spec_machine.specs.Sound.{HaveParents}
 use Rattle.kz_laws_trees.specs.TreeLaws.{path_of_op}
-use Rattle.kz_laws_trees.proofs.Rows.{still, Same, same, other, compare, others_kept, op_rises, created_found, set_found, deleted_found}
+use Rattle.kz_laws_trees.proofs.Rows.{still, same, other, compare, others_kept, op_rises, created_found, set_found, deleted_found}
 use Rattle.kz_laws_trees.proofs.Runs.{ran, Passes}
 
 -- something is there
@@ -92,8 +92,8 @@ stays_there zxid (Create path body owner) p rows safe there = elim (compare p pa
 ]
 stays_there zxid (Set path body version) p rows safe there = elim (compare p path) [
   | same is ↦
-    let found = found_some path rows (row_at path rows) refl (subst (λ q. Is q rows) is there) in
-    ap (λ q. is_some (row_at q (after_op zxid (Set path body version) rows))) is ∙ ap is_some (set_found zxid path body version rows found.0 found.1)
+      let found = found_some path rows (row_at path rows) refl (subst (λ q. Is q rows) is there) in
+      ap (λ q. is_some (row_at q (after_op zxid (Set path body version) rows))) is ∙ ap is_some (set_found zxid path body version rows found.0 found.1)
   | other differ ↦ there_kept zxid (Set path body version) p rows differ ∙ there
 ]
 stays_there zxid (Delete path version) p rows safe there = there_kept zxid (Delete path version) p rows (safe path version refl) ∙ there
