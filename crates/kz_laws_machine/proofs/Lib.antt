@@ -5,3 +5,4 @@ pub mod Turns
 pub mod Worlds
 pub mod Steady
 pub mod Lawful
+pub mod Driven

@@ -19,7 +19,7 @@ use Rattle.kz_spec_stores.specs.Rendering.{render}
 use Rattle.kz_spec_stores.specs.Difference.{diff, chunk}
 use Rattle.kz_spec_machine.specs.Driver.{Driver, epoch_or_zero, views_migrated, epoch_op, control_ops, migration_ops, base_op, base_ops, unrecorded, claim_ops, is_last_write, record_ops, write_ops}
 use Rattle.kz_spec_machine.specs.Sound.{TreeShape}
-use Rattle.kz_laws_trees.specs.TreeLaws.{path_of_op}
+use Rattle.kz_laws_trees.specs.TreeLaws.{path_of_op, Left}
 use Rattle.kz_laws_trees.proofs.Rows.{still, op_rises, set_found, created_found}
 use Rattle.kz_laws_trees.proofs.Area.{area_of}
 use Rattle.kz_laws_trees.proofs.Runs.{ran, Passes, passes_left, passes_right, ran_append, ran_keeps, Avoids, avoids_append, Outside, area_ran_left}
@@ -189,12 +189,6 @@ was_closed t new alike rows closed =
     let old = same_alike c.row (row_at migration_path t.rows) t.rows refl (ap (option_map still) (sym c.found) ∙ alike) in
     closed_by t old.0 t.rows old.1 (ap (λ body. has_offset (recorded_of body)) (sym old.3) ∙ c.offset)
     (ap (λ z. filter (is_later z) (migrated_rows t)) (sym old.2) ∙ ap (filter (is_later c.row.mzxid)) (sym rows) ∙ c.none)
-
--- What a claim leaves where the log is migrated.
-pub record Left (t new : Tree) : Type 0 where
-  pub recorded : recorded new ≡ recorded t
-  pub area : area new ≡ area t
-  pub closed : unclosed new ≡ None → unclosed t ≡ None
 
 pub claim_leaves : (t new : Tree) (seen : ClaimSeen) (d : Driver) (now : ℤ) → TreeShape t → views_migrated d ≡ true → multi t (claim_ops seen d now) ≡ Ok new → Left t new
 claim_leaves t new seen d now shape migrated is =
