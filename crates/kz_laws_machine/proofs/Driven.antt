@@ -1,8 +1,11 @@
 -- What the steps of one driver keep.
-use Rattle.std.proofs.Common.{◌≡◌, ℕ, ℤ, List, Some}
-use Rattle.kz_spec_machine.specs.Driver.{Shared, Driver, step}
+use Rattle.std.proofs.Common.{◌≡◌, ◌≢◌, ◌⊎◌, ℕ, ℤ, List, Some, None, inl, inr, subst}
+use Rattle.kz_types.specs.declared.tree.Op.{Op}
+use Rattle.kz_types.specs.declared.driver.Stage.TheVariants as stage
+use Rattle.kz_types.specs.declared.machine.Recorded.{Recorded}
+use Rattle.kz_spec_machine.specs.Driver.{Shared, Driver, remaining_at, step}
 use Rattle.kz_spec_machine.specs.Machine.{World, driver_of, turn}
-use Rattle.kz_spec_machine.specs.Sound.{IsTime, Sound, Alone}
+use Rattle.kz_spec_machine.specs.Sound.{IsTime, AtStage, Sound, Alone}
 use Rattle.kz_laws_machine.specs.Laws.{Driven}
 use Rattle.kz_laws_machine.proofs.Turns.{stepped, turned}
 
@@ -18,3 +21,7 @@ turn_driven n s running now d time driven =
 
 pub world_driven : (w : World) (id : ℤ) (d : Driver) → Sound w → Alone w → driver_of id w.drivers ≡ Some d → Driven w.shared d
 world_driven w id d sound alone found = record { kept = sound.kept; fine = sound.each id d found; current = alone.current id d found }
+
+pub held_remain : (s : Shared) (d : Driver) (target : Recorded) (ops : List Op) → Driven s d → d.claim ≢ None → (d.stage ≡ stage.WriteAll target ops) ⊎ (d.stage ≡ stage.WriteChange target ops) → ops ≡ remaining_at s.tree s.log target.offset
+held_remain s d target ops driven claimed (inl is) = ((subst (AtStage s.tree s.log d) is driven.fine.stage).1 (driven.current claimed)).remaining
+held_remain s d target ops driven claimed (inr is) = ((subst (AtStage s.tree s.log d) is driven.fine.stage).1 (driven.current claimed)).remaining

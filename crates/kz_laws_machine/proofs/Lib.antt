@@ -6,3 +6,4 @@ pub mod Worlds
 pub mod Steady
 pub mod Lawful
 pub mod Driven
+pub mod Told
