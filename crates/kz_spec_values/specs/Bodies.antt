@@ -1,15 +1,14 @@
 -- What the body of a migrated znode says, and the text that is written for it.
-use Rattle.std.specs.Prelude.{ℕ, Bool, true, false, not, ◌&&◌, ◌==◌, nat_lt, nat_le, ℤ, pos, negsuc, int_le, nat_abs, List, [], ◌∷◌, ◌++◌, map, length, Option, Some, None, option_map, option_and_then, unwrap_or, Result, Ok, Err, if◌then◌else◌, codes, bytes_eq, decimal}
+use Rattle.std.specs.Prelude.{ℕ, Bool, true, false, not, ◌&&◌, ◌==◌, nat_lt, ℤ, pos, negsuc, int_le, nat_abs, List, [], ◌∷◌, ◌++◌, map, length, Option, Some, None, option_map, option_and_then, unwrap_or, Result, Ok, Err, if◌then◌else◌, codes, bytes_eq, decimal}
 use Rattle.std.specs.Str.{is_utf8}
 use Rattle.std.specs.List.{list_all, list_any}
 use Rattle.std.specs.Ordering.{int_eq}
-use Rattle.serde_json.specs.Data.{Data, null, boolean, number, string, array, object, Items, no_items, item, Members, no_members, member, put}
+use Rattle.serde_json.specs.Data.{Data, number, string, array, object, Items, no_items, item, Members, no_members, member, put}
 use Rattle.serde_json.specs.Read.{read}
 use Rattle.serde_json.specs.Find.{get, get_member, as_number, as_i64, as_str, as_array, as_object, of_integer}
 use Rattle.serde_json.specs.Written.{compact_text}
-use Rattle.kz_types.specs.Numbers.{canonical, number_of}
+use Rattle.kz_types.specs.Numbers.{canonical, digits_up_to}
 use Rattle.kz_types.specs.Ids.{id_of, id_text, zero_id}
-use Rattle.kz_types.specs.Quotas.{is_digit}
 use Rattle.kz_types.specs.declared.id.Id.{Id}
 use Rattle.kz_types.specs.declared.row.AclRow.{AclRow}
 use Rattle.kz_types.specs.declared.bodies.Pair.{Pair}
@@ -195,18 +194,18 @@ operation_of name =
     else if bytes_eq name (codes "IdempotentWrite") then Some (pos 12)
     else None
 
-abbrev pub operation_name : ℕ → List ℕ
+abbrev pub operation_name : ℤ → List ℕ
 operation_name operation =
-    if operation == 2 then codes "All"
-    else if operation == 3 then codes "Read"
-    else if operation == 4 then codes "Write"
-    else if operation == 5 then codes "Create"
-    else if operation == 6 then codes "Delete"
-    else if operation == 7 then codes "Alter"
-    else if operation == 8 then codes "Describe"
-    else if operation == 9 then codes "ClusterAction"
-    else if operation == 10 then codes "DescribeConfigs"
-    else if operation == 11 then codes "AlterConfigs"
+    if int_eq operation (pos 2) then codes "All"
+    else if int_eq operation (pos 3) then codes "Read"
+    else if int_eq operation (pos 4) then codes "Write"
+    else if int_eq operation (pos 5) then codes "Create"
+    else if int_eq operation (pos 6) then codes "Delete"
+    else if int_eq operation (pos 7) then codes "Alter"
+    else if int_eq operation (pos 8) then codes "Describe"
+    else if int_eq operation (pos 9) then codes "ClusterAction"
+    else if int_eq operation (pos 10) then codes "DescribeConfigs"
+    else if int_eq operation (pos 11) then codes "AlterConfigs"
     else codes "IdempotentWrite"
 
 -- 2 denied, 3 allowed
@@ -216,8 +215,8 @@ permission_of name =
     else if bytes_eq name (codes "Allow") then Some (pos 3)
     else None
 
-abbrev pub permission_name : ℕ → List ℕ
-permission_name permission = if permission == 2 then codes "Deny" else codes "Allow"
+abbrev pub permission_name : ℤ → List ℕ
+permission_name permission = if int_eq permission (pos 2) then codes "Deny" else codes "Allow"
 
 -- the text of a member
 abbrev pub text_at : List ℕ → Data → Option (List ℕ)
@@ -245,7 +244,7 @@ acls_of_data pattern kind name d =
 
 -- one or more digits, leading zeros among them
 abbrev pub digits_number : List ℕ → Option ℤ
-digits_number text = if nat_lt 0 (length text) && list_all is_digit text && nat_le (number_of text) 9223372036854775807 then Some (pos (number_of text)) else None
+digits_number text = if length text == 0 then None else option_map (λ n. pos n) (digits_up_to 9223372036854775807 text)
 
 abbrev pub digits_of_data : Data → Option ℤ
 digits_of_data d = option_and_then digits_number (as_str d)
@@ -291,14 +290,19 @@ abbrev pub json_of : List ℕ → Option Data
 json_of bytes = if is_utf8 bytes then read bytes else None
 
 -- only an object is a body
+abbrev pub object_if : Data → Option Members → Option Data
+object_if d None = None
+object_if d (Some ms) = Some d
+
+abbrev pub object_of : Option Data → Option Data
+object_of o = option_and_then (λ d. object_if d (as_object d)) o
+
+abbrev pub body_of_object : EntityKey → Option Data → Result Body BodyFault
+body_of_object key None = Err NotJson
+body_of_object key (Some d) = body_of key d
+
 abbrev pub body_of_json : EntityKey → Option Data → Result Body BodyFault
-body_of_json key None = Err NotJson
-body_of_json key (Some null) = Err NotJson
-body_of_json key (Some (boolean b)) = Err NotJson
-body_of_json key (Some (number n)) = Err NotJson
-body_of_json key (Some (string s)) = Err NotJson
-body_of_json key (Some (array ds)) = Err NotJson
-body_of_json key (Some (object ms)) = body_of key (object ms)
+body_of_json key o = body_of_object key (object_of o)
 
 abbrev pub body_unless_empty : EntityKey → List ℕ → Option Body → Result Body BodyFault
 body_unless_empty key bytes (Some empty) = if length bytes == 0 then Ok empty else body_of_json key (json_of bytes)
@@ -370,8 +374,8 @@ state_data leader leader_epoch controller_epoch isr recovery = object
 abbrev pub acl_data : AclRow → Data
 acl_data row = object
     (member (codes "host") (string row.host)
-    (member (codes "operation") (string (operation_name (nat_abs row.operation)))
-    (member (codes "permissionType") (string (permission_name (nat_abs row.permission)))
+    (member (codes "operation") (string (operation_name row.operation))
+    (member (codes "permissionType") (string (permission_name row.permission))
     (member (codes "principal") (string row.principal) no_members))))
 
 abbrev pub acl_items : List AclRow → Items

@@ -1,0 +1,202 @@
+//! Why an operation is refused.
+ghost use Rattle.std.specs.Prelude.{◌≡◌, option_map, nat_le, length};
+ghost use Rattle.kz_spec_stores.specs.Tree.{may_own, is_root, has_parent, has_children, is_ephemeral, fits_version, count_beside, limit_beside, max_znodes, create_refusal, set_refusal, delete_refusal, check_refusal, op_refusal};
+ghost use Rattle.kz_tree.specs.Kept.{AreRows};
+ghost use Rattle.kz_tree.specs.Refusals.{meaning};
+
+use crate::migrated::is_migrated;
+use crate::names::parent_of;
+use crate::rows::row_at;
+use kz_types::{Op, Row};
+
+/// The most bytes of a znode's data.
+pub const MAX_BODY: usize = 1_048_575;
+
+/// The most znodes of the migrated area, and the most of all others but the root.
+pub const MAX_ZNODES: usize = 200_000;
+
+/// Why an operation is refused: ZooKeeper's code, or the number of a limit.
+#[derive(Clone, Copy, Debug, PartialEq, Eq)]
+pub enum Refusal {
+    Code(i32),
+    Limit(u8),
+}
+
+fn may_own(owner: Option<i64>, sessions: &[i64]) -> bool
+    ensures { result ≡ may_own owner sessions.now }
+{
+    match owner {
+        None => true,
+        Some(session) => sessions.contains(&session),
+    }
+}
+
+fn is_root(path: &[u8]) -> bool
+    ensures { result ≡ is_root path.now }
+{
+    path.is_empty()
+}
+
+fn has_parent(path: &[u8], rows: &[Row]) -> bool
+    requires { AreRows rows.now }
+    ensures { result ≡ has_parent path.now rows.now }
+{
+    let parent = parent_of(path);
+    is_root(parent) || row_at(rows, parent).is_some()
+}
+
+fn has_children(path: &[u8], rows: &[Row]) -> bool
+    ensures { result ≡ has_children path.now rows.now }
+{
+    for row in rows {
+        if parent_of(row.path.bytes()) == path {
+            return true;
+        }
+    }
+    false
+}
+
+fn is_ephemeral(row: Option<&Row>) -> bool
+    ensures { result ≡ is_ephemeral (option_map (λ r. r.now) row.entry) }
+{
+    match row {
+        None => false,
+        Some(row) => row.owner.is_some(),
+    }
+}
+
+fn fits_version(version: i32, row: &Row) -> bool
+    ensures { result ≡ fits_version version row.now }
+{
+    version == -1 || version == row.version
+}
+
+fn count_beside(path: &[u8], rows: &[Row]) -> usize
+    ensures { result ≡ count_beside path.now rows.now }
+{
+    let migrated = is_migrated(path);
+    let mut count = 0;
+    for row in rows {
+        if is_migrated(row.path.bytes()) == migrated {
+            count += 1;
+        }
+    }
+    count
+}
+
+// Whether there are as many znodes beside a path as there may be.
+fn is_full_beside(path: &[u8], rows: &[Row]) -> bool
+    ensures { result ≡ nat_le max_znodes (count_beside path.now rows.now) }
+{
+    rows.len() >= MAX_ZNODES && count_beside(path, rows) >= MAX_ZNODES
+}
+
+fn limit_beside(path: &[u8]) -> u8
+    ensures { result ≡ limit_beside path.now }
+{
+    if is_migrated(path) { 3 } else { 4 }
+}
+
+fn create_refusal(
+    sessions: &[i64],
+    path: &[u8],
+    body: &[u8],
+    owner: Option<i64>,
+    rows: &[Row],
+) -> Option<Refusal>
+    requires { AreRows rows.now }
+    ensures { option_map meaning result ≡ create_refusal sessions.now path.now body.now owner rows.now }
+{
+    if !may_own(owner, sessions) {
+        return Some(Refusal::Code(-112));
+    }
+    if !has_parent(path, rows) {
+        return Some(Refusal::Code(-101));
+    }
+    if row_at(rows, path).is_some() {
+        return Some(Refusal::Code(-110));
+    }
+    if is_ephemeral(row_at(rows, parent_of(path))) {
+        return Some(Refusal::Code(-108));
+    }
+    if body.len() > MAX_BODY {
+        return Some(Refusal::Limit(2));
+    }
+    if is_full_beside(path, rows) {
+        return Some(Refusal::Limit(limit_beside(path)));
+    }
+    None
+}
+
+fn set_refusal(body: &[u8], version: i32, row: Option<&Row>) -> Option<Refusal>
+    ensures { option_map meaning result ≡ set_refusal body.now version (option_map (λ r. r.now) row.entry) }
+{
+    let Some(row) = row else {
+        return Some(Refusal::Code(-101));
+    };
+    if !fits_version(version, row) {
+        return Some(Refusal::Code(-103));
+    }
+    if body.len() > MAX_BODY {
+        return Some(Refusal::Limit(2));
+    }
+    if row.version == i32::MAX {
+        return Some(Refusal::Limit(5));
+    }
+    None
+}
+
+fn delete_refusal(path: &[u8], version: i32, rows: &[Row], row: Option<&Row>) -> Option<Refusal>
+    ensures { option_map meaning result ≡ delete_refusal path.now version rows.now (option_map (λ r. r.now) row.entry) }
+{
+    let Some(row) = row else {
+        return Some(Refusal::Code(-101));
+    };
+    if !fits_version(version, row) {
+        return Some(Refusal::Code(-103));
+    }
+    if has_children(path, rows) {
+        return Some(Refusal::Code(-111));
+    }
+    None
+}
+
+fn check_refusal(version: i32, row: Option<&Row>) -> Option<Refusal>
+    ensures { option_map meaning result ≡ check_refusal version (option_map (λ r. r.now) row.entry) }
+{
+    let Some(row) = row else {
+        return Some(Refusal::Code(-101));
+    };
+    if !fits_version(version, row) {
+        return Some(Refusal::Code(-103));
+    }
+    None
+}
+
+/// Why an operation is refused on these znodes, where it is.
+pub fn op_refusal(sessions: &[i64], op: &Op, rows: &[Row]) -> Option<Refusal>
+    requires { AreRows rows.now }
+    ensures { option_map meaning result ≡ op_refusal sessions.now op.now rows.now }
+{
+    match op {
+        Op::Create { path, body, owner } => create_refusal(
+            sessions,
+            path.bytes(),
+            body.as_slice(),
+            *owner,
+            rows,
+        ),
+        Op::Set {
+            path,
+            body,
+            version,
+        } => set_refusal(body.as_slice(), *version, row_at(rows, path.bytes())),
+        Op::Delete { path, version } => delete_refusal(
+            path.bytes(),
+            *version,
+            rows,
+            row_at(rows, path.bytes()),
+        ),
+        Op::Check { path, version } => check_refusal(*version, row_at(rows, path.bytes())),
+    }
+}

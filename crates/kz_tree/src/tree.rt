@@ -1,0 +1,187 @@
+//! The tree.
+ghost use Rattle.std.specs.Prelude.{◌≡◌, ◌+ℤ◌, ◌<ℤ◌, pos, length, option_map, map, Ok, IfOk, IfErr, OnErr};
+ghost use Rattle.kz_spec_stores.specs.Tree as tree;
+ghost use Rattle.kz_spec_stores.specs.Tree.{max_long};
+ghost use Rattle.kz_ordered.specs.Order.{bytes_cmp};
+ghost use Rattle.kz_ordered.specs.Ordered.{Rises};
+ghost use Rattle.kz_spec_stores.specs.Rendering.{path_of_rendered};
+ghost use Rattle.kz_tree.specs.Kept.{IsKept};
+ghost use Rattle.kz_tree.specs.Refusals.{IsFaultOf};
+
+use crate::effects::after_ops;
+use crate::migrated::is_migrated;
+use crate::reads;
+use crate::rows::row_at;
+use kz_types::{NoMemory, Op, Recorded, Rendered, Row, TreeFault, ZPath, copy_all};
+use std::alloc::Global;
+use std::marker::Model;
+
+/// A tree of znodes: the last zxid, the live sessions, and the znodes but the root, by rising path. The root has no znode
+/// of its own here.
+#[derive(Drop)]
+pub struct Tree {
+    alloc: Global,
+    zxid: i64,
+    sessions: Vec<i64>,
+    rows: Vec<Row>,
+}
+
+impl Model for Tree {
+    ghost use Rattle.std.specs.Prelude.{◌≡◌};
+    ghost use Rattle.kz_spec_stores.specs.Tree.{Tree};
+    ghost use Rattle.kz_tree.specs.Kept.{IsKept};
+
+    ghost Value = { Tree };
+
+    ghost view = { λ t. record { zxid = t.zxid; sessions = t.sessions.items; rows = t.rows.items } };
+
+    ghost invariant = { λ t. IsKept t.zxid t.rows.items };
+}
+
+impl Tree {
+    /// The tree without a znode and without a session. It keeps this allocator.
+    pub fn new(alloc: Global) -> Tree
+        ensures { result ≡ tree.empty_tree }
+    {
+        Tree {
+            alloc,
+            zxid: 0,
+            sessions: Vec::new(alloc),
+            rows: Vec::new(alloc),
+        }
+    }
+
+    // The next zxid, where there is one.
+    fn next_zxid(&self) -> i64
+        ensures { self.now.zxid <ℤ max_long → result ≡ self.now.zxid +ℤ pos 1 }
+    {
+        if self.zxid < i64::MAX {
+            self.zxid + 1
+        } else {
+            self.zxid
+        }
+    }
+
+    /// Makes all operations, with one new zxid, which it answers, or none of them.
+    ///
+    /// `Refused` and `Limit` name the first operation that is refused, each judged after those before it. Limit 17 is
+    /// that there is no further zxid. At every `Err` the tree is as it was.
+    pub fn multi(&mut self, ops: &[Op]) -> Result<i64, TreeFault>
+        ensures ok { IfOk result (λ zxid. (tree.multi self.old ops.now ≡ Ok self.new) × (zxid ≡ self.new.zxid)) }
+        ensures err { IfErr result (IsFaultOf (tree.multi self.old ops.now)) }
+        ensures same { OnErr result (self.new ≡ self.old) }
+    {
+        let Ok(rows) = copy_all(self.alloc, &self.rows) else {
+            return Err(TreeFault::NoMemory);
+        };
+        let zxid = self.next_zxid();
+        let rows = match after_ops(self.alloc, &self.sessions, zxid, ops, rows) {
+            Ok(rows) => rows,
+            Err(fault) => return Err(fault),
+        };
+        if self.zxid == i64::MAX {
+            return Err(TreeFault::Limit {
+                index: 0,
+                number: 17,
+            });
+        }
+        self.rows = rows;
+        self.zxid = zxid;
+        Ok(zxid)
+    }
+
+    /// The znode at a path.
+    pub fn row(&self, path: &[u8]) -> Option<&Row>
+        ensures { option_map (λ row. row.now) result ≡ tree.row_at path.now self.now.rows }
+    {
+        row_at(&self.rows, path)
+    }
+
+    /// The znodes but the root, by rising path.
+    pub fn rows(&self) -> &[Row]
+        ensures { result.now ≡ self.now.rows }
+    {
+        self.rows.as_slice()
+    }
+
+    /// The zxid of the last transaction, 0 before the first.
+    pub fn last_zxid(&self) -> i64
+        ensures { result ≡ self.now.zxid }
+    {
+        self.zxid
+    }
+
+    /// How many znodes there are but the root.
+    pub fn count(&self) -> usize
+        ensures { result ≡ length self.now.rows }
+    {
+        self.rows.len()
+    }
+
+    /// The live sessions, rising.
+    pub fn sessions(&self) -> &[i64]
+        ensures { result.now ≡ self.now.sessions }
+    {
+        self.sessions.as_slice()
+    }
+
+    /// Copies of the first `limit` znodes of the migrated area behind a path, or of its first ones.
+    pub fn scan(&self, after: Option<&ZPath>, limit: usize) -> Result<Vec<Row>, NoMemory>
+        ensures { IfOk result (λ made. made.items ≡ tree.scan self.now (option_map (λ path. path.now) after.entry) limit) }
+    {
+        reads::scan(self.alloc, &self.rows, after, limit)
+    }
+
+    /// Copies of the znodes at these paths, in their order.
+    pub fn look(&self, paths: &[&[u8]]) -> Result<Vec<Option<Row>>, NoMemory>
+        ensures { IfOk result (λ made. made.items ≡ tree.look self.now (map (λ path. path.now) paths.now)) }
+    {
+        reads::look(self.alloc, &self.rows, paths)
+    }
+
+    /// The ids of the brokers that are there, rising: the children of `/brokers/ids` whose names are canonical decimals of
+    /// 0 to 2,147,483,647.
+    pub fn broker_ids(&self) -> Result<Vec<i32>, NoMemory>
+        ensures { IfOk result (λ ids. ids.items ≡ tree.broker_ids self.now) }
+    {
+        reads::broker_ids(self.alloc, &self.rows)
+    }
+
+    /// Copies of the znodes of the migrated area, by rising path.
+    pub fn migrated_rows(&self) -> Result<Vec<Row>, NoMemory>
+        ensures { IfOk result (λ made. made.items ≡ tree.migrated_rows self.now) }
+    {
+        reads::migrated_rows(self.alloc, &self.rows)
+    }
+
+    /// The paths and bodies of the migrated area, by rising path.
+    #[tactic(auto, using(crate::proofs::Areas::area_rises))]
+    pub fn area(&self) -> Result<Vec<Rendered>, NoMemory>
+        ensures znodes { IfOk result (λ made. made.items ≡ tree.area self.now) }
+        ensures rising { IfOk result (λ made. Rises bytes_cmp path_of_rendered made.items) }
+    {
+        reads::area(self.alloc, &self.rows)
+    }
+
+    /// How many znodes the migrated area has.
+    pub fn area_len(&self) -> usize
+        ensures { result ≡ length (tree.area self.now) }
+    {
+        reads::area_len(&self.rows)
+    }
+
+    /// What `/migration` records, where it is there and can be read.
+    pub fn recorded(&self) -> Result<Option<Recorded>, NoMemory>
+        ensures { IfOk result (λ recorded. recorded ≡ tree.recorded self.now) }
+    {
+        reads::recorded(self.alloc, &self.rows)
+    }
+
+    /// Where the tree isn't closed: `/migration` where no offset is recorded, else the first znode of the migrated area
+    /// that was written, or whose children were, after `/migration`.
+    pub fn unclosed(&self) -> Result<Option<ZPath>, NoMemory>
+        ensures { IfOk result (λ path. path ≡ tree.unclosed self.now) }
+    {
+        reads::unclosed(self.alloc, &self.rows)
+    }
+}
