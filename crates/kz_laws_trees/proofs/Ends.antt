@@ -88,7 +88,7 @@ batch_end_kept l epoch now items offset e =
       among = ap (λ ends. l.base ∷ ends) (map-append last_of l.batches (b ∷ [])) ∙ ap (λ ends. ends ++ last_of b ∷ []) e.among ∙ append_assoc e.before (offset ∷ e.after) (last_of b ∷ []);
     }
 
-counted_up : (from e : ℤ) (n : ℕ) → e ≡ from +ℤ pos n → from ≤ℤ e
+pub counted_up : (from e : ℤ) (n : ℕ) → e ≡ from +ℤ pos n → from ≤ℤ e
 counted_up from e n is = omega (arith, ints)
 
 within_by : (from : ℤ) (bs : List BatchRow) (before : List ℤ) (offset : ℤ) (after : List ℤ) → Follows from bs → from ∷ map last_of bs ≡ before ++ offset ∷ after → offset ≤ℤ last_end from bs

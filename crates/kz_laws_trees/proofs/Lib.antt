@@ -12,4 +12,5 @@ pub mod Beside
 pub mod Logs
 pub mod Ends
 pub mod Pages
+pub mod Migration
 pub mod Growth
