@@ -1,6 +1,6 @@
 -- The events that lines give are lawful.
-use Rattle.std.proofs.Common.{◌≡◌, ℕ, ◌+◌, suc, ◌==◌, ◌≤◌, nat_le, ℤ, pos, ◌≤ℤ◌, Bool, true, false, not, ◌&&◌, ◌||◌, if◌then◌else◌, List, [], ◌∷◌, ◌++◌, length, Option, Some, None, option_map, is_some, All, refl, sym, ap, ◌∙◌, subst, arith}
-use Rattle.std.specs.Prelude.{⊤, IsTrue, option_and_then, codes}
+use Rattle.std.proofs.Common.{◌≡◌, ℕ, suc, ◌==◌, ◌≤◌, nat_le, ℤ, pos, ◌≤ℤ◌, Bool, true, false, not, ◌&&◌, ◌||◌, if◌then◌else◌, List, [], ◌∷◌, length, Option, Some, None, option_map, is_some, All, refl, sym, ap, ◌∙◌, arith}
+use Rattle.std.specs.Prelude.{⊤, option_and_then, codes}
 use Rattle.std.specs.Ordering.{int_eq}
 use Rattle.std.specs.Str.{bytes_eq}
 use Rattle.std.proofs.lemmas.Bool.Decides.{nat_tests}
@@ -20,7 +20,7 @@ use Rattle.kz_spec_lines.specs.Records.{record_of}
 use Rattle.kz_spec_lines.specs.Events.{id_of, time_of, controller_of, now_of, timed_count, only_id, quorum_of, start_of, elect_of, turn_of, is_broker_config, is_changeable, changeable_of, only_record, change_of, check_of, event_forms, event_of, line_event}
 use Rattle.kz_spec_stores.specs.Image.{is_empty, is_broker_name}
 use Rattle.kz_spec_stores.specs.Image as image
-use Rattle.kz_spec_machine.specs.Sound.{IsId, IsChange, IsLawful}
+use Rattle.kz_spec_machine.specs.Sound.{IsId, IsTime, IsChange, IsLawful}
 use Rattle.kz_spec_runs.specs.InStep.{events_on, events_of, script_events}
 
 -- it is so of what is there
@@ -63,12 +63,9 @@ weaker P Q (Some x) is so = so x is
 id_is : (d : Data) → OfSome IsId (id_of d)
 id_is d = weaker (λ (i : ℤ). (pos 0 ≤ℤ i) × (i ≤ℤ pos 2147483647)) IsId (id_of d) (whole_is 2147483647 d) (λ i both. record { least = both.0; most = both.1 })
 
-abbrev IsTime : ℤ → Type 0
-IsTime t = pos 0 ≤ℤ t
-
 time_is : (o : Option Data) → OfSome IsTime (time_of o)
-time_is None = omega (arith, ints)
-time_is (Some d) = weaker (λ (i : ℤ). (pos 0 ≤ℤ i) × (i ≤ℤ pos 9223372036854775807)) IsTime (whole_up_to 9223372036854775807 d) (whole_is 9223372036854775807 d) (λ i both. both.0)
+time_is None = record { least = omega (arith, ints); most = omega (arith, ints) }
+time_is (Some d) = weaker (λ (i : ℤ). (pos 0 ≤ℤ i) × (i ≤ℤ pos 9223372036854775807)) IsTime (whole_up_to 9223372036854775807 d) (whole_is 9223372036854775807 d) (λ i both. record { least = both.0; most = both.1 })
 
 controller_is : (d : Data) → OfSome IsId (controller_of d)
 controller_is d = after (λ (x : Data). ⊤) IsId id_of (get (codes "controller") d) (anything (get (codes "controller") d)) (λ x t. id_is x)

@@ -1,5 +1,5 @@
 -- The tree in step with the log after each turn that comes to rest.
-use Rattle.std.proofs.Common.{◌≡◌, ◌≢◌, ℕ, ℤ, Bool, true, false, if◌then◌else◌, cond, List, [], ◌∷◌, ◌++◌, Option, Some, None, option_map, All, refl, sym, ap, ◌∙◌, subst}
+use Rattle.std.proofs.Common.{◌≡◌, ◌≢◌, ℤ, Bool, true, false, if◌then◌else◌, cond, List, [], ◌∷◌, ◌++◌, Option, Some, None, option_map, All, refl, sym, ap, ◌∙◌, subst}
 use Rattle.std.specs.Ordering.{int_eq}
 use Rattle.std.proofs.lemmas.Bool.Decides.{Decides-int_eq}
 use Rattle.std.proofs.lemmas.List.Elements.{All-nil, All-cons, All-head, All-tail}
@@ -11,11 +11,10 @@ use Rattle.kz_types.specs.declared.machine.Answer.TheVariants as answer
 use Rattle.kz_types.specs.declared.machine.Reply.{Reply}
 use Rattle.kz_types.specs.declared.machine.Reply.TheVariants as reply
 use Rattle.kz_spec_machine.specs.Driver.{Shared, Driver, state_of, is_one_of}
-use Rattle.kz_spec_machine.specs.Machine.{World, empty_world, running_ids, is_running, driver_of, with_driver, Turned, turn, work, first_of, unless, running_refusal, turn_result, unless_refused, next, after_events}
-use Rattle.kz_spec_machine.specs.Sound.{IsLawful, Sound, Alone, AtMostOne, Each, Fine, IsCurrent}
-use Rattle.kz_spec_runs.specs.InStep.{InStep, last_reply, ComesToRest, StaysInStep}
-use Rattle.kz_laws_machine.proofs.Turns.{TurnKept}
-use Rattle.kz_laws_machine.proofs.Worlds.{Own, OneOf, Lone, driver_is, own_of, placed, turn_of, next_kept, empty_lone}
+use Rattle.kz_spec_machine.specs.Machine.{World, empty_world, running_ids, is_running, driver_of, with_driver, turn, work, first_of, unless, running_refusal, turn_result, unless_refused, next, after_events}
+use Rattle.kz_spec_machine.specs.Sound.{IsTime, IsLawful, Sound, Alone, AtMostOne, Each, Fine, IsCurrent}
+use Rattle.kz_spec_runs.specs.InStep.{InStep, last_reply, StaysInStep}
+use Rattle.kz_laws_machine.proofs.Worlds.{OneOf, Lone, driver_is, own_of, placed, turn_of, next_kept, empty_lone}
 
 -- ---- one turn
 
@@ -39,29 +38,29 @@ in_state s (x ∷ []) id d e one is same dual =
     state_is h = cc
 in_state s (x ∷ y ∷ ds) id d e one is same dual = absurd one
 
-turn_rests : (w : World) (id now : ℤ) (new : World) (replies : List Reply) (m : Option Driver) → Lone w → driver_of id w.drivers ≡ m → turn_result w now m ≡ (new, answer.Turn replies)
+turn_rests : (w : World) (id now : ℤ) (new : World) (replies : List Reply) (m : Option Driver) → IsTime now → Lone w → driver_of id w.drivers ≡ m → turn_result w now m ≡ (new, answer.Turn replies)
     → last_reply replies ≡ Some reply.Idle → option_map (λ (x : Driver). state_of x.stage) (driver_of id new.drivers) ≡ Some state.DualWrite → InStep new.shared
-turn_rests w id now new replies None lone is made idle dual = absurd (let other : answer.NotRunning ≡ answer.Turn replies = ap (λ (x : World × Answer). x.1) made in cc)
-turn_rests w id now new replies (Some d) lone is made idle dual =
+turn_rests w id now new replies None time lone is made idle dual = absurd (let other : answer.NotRunning ≡ answer.Turn replies = ap (λ (x : World × Answer). x.1) made in cc)
+turn_rests w id now new replies (Some d) time lone is made idle dual =
     let t = turn (work w.shared d) w.shared (running_ids w.drivers) now d in
-    let k = turn_of w id now d lone is in
+    let k = turn_of w id now d time lone is in
     let world : record { shared = t.shared; drivers = with_driver t.driver w.drivers } ≡ new = ap (λ (x : World × Answer). x.0) made in
     let told : answer.Turn t.replies ≡ answer.Turn replies = ap (λ (x : World × Answer). x.1) made in
     let same : t.replies ≡ replies = cc in
     let drivers : with_driver t.driver w.drivers ≡ new.drivers = ap (λ (x : World). x.drivers) world in
     subst (λ (x : World). InStep x.shared) world (k.rest (ap last_reply same ∙ idle)
-      (in_state w.shared w.drivers id d t.driver lone.one is k.same (ap (λ ds. option_map (λ (x : Driver). state_of x.stage) (driver_of id ds)) drivers ∙ dual)))
+    (in_state w.shared w.drivers id d t.driver lone.one is k.same (ap (λ ds. option_map (λ (x : Driver). state_of x.stage) (driver_of id ds)) drivers ∙ dual)))
 
-by_refusal : (w : World) (id now : ℤ) (new : World) (replies : List Reply) (m : Option Answer) → Lone w → running_refusal w id ≡ m → unless_refused w m (turn_result w now (driver_of id w.drivers)) ≡ (new, answer.Turn replies)
+by_refusal : (w : World) (id now : ℤ) (new : World) (replies : List Reply) (m : Option Answer) → IsTime now → Lone w → running_refusal w id ≡ m → unless_refused w m (turn_result w now (driver_of id w.drivers)) ≡ (new, answer.Turn replies)
     → last_reply replies ≡ Some reply.Idle → option_map (λ (x : Driver). state_of x.stage) (driver_of id new.drivers) ≡ Some state.DualWrite → InStep new.shared
-by_refusal w id now new replies (Some a) lone is made idle dual =
+by_refusal w id now new replies (Some a) time lone is made idle dual =
     absurd (no_turn (is_one_of w.shared.declared id) (is_running id w.drivers) a replies is (ap (λ (x : World × Answer). x.1) made))
-by_refusal w id now new replies None lone is made idle dual = turn_rests w id now new replies (driver_of id w.drivers) lone refl made idle dual
+by_refusal w id now new replies None time lone is made idle dual = turn_rests w id now new replies (driver_of id w.drivers) time lone refl made idle dual
 
-rests_in_step : (w : World) (id now : ℤ) (new : World) (replies : List Reply) → Lone w → next w (event.Turn id now) ≡ (new, answer.Turn replies)
+rests_in_step : (w : World) (id now : ℤ) (new : World) (replies : List Reply) → IsTime now → Lone w → next w (event.Turn id now) ≡ (new, answer.Turn replies)
     → last_reply replies ≡ Some reply.Idle → option_map (λ (x : Driver). state_of x.stage) (driver_of id new.drivers) ≡ Some state.DualWrite → InStep new.shared
 unfolding next
-rests_in_step w id now new replies lone made idle dual = by_refusal w id now new replies (running_refusal w id) lone refl made idle dual
+rests_in_step w id now new replies time lone made idle dual = by_refusal w id now new replies (running_refusal w id) time lone refl made idle dual
 
 -- ---- a run
 
@@ -74,10 +73,15 @@ lawful_before : (before rest : List Event) → All IsLawful (before ++ rest) →
 lawful_before [] rest all = All-nil IsLawful
 lawful_before (e ∷ es) rest all = All-cons IsLawful e es (All-head IsLawful e (es ++ rest) all) (lawful_before es rest (All-tail IsLawful e (es ++ rest) all))
 
+lawful_behind : (before rest : List Event) → All IsLawful (before ++ rest) → All IsLawful rest
+lawful_behind [] rest all = all
+lawful_behind (e ∷ es) rest all = lawful_behind es rest (All-tail IsLawful e (es ++ rest) all)
+
 pub stays_in_step : (es : List Event) → All IsLawful es → StaysInStep es
 stays_in_step es lawful before after id now new replies is rest =
-    rests_in_step (after_events empty_world before) id now new replies
-    (after_kept before empty_world (lawful_before before (event.Turn id now ∷ after) (subst (All IsLawful) is lawful)) empty_lone)
+    let all = subst (All IsLawful) is lawful in
+    rests_in_step (after_events empty_world before) id now new replies (All-head IsLawful (event.Turn id now) after (lawful_behind before (event.Turn id now ∷ after) all)).1
+    (after_kept before empty_world (lawful_before before (event.Turn id now ∷ after) all) empty_lone)
     rest.turned rest.idle rest.dual
 
 -- ---- what is true of every world

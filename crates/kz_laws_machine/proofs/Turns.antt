@@ -1,14 +1,14 @@
 -- A turn, step by step.
-use Rattle.std.proofs.Common.{◌≡◌, ◌≢◌, ℕ, zero, suc, ℤ, Bool, true, false, if◌then◌else◌, List, [], ◌∷◌, Option, Some, None, refl, sym, ap, ◌∙◌, subst}
+use Rattle.std.proofs.Common.{◌≡◌, ℕ, zero, suc, ℤ, Bool, true, false, if◌then◌else◌, List, [], ◌∷◌, Some, refl, ap, ◌∙◌}
 use Rattle.kz_types.specs.declared.machine.DriverState.TheVariants as state
 use Rattle.kz_types.specs.declared.machine.Reply.{Reply}
 use Rattle.kz_types.specs.declared.machine.Reply.TheVariants as reply
-use Rattle.kz_spec_machine.specs.Driver.{Shared, Driver, state_of, epoch_or_zero, asked, made, answered, Stepped, step}
+use Rattle.kz_spec_machine.specs.Driver.{Shared, Driver, state_of, epoch_or_zero, asked, Stepped, step}
 use Rattle.kz_spec_machine.specs.Machine.{ends, Turned, with_reply, turn}
-use Rattle.kz_spec_machine.specs.Sound.{Kept, Fine}
+use Rattle.kz_spec_machine.specs.Sound.{IsTime, Kept, Fine}
 use Rattle.kz_spec_runs.specs.InStep.{InStep, last_reply}
 use Rattle.kz_laws_machine.proofs.Groups.{base_of, Current, Owed}
-use Rattle.kz_laws_machine.proofs.Steps.{made_kept, made_declared, owed}
+use Rattle.kz_laws_machine.proofs.Steps.{made_shaped, made_declared, owed}
 
 -- what is true after a step
 pub record StepKept (s : Shared) (id : ℤ) (t : Stepped) : Type 0 where
@@ -16,13 +16,16 @@ pub record StepKept (s : Shared) (id : ℤ) (t : Stepped) : Type 0 where
   pub declared : t.shared.declared ≡ s.declared
   pub owed : Owed t.shared id (t.driver, t.reply)
 
-pub stepped : (s : Shared) (running : List ℤ) (now : ℤ) (d : Driver) → Kept s → Fine s d → Current s d → StepKept s d.id (step s running now d)
+pub stepped : (s : Shared) (running : List ℤ) (now : ℤ) (d : Driver) → IsTime now → Kept s → Fine s d → Current s d → StepKept s d.id (step s running now d)
 unfolding step
-stepped s running now d kept fine current = record {
-  kept = made_kept s (epoch_or_zero d.epoch) now (asked s now d d.stage) kept;
-  declared = made_declared s (epoch_or_zero d.epoch) now (asked s now d d.stage);
-  owed = owed s running now d d.stage refl kept (base_of s d fine) current fine.elected fine.stage;
-}
+stepped s running now d time kept fine current =
+    let shaped = made_shaped s (epoch_or_zero d.epoch) now (asked s now d d.stage) kept in
+    let o = owed s running now d d.stage time refl kept (base_of s d kept.agreement fine) current fine.elected fine.stage in
+    record {
+      kept = record { tree = shaped.0; log = shaped.1; agreement = o.agreement };
+      declared = made_declared s (epoch_or_zero d.epoch) now (asked s now d d.stage);
+      owed = o;
+    }
 
 -- what is true after a turn
 pub record TurnKept (s : Shared) (id : ℤ) (t : Turned) : Type 0 where
@@ -62,12 +65,12 @@ either : (s : Shared) (id : ℤ) (b : Bool) (x y : Turned) → (b ≡ true → T
 either s id true x y first second = first refl
 either s id false x y first second = second refl
 
-pub turned : (n : ℕ) (s : Shared) (running : List ℤ) (now : ℤ) (d : Driver) → Kept s → Fine s d → Current s d → TurnKept s d.id (turn n s running now d)
+pub turned : (n : ℕ) (s : Shared) (running : List ℤ) (now : ℤ) (d : Driver) → IsTime now → Kept s → Fine s d → Current s d → TurnKept s d.id (turn n s running now d)
 unfolding turn
-turned zero s running now d kept fine current = record { kept = kept; declared = refl; own = fine; current = current; same = refl; rest = λ idle dual. absurd (cc) }
-turned (suc n) s running now d kept fine current =
+turned zero s running now d time kept fine current = record { kept = kept; declared = refl; own = fine; current = current; same = refl; rest = λ idle dual. absurd (cc) }
+turned (suc n) s running now d time kept fine current =
     let t = step s running now d in
-    let k = stepped s running now d kept fine current in
+    let k = stepped s running now d time kept fine current in
     either s d.id (ends t.reply) (record { shared = t.shared; driver = t.driver; replies = t.reply ∷ [] }) (with_reply t.reply (turn n t.shared running now t.driver))
     (λ over. one_step s d.id t k)
-    (λ on. more_steps s d.id t (turn n t.shared running now t.driver) k on (turned n t.shared running now t.driver k.kept k.owed.own k.owed.current))
+    (λ on. more_steps s d.id t (turn n t.shared running now t.driver) k on (turned n t.shared running now t.driver time k.kept k.owed.own k.owed.current))

@@ -1,33 +1,28 @@
 -- Worlds with at most one driver, event by event.
-use Rattle.std.proofs.Common.{◌≡◌, ◌≢◌, ⊎_elim, ℕ, ◌+◌, ◌≤◌, ℤ, pos, negsuc, ◌+ℤ◌, ◌≤ℤ◌, int_lt, Bool, true, false, not, ◌||◌, if◌then◌else◌, cond, List, [], ◌∷◌, ◌++◌, length, map, Option, Some, None, option_map, All, refl, sym, ap, ◌∙◌, subst, arith}
+use Rattle.std.proofs.Common.{◌≡◌, ℕ, ◌≤◌, ℤ, pos, negsuc, ◌+ℤ◌, ◌≤ℤ◌, int_lt, Bool, true, false, not, ◌||◌, if◌then◌else◌, cond, List, [], ◌∷◌, ◌++◌, length, map, Option, Some, None, option_map, refl, sym, ap, ◌∙◌, subst, arith}
 use Rattle.std.specs.Prelude.{⊤}
 use Rattle.std.specs.Ordering.{int_eq}
-use Rattle.std.specs.List.{find, list_any}
 use Rattle.std.proofs.lemmas.Bool.Decides.{Decides-int_eq}
 use Rattle.std.proofs.lemmas.Int.{ints}
 use Rattle.std.proofs.lemmas.List.Elements.{All-nil}
 use Rattle.kz_types.specs.declared.driver.Stage.TheVariants as stage
-use Rattle.kz_types.specs.declared.machine.DriverState.TheVariants as state
 use Rattle.kz_types.specs.declared.machine.Event.{Event}
 use Rattle.kz_types.specs.declared.machine.Event.TheVariants as event
 use Rattle.kz_types.specs.declared.machine.Answer.{Answer}
 use Rattle.kz_types.specs.declared.machine.Answer.TheVariants as answer
-use Rattle.kz_types.specs.declared.machine.Reply.{Reply}
-use Rattle.kz_types.specs.declared.machine.Reply.TheVariants as reply
 use Rattle.kz_types.specs.declared.record.MetaRecord.{MetaRecord}
-use Rattle.kz_types.specs.declared.record.MetaRecord.TheVariants as meta
 use Rattle.kz_types.specs.declared.machine.Recorded.{Recorded}
 use Rattle.kz_spec_stores.specs.Tree.{area}
 use Rattle.kz_spec_stores.specs.Difference.{diff}
-use Rattle.kz_spec_stores.specs.Log.{Log, end_of, image_at, max_epoch, full_log, with_next_epoch, image_of, is_open_log, is_migrated_log}
+use Rattle.kz_spec_stores.specs.Log.{Log, end_of, image_at, max_epoch, full_log, is_migrated_log}
 use Rattle.kz_spec_stores.specs.Rendering.{render}
-use Rattle.kz_spec_machine.specs.Driver.{Shared, Driver, new_driver, elected_driver, state_of, is_one_of, least}
-use Rattle.kz_spec_machine.specs.Machine.{World, empty_world, running_ids, is_running, driver_of, with_driver, Turned, turn, work, decided, first_of, unless, over, full, running_refusal, driver_refusal, leader_refusal, quorum_refusal, declared_world, start_refusal, started_world, election_records, next_epoch, elected_log, election_refusal, elected_world, election_answer, turn_result, over_excess, change_refusal, changed_log, changed_world, unless_refused, next, after_events}
-use Rattle.kz_spec_machine.specs.Sound.{IsId, IsEpoch, IsEpochOrNone, LogShape, IsBatchEnd, TreeShape, Kept, IsCurrent, Views, Epochs, Elected, Aims, Rests, AtStage, Fine, Each, Sound, AtMostOne, Alone, IsLawful}
-use Rattle.kz_spec_runs.specs.InStep.{InStep, last_reply, ComesToRest}
+use Rattle.kz_spec_machine.specs.Driver.{Shared, Driver, new_driver, elected_driver, is_one_of}
+use Rattle.kz_spec_machine.specs.Machine.{World, empty_world, running_ids, is_running, driver_of, with_driver, Turned, turn, work, decided, first_of, unless, over, full, running_refusal, leader_refusal, quorum_refusal, declared_world, start_refusal, started_world, election_records, next_epoch, elected_log, election_refusal, elected_world, election_answer, turn_result, change_refusal, changed_log, changed_world, unless_refused, next}
+use Rattle.kz_spec_machine.specs.Sound.{IsId, IsTime, IsEpoch, IsEpochOrNone, LogShape, IsBatchEnd, Kept, Aims, AtStage, Fine, IsLawful}
 use Rattle.kz_laws_trees.proofs.Ends.{end_least, base_is_batch_end, image_before}
 use Rattle.kz_laws_trees.proofs.Growth.{Grows, batch_shape, grows_batch, view_within}
-use Rattle.kz_laws_machine.proofs.Groups.{Base, base_of, Current, base_grown}
+use Rattle.kz_laws_machine.proofs.Agreements.{agreement_grown}
+use Rattle.kz_laws_machine.proofs.Groups.{base_of, Current, base_grown}
 use Rattle.kz_laws_machine.proofs.Turns.{TurnKept, turned}
 
 -- ---- a world with at most one driver
@@ -85,14 +80,14 @@ at_grown s l d grows within (stage.Fill records) at = tt
 at_grown s l d grows within stage.ReadLog at = tt
 at_grown s l d grows within (stage.ReadArea target rows) at = at
 at_grown s l d grows within (stage.WriteAll target ops) at = (at.0, λ c. record { remaining = (at.1 c).remaining ∙ ap (λ i. diff (area s.tree) (render i)) (sym (image_there s l d target grows within at.0)) })
-at_grown s l d grows within stage.InformBrokers at = (at.0, λ c. let old = at.1 c in record { closed = old.closed; same = old.same; view = old.view; area = old.area ∙ ap render (sym (grows.image d.view.position within)) })
-at_grown s l d grows within stage.Rest at = (at.0, λ c. let old = at.1 c in record { closed = old.closed; same = old.same; view = old.view; area = old.area ∙ ap render (sym (grows.image d.view.position within)) })
+at_grown s l d grows within stage.InformBrokers at = (at.0, λ c. let old = at.1 c in record { closed = old.closed; same = old.same; view = old.view })
+at_grown s l d grows within stage.Rest at = (at.0, λ c. let old = at.1 c in record { closed = old.closed; same = old.same; view = old.view })
 at_grown s l d grows within (stage.WriteChange target ops) at = (at.0, λ c. record { remaining = (at.1 c).remaining ∙ ap (λ i. diff (area s.tree) (render i)) (sym (image_there s l d target grows within at.0)) })
 
-fine_grown : (s : Shared) (l : Log) (d : Driver) → LogShape s.log → Grows s.log l → Fine s d → Fine (record s { log = l }) d
-fine_grown s l d shape grows fine =
-    let base = base_grown s.log l d shape grows (base_of s d fine) in
-    record { id = base.id; epochs = base.epochs; elected = fine.elected; views = base.views; stage = at_grown s l d grows (view_within s.log d.view shape fine.views) d.stage fine.stage }
+fine_grown : (s : Shared) (l : Log) (d : Driver) → Kept s → Grows s.log l → Fine s d → Fine (record s { log = l }) d
+fine_grown s l d kept grows fine =
+    let base = base_grown s l d kept.log grows (base_of s d kept.agreement fine) in
+    record { id = base.id; epochs = base.epochs; elected = fine.elected; claims = base.claims; views = base.views; stage = at_grown s l d grows (view_within s.log d.view kept.log fine.views) d.stage fine.stage }
 
 -- ---- refusals
 
@@ -121,7 +116,7 @@ quorum_one s (d ∷ e ∷ ds) ids none one = one
 
 quorum_kept : (w : World) (ids : List ℤ) → length ids ≡ 1 → Lone w → quorum_refusal w ≡ None → Lone (declared_world w ids)
 quorum_kept w ids single lone none = record {
-  kept = record { tree = lone.kept.tree; log = lone.kept.log };
+  kept = record { tree = lone.kept.tree; log = lone.kept.log; agreement = lone.kept.agreement };
   declared = omega arith;
   one = quorum_one w.shared w.drivers ids none lone.one;
 }
@@ -142,6 +137,7 @@ new_fine s id shape is = record {
   id = is;
   epochs = tt;
   elected = tt;
+  claims = tt;
   views = record { end = subst (IsBatchEnd s.log) shape.base (base_is_batch_end s.log); image = sym (image_before s.log shape); epoch = record { least = omega (arith, ints); most = omega (arith, ints) } };
   stage = tt;
 }
@@ -161,7 +157,7 @@ start_kept w id is lone none =
       kept = lone.kept;
       declared = lone.declared;
       one = start_one w.shared w.drivers id lone.kept.log is lone.declared (unless_none (is_one_of w.shared.declared id) answer.UnknownController both.0)
-        (unless_none (not (is_running id w.drivers)) answer.AlreadyRunning both.1) lone.one;
+          (unless_none (not (is_running id w.drivers)) answer.AlreadyRunning both.1) lone.one;
     }
 
 -- ---- elections
@@ -188,36 +184,40 @@ elected_shape l now shape less room =
     begun : (e : ℤ) (n : ℕ) → negsuc 0 ≤ℤ e → 1 ≤ n → pos 0 ≤ℤ (e +ℤ pos n)
     begun e n low some = omega (arith, ints)
 
-elected_one : (s : Shared) (now : ℤ) (d : Driver) (b : Bool) → LogShape s.log → int_lt s.log.epoch max_epoch ≡ true → Own s d
+elected_one : (s : Shared) (now : ℤ) (d : Driver) (b : Bool) → Kept s → int_lt s.log.epoch max_epoch ≡ true → Own s d
     → Own (record s { log = elected_log s.log now }) (if b then elected_driver (next_epoch s.log) d else d)
-elected_one s now d true shape less own =
+elected_one s now d true kept less own =
     let l = elected_log s.log now in
     let grows = grows_batch s.log (next_epoch s.log) now (election_records s.log) (omega (arith, ints)) in
-    let base = base_grown s.log l d shape grows (base_of s d own.fine) in
+    let base = base_grown s l d kept.log grows (base_of s d kept.agreement own.fine) in
     record {
-      fine = record { id = base.id; epochs = (next_range s.log.epoch shape.epoch less, omega (arith, ints)); elected = λ none. cc; views = base.views; stage = tt };
+      fine = record { id = base.id; epochs = (next_range s.log.epoch kept.log.epoch less, omega (arith, ints)); elected = λ none. cc; claims = tt; views = base.views; stage = tt };
       declared = own.declared;
       current = λ some. absurd (some refl);
     }
-elected_one s now d false shape less own = record {
-  fine = fine_grown s (elected_log s.log now) d shape (grows_batch s.log (next_epoch s.log) now (election_records s.log) (omega (arith, ints))) own.fine;
+elected_one s now d false kept less own = record {
+  fine = fine_grown s (elected_log s.log now) d kept (grows_batch s.log (next_epoch s.log) now (election_records s.log) (omega (arith, ints))) own.fine;
   declared = own.declared;
   current = own.current;
 }
 
-elected_all : (s : Shared) (now id : ℤ) (ds : List Driver) → LogShape s.log → int_lt s.log.epoch max_epoch ≡ true → OneOf s ds
+elected_all : (s : Shared) (now id : ℤ) (ds : List Driver) → Kept s → int_lt s.log.epoch max_epoch ≡ true → OneOf s ds
     → OneOf (record s { log = elected_log s.log now }) (map (λ (d : Driver). if int_eq d.id id then elected_driver (next_epoch s.log) d else d) ds)
-elected_all s now id [] shape less one = tt
-elected_all s now id (d ∷ []) shape less one = elected_one s now d (int_eq d.id id) shape less one
-elected_all s now id (d ∷ e ∷ ds) shape less one = one
+elected_all s now id [] kept less one = tt
+elected_all s now id (d ∷ []) kept less one = elected_one s now d (int_eq d.id id) kept less one
+elected_all s now id (d ∷ e ∷ ds) kept less one = one
 
 election_kept : (w : World) (id now : ℤ) → Lone w → election_refusal w id ≡ None → Lone (elected_world w id now)
 election_kept w id now lone none =
     let both = no_refusal w id none in
     record {
-      kept = record { tree = lone.kept.tree; log = elected_shape w.shared.log now lone.kept.log both.0 both.1 };
+      kept = record {
+        tree = lone.kept.tree;
+        log = elected_shape w.shared.log now lone.kept.log both.0 both.1;
+        agreement = agreement_grown w.shared.tree w.shared.log (elected_log w.shared.log now) lone.kept.log (grows_batch w.shared.log (next_epoch w.shared.log) now (election_records w.shared.log) (omega (arith, ints))) lone.kept.agreement;
+      };
       declared = lone.declared;
-      one = elected_all w.shared now id w.drivers lone.kept.log both.0 lone.one;
+      one = elected_all w.shared now id w.drivers lone.kept both.0 lone.one;
     }
 
 -- ---- changes
@@ -229,22 +229,24 @@ change_room w id records none =
     let c = first_none _ (full w.shared.log records) b.1 in
     full_none w.shared.log records (full_log w.shared.log records) refl c.1
 
-changed_one : (s : Shared) (l : Log) (ds : List Driver) → LogShape s.log → Grows s.log l → OneOf s ds → OneOf (record s { log = l }) ds
-changed_one s l [] shape grows one = tt
-changed_one s l (d ∷ []) shape grows one = record { fine = fine_grown s l d shape grows one.fine; declared = one.declared; current = one.current }
-changed_one s l (d ∷ e ∷ ds) shape grows one = one
+changed_one : (s : Shared) (l : Log) (ds : List Driver) → Kept s → Grows s.log l → OneOf s ds → OneOf (record s { log = l }) ds
+changed_one s l [] kept grows one = tt
+changed_one s l (d ∷ []) kept grows one = record { fine = fine_grown s l d kept grows one.fine; declared = one.declared; current = one.current }
+changed_one s l (d ∷ e ∷ ds) kept grows one = one
 
 change_kept : (w : World) (id : ℤ) (records : List MetaRecord) (now : ℤ) → Lone w → change_refusal w id records ≡ None → Lone (changed_world w records now)
 change_kept w id records now lone none =
     let l = w.shared.log in
     let shape = lone.kept.log in
+    let grows = grows_batch l l.epoch now records (omega (arith, ints)) in
     record {
       kept = record {
         tree = lone.kept.tree;
         log = batch_shape l l.epoch now records shape shape.epoch (change_room w id records none) (λ high. let old = shape.begun high in omega (arith, ints));
+        agreement = agreement_grown w.shared.tree l (changed_log l records now) shape grows lone.kept.agreement;
       };
       declared = lone.declared;
-      one = changed_one w.shared (changed_log l records now) w.drivers shape (grows_batch l l.epoch now records (omega (arith, ints))) lone.one;
+      one = changed_one w.shared (changed_log l records now) w.drivers lone.kept grows lone.one;
     }
 
 -- ---- turns
@@ -273,14 +275,14 @@ turned_world w t id d lone is k = record {
     by_drivers (x ∷ []) one found = let same = (driver_is id x d found).1 in turned_one w.shared t x one (subst (λ (y : Driver). TurnKept w.shared y.id t) (sym same) k)
     by_drivers (x ∷ y ∷ ds) one found = one
 
-pub turn_of : (w : World) (id now : ℤ) (d : Driver) → Lone w → driver_of id w.drivers ≡ Some d → TurnKept w.shared d.id (turn (work w.shared d) w.shared (running_ids w.drivers) now d)
-turn_of w id now d lone is =
+pub turn_of : (w : World) (id now : ℤ) (d : Driver) → IsTime now → Lone w → driver_of id w.drivers ≡ Some d → TurnKept w.shared d.id (turn (work w.shared d) w.shared (running_ids w.drivers) now d)
+turn_of w id now d time lone is =
     let own = own_of w.shared w.drivers id d lone.one is in
-    turned (work w.shared d) w.shared (running_ids w.drivers) now d lone.kept own.fine own.current
+    turned (work w.shared d) w.shared (running_ids w.drivers) now d time lone.kept own.fine own.current
 
-turn_kept : (w : World) (id now : ℤ) (m : Option Driver) → Lone w → driver_of id w.drivers ≡ m → Lone (turn_result w now m).0
-turn_kept w id now None lone is = lone
-turn_kept w id now (Some d) lone is = turned_world w (turn (work w.shared d) w.shared (running_ids w.drivers) now d) id d lone is (turn_of w id now d lone is)
+turn_kept : (w : World) (id now : ℤ) (m : Option Driver) → IsTime now → Lone w → driver_of id w.drivers ≡ m → Lone (turn_result w now m).0
+turn_kept w id now None time lone is = lone
+turn_kept w id now (Some d) time lone is = turned_world w (turn (work w.shared d) w.shared (running_ids w.drivers) now d) id d lone is (turn_of w id now d time lone is)
 
 unless_kept : (P : World → Type 0) (w : World) (refusal : Option Answer) (rest : World × Answer) → P w → P rest.0 → P (unless_refused w refusal rest).0
 unless_kept P w (Some a) rest old made = old
@@ -293,14 +295,15 @@ unfolding next
 next_kept w (event.Quorum ids) lawful lone = decided_kept Lone w (quorum_refusal w) (declared_world w ids) answer.Done lone (quorum_kept w ids lawful.1 lone)
 next_kept w (event.Start id) lawful lone = decided_kept Lone w (start_refusal w id) (started_world w id) answer.Done lone (start_kept w id lawful lone)
 next_kept w (event.Elect id now) lawful lone = decided_kept Lone w (election_refusal w id) (elected_world w id now) (election_answer w now) lone (election_kept w id now lone)
-next_kept w (event.Turn id now) lawful lone = unless_kept Lone w (running_refusal w id) (turn_result w now (driver_of id w.drivers)) lone (turn_kept w id now (driver_of id w.drivers) lone refl)
+next_kept w (event.Turn id now) lawful lone = unless_kept Lone w (running_refusal w id) (turn_result w now (driver_of id w.drivers)) lone (turn_kept w id now (driver_of id w.drivers) lawful.1 lone refl)
 next_kept w (event.Change id records now) lawful lone = decided_kept Lone w (change_refusal w id records) (changed_world w records now) (answer.Appended (end_of (changed_log w.shared.log records now))) lone (change_kept w id records now lone)
 next_kept w event.Check lawful lone = lone
 
 pub empty_lone : Lone empty_world
 empty_lone = record {
   kept = record {
-    tree = record { rise = tt; stamped = All-nil _ };
+    tree = record { rise = tt; parents = λ path there. absurd (cc); stamped = All-nil _ };
+    agreement = record { end = λ r is low. absurd (cc); same = λ r is closed. absurd (cc) };
     log = record {
       base = refl;
       empty = refl;

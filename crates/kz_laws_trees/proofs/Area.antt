@@ -1,23 +1,23 @@
 -- The migrated area after an operation.
-use Rattle.std.proofs.Common.{◌≡◌, ◌≢◌, ℕ, ℤ, pos, negsuc, Bool, true, false, cond, List, [], ◌∷◌, ◌++◌, Option, Some, None, option_map, is_some, refl, sym, ap, ◌∙◌, subst, map, filter}
+use Rattle.std.proofs.Common.{◌≡◌, ◌≢◌, ℕ, ℤ, negsuc, Bool, true, false, cond, List, Option, Some, None, option_map, refl, sym, ap, ◌∙◌, subst, map, filter}
 use Rattle.kz_types.specs.declared.tree.Row.{Row}
 use Rattle.kz_types.specs.declared.tree.Op.{Op}
-use Rattle.kz_types.specs.declared.tree.Op.TheVariants.{Create, Set, Delete, Check}
+use Rattle.kz_types.specs.declared.tree.Op.TheVariants.{Create, Set, Delete}
 use Rattle.kz_types.specs.declared.tree.Rendered.{Rendered}
 use Rattle.kz_types.specs.Paths.{is_migrated}
 use Rattle.kz_ordered.specs.Order.{bytes_cmp}
-use Rattle.kz_ordered.specs.Ordered.{find, put, without, Rises}
-use Rattle.kz_ordered.specs.Difference.{Edit, drop_key, make, alter, edited, all_edited}
+use Rattle.kz_ordered.specs.Ordered.{find, Rises}
+use Rattle.kz_ordered.specs.Difference.{Edit, drop_key, make, alter, edited}
 use Rattle.kz_ordered.specs.Edits.{edit_key}
 use Rattle.kz_ordered.proofs.Order.{bytes_order}
 use Rattle.kz_ordered.proofs.Lookup.{find-put_same, find-put_other, find-without_same, find-without_other, key_of_found, same_items}
 use Rattle.kz_ordered.proofs.Maps.{find-map, Rises-map, Rises-filter, find-filter_absent, find-filter_found}
 use Rattle.kz_ordered.proofs.Difference.{Rises-edited}
-use Rattle.kz_spec_stores.specs.Tree.{path_of_row, row_at, put_row, created_row, set_row, set_refusal, after_op, op_refusal, rendered_row}
+use Rattle.kz_spec_stores.specs.Tree.{path_of_row, row_at, created_row, set_row, set_refusal, after_op, op_refusal, rendered_row}
 use Rattle.kz_spec_stores.specs.Rendering.{path_of_rendered}
 use Rattle.kz_spec_stores.specs.Difference.{op_of}
 use Rattle.kz_laws_trees.specs.TreeLaws.{path_of_op}
-use Rattle.kz_laws_trees.proofs.Rows.{still, Same, same, other, compare, others_kept, op_rises, created_found, set_found, deleted_found}
+use Rattle.kz_laws_trees.proofs.Rows.{still, same, other, compare, others_kept, op_rises, created_found, set_found, deleted_found}
 
 -- the paths and bodies of the migrated area of these znodes
 abbrev pub area_of : List Row → List Rendered
@@ -80,8 +80,8 @@ area_left zxid o rows h outside = same_items bytes_order path_of_rendered (area_
     each : (p : List ℕ) → find_rendered p (area_of (after_op zxid o rows)) ≡ find_rendered p (area_of rows)
     each p = elim (compare p (path_of_op o)) [
       | same e ↦
-        let none : is_migrated p ≡ false = ap is_migrated e ∙ outside in
-        find_area p (after_op zxid o rows) (op_rises zxid o rows h) ∙ shown_outside p (row_at p (after_op zxid o rows)) none ∙ sym (shown_outside p (row_at p rows) none) ∙ sym (find_area p rows h)
+          let none : is_migrated p ≡ false = ap is_migrated e ∙ outside in
+          find_area p (after_op zxid o rows) (op_rises zxid o rows h) ∙ shown_outside p (row_at p (after_op zxid o rows)) none ∙ sym (shown_outside p (row_at p rows) none) ∙ sym (find_area p rows h)
       | other differ ↦ find_other zxid o p rows h differ
     ]
 

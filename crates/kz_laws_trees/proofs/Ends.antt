@@ -7,8 +7,7 @@ use Rattle.kz_types.specs.declared.log.BatchRow.{BatchRow}
 use Rattle.kz_types.specs.declared.log.Entry.{Entry}
 use Rattle.kz_types.specs.declared.record.MetaRecord.{MetaRecord}
 use Rattle.kz_spec_stores.specs.Image.{empty_image}
-use Rattle.kz_spec_stores.specs.Settlement.{counted}
-use Rattle.kz_spec_stores.specs.Log.{Log, last_of, last_end, end_of, batch_ends, record_count, max_records, numbered, entries_of_batch, entries, all_entries_applied, image_at, new_batch, with_batch}
+use Rattle.kz_spec_stores.specs.Log.{Log, last_of, last_end, end_of, record_count, max_records, entries_of_batch, entries, all_entries_applied, image_at, new_batch, with_batch}
 use Rattle.kz_spec_machine.specs.Sound.{Follows, LogShape, IsBatchEnd}
 use Rattle.kz_laws_trees.proofs.Logs.{AllAfter, counted_same, numbered_after}
 
@@ -89,7 +88,7 @@ batch_end_kept l epoch now items offset e =
       among = ap (λ ends. l.base ∷ ends) (map-append last_of l.batches (b ∷ [])) ∙ ap (λ ends. ends ++ last_of b ∷ []) e.among ∙ append_assoc e.before (offset ∷ e.after) (last_of b ∷ []);
     }
 
-counted_up : (from e : ℤ) (n : ℕ) → e ≡ from +ℤ pos n → from ≤ℤ e
+pub counted_up : (from e : ℤ) (n : ℕ) → e ≡ from +ℤ pos n → from ≤ℤ e
 counted_up from e n is = omega (arith, ints)
 
 within_by : (from : ℤ) (bs : List BatchRow) (before : List ℤ) (offset : ℤ) (after : List ℤ) → Follows from bs → from ∷ map last_of bs ≡ before ++ offset ∷ after → offset ≤ℤ last_end from bs

@@ -1,16 +1,15 @@
 -- A log that grows keeps its shape, and what a driver knows of it.
-use Rattle.std.proofs.Common.{◌≡◌, ◌≢◌, ⊎_elim, ℕ, ◌+◌, ◌≤◌, nat_lt, ℤ, pos, negsuc, ◌+ℤ◌, ◌-ℤ◌, ◌≤ℤ◌, ◌<ℤ◌, int_le, int_lt, Bool, true, false, if◌then◌else◌, List, [], ◌∷◌, ◌++◌, length, Option, Some, None, All, refl, sym, ap, ◌∙◌, subst, filter, arith}
-use Rattle.std.specs.Prelude.{Result, Ok, Err, ⊤}
+use Rattle.std.proofs.Common.{◌≡◌, ℕ, ◌+◌, ◌≤◌, nat_lt, ℤ, pos, ◌+ℤ◌, ◌≤ℤ◌, int_lt, Bool, true, false, if◌then◌else◌, List, [], ◌∷◌, length, Option, Some, None, All, refl, sym, ◌∙◌, subst, filter, arith}
+use Rattle.std.specs.Prelude.{Ok, Err}
 use Rattle.std.specs.Ordering.{int_eq}
 use Rattle.std.proofs.lemmas.Bool.Decides.{nat_tests, Decides-int_eq}
 use Rattle.std.proofs.lemmas.Int.{ints}
 use Rattle.std.proofs.lemmas.List.Elements.{All-push, All-head, All-tail, All-filter}
 use Rattle.kz_types.specs.declared.log.BatchRow.{BatchRow}
 use Rattle.kz_types.specs.declared.record.MetaRecord.{MetaRecord}
-use Rattle.kz_types.specs.declared.fault.LogFault.{LogFault}
 use Rattle.kz_types.specs.declared.fault.LogFault.TheVariants as log_fault
 use Rattle.kz_spec_stores.specs.Tree.{max_long}
-use Rattle.kz_spec_stores.specs.Log.{Log, View, end_of, image_at, new_batch, with_batch, with_next_epoch, record_count, max_records, max_epoch, full_log, added, append, last_epoch, is_behind, read_epoch, read_view}
+use Rattle.kz_spec_stores.specs.Log.{Log, View, end_of, image_at, new_batch, with_batch, record_count, max_records, full_log, added, append, last_epoch, is_behind, read_view}
 use Rattle.kz_spec_machine.specs.Sound.{IsEpochOrNone, LogShape, IsBatchEnd, Views}
 use Rattle.kz_laws_trees.proofs.Logs.{image_kept, end_more}
 use Rattle.kz_laws_trees.proofs.Ends.{follows_more, count_more, end_is_batch_end, batch_end_kept, batch_end_within}
@@ -79,7 +78,7 @@ appended_by l epoch now items new None room same is shape =
     let made : with_batch l epoch now items ≡ new = cc in
     subst (Appended l) made (record {
       shape = batch_shape l epoch now items shape (subst IsEpochOrNone (sym same) shape.epoch) room
-        (λ high. let old = shape.begun (subst (λ (e : ℤ). pos 1 ≤ℤ e) same high) in omega (arith, ints));
+          (λ high. let old = shape.begun (subst (λ (e : ℤ). pos 1 ≤ℤ e) same high) in omega (arith, ints));
       grows = grows_batch l epoch now items (omega (arith, ints));
     })
 
@@ -105,7 +104,7 @@ view_read l v shape old = record {
   end = end_is_batch_end l;
   image = refl;
   epoch = last_epoch_range (if int_lt v.position l.base then pos 0 else v.epoch) (filter (is_behind v.position) l.batches) (first_epoch_range (int_lt v.position l.base) v.epoch old.epoch)
-    (All-filter (is_behind v.position) (λ (b : BatchRow). IsEpochOrNone b.epoch) l.batches shape.epochs);
+      (All-filter (is_behind v.position) (λ (b : BatchRow). IsEpochOrNone b.epoch) l.batches shape.epochs);
 }
 
 pub view_grown : (l more : Log) (v : View) → LogShape l → Grows l more → Views l v → Views more v

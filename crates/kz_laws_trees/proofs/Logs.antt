@@ -1,7 +1,7 @@
 -- An append leaves the images of a log at every offset up to its end.
-use Rattle.std.proofs.Common.{◌≡◌, ℕ, ◌+◌, ℤ, pos, negsuc, ◌+ℤ◌, ◌-ℤ◌, ◌≤ℤ◌, ◌<ℤ◌, int_le, int_lt, Bool, true, false, not, ◌&&◌, ◌||◌, cond, List, [], ◌∷◌, ◌++◌, length, Option, Some, None, refl, sym, ap, ◌∙◌, subst, filter, arith, append-nil}
+use Rattle.std.proofs.Common.{◌≡◌, ℕ, ℤ, pos, ◌+ℤ◌, ◌-ℤ◌, ◌≤ℤ◌, ◌<ℤ◌, int_le, int_lt, Bool, true, false, not, ◌&&◌, ◌||◌, cond, List, [], ◌∷◌, ◌++◌, length, Option, Some, refl, ap, ◌∙◌, filter, arith, append-nil}
 use Rattle.std.specs.Prelude.{⊤}
-use Rattle.std.specs.List.{list_any, find, flat_map}
+use Rattle.std.specs.List.{list_any, find}
 use Rattle.std.proofs.lemmas.Int.{ints}
 use Rattle.std.proofs.lemmas.List.Elements.{filter-append, filter_agree}
 use Rattle.std.proofs.lemmas.List.Concat.{flat_map-append}
@@ -81,7 +81,7 @@ between_same at from to es new low after = any_same at (λ (e : Entry). closes e
 abbrev opens : List Entry → ℤ → Entry → Bool
 opens es offset b = is_begin b.item && int_lt b.offset offset && not (is_closed_between es b.offset offset)
 
-inside_same : (at offset : ℤ) (es new : List Entry) → offset ≤ℤ at → AllAfter at new → is_inside (es ++ new) offset ≡ is_inside es offset
+pub inside_same : (at offset : ℤ) (es new : List Entry) → offset ≤ℤ at → AllAfter at new → is_inside (es ++ new) offset ≡ is_inside es offset
 inside_same at offset es new low after =
     any_same at (opens (es ++ new) offset) es new (λ e later. and_second (is_begin e.item) (int_lt e.offset offset) (not (is_closed_between (es ++ new) e.offset offset)) (not_less offset e.offset (omega (arith, ints)))) after
     ∙ any_agree (opens (es ++ new) offset) (opens es offset) es (λ b. ap (λ x. is_begin b.item && int_lt b.offset offset && not x) (between_same at b.offset offset es new low after))

@@ -1,41 +1,38 @@
 -- The tree after a multi that isn't refused, after a write, and after a claim.
-use Rattle.std.proofs.Common.{◌≡◌, ◌≢◌, ◌⊎◌, ℕ, zero, suc, ◌≤◌, nat_le, ℤ, pos, negsuc, ◌+ℤ◌, ◌≤ℤ◌, int_le, Bool, true, false, not, ◌&&◌, ◌||◌, cond, if◌then◌else◌, List, [], ◌∷◌, ◌++◌, length, Option, Some, None, option_map, All, refl, sym, ap, ◌∙◌, subst, map, filter, take, drop, arith, inl, inr, ⊎_elim}
-use Rattle.std.specs.Prelude.{Result, Ok, Err, option_and_then, is_some}
-use Rattle.std.specs.Ordering.{int_eq}
+use Rattle.std.proofs.Common.{◌≡◌, ◌≢◌, ℕ, zero, suc, ◌≤◌, nat_le, ℤ, pos, negsuc, ◌+ℤ◌, ◌≤ℤ◌, int_le, Bool, true, false, if◌then◌else◌, List, [], ◌∷◌, ◌++◌, length, Option, Some, None, option_map, All, refl, sym, ap, ◌∙◌, subst, map, filter, take, drop, arith}
+use Rattle.std.specs.Prelude.{Result, Ok, Err, option_and_then}
 use Rattle.std.specs.Str.{bytes_eq}
-use Rattle.std.proofs.lemmas.Bool.{cases_Bool}
-use Rattle.std.proofs.lemmas.Bool.Decides.{nat_tests, Decides-int_eq}
+use Rattle.std.proofs.lemmas.Bool.Decides.{nat_tests}
 use Rattle.std.proofs.lemmas.Int.{ints}
 use Rattle.std.proofs.lemmas.List.{take_all}
-use Rattle.std.proofs.lemmas.List.Elements.{All-head, All-tail, All-weaker, All-filter, All-contains}
+use Rattle.std.proofs.lemmas.List.Elements.{All-head, All-tail, All-weaker, All-filter}
 use Rattle.std.proofs.lemmas.Slice.Eq.{bytes_eq-Decides}
 use Rattle.kz_types.specs.declared.tree.Row.{Row}
 use Rattle.kz_types.specs.declared.tree.Op.{Op}
-use Rattle.kz_types.specs.declared.tree.Op.TheVariants.{Create, Set, Delete, Check}
+use Rattle.kz_types.specs.declared.tree.Op.TheVariants.{Set}
 use Rattle.kz_types.specs.declared.tree.Rendered.{Rendered}
-use Rattle.kz_types.specs.declared.driver.ClaimSeen.{ClaimSeen}
 use Rattle.kz_types.specs.declared.machine.Recorded.{Recorded}
 use Rattle.kz_types.specs.declared.fault.TreeFault.{TreeFault}
 use Rattle.kz_types.specs.declared.fault.TreeFault.TheVariants as fault
-use Rattle.kz_types.specs.Paths.{is_migrated, roots, base_paths}
+use Rattle.kz_types.specs.Paths.{is_migrated, roots}
 use Rattle.kz_ordered.specs.Order.{bytes_cmp}
 use Rattle.kz_ordered.specs.Ordered.{Rises}
 use Rattle.kz_ordered.specs.Difference.{Edit, all_edited, difference}
 use Rattle.kz_ordered.proofs.Order.{bytes_order}
 use Rattle.kz_ordered.proofs.Difference.{difference_leads, prefix_leaves_rest}
-use Rattle.kz_ordered.proofs.Lookup.{found_is_contained}
-use Rattle.kz_spec_values.specs.Control.{control_path, epoch_path, migration_path, recorded_of, written_epoch, written_recorded}
-use Rattle.kz_spec_stores.specs.Tree.{Tree, path_of_row, row_at, op_refusal, set_refusal, check_refusal, set_row, with_zxid, max_long, after_ops, multi, migrated_rows, rendered_row, area, recorded, has_offset, is_later, first_path, unclosed_below, unclosed}
+use Rattle.kz_spec_values.specs.Control.{control_path, epoch_path, migration_path, recorded_of, written_recorded}
+use Rattle.kz_spec_stores.specs.Tree.{Tree, path_of_row, row_at, op_refusal, set_refusal, set_row, with_zxid, max_long, after_ops, multi, migrated_rows, area, has_offset, is_later, first_path, unclosed_below, unclosed}
 use Rattle.kz_spec_stores.specs.Image.{Image}
 use Rattle.kz_spec_stores.specs.Rendering.{path_of_rendered, render}
 use Rattle.kz_spec_stores.specs.Difference.{same_body, op_of, diff, max_chunk, chunk}
-use Rattle.kz_spec_machine.specs.Driver.{Driver, is_last_write, record_ops, write_ops}
-use Rattle.kz_spec_machine.specs.Sound.{IsStamped, TreeShape, claim_version}
+use Rattle.kz_spec_machine.specs.Driver.{is_last_write, record_ops, write_ops}
+use Rattle.kz_spec_machine.specs.Sound.{IsStamped, HaveParents, TreeShape, claim_version}
 use Rattle.kz_laws_trees.specs.TreeLaws.{path_of_op, Completed}
-use Rattle.kz_laws_trees.proofs.Rows.{still, set_found, created_found}
-use Rattle.kz_laws_trees.proofs.Area.{area_of, edit_path, area_rises, area_left}
+use Rattle.kz_laws_trees.proofs.Rows.{still, set_found}
+use Rattle.kz_laws_trees.proofs.Area.{area_of, area_rises, area_left}
 use Rattle.kz_laws_trees.proofs.Runs.{ran, Passes, passed, ran_is, ran_append, passes_left, passes_right, ran_rises, Avoids, avoids_append, ran_keeps, Inside, Outside, area_ran, area_ran_left, inside_take, avoids_inside}
 use Rattle.kz_laws_trees.proofs.Each.{Lasts, all_ran, none_later}
+use Rattle.kz_laws_trees.proofs.Parents.{ran_parents}
 use Rattle.kz_laws_trees.proofs.Render.{decides_body, render_rises, render_inside, area_inside, difference_inside}
 
 -- ---- any multi
@@ -90,8 +87,9 @@ shape_kept t new ops m shape =
     let zxid = t.zxid +ℤ pos 1 in
     record {
       rise = subst (Rises bytes_cmp path_of_row) (sym m.rows) (ran_rises zxid ops t.rows shape.rise);
+      parents = subst HaveParents (sym m.rows) (ran_parents t.sessions zxid ops t.rows m.passes shape.rise shape.parents);
       stamped = subst (λ (z : ℤ). All (IsStamped z) new.rows) (sym m.zxid) (subst (All (IsStamped zxid)) (sym m.rows)
-        (all_ran (IsStamped zxid) zxid ops t.rows (stamps_last zxid) (All-weaker (IsStamped t.zxid) (IsStamped zxid) (stamped_later t.zxid) t.rows shape.stamped)));
+          (all_ran (IsStamped zxid) zxid ops t.rows (stamps_last zxid) (All-weaker (IsStamped t.zxid) (IsStamped zxid) (stamped_later t.zxid) t.rows shape.stamped)));
     }
 
 -- ---- paths that differ
@@ -103,7 +101,11 @@ epoch_outside : is_migrated epoch_path ≡ false
 unfolding is_migrated roots
 epoch_outside = refl
 
-migration_outside : is_migrated migration_path ≡ false
+pub control_outside : is_migrated control_path ≡ false
+unfolding is_migrated roots
+control_outside = refl
+
+pub migration_outside : is_migrated migration_path ≡ false
 unfolding is_migrated roots
 migration_outside = refl
 
@@ -121,10 +123,10 @@ version_kept t new ops m avoids =
     ∙ ap (option_map (λ (r : Row). r.version)) (ran_keeps (t.zxid +ℤ pos 1) epoch_path ops t.rows avoids)
     ∙ version_still (row_at epoch_path t.rows)
 
-abbrev edits_to : Tree → List Rendered → List (Edit Rendered (List ℕ))
+abbrev pub edits_to : Tree → List Rendered → List (Edit Rendered (List ℕ))
 edits_to t want = difference bytes_cmp path_of_rendered same_body (area t) want
 
-edits_inside : (t : Tree) (i : Image) → Inside (edits_to t (render i))
+pub edits_inside : (t : Tree) (i : Image) → Inside (edits_to t (render i))
 edits_inside t i = difference_inside (area t) (render i) (area_inside t.rows) (render_inside i)
 
 map_take : (n : ℕ) (es : List (Edit Rendered (List ℕ))) → take n (map op_of es) ≡ map op_of (take n es)
@@ -137,24 +139,27 @@ pub chunk_is : (t : Tree) (i : Image) → chunk (diff (area t) (render i)) ≡ m
 unfolding diff
 chunk_is t i = map_take max_chunk (edits_to t (render i))
 
-chunk_avoids : (t : Tree) (i : Image) (p : List ℕ) → is_migrated p ≡ false → Avoids p (chunk (diff (area t) (render i)))
+pub chunk_avoids : (t : Tree) (i : Image) (p : List ℕ) → is_migrated p ≡ false → Avoids p (chunk (diff (area t) (render i)))
 chunk_avoids t i p outside = subst (Avoids p) (sym (chunk_is t i)) (avoids_inside p (take max_chunk (edits_to t (render i))) outside (inside_take max_chunk (edits_to t (render i)) (edits_inside t i)))
 
-record_avoids : (b : Bool) (target : Recorded) → Avoids epoch_path (record_ops b target)
-record_avoids true target = (differ epoch_path migration_path refl, tt)
-record_avoids false target = tt
+record_avoids : (b : Bool) (target : Recorded) (p : List ℕ) → p ≢ migration_path → Avoids p (record_ops b target)
+record_avoids true target p other = (other, tt)
+record_avoids false target p other = tt
 
 -- what stands behind the first operation of a write, which checks the claim
 abbrev pub rest_of_write : Tree → Image → Recorded → List Op
 rest_of_write t i target = chunk (diff (area t) (render i)) ++ record_ops (is_last_write (diff (area t) (render i))) target
 
--- a write leaves the claim's data version. It checks it
+pub rest_of_write_avoids : (t : Tree) (i : Image) (target : Recorded) (p : List ℕ) → is_migrated p ≡ false → p ≢ migration_path → Avoids p (rest_of_write t i target)
+rest_of_write_avoids t i target p outside other = avoids_append p (chunk (diff (area t) (render i))) (record_ops (is_last_write (diff (area t) (render i))) target) (chunk_avoids t i p outside) (record_avoids (is_last_write (diff (area t) (render i))) target p other)
+
+-- a write leaves the claim's data version, which it checks
 version_by : (t new : Tree) (i : Image) (claim : ℤ) (target : Recorded) → Ran t new (write_ops claim (diff (area t) (render i)) target) → claim_version new ≡ claim_version t
 version_by t new i claim target m =
     sym (version_still (row_at epoch_path new.rows))
     ∙ ap (λ rows. option_map (λ (r : Row). r.version) (option_map still (row_at epoch_path rows))) m.rows
     ∙ ap (option_map (λ (r : Row). r.version)) (ran_keeps (t.zxid +ℤ pos 1) epoch_path (rest_of_write t i target) t.rows
-      (avoids_append epoch_path (chunk (diff (area t) (render i))) (record_ops (is_last_write (diff (area t) (render i))) target) (chunk_avoids t i epoch_path epoch_outside) (record_avoids (is_last_write (diff (area t) (render i))) target)))
+    (rest_of_write_avoids t i target epoch_path epoch_outside (differ epoch_path migration_path refl)))
     ∙ version_still (row_at epoch_path t.rows)
 
 pub write_keeps_version : (t new : Tree) (i : Image) (claim : ℤ) (target : Recorded) → multi t (write_ops claim (diff (area t) (render i)) target) ≡ Ok new → claim_version new ≡ claim_version t
@@ -170,7 +175,7 @@ found_by : (body : List ℕ) (rows : List Row) (m : Option Row) → row_at migra
 found_by body rows None is pass = absurd (cc)
 found_by body rows (Some r) is pass = (r, is)
 
-closed_by : (t : Tree) (m : Row) (rows : List Row) → row_at migration_path t.rows ≡ Some m → has_offset (recorded_of m.body) ≡ true → filter (is_later m.mzxid) (migrated_rows t) ≡ [] → unclosed t ≡ None
+pub closed_by : (t : Tree) (m : Row) (rows : List Row) → row_at migration_path t.rows ≡ Some m → has_offset (recorded_of m.body) ≡ true → filter (is_later m.mzxid) (migrated_rows t) ≡ [] → unclosed t ≡ None
 closed_by t m rows is offset none =
     ap (λ x. unclosed_below x (migrated_rows t)) is
     ∙ ap (λ (b : Bool). if b then first_path (filter (is_later m.mzxid) (migrated_rows t)) else Some migration_path) offset
@@ -188,11 +193,11 @@ set_last t new i body shape after zxid rows passes pass =
     let rise = ran_rises (t.zxid +ℤ pos 1) (map op_of (edits_to t (render i))) t.rows shape.rise in
     record {
       area = ap area_of rows ∙ area_left (t.zxid +ℤ pos 1) (Set migration_path body (negsuc 0)) (before_set t i) rise migration_outside
-        ∙ area_ran t.sessions (t.zxid +ℤ pos 1) (edits_to t (render i)) t.rows shape.rise (edits_inside t i) passes
-        ∙ difference_leads bytes_order path_of_rendered same_body decides_body (area t) (render i) (area_rises t.rows shape.rise) (render_rises i);
+          ∙ area_ran t.sessions (t.zxid +ℤ pos 1) (edits_to t (render i)) t.rows shape.rise (edits_inside t i) passes
+          ∙ difference_leads bytes_order path_of_rendered same_body decides_body (area t) (render i) (area_rises t.rows shape.rise) (render_rises i);
       recorded = ap (option_and_then (λ (r : Row). recorded_of r.body)) found;
       closed = λ offset. closed_by new set new.rows found offset
-        (subst (λ z. filter (is_later z) (migrated_rows new) ≡ []) zxid (none_later (IsStamped new.zxid) new.zxid (stamped_low new.zxid) (migrated_rows new) (All-filter (λ (r : Row). is_migrated r.path) (IsStamped new.zxid) new.rows after.stamped)));
+          (subst (λ z. filter (is_later z) (migrated_rows new) ≡ []) zxid (none_later (IsStamped new.zxid) new.zxid (stamped_low new.zxid) (migrated_rows new) (All-filter (λ (r : Row). is_migrated r.path) (IsStamped new.zxid) new.rows after.stamped)));
     }
 
 -- the operations of the last write are all edits and the record of the offset
@@ -216,9 +221,9 @@ last_write t new i claim target shape last is =
     let rest : rest_of_write t i target ≡ edits ++ Set migration_path body (negsuc 0) ∷ [] = last_is t i target (is_last_write (diff (area t) (render i))) refl last in
     let passes : Passes t.sessions zxid (edits ++ Set migration_path body (negsuc 0) ∷ []) t.rows = subst (λ os. Passes t.sessions zxid os t.rows) rest m.passes.1 in
     set_last t new i body shape (shape_kept t new ops m shape) m.zxid
-      (m.rows ∙ ap (λ os. ran zxid os t.rows) rest ∙ ran_append zxid edits (Set migration_path body (negsuc 0) ∷ []) t.rows)
-      (passes_left t.sessions zxid edits (Set migration_path body (negsuc 0) ∷ []) t.rows passes)
-      (passes_right t.sessions zxid edits (Set migration_path body (negsuc 0) ∷ []) t.rows passes).0
+    (m.rows ∙ ap (λ os. ran zxid os t.rows) rest ∙ ran_append zxid edits (Set migration_path body (negsuc 0) ∷ []) t.rows)
+    (passes_left t.sessions zxid edits (Set migration_path body (negsuc 0) ∷ []) t.rows passes)
+    (passes_right t.sessions zxid edits (Set migration_path body (negsuc 0) ∷ []) t.rows passes).0
 
 -- ---- every write
 

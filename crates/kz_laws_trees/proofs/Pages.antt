@@ -1,12 +1,12 @@
 -- The migrated area page by page.
-use Rattle.std.proofs.Common.{◌≡◌, ◌⊎◌, ℕ, suc, ◌≤◌, ◌<◌, min, nat_lt, Bool, true, false, cond, List, [], ◌∷◌, ◌++◌, length, Option, Some, None, Ordering, Less, Equal, Greater, All, refl, sym, ap, ◌∙◌, subst, inl, inr, filter, take, drop, arith, append_assoc, append-nil, length-take}
+use Rattle.std.proofs.Common.{◌≡◌, ◌⊎◌, ℕ, ◌≤◌, min, nat_lt, Bool, true, false, cond, List, [], ◌∷◌, ◌++◌, length, Some, None, Less, All, refl, ap, ◌∙◌, subst, inl, inr, filter, take, drop, arith, append_assoc, length-take}
 use Rattle.std.specs.Ordering.{match_ordering}
 use Rattle.std.proofs.lemmas.Bool.Decides.{nat_tests}
 use Rattle.std.proofs.lemmas.List.{take_all, take-append-drop}
 use Rattle.std.proofs.lemmas.List.Elements.{All-head, All-tail, filter-append}
 use Rattle.kz_types.specs.declared.tree.Row.{Row}
 use Rattle.kz_ordered.specs.Order.{bytes_cmp}
-use Rattle.kz_ordered.specs.Ordered.{Rises, RisesAbove, AllBelow}
+use Rattle.kz_ordered.specs.Ordered.{Rises}
 use Rattle.kz_ordered.proofs.Order.{bytes_order, cmp_greater}
 use Rattle.kz_ordered.proofs.Append.{below_split, above_split, all_from_rises_above}
 use Rattle.kz_spec_stores.specs.Tree.{path_of_row, is_after}

@@ -1,7 +1,7 @@
 -- The rendering of the metadata rises and lies in the migrated area, and so do the operations that lead to it.
-use Rattle.std.proofs.Common.{◌≡◌, ◌⊎◌, ℕ, Bool, true, false, List, [], ◌∷◌, ◌++◌, Option, Some, None, Contains, All, refl, sym, ap, ◌∙◌, subst, inl, inr, map, filter, get_or, rules}
+use Rattle.std.proofs.Common.{◌≡◌, ◌⊎◌, ℕ, true, List, [], ◌∷◌, Option, None, Contains, All, refl, ap, ◌∙◌, inl, inr, map, filter, get_or, rules}
 use Rattle.std.proofs.lemmas.Slice.Eq.{bytes_eq-Decides}
-use Rattle.std.proofs.lemmas.List.Elements.{All-contains, All-map, All-append, All-head, All-tail, All-weaker, filter_passes, All-from_recursion}
+use Rattle.std.proofs.lemmas.List.Elements.{All-contains, All-map, All-append, All-head, All-tail, filter_passes, All-from_recursion}
 use Rattle.kz_types.specs.declared.tree.Row.{Row}
 use Rattle.kz_types.specs.declared.tree.Rendered.{Rendered}
 use Rattle.kz_types.specs.declared.key.EntityKey.TheVariants.{BrokerConfig}
@@ -14,7 +14,7 @@ use Rattle.kz_ordered.proofs.Order.{bytes_order}
 use Rattle.kz_ordered.proofs.Edits.{All-drops, All-makes}
 use Rattle.kz_ordered.proofs.Puts.{Rises-all_put, Contains-all_put_cases}
 use Rattle.kz_spec_stores.specs.Image.{Image}
-use Rattle.kz_spec_stores.specs.Tree.{path_of_row, rendered_row}
+use Rattle.kz_spec_stores.specs.Tree.{rendered_row}
 use Rattle.kz_spec_stores.specs.Rendering.{path_of_rendered, bare, broker_key, config_znode, render}
 use Rattle.kz_spec_stores.specs.Difference.{same_body}
 use Rattle.kz_laws_trees.proofs.Area.{area_of, edit_path}

@@ -1,17 +1,13 @@
 -- The znodes after an operation: what is found at each path.
-use Rattle.std.proofs.Common.{◌≡◌, ◌≢◌, ℕ, ℤ, pos, Bool, true, false, cond, List, [], ◌∷◌, ◌++◌, Option, Some, None, option_map, is_some, Contains, All, refl, sym, ap, ◌∙◌, subst, inl, inr, map, filter}
+use Rattle.std.proofs.Common.{◌≡◌, ◌≢◌, ℕ, ℤ, pos, List, Option, Some, None, option_map, refl, sym, ap, ◌∙◌}
 use Rattle.kz_types.specs.declared.tree.Row.{Row}
 use Rattle.kz_types.specs.declared.tree.Op.{Op}
 use Rattle.kz_types.specs.declared.tree.Op.TheVariants.{Create, Set, Delete, Check}
-use Rattle.kz_types.specs.declared.tree.Rendered.{Rendered}
-use Rattle.kz_types.specs.Paths.{is_migrated}
 use Rattle.kz_ordered.specs.Order.{bytes_cmp}
-use Rattle.kz_ordered.specs.Ordered.{find, put, without, Rises}
+use Rattle.kz_ordered.specs.Ordered.{Rises}
 use Rattle.kz_ordered.proofs.Order.{bytes_order, below, equal, above, place, less_differs, less_differs_back}
-use Rattle.kz_ordered.proofs.Lookup.{find-put_same, find-put_other, find-without_same, find-without_other, Rises-put, Rises-without, key_of_found, same_items}
-use Rattle.kz_ordered.proofs.Maps.{find-map, Rises-map, Rises-filter, find-filter_absent, find-filter_found}
-use Rattle.kz_spec_stores.specs.Tree.{path_of_row, row_at, put_row, without_row, parent_of, created_row, set_row, touched, after_set, after_op, op_refusal, rendered_row}
-use Rattle.kz_spec_stores.specs.Rendering.{path_of_rendered}
+use Rattle.kz_ordered.proofs.Lookup.{find-put_same, find-put_other, find-without_same, find-without_other, Rises-put, Rises-without, key_of_found}
+use Rattle.kz_spec_stores.specs.Tree.{path_of_row, row_at, put_row, parent_of, created_row, set_row, touched, after_set, after_op}
 use Rattle.kz_laws_trees.specs.TreeLaws.{path_of_op}
 
 -- all of a znode but the transaction of its children

@@ -1,23 +1,20 @@
 -- Operations one after another.
-use Rattle.std.proofs.Common.{◌≡◌, ◌≢◌, ℕ, zero, suc, ◌+◌, ℤ, pos, negsuc, ◌+ℤ◌, ◌≤ℤ◌, Bool, true, false, cond, List, [], ◌∷◌, ◌++◌, Option, Some, None, option_map, is_some, refl, sym, ap, ◌∙◌, subst, map, filter, take, All, Contains, get_or, arith, inl, inr, ⊎_elim}
-use Rattle.std.specs.Prelude.{Result, Ok, Err, ⊤}
-use Rattle.std.proofs.lemmas.List.Elements.{Contains-get_or, All-contains, All-weaker}
+use Rattle.std.proofs.Common.{◌≡◌, ◌≢◌, ℕ, zero, suc, ◌+◌, ℤ, true, false, List, [], ◌∷◌, ◌++◌, Option, Some, None, option_map, refl, ap, ◌∙◌, map, take}
+use Rattle.std.specs.Prelude.{Result, Ok, ⊤}
 use Rattle.kz_types.specs.declared.tree.Row.{Row}
 use Rattle.kz_types.specs.declared.tree.Op.{Op}
-use Rattle.kz_types.specs.declared.tree.Op.TheVariants.{Create, Set, Delete, Check}
 use Rattle.kz_types.specs.declared.tree.Rendered.{Rendered}
 use Rattle.kz_types.specs.declared.fault.TreeFault.{TreeFault}
 use Rattle.kz_types.specs.Paths.{is_migrated}
 use Rattle.kz_ordered.specs.Order.{bytes_cmp}
-use Rattle.kz_ordered.specs.Ordered.{find, put, without, Rises}
-use Rattle.kz_ordered.specs.Difference.{Edit, drop_key, make, alter, edited, all_edited}
-use Rattle.kz_ordered.specs.Edits.{edit_key}
-use Rattle.kz_spec_stores.specs.Tree.{path_of_row, row_at, put_row, after_op, after_ops, refused, Refusal, code, limit, op_refusal, rendered_row}
+use Rattle.kz_ordered.specs.Ordered.{Rises}
+use Rattle.kz_ordered.specs.Difference.{Edit, drop_key, make, alter, all_edited}
+use Rattle.kz_spec_stores.specs.Tree.{path_of_row, row_at, after_op, after_ops, refused, Refusal, code, limit, op_refusal}
 use Rattle.kz_spec_stores.specs.Rendering.{path_of_rendered}
 use Rattle.kz_spec_stores.specs.Difference.{op_of}
 use Rattle.kz_laws_trees.specs.TreeLaws.{path_of_op}
 use Rattle.kz_laws_trees.proofs.Rows.{still, others_kept, op_rises}
-use Rattle.kz_laws_trees.proofs.Area.{area_of, edit_path, area_edited, area_changed, area_left}
+use Rattle.kz_laws_trees.proofs.Area.{area_of, edit_path, area_changed, area_left}
 
 -- the znodes after these operations, were none refused
 abbrev pub ran : ℤ → List Op → List Row → List Row

@@ -1,7 +1,9 @@
 -- What one batch more makes of a log.
-use Rattle.std.specs.Prelude.{◌≡◌, ℤ, pos, ◌+ℤ◌, ◌≤ℤ◌, List, length, None, Ok}
+use Rattle.std.specs.Prelude.{◌≡◌, ℤ, pos, ◌+ℤ◌, ◌≤ℤ◌, List, length, None, Ok, All, ⊤}
 use Rattle.kz_types.specs.declared.record.MetaRecord.{MetaRecord}
-use Rattle.kz_spec_stores.specs.Log.{Log, end_of, image_at, with_batch, full_log, append}
+use Rattle.kz_types.specs.declared.record.MetaRecord.TheVariants as meta
+use Rattle.kz_spec_stores.specs.Log.{Log, end_of, image_at, image_of, with_batch, full_log, append}
+use Rattle.kz_spec_machine.specs.Driver.{commit_records}
 use Rattle.kz_spec_machine.specs.Sound.{IsEpochOrNone, LogShape, IsBatchEnd}
 
 -- The metadata at every offset of the log stays.
@@ -28,3 +30,21 @@ AppendKeepsShape = (l new : Log) (epoch now : ℤ) (items : List MetaRecord) →
 -- The log's end is a batch end, and no batch end is behind it.
 abbrev pub EndIsLastBatchEnd : Type 0
 EndIsLastBatchEnd = (l : Log) → LogShape l → IsBatchEnd l (end_of l) × ((at : ℤ) → IsBatchEnd l at → at ≤ℤ end_of l)
+
+-- ---- the migration's state
+
+-- A record that neither ends a transaction nor is of the migration's state.
+abbrev pub IsPlain : MetaRecord → Type 0
+IsPlain (meta.Config c) = ⊤
+IsPlain meta.NoOp = ⊤
+IsPlain (meta.BeginTransaction name) = ⊤
+IsPlain (meta.AbortTransaction reason) = ⊤
+IsPlain r = ⊥
+
+-- A batch of such records leaves the state of the migration.
+abbrev pub PlainKeepsState : Type 0
+PlainKeepsState = (l : Log) (epoch now : ℤ) (items : List MetaRecord) → LogShape l → All IsPlain items → (image_of (with_batch l epoch now items)).state ≡ (image_of l).state
+
+-- The records of the commit make it 2, whatever transaction was open.
+abbrev pub CommitMigrates : Type 0
+CommitMigrates = (l : Log) (epoch now : ℤ) → LogShape l → (image_of (with_batch l epoch now commit_records)).state ≡ pos 2

@@ -3,7 +3,7 @@
 //! A law is the contract of a function that does nothing.
 #![tactic(auto)]
 
-ghost use Rattle.kz_laws_trees.specs.TreeLaws.{MultiKeepsShape, OutsideLeavesArea, WriteAppliesEdits, WriteLeavesRest, WriteKeepsClaim, LastWriteCompletes, ClaimGivesVersion};
+ghost use Rattle.kz_laws_trees.specs.TreeLaws.{MultiKeepsShape, OutsideLeavesArea, WriteAppliesEdits, WriteLeavesRest, WriteKeepsClaim, WriteKeepsShown, LastWriteCompletes, EarlierWriteUnclosed, ClaimGivesVersion, ClaimShowsEpoch, ClaimLeavesArea, ClaimRecordsNone};
 ghost use Rattle.kz_laws_trees.specs.LogLaws.{BatchLeavesImages, BatchLeavesEnds, BatchMovesEnd, BatchKeepsShape, AppendKeepsShape, EndIsLastBatchEnd};
 
 /// A multi that isn't refused gives the tree the next zxid and keeps its shape; outside of the migrated area it leaves the
@@ -14,17 +14,23 @@ pub fn multi_keeps()
 {}
 
 /// A write applies the next operations, at most 64, of those that lead from the migrated area to the rendering, and leaves
-/// the others and the claim; the last write completes the area and closes the tree.
+/// the others and the claim; an earlier write leaves the tree unclosed, and the last one completes the area and closes it.
 pub fn write_leads()
     ensures applies { WriteAppliesEdits }
     ensures leaves { WriteLeavesRest }
     ensures claim { WriteKeepsClaim }
+    ensures shown { WriteKeepsShown }
+    ensures earlier { EarlierWriteUnclosed }
     ensures last { LastWriteCompletes }
 {}
 
-/// After a claim `/controller_epoch` has the data version that its driver takes as its claim.
-pub fn claim_gives_version()
-    ensures { ClaimGivesVersion }
+/// After a claim `/controller_epoch` has the data version that its driver takes as its claim, and `/controller` shows its
+/// epoch. Where the driver knows a migrated log, the migrated area and what is recorded stay; else nothing is recorded yet.
+pub fn claim_leads()
+    ensures version { ClaimGivesVersion }
+    ensures shown { ClaimShowsEpoch }
+    ensures area { ClaimLeavesArea }
+    ensures none { ClaimRecordsNone }
 {}
 
 /// One batch more leaves the images and the batch ends of a log.

@@ -1,6 +1,6 @@
 -- What is true of every world of a run. Each group of facts is a record over the values that it reads, so that what
 -- changes anything else keeps the group as it stands.
-use Rattle.std.specs.Prelude.{◌≡◌, ◌≢◌, ◌≤◌, ℕ, Bool, true, ℤ, pos, negsuc, ◌+ℤ◌, ◌-ℤ◌, ◌≤ℤ◌, ◌<ℤ◌, List, [], ◌∷◌, ◌++◌, length, Option, Some, None, option_map, All, IsTrue, ⊤}
+use Rattle.std.specs.Prelude.{◌≡◌, ◌≢◌, ◌≤◌, ℕ, true, ℤ, pos, negsuc, ◌+ℤ◌, ◌≤ℤ◌, List, [], ◌∷◌, ◌++◌, length, Option, Some, None, is_some, option_map, All, IsTrue, ⊤}
 use Rattle.kz_types.specs.declared.tree.Row.{Row}
 use Rattle.kz_types.specs.declared.tree.Op.{Op}
 use Rattle.kz_types.specs.declared.log.BatchRow.{BatchRow}
@@ -13,12 +13,12 @@ use Rattle.kz_types.specs.declared.record.MetaRecord.{MetaRecord}
 use Rattle.kz_types.specs.declared.record.MetaRecord.TheVariants as meta
 use Rattle.kz_ordered.specs.Order.{bytes_cmp}
 use Rattle.kz_ordered.specs.Ordered.{Rises}
-use Rattle.kz_spec_values.specs.Control.{epoch_path}
-use Rattle.kz_spec_stores.specs.Tree.{Tree, row_at, path_of_row, migrated_rows, area, recorded, unclosed}
+use Rattle.kz_spec_values.specs.Control.{control_path, epoch_path}
+use Rattle.kz_spec_stores.specs.Tree.{Tree, row_at, has_parent, path_of_row, migrated_rows, area, recorded, unclosed, max_long}
 use Rattle.kz_spec_stores.specs.Image.{empty_image, is_broker_config}
 use Rattle.kz_spec_stores.specs.Log.{Log, View, last_of, end_of, batch_ends, record_count, image_at, max_records, max_epoch}
 use Rattle.kz_spec_stores.specs.Rendering.{render}
-use Rattle.kz_spec_machine.specs.Driver.{Shared, Driver, is_one_of, remaining_at}
+use Rattle.kz_spec_machine.specs.Driver.{Shared, Driver, is_one_of, shown_by, remaining_at}
 use Rattle.kz_spec_machine.specs.Machine.{World, driver_of}
 
 -- ---- numbers
@@ -38,6 +38,11 @@ pub record IsEpochOrNone (epoch : ℤ) : Type 0 where
   pub least : pos 0 ≤ℤ epoch
   pub most : epoch ≤ℤ max_epoch
 
+-- from 0 to the greatest of 64 bits
+pub record IsTime (now : ℤ) : Type 0 where
+  pub least : pos 0 ≤ℤ now
+  pub most : now ≤ℤ max_long
+
 -- ---- the tree and the log
 
 -- no transaction of a znode is above the tree's last one, and its version isn't negative
@@ -47,9 +52,14 @@ pub record IsStamped (zxid : ℤ) (r : Row) : Type 0 where
   pub children : r.pzxid ≤ℤ zxid
   pub version : pos 0 ≤ℤ r.version
 
--- The znodes rise by path, and their transactions are those of the tree.
+-- every znode's parent is there, or is the root
+abbrev pub HaveParents : List Row → Type 0
+HaveParents rows = (path : List ℕ) → is_some (row_at path rows) ≡ true → has_parent path rows ≡ true
+
+-- The znodes rise by path, their parents are there, and their transactions are those of the tree.
 pub record TreeShape (t : Tree) : Type 0 where
   pub rise : Rises bytes_cmp path_of_row t.rows
+  pub parents : HaveParents t.rows
   pub stamped : All (IsStamped t.zxid) t.rows
 
 -- each batch begins behind the one before it
@@ -74,9 +84,15 @@ pub record IsBatchEnd (l : Log) (offset : ℤ) : Type 0 where
   pub after : List ℤ
   pub among : batch_ends l ≡ before ++ offset ∷ after
 
+-- What is recorded is a batch end; and where the tree is closed, its migrated area is the rendering of the metadata there.
+pub record Agreement (t : Tree) (l : Log) : Type 0 where
+  pub end : (r : Recorded) → recorded t ≡ Some r → pos 0 ≤ℤ r.offset → IsBatchEnd l r.offset
+  pub same : (r : Recorded) → recorded t ≡ Some r → unclosed t ≡ None → area t ≡ render (image_at l r.offset)
+
 pub record Kept (s : Shared) : Type 0 where
   pub tree : TreeShape s.tree
   pub log : LogShape s.log
+  pub agreement : Agreement s.tree s.log
 
 -- ---- one driver
 
@@ -87,6 +103,21 @@ claim_version t = option_map (λ (r : Row). r.version) (row_at epoch_path t.rows
 -- A driver's claim is current where it is the data version of `/controller_epoch`.
 abbrev pub IsCurrent : Tree → Option ℤ → Type 0
 IsCurrent t claim = (claim ≡ claim_version t) × (claim ≢ None)
+
+-- the epoch that `/controller` shows
+abbrev pub shown_in : Tree → Option ℤ
+shown_in t = shown_by (row_at control_path t.rows)
+
+-- A claim is never above the data version; while it is current, `/controller` shows the driver's epoch.
+pub record Claimed (version shown epoch : Option ℤ) (v : ℤ) : Type 0 where
+  pub least : pos 0 ≤ℤ v
+  pub low : (now : ℤ) → version ≡ Some now → v ≤ℤ now
+  pub there : version ≢ None
+  pub shows : version ≡ Some v → shown ≡ epoch
+
+abbrev pub Claims : Option ℤ → Option ℤ → Option ℤ → Option ℤ → Type 0
+Claims version shown epoch None = ⊤
+Claims version shown epoch (Some v) = Claimed version shown epoch v
 
 -- What a driver knows of the log is the metadata at a batch end.
 pub record Views (l : Log) (v : View) : Type 0 where
@@ -122,21 +153,19 @@ pub record Reads (t : Tree) (rows : List Row) : Type 0 where
 pub record Writes (t : Tree) (l : Log) (target : Recorded) (ops : List Op) : Type 0 where
   pub remaining : ops ≡ remaining_at t l target.offset
 
--- A current driver that rests: the tree is closed, what it recorded is what the driver recorded, where its view ends, and
--- the migrated area is the rendering of the metadata there.
-pub record Rests (t : Tree) (l : Log) (v : View) (offset : Option ℤ) : Type 0 where
+-- A current driver that rests: the tree is closed, and what it recorded is what the driver recorded, where its view ends.
+pub record Rests (t : Tree) (v : View) (offset : Option ℤ) : Type 0 where
   pub closed : unclosed t ≡ None
   pub same : option_map (λ (r : Recorded). r.offset) (recorded t) ≡ offset
   pub view : offset ≡ Some v.position
-  pub area : area t ≡ render (image_at l v.position)
 
 -- What holds at each stage, by cases. What is said of the tree is said of a current driver alone.
 abbrev pub AtStage : Tree → Log → Driver → Stage → Type 0
 AtStage t l d (stage.Claim seen) = (r : Row) → seen.epoch ≡ Some r → pos 0 ≤ℤ r.version
 AtStage t l d (stage.ReadArea target rows) = Aims target d.id d.epoch d.view × (IsCurrent t d.claim → Reads t rows)
 AtStage t l d (stage.WriteAll target ops) = Aims target d.id d.epoch d.view × (IsCurrent t d.claim → Writes t l target ops)
-AtStage t l d stage.InformBrokers = (d.claim ≢ None) × (IsCurrent t d.claim → Rests t l d.view d.recorded)
-AtStage t l d stage.Rest = (d.claim ≢ None) × (IsCurrent t d.claim → Rests t l d.view d.recorded)
+AtStage t l d stage.InformBrokers = (d.claim ≢ None) × (IsCurrent t d.claim → Rests t d.view d.recorded)
+AtStage t l d stage.Rest = (d.claim ≢ None) × (IsCurrent t d.claim → Rests t d.view d.recorded)
 AtStage t l d (stage.WriteChange target ops) = Aims target d.id d.epoch d.view × (IsCurrent t d.claim → Writes t l target ops)
 AtStage t l d s = ⊤
 
@@ -145,6 +174,7 @@ pub record Fine (s : Shared) (d : Driver) : Type 0 where
   pub id : IsId d.id
   pub epochs : Epochs s.log.epoch d.epoch
   pub elected : Elected d.epoch d.stage
+  pub claims : Claims (claim_version s.tree) (shown_in s.tree) d.epoch d.claim
   pub views : Views s.log d.view
   pub stage : AtStage s.tree s.log d d.stage
 
@@ -177,12 +207,12 @@ abbrev pub IsChange : MetaRecord → Type 0
 IsChange (meta.Config c) = IsTrue (is_broker_config c)
 IsChange r = ⊥
 
--- An event as a line of a script gives it: ids and times aren't negative, one controller is declared, and a change has one
+-- An event as a line of a script gives it: ids and times are in range, one controller is declared, and a change has one
 -- member of the configuration of a broker.
 abbrev pub IsLawful : Event → Type 0
 IsLawful (event.Quorum ids) = All IsId ids × (length ids ≡ 1)
 IsLawful (event.Start id) = IsId id
-IsLawful (event.Elect id now) = IsId id × (pos 0 ≤ℤ now)
-IsLawful (event.Turn id now) = IsId id × (pos 0 ≤ℤ now)
-IsLawful (event.Change id records now) = IsId id × (pos 0 ≤ℤ now) × All IsChange records × (length records ≡ 1)
+IsLawful (event.Elect id now) = IsId id × IsTime now
+IsLawful (event.Turn id now) = IsId id × IsTime now
+IsLawful (event.Change id records now) = IsId id × IsTime now × All IsChange records × (length records ≡ 1)
 IsLawful event.Check = ⊤
