@@ -10,3 +10,6 @@ pub use decimals::canonical_number;
 pub use kz_types::{BodyFault, Recorded};
 pub use reading::{read_control, read_epoch, read_migration};
 pub use writing::{write_control, write_epoch, write_migration};
+
+#[cfg(test)]
+mod tests;

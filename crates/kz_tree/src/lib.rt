@@ -12,3 +12,6 @@ mod tree;
 pub use kz_types::{Op, Recorded, Rendered, Row, TreeFault};
 pub use migrated::is_migrated;
 pub use tree::Tree;
+
+#[cfg(test)]
+mod tests;

@@ -1,5 +1,5 @@
 //! The tree.
-ghost use Rattle.std.specs.Prelude.{◌≡◌, ◌+ℤ◌, ◌<ℤ◌, pos, length, option_map, map, Ok, IfOk, IfErr, OnErr};
+ghost use Rattle.std.specs.Prelude.{◌≡◌, ◌+ℤ◌, ◌<ℤ◌, ◌≤ℤ◌, pos, length, option_map, map, Ok, IfOk, IfErr, OnErr};
 ghost use Rattle.kz_spec_stores.specs.Tree as tree;
 ghost use Rattle.kz_spec_stores.specs.Tree.{max_long};
 ghost use Rattle.kz_ordered.specs.Order.{bytes_cmp};
@@ -9,7 +9,6 @@ ghost use Rattle.kz_tree.specs.Kept.{IsKept};
 ghost use Rattle.kz_tree.specs.Refusals.{IsFaultOf};
 
 use crate::effects::after_ops;
-use crate::migrated::is_migrated;
 use crate::reads;
 use crate::rows::row_at;
 use kz_types::{NoMemory, Op, Recorded, Rendered, Row, TreeFault, ZPath, copy_all};
@@ -183,5 +182,22 @@ impl Tree {
         ensures { IfOk result (λ path. path ≡ tree.unclosed self.now) }
     {
         reads::unclosed(self.alloc, &self.rows)
+    }
+}
+
+#[cfg(test)]
+impl Tree {
+    /// The tree without a znode, with one session, after so many transactions.
+    pub fn with_session(alloc: Global, session: i64, zxid: i64) -> Result<Tree, NoMemory>
+        requires { pos 0 ≤ℤ zxid }
+    {
+        let mut sessions = Vec::new(alloc);
+        sessions.push(session)?;
+        Ok(Tree {
+            alloc,
+            zxid,
+            sessions,
+            rows: Vec::new(alloc),
+        })
     }
 }
