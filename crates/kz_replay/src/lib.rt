@@ -1,0 +1,8 @@
+//! The top call: reads a script, runs it, and writes the replies.
+#![tactic(auto)]
+
+mod closing;
+mod ending;
+mod machine;
+mod place;
+mod stream;
