@@ -1,12 +1,13 @@
 -- The outcome of a list of lines, by its first line.
-use Rattle.std.proofs.Common.{◌≡◌, ℕ, ◌+◌, Bool, true, false, List, [], ◌∷◌, Option, Some, None, option_map, Result, Ok, Err, IfOk, refl, sym, ◌∙◌, ap}
+use Rattle.std.proofs.Common.{◌≡◌, ℕ, ◌+◌, true, false, List, [], ◌∷◌, ◌++◌, append-nil, Option, Some, None, option_map, is_some, Result, Ok, Err, IfOk, refl, sym, ◌∙◌, ap}
 use Rattle.kz_types.specs.declared.memory.NoMemory.{NoMemory}
 use Rattle.kz_types.specs.declared.machine.Event.{Event}
 use Rattle.kz_types.specs.declared.outside.Status.TheVariants as status
 use Rattle.kz_spec_lines.specs.Lines.{Item, line, long, much, is_passed_over, max_line, max_input}
 use Rattle.kz_spec_lines.specs.Events.{line_event}
 use Rattle.kz_spec_machine.specs.Machine.{next}
-use Rattle.kz_spec_runs.specs.Output.{Outcome, Place, outcome, after, ended, ending, unless_ended, on_event, passed, served, written_for, summary}
+use Rattle.kz_spec_runs.specs.Output.{Outcome, Place, outcome, after, ended, ending, unless_ended, passed, served, written_for, summary}
+use Rattle.kz_replay.specs.declared.ending.Ending.{Ending}
 use Rattle.kz_replay.specs.declared.ending.Printed.{Printed}
 use Rattle.kz_replay.specs.Endings.{status_of, followed}
 
@@ -50,3 +51,18 @@ outcome_served (Ok x) p new e l h s text end place = λ more.
     ∙ ap (λ s. after (written_for p e) (unless_ended s (outcome new more))) (sym end)
     ∙ ap (λ t. after t (unless_ended (option_map status_of x.end) (outcome new more))) (sym text)
 outcome_served (Err m) p new e l h s text end place = tt
+
+-- what is printed behind the end of a run is nothing
+pub unless_ended_some : (o : Option Ending) (x y : Outcome) → is_some o ≡ true → unless_ended (option_map status_of o) x ≡ unless_ended (option_map status_of o) y
+unless_ended_some None x y h = cc
+unless_ended_some (Some e) x y h = refl
+
+-- what is printed where the run goes on
+pub followed_none : (p : Printed) (o : Outcome) → p.end ≡ None → followed p o ≡ after p.text.items o
+followed_none p o e = ap (λ s. after p.text.items (unless_ended (option_map status_of s) o)) e
+
+-- the summary at the end of the input
+pub followed_summary : (o : Option Ending) (text all : List ℕ) (p : Place) → is_some o ≡ false → all ≡ text ++ summary p
+    → after text (unless_ended (option_map status_of o) (outcome p [])) ≡ after all (unless_ended (option_map status_of o) (ended status.Done))
+followed_summary None text all p h e = ap (after text) (outcome_end p) ∙ ap (λ t. record { text = t; status = status.Done }) (sym (append-nil all ∙ e))
+followed_summary (Some x) text all p h e = cc

@@ -1,11 +1,13 @@
 -- Parts of a run, one after another.
-use Rattle.std.proofs.Common.{◌≡◌, ℕ, ◌+◌, ◌<◌, List, [], ◌∷◌, ◌++◌, length, take, drop, get_or, refl, sym, ap, ◌∙◌, subst, append_assoc, append-nil, add-one, drop-cons, take-append-drop, Option, Some, None, IfSome}
+use Rattle.std.proofs.Common.{◌≡◌, ℕ, ◌+◌, ◌<◌, List, ◌∷◌, ◌++◌, length, take, drop, get_or, refl, sym, ap, ◌∙◌, subst, append_assoc, add-one, drop-cons, take-append-drop, Option, Some, None, IfSome}
 use Rattle.std.specs.Io.KnownBytes.{Consumes}
 use Rattle.kz_spec_runs.specs.Output.{Outcome, after}
-use Rattle.kz_spec_runs.specs.Endings.{IsFront}
+use Rattle.kz_types.specs.declared.outside.Status.{Status}
+use Rattle.kz_types.specs.declared.outside.Status.TheVariants as status
+use Rattle.kz_spec_runs.specs.Endings.{IsFront, Agrees}
 use Rattle.kz_replay.specs.declared.ending.Stop.{Stop}
 use Rattle.kz_replay.specs.declared.ending.Stop.TheVariants as stop
-use Rattle.kz_replay.specs.Endings.{status_of, Stops}
+use Rattle.kz_replay.specs.Endings.{Stops}
 use Rattle.kz_replay.specs.Pending.{State, pending, GoesOn}
 
 pub after-append : (xs ys : List ℕ) (o : Outcome) → after xs (after ys o) ≡ after (xs ++ ys) o
@@ -44,3 +46,16 @@ told (Some x) (Some y) read P e h = subst P (sym e) (h y)
 pub always : (o : Option (List ℕ)) (P : List ℕ → Type 0) → ((script : List ℕ) → P script) → IfSome o P
 always None P h = tt
 always (Some x) P h = h x
+
+-- what was written before an end stands in front of it
+pub Agrees-after : (o : Outcome) (sent more : List ℕ) (s : Status) → Agrees o more s → Agrees (after sent o) (sent ++ more) s
+Agrees-after o sent more status.Done h = ap (after sent) h
+Agrees-after o sent more status.Usage h = h
+Agrees-after o sent more (status.Script line) h = ap (after sent) h
+Agrees-after o sent more status.ReadFault h = front_after o sent more h
+Agrees-after o sent more status.WriteFault h = front_after o sent more h
+Agrees-after o sent more status.NoMemory h = front_after o sent more h
+Agrees-after o sent more (status.Limit which number) h = ap (after sent) h
+
+pub agrees_after : (a b : State) (xs ys sent more : List ℕ) (s : Status) → GoesOn a b xs sent → Agrees (pending b ys) more s → Agrees (pending a (xs ++ ys)) (sent ++ more) s
+agrees_after a b xs ys sent more s go h = subst (λ (o : Outcome). Agrees o (sent ++ more) s) (sym (go ys)) (Agrees-after (pending b ys) sent more s h)

@@ -1,15 +1,14 @@
 -- What the status of a stop says.
-use Rattle.std.proofs.Common.{◌≡◌, ◌≢◌, ℕ, Bool, true, false, cond, eqb, List, refl, sym, subst}
+use Rattle.std.proofs.Common.{◌≡◌, ◌≢◌, ℕ, Bool, true, false, cond, eqb, List, refl, subst}
 use Rattle.kz_types.specs.declared.outside.Status.{Status}
 use Rattle.kz_types.specs.declared.outside.Status.TheVariants as status
 use Rattle.kz_spec_runs.specs.Output.{Outcome, limit_status}
 use Rattle.kz_spec_runs.specs.Endings.{Agrees}
 use Rattle.kz_spec_stores.specs.Log.{max_records}
-use Rattle.kz_replay.specs.declared.ending.Ending.{Ending}
 use Rattle.kz_replay.specs.declared.ending.Ending.TheVariants as ending
 use Rattle.kz_replay.specs.declared.ending.Stop.{Stop}
 use Rattle.kz_replay.specs.declared.ending.Stop.TheVariants as stop
-use Rattle.kz_replay.specs.Endings.{status_of, stop_status, Stops}
+use Rattle.kz_replay.specs.Endings.{stop_status, Stops}
 
 -- a status of a limit
 data IsLimit : Status → Type 0 where

@@ -1,5 +1,5 @@
 -- Why a run stops before the end of its input, and what it has written by then.
-use Rattle.std.specs.Prelude.{◌≡◌, ℕ, List, Option, option_map}
+use Rattle.std.specs.Prelude.{◌≡◌, ℕ, List, option_map}
 use Rattle.kz_types.specs.declared.outside.Status.{Status}
 use Rattle.kz_types.specs.declared.outside.Status.TheVariants as status
 use Rattle.kz_spec_lines.specs.Lines.{max_line, max_input}

