@@ -1,5 +1,6 @@
 //! A reader of fields.
-ghost use Rattle.std.specs.Prelude.{◌≡◌, ◌+◌, ◌*◌, ◌<◌, ◌≤◌, length, false, Some, option_map};
+ghost use Rattle.std.specs.Prelude.{◌≡◌, ◌+◌, ◌*◌, ◌<◌, ◌≤◌, length, false, Some, option_map, IfOk, IfSome};
+ghost use Rattle.std.specs.Str.{IsUtf8};
 ghost use Rattle.std.specs.Int.{w8, w16, w32, w64};
 ghost use Rattle.kz_spec_values.specs.Fields.{start, Reads, front, uvarint, varint, varlong, signed, unsigned, id, counted, nullable_bytes, nullable_text, is_null, unzigzag};
 
@@ -54,6 +55,26 @@ impl<'a> Reader<'a> {
         self.at += count;
         self.left = left;
         Ok(taken)
+    }
+
+    /// A reader of the next `count` bytes, which stands at their place.
+    pub fn within(&mut self, count: usize) -> Result<Reader<'a>, ByteFault>
+        ensures read { Reads (λ x. x.left) self.old result self.new ((front count).read self.old) }
+        ensures place { IfOk result (λ x. x.at ≡ self.old.at) }
+    {
+        let at = self.at;
+        let left = self.part(count)?;
+        Ok(Reader { at, left })
+    }
+
+    /// Another reader in the same place.
+    pub fn again(&self) -> Reader<'a>
+        ensures { result ≡ self.now }
+    {
+        Reader {
+            at: self.at,
+            left: self.left,
+        }
     }
 
     /// An unsigned number of variable size.
@@ -172,7 +193,8 @@ impl<'a> Reader<'a> {
 
     /// The bytes of a text or `None`, which have to be UTF-8.
     pub fn nullable_text(&mut self) -> Result<Option<&'a [u8]>, ByteFault>
-        ensures { Reads (option_map (λ x. x.now)) self.old result self.new (nullable_text.read self.old) }
+        ensures read { Reads (option_map (λ x. x.now)) self.old result self.new (nullable_text.read self.old) }
+        ensures utf8 { IfOk result (λ text. IfSome text (λ x. IsUtf8 x.now)) }
     {
         let at = self.at;
         let left = self.left;

@@ -1,6 +1,6 @@
 //! Where a text stops being UTF-8.
 ghost use Rattle.std.specs.Prelude.{◌≡◌, ◌<◌, ◌≤◌, length, true, false, MatchOption, IfSome};
-ghost use Rattle.std.specs.Str.{is_utf8};
+ghost use Rattle.std.specs.Str.{IsUtf8, is_utf8};
 ghost use Rattle.std.specs.Str.Lossy.{utf8_error_len};
 ghost use Rattle.kz_spec_values.specs.Fields.{char_size, possible, text_fault};
 
@@ -41,7 +41,7 @@ fn possible(bytes: &[u8], error_len: Option<usize>) -> usize
 
 // The first byte at which no text of this length goes on; none where the bytes are UTF-8.
 pub fn text_fault(bytes: &[u8]) -> Option<usize>
-    ensures place { MatchOption result (is_utf8 bytes.now ≡ true) (λ at. (is_utf8 bytes.now ≡ false) × (at ≡ text_fault bytes.now)) }
+    ensures place { MatchOption result (IsUtf8 bytes.now × (is_utf8 bytes.now ≡ true)) (λ at. (is_utf8 bytes.now ≡ false) × (at ≡ text_fault bytes.now)) }
     ensures bound { IfSome result (λ at. at ≤ length bytes.now) }
 {
     match str::from_utf8(bytes) {

@@ -6,7 +6,7 @@ use Rattle.kz_bytes.proofs.Facts.{not_utf8}
 use Rattle.kz_bytes.proofs.text.text_fault.Goals as goal
 
 pub returns-in-Ok-clause-place : goal.returns-in-Ok-clause-place
-returns-in-Ok-clause-place c = is_utf8-from_IsUtf8 c.args.bytes.now c.in-Ok.ensures.cases.1
+returns-in-Ok-clause-place c = (c.in-Ok.ensures.cases.1, is_utf8-from_IsUtf8 c.args.bytes.now c.in-Ok.ensures.cases.1)
 
 pub returns-in-Err-clause-place : goal.returns-in-Err-clause-place
 returns-in-Err-clause-place c =
