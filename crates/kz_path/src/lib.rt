@@ -5,8 +5,10 @@ mod cut;
 mod names;
 
 pub use keys::key_of;
+pub use kinds::{is_migrated, kind};
 pub use names::{restore, sanitise};
 pub use paths::path_of;
 
 mod keys;
+mod kinds;
 mod paths;
