@@ -10,6 +10,7 @@ use serde_json::Value;
 use std::alloc::Global;
 
 /// A resource: Kafka's codes of its pattern and its type, and its name.
+#[derive(Clone, Copy)]
 pub struct Resource<'a> {
     pub pattern: i8,
     pub kind: i8,

@@ -292,6 +292,7 @@ pub fn topic_text(alloc: Global, id: &Id, rows: &[AssignmentRow]) -> Result<Stri
 }
 
 /// The state of a partition, as its body has it.
+#[derive(Clone, Copy)]
 pub struct PartitionState<'a> {
     pub leader: i32,
     pub leader_epoch: i32,

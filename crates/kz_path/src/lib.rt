@@ -3,11 +3,11 @@
 
 mod cut;
 mod keys;
+mod kinds;
 mod names;
 mod paths;
-mod scaffold;
 
 pub use keys::key_of;
+pub use kinds::{is_migrated, kind};
 pub use names::{restore, sanitise};
 pub use paths::path_of;
-pub use scaffold::{is_root, is_scaffold};
