@@ -8,3 +8,6 @@ mod image;
 
 pub use image::Image;
 pub use kz_types::Configuration;
+
+#[cfg(test)]
+mod tests;

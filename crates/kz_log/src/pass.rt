@@ -7,8 +7,8 @@ ghost use Rattle.kz_settle.specs.Settling.{opened, ends_by, open_after};
 ghost use Rattle.kz_log.specs.Reading.{placed, remaining, IsLimit, Knows, image_after, open_behind};
 
 use crate::cursor::{Cursor, read, start};
-use crate::marks::{closes, is_begin, is_end};
 use kz_image::Image;
+use kz_settle::{closes, is_begin, is_end};
 use kz_types::{BatchRow, MetaRecord, NoMemory};
 use std::alloc::Global;
 

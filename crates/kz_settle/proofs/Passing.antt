@@ -12,11 +12,11 @@ use Rattle.kz_settle.specs.Settling.{offset_of, closes_entry, opened, open_after
 
 -- ---- tests over lists
 
-any_none : {A : Type 0} (p : A → Bool) (xs : List A) → All (λ x. p x ≡ false) xs → list_any p xs ≡ false
+pub any_none : {A : Type 0} (p : A → Bool) (xs : List A) → All (λ x. p x ≡ false) xs → list_any p xs ≡ false
 any_none p [] h = refl
 any_none p (x ∷ xs) h = rw (All-head (λ y. p y ≡ false) x xs h) (any_none p xs (All-tail (λ y. p y ≡ false) x xs h))
 
-any_same : {A : Type 0} (p q : A → Bool) (xs : List A) → All (λ x. p x ≡ q x) xs → list_any p xs ≡ list_any q xs
+pub any_same : {A : Type 0} (p q : A → Bool) (xs : List A) → All (λ x. p x ≡ q x) xs → list_any p xs ≡ list_any q xs
 any_same p q [] h = refl
 any_same p q (x ∷ xs) h = rw (All-head (λ y. p y ≡ q y) x xs h, any_same p q xs (All-tail (λ y. p y ≡ q y) x xs h)) refl
 
@@ -24,23 +24,23 @@ or_assoc : (a b c : Bool) → (a || b) || c ≡ a || (b || c)
 or_assoc true b c = refl
 or_assoc false b c = refl
 
-or_false : (a : Bool) → a || false ≡ a
+pub or_false : (a : Bool) → a || false ≡ a
 or_false true = refl
 or_false false = refl
 
-any-append : {A : Type 0} (p : A → Bool) (xs ys : List A) → list_any p (xs ++ ys) ≡ list_any p xs || list_any p ys
+pub any-append : {A : Type 0} (p : A → Bool) (xs ys : List A) → list_any p (xs ++ ys) ≡ list_any p xs || list_any p ys
 any-append p [] ys = refl
 any-append p (x ∷ xs) ys = rw (any-append p xs ys) (sym (or_assoc (p x) (list_any p xs) (list_any p ys)))
 
 -- what holds at no item of the second part is decided in the first
-any_left : {A : Type 0} (p : A → Bool) (xs ys : List A) → All (λ y. p y ≡ false) ys → list_any p (xs ++ ys) ≡ list_any p xs
+pub any_left : {A : Type 0} (p : A → Bool) (xs ys : List A) → All (λ y. p y ≡ false) ys → list_any p (xs ++ ys) ≡ list_any p xs
 any_left p xs ys h = any-append p xs ys ∙ ap (λ b. list_any p xs || b) (any_none p ys h) ∙ or_false (list_any p xs)
 
-find_right : {A : Type 0} (p : A → Bool) (xs ys : List A) → All (λ x. p x ≡ false) xs → find p (xs ++ ys) ≡ find p ys
+pub find_right : {A : Type 0} (p : A → Bool) (xs ys : List A) → All (λ x. p x ≡ false) xs → find p (xs ++ ys) ≡ find p ys
 find_right p [] ys h = refl
 find_right p (x ∷ xs) ys h = rw (All-head (λ y. p y ≡ false) x xs h) (find_right p xs ys (All-tail (λ y. p y ≡ false) x xs h))
 
-find_same : {A : Type 0} (p q : A → Bool) (xs : List A) → All (λ x. p x ≡ q x) xs → find p xs ≡ find q xs
+pub find_same : {A : Type 0} (p q : A → Bool) (xs : List A) → All (λ x. p x ≡ q x) xs → find p xs ≡ find q xs
 find_same p q [] h = refl
 find_same p q (x ∷ xs) h = rw (All-head (λ y. p y ≡ q y) x xs h, find_same p q xs (All-tail (λ y. p y ≡ q y) x xs h)) refl
 
@@ -55,26 +55,26 @@ not_less_first : (a b : Bool) (r : Ordering) → cond a Less (cond b Greater Equ
 not_less_first true b r h ne = absurd (ne (sym h))
 not_less_first false b r h ne = refl
 
-lt_from_less : (x y : ℤ) → int_cmp x y ≡ Less → int_lt x y ≡ true
+pub lt_from_less : (x y : ℤ) → int_cmp x y ≡ Less → int_lt x y ≡ true
 lt_from_less x y h = less_first (int_lt x y) (int_lt y x) h
 
-lt_back : (x y : ℤ) → int_cmp x y ≡ Less → int_lt y x ≡ false
+pub lt_back : (x y : ℤ) → int_cmp x y ≡ Less → int_lt y x ≡ false
 lt_back x y h = not_less_first (int_lt y x) (int_lt x y) Greater (cmp_greater int_order y x h) (λ e. cc)
 
-lt_itself : (x : ℤ) → int_lt x x ≡ false
+pub lt_itself : (x : ℤ) → int_lt x x ≡ false
 lt_itself x = not_less_first (int_lt x x) (int_lt x x) Equal (int_order.itself x) (λ e. cc)
 
 -- ---- whether a transaction is open
 
-any_close : List Entry → Bool
+abbrev pub any_close : List Entry → Bool
 any_close es = list_any closes_entry es
 
 -- an End or Abort behind an offset
-closed_after : List Entry → ℤ → Bool
+abbrev pub closed_after : List Entry → ℤ → Bool
 closed_after es from = list_any (λ (e : Entry). closes e.item && int_lt from e.offset) es
 
 -- a Begin of these records has no End or Abort behind it
-open_among : List Entry → Bool
+abbrev pub open_among : List Entry → Bool
 open_among es = list_any (λ (b : Entry). is_begin b.item && not (closed_after es b.offset)) es
 
 opens_or_stays : (b c inside closed later : Bool)
@@ -94,32 +94,29 @@ no_close_left true = refl
 no_close_left false = refl
 
 -- what is open before the records stays so where none of them closes it
-open_after_is : (inside : Bool) (es : List Entry) → open_after inside es ≡ (inside && not (any_close es)) || open_after false es
-unfolding any_close
+pub open_after_is : (inside : Bool) (es : List Entry) → open_after inside es ≡ (inside && not (any_close es)) || open_after false es
 open_after_is inside [] = no_close_left inside
 open_after_is inside (e ∷ es) =
     open_after_is (opened inside e.item) es
     ∙ opens_or_stays (is_begin e.item) (closes e.item) inside (any_close es) (open_after false es)
     ∙ ap (λ x. (inside && not (closes e.item || any_close es)) || x) (sym (open_after_is (opened false e.item) es))
 
-and_true : (a b : Bool) → b ≡ true → (a && b) ≡ a
+pub and_true : (a b : Bool) → b ≡ true → (a && b) ≡ a
 and_true true b h = h
 and_true false b h = refl
 
-and_false : (a b : Bool) → b ≡ false → (a && b) ≡ false
+pub and_false : (a b : Bool) → b ≡ false → (a && b) ≡ false
 and_false true b h = h
 and_false false b h = refl
 
 -- behind the first offset, every End or Abort of the rest stands
 closed_after_first : (x : Entry) (es : List Entry) → All (λ (e : Entry). int_cmp x.offset e.offset ≡ Less) es → closed_after (x ∷ es) x.offset ≡ any_close es
-unfolding any_close closed_after
 closed_after_first x es h =
     rw (and_false (closes x.item) (int_lt x.offset x.offset) (lt_itself x.offset))
     (any_same (λ (e : Entry). closes e.item && int_lt x.offset e.offset) closes_entry es (λ k d lt. and_true (closes (get_or es k d).item) _ (lt_from_less x.offset (get_or es k d).offset (h k d lt))))
 
 -- the first record closes nothing that begins behind it
 closed_after_later : (x : Entry) (es : List Entry) (b : Entry) → int_cmp x.offset b.offset ≡ Less → closed_after (x ∷ es) b.offset ≡ closed_after es b.offset
-unfolding closed_after
 closed_after_later x es b h = rw (and_false (closes x.item) (int_lt b.offset x.offset) (lt_back x.offset b.offset h)) refl
 
 begin_is : (b c closed : Bool) → (cond b true (cond c false false) && not closed) ≡ b && not closed
@@ -127,8 +124,7 @@ begin_is true c closed = refl
 begin_is false true closed = refl
 begin_is false false closed = refl
 
-open_among_is : (es : List Entry) → Rises int_cmp offset_of es → open_among es ≡ open_after false es
-unfolding open_among
+pub open_among_is : (es : List Entry) → Rises int_cmp offset_of es → open_among es ≡ open_after false es
 open_among_is [] h = refl
 open_among_is (x ∷ es) h =
     let above = all_from_rises_above int_order offset_of x.offset es h in
@@ -148,7 +144,6 @@ NotBelow off es = All (λ (e : Entry). int_lt e.offset off ≡ false) es
 -- of the records before an offset and those that aren't, the first decide whether it is inside a transaction
 module _ (done rest : List Entry) (off : ℤ) (before : All (λ (e : Entry). int_lt e.offset off ≡ true) done) (behind : NotBelow off rest) where
   closed_is : (from : ℤ) → is_closed_between (done ++ rest) from off ≡ closed_after done from
-  unfolding closed_after
   closed_is from =
       any_left (λ (e : Entry). closes e.item && int_lt from e.offset && int_lt e.offset off) done rest (λ k d lt. and_false _ _ (behind k d lt))
       ∙ any_same (λ (e : Entry). closes e.item && int_lt from e.offset && int_lt e.offset off) (λ (e : Entry). closes e.item && int_lt from e.offset) done (λ k d lt. and_true _ _ (before k d lt))
@@ -160,7 +155,6 @@ module _ (done rest : List Entry) (off : ℤ) (before : All (λ (e : Entry). int
   begins_behind b h = ap (λ x. x && not (is_closed_between (done ++ rest) b.offset off)) (and_false (is_begin b.item) (int_lt b.offset off) h)
 
   inside_among : is_inside (done ++ rest) off ≡ open_among done
-  unfolding open_among
   inside_among =
       let test : Entry → Bool = λ (b : Entry). is_begin b.item && int_lt b.offset off && not (is_closed_between (done ++ rest) b.offset off) in
       any_left test done rest (λ k d lt. begins_behind (get_or rest k d) (behind k d lt))
@@ -179,7 +173,7 @@ first_close_is done e rest h =
     ∙ rw (and_false (closes e.item) (int_lt e.offset e.offset) (lt_itself e.offset))
     (find_same test closes_entry rest (λ k d lt. and_true (closes (get_or rest k d).item) _ (lt_from_less e.offset (get_or rest k d).offset (above k d lt))))
 
-record_inside : (done : List Entry) (e : Entry) (rest : List Entry) → Rises int_cmp offset_of (done ++ e ∷ rest) → is_inside (done ++ e ∷ rest) e.offset ≡ open_after false done
+pub record_inside : (done : List Entry) (e : Entry) (rest : List Entry) → Rises int_cmp offset_of (done ++ e ∷ rest) → is_inside (done ++ e ∷ rest) e.offset ≡ open_after false done
 record_inside done e rest h =
     let below = below_split int_order offset_of done e rest h in
     let above = all_from_rises_above int_order offset_of e.offset rest (above_split int_order offset_of done e rest h) in
@@ -187,7 +181,7 @@ record_inside done e rest h =
     (All-cons (λ (x : Entry). int_lt x.offset e.offset ≡ false) e rest (lt_itself e.offset) (λ k d lt. lt_back e.offset (get_or rest k d).offset (above k d lt)))
     (Rises_left int_order offset_of done (e ∷ rest) h)
 
-open_after-append : (inside : Bool) (xs ys : List Entry) → open_after inside (xs ++ ys) ≡ open_after (open_after inside xs) ys
+pub open_after-append : (inside : Bool) (xs ys : List Entry) → open_after inside (xs ++ ys) ≡ open_after (open_after inside xs) ys
 open_after-append inside [] ys = refl
 open_after-append inside (x ∷ xs) ys = open_after-append (opened inside x.item) xs ys
 

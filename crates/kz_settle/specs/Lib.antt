@@ -1,1 +1,3 @@
 pub mod Settling
+pub mod Stands
+pub mod Steps

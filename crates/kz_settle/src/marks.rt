@@ -31,3 +31,11 @@ pub fn closes(item: &MetaRecord) -> bool
 {
     is_end(item) || is_abort(item)
 }
+
+/// A marker of a transaction.
+#[derive(Clone, Copy)]
+pub enum Marker {
+    Begin,
+    End,
+    Abort,
+}

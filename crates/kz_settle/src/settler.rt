@@ -1,0 +1,142 @@
+//! The settler.
+ghost use Rattle.std.specs.Prelude.{◌≡◌, ◌∷◌, ◌++◌, [], List, None, is_some, option_to_list, IfOk, IfNone, OnOk, OnErr};
+ghost use Rattle.std.specs.Ordering.{int_cmp};
+ghost use Rattle.kz_ordered.specs.Ordered.{Rises};
+ghost use Rattle.kz_types.specs.declared.log.Entry.{Entry as EntryValue};
+ghost use Rattle.kz_settle.specs.Settling.{offset_of};
+ghost use Rattle.kz_settle.specs.Stands.{Settling, Stands, answer_to, handed, LeavesNone};
+ghost use Rattle.kz_settle.specs.Steps.{finished, finished_answer, begun_at, kept_too, kept_answer, turned, turned_answer};
+
+use crate::Settled;
+use crate::marker_of::marker_of;
+use crate::marks::Marker;
+use kz_types::{Entry, NoMemory};
+use std::alloc::Global;
+use std::collections::VecDeque;
+use std::marker::Model;
+use std::mem;
+
+/// Finds the records of a log that count (KIP-868), as its entries are pushed one after another.
+#[derive(Drop)]
+pub struct Settler {
+    begun: Option<i64>,
+    kept: VecDeque<Entry>,
+    released: VecDeque<Entry>,
+}
+
+impl Model for Settler {
+    ghost Value = { Settling };
+
+    ghost view = { λ s. record { begun = s.begun; kept = s.kept.items; released = s.released.items } };
+}
+
+// Lets an entry go.
+fn forget(_e: Entry) {}
+
+impl Settler {
+    /// A settler to which nothing was pushed.
+    pub fn new(alloc: Global) -> Self
+        ensures value { result ≡ record { begun = None; kept = []; released = [] } }
+        ensures stands { Stands [] [] result }
+    {
+        Settler {
+            begun: None,
+            kept: VecDeque::new(alloc),
+            released: VecDeque::new(alloc),
+        }
+    }
+
+    /// The offset of the Begin of the transaction that is open, if one is.
+    pub fn begun(&self) -> Option<i64>
+        ensures { result ≡ self.now.begun }
+    {
+        self.begun
+    }
+
+    fn begin(&mut self, offset: i64)
+        ensures { self.new ≡ begun_at offset self.old }
+    {
+        if self.begun.is_none() {
+            self.begun = Some(offset);
+        }
+    }
+
+    fn finish(&mut self, ends: bool) -> Settled
+        requires { self.old.released ≡ [] }
+        ensures answer { result ≡ finished_answer (is_some self.old.begun) ends }
+        ensures value { self.new ≡ finished ends self.old }
+        ensures none { LeavesNone result self.new }
+    {
+        if self.begun.is_none() {
+            return Settled::Dropped;
+        }
+        self.begun = None;
+        if ends {
+            mem::swap(&mut self.kept, &mut self.released);
+            return Settled::Released;
+        }
+        self.kept.clear();
+        Settled::Dropped
+    }
+
+    fn keep(&mut self, e: Entry) -> Result<Settled, NoMemory>
+        requires { self.old.released ≡ [] }
+        ensures answer { IfOk result (λ answer. answer ≡ kept_answer (is_some self.old.begun) e) }
+        ensures value { OnOk result (self.new ≡ kept_too e self.old) }
+        ensures none { IfOk result (λ answer. LeavesNone answer self.new) }
+        ensures err { OnErr result (self.new ≡ self.old) }
+    {
+        if self.begun.is_none() {
+            return Ok(Settled::Now(e));
+        }
+        self.kept.push_back(e)?;
+        Ok(Settled::Kept)
+    }
+
+    fn turn(&mut self, marker: Marker, offset: i64) -> Settled
+        requires { self.old.released ≡ [] }
+        ensures answer { result ≡ turned_answer marker (is_some self.old.begun) }
+        ensures value { self.new ≡ turned marker offset self.old }
+        ensures none { LeavesNone result self.new }
+    {
+        match marker {
+            Marker::Begin => {
+                self.begin(offset);
+                Settled::Kept
+            }
+            Marker::End => self.finish(true),
+            Marker::Abort => self.finish(false),
+        }
+    }
+
+    /// Pushes the next entry of a log, whose offset is above those of all entries before. What was released has to be
+    /// popped first. At `Err` the settler is as it was, and the entry is gone.
+    pub fn push(&mut self, e: Entry) -> Result<Settled, NoMemory>
+        requires { self.old.released ≡ [] }
+        ensures answer { IfOk result (λ answer. answer ≡ answer_to (is_some self.old.begun) e) }
+
+        // What was handed out and what is still to be popped are together the records that count.
+        ensures stands { IfOk result (λ answer. (pushed given : List EntryValue) → Rises int_cmp offset_of (pushed ++ e ∷ []) → Stands pushed given self.old
+            → Stands (pushed ++ e ∷ []) (given ++ handed answer) self.new) }
+        ensures none { IfOk result (λ answer. LeavesNone answer self.new) }
+        ensures err { OnErr result (self.new ≡ self.old) }
+    {
+        match marker_of(&e.item) {
+            None => self.keep(e),
+            Some(marker) => {
+                let offset = e.offset;
+                forget(e);
+                Ok(self.turn(marker, offset))
+            }
+        }
+    }
+
+    /// The next of the released entries.
+    pub fn pop(&mut self) -> Option<Entry>
+        ensures next { self.old ≡ record self.new { released = option_to_list result ++ self.new.released } }
+        ensures none { IfNone result (self.old.released ≡ []) }
+        ensures stands { (pushed given : List EntryValue) → Stands pushed given self.old → Stands pushed (given ++ option_to_list result) self.new }
+    {
+        self.released.pop_front()
+    }
+}
