@@ -23,14 +23,14 @@ fn now_of(value: &Value) -> Option<i64>
     time_of(value.get("now"))
 }
 
-// How many members there are with `now`, which may be absent, where there are `more` others.
-fn timed_count(more: u8, value: &Value) -> usize
-    ensures { result ≡ timed_count more (view value.now) }
+// How many members there are with `now`, which may be absent, where there are so many others.
+fn timed_count(others: u8, value: &Value) -> usize
+    ensures { result ≡ timed_count others (view value.now) }
 {
     if value.get("now").is_some() {
-        more as usize + 1
+        others as usize + 1
     } else {
-        more as usize
+        others as usize
     }
 }
 

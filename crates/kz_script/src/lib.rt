@@ -12,6 +12,8 @@ mod statuses;
 pub use events::read_event;
 pub use fault::LineFault;
 pub use kz_types::{Answer, Event};
+pub use replies::{summary, write_answer};
+pub use statuses::{status_code, status_text};
 
 #[cfg(test)]
 mod tests;

@@ -31,9 +31,9 @@ controller_of d = option_and_then id_of (get (codes "controller") d)
 abbrev pub now_of : Data → Option ℤ
 now_of d = time_of (get (codes "now") d)
 
--- `event`, `controller`, perhaps `now`, and so many further members
+-- how many members there are with `now`, which may be absent, where there are so many others
 abbrev pub timed_count : ℕ → Data → ℕ
-timed_count more d = count_with (get (codes "now") d) more
+timed_count others d = count_with (get (codes "now") d) others
 
 -- ---- events
 

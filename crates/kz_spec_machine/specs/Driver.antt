@@ -138,7 +138,8 @@ abbrev pub unless_full_record : Option Row → Driver → Driver × Reply → Dr
 unless_full_record None d rest = rest
 unless_full_record (Some r) d rest = if not (views_migrated d) && int_eq r.version max_version then (d, reply.Limit migration_path) else rest
 
--- the driver after its look: another controller of a higher epoch fences it off, and a znode that it couldn't set stops it
+-- the driver after its look: another controller of a higher epoch fences it off; a number of `/controller_epoch` that can't
+-- be read or can't rise, or a znode that it couldn't set, stops it
 abbrev pub looked : ClaimSeen → Driver → Driver × Reply
 looked seen d =
     unless_fenced (shown_by seen.control) d (
@@ -185,7 +186,7 @@ base_ops (b ∷ bs) [] = []
 base_ops (b ∷ bs) (p ∷ ps) = base_op b p ++ base_ops bs ps
 
 -- The multi of a claim: the number of `/controller_epoch` rises, at the version that was seen; `/controller` is this
--- controller's; nothing is recorded yet, where the log isn't migrated; and the base znodes stand.
+-- controller's; nothing is recorded yet, where the driver knows of no migration; and the base znodes stand.
 abbrev pub claim_ops : ClaimSeen → Driver → ℤ → List Op
 claim_ops seen d now =
     epoch_op seen.epoch
@@ -210,8 +211,8 @@ record_ops false target = []
 abbrev pub write_ops : ℤ → List Op → Recorded → List Op
 write_ops claim ops target = op.Check epoch_path claim ∷ (chunk ops ++ record_ops (is_last_write ops) target)
 
--- what will be recorded after a read of the log: its end, and the epoch of its last batch, or the driver's own where it
--- has read none
+-- what will be recorded after a read of the log: its end, and the epoch of the last batch that was read, or the driver's
+-- own where none was
 abbrev pub target_of : Driver → Recorded
 target_of d = record {
   id = d.id;
@@ -299,14 +300,15 @@ made s epoch now (add records) = with_log s (append s.log epoch now records)
 
 -- ---- the driver that gets its answer
 
+-- the less of a number and another, where there is one
+abbrev pub less_of : ℤ → Option ℤ → Option ℤ
+less_of i None = Some i
+less_of i (Some j) = if int_lt j i then Some j else Some i
+
 -- the least of these numbers
 abbrev pub least : List ℤ → Option ℤ
 least [] = None
 least (i ∷ is) = less_of i (least is)
-  where
-    less_of : ℤ → Option ℤ → Option ℤ
-    less_of i None = Some i
-    less_of i (Some j) = if int_lt j i then Some j else Some i
 
 abbrev pub is_one_of : List ℤ → ℤ → Bool
 is_one_of ids id = list_any (λ i. int_eq i id) ids
@@ -437,7 +439,8 @@ answered s running now d (stage.WriteChange target ops) = writes s.tree d.claim 
 
 -- ---- the driver that gets no answer
 
--- The driver whose request, or its answer, was lost: it can't know whether the tree or the log took it.
+-- The driver that gets no answer: its request or the answer was lost, or its session had expired. It can't rely on whether
+-- the tree or the log took it.
 abbrev pub without_answer : Request → Driver → Driver
 without_answer nothing d = d
 without_answer read_log d = d
@@ -455,7 +458,7 @@ pub record Stepped : Type 0 where
   pub driver : Driver
   pub reply : Reply
 
--- One step: at most one request, and its answer.
+-- One step whose request is delivered: at most one request, and its answer.
 unfoldable pub step : Shared → List ℤ → ℤ → Driver → Stepped
 step s running now d = record {
   shared = made s (epoch_or_zero d.epoch) now (asked s now d d.stage);

@@ -118,7 +118,7 @@ abbrev pub translated_count : Result (List MetaRecord) Unreadable → ℕ
 translated_count (Ok records) = length records
 translated_count (Err e) = 0
 
--- the znodes that a turn ends with: of the log's end, or, before the migration, of what the tree translates to
+-- the znodes that a turn ends with: of the log's end, or, before the migration, of what the tree translates to, if it does
 abbrev pub rendered_count : Bool → Log → Result (List MetaRecord) Unreadable → ℕ
 rendered_count true l translation = length (render (image_of l))
 rendered_count false l (Ok records) = length (render (all_applied max_epoch records empty_image))
@@ -202,7 +202,8 @@ started_world w id = record { shared = w.shared; drivers = w.drivers ++ new_driv
 
 -- ---- elect
 
--- what an election writes: it ends an open transaction, and begins the migration's first state
+-- what an election writes: a record of nothing; the end of a transaction that is open; and the first state of the migration,
+-- where it has none
 abbrev pub election_records : Log → List MetaRecord
 election_records l = meta.NoOp
     ∷ ((if is_open_log l then meta.AbortTransaction None ∷ [] else [])
@@ -228,12 +229,13 @@ election_answer w now = answer.Elected (next_epoch w.shared.log) (end_of (electe
 
 -- ---- turn
 
+-- the world after a turn of one driver, and its replies
+abbrev pub turned_world : World → Turned → World × Answer
+turned_world w t = (record { shared = t.shared; drivers = with_driver t.driver w.drivers }, answer.Turn t.replies)
+
 abbrev pub turn_result : World → ℤ → Option Driver → World × Answer
 turn_result w now None = (w, answer.NotRunning)
 turn_result w now (Some d) = turned_world w (turn (work w.shared d) w.shared (running_ids w.drivers) now d)
-  where
-    turned_world : World → Turned → World × Answer
-    turned_world w t = (record { shared = t.shared; drivers = with_driver t.driver w.drivers }, answer.Turn t.replies)
 
 abbrev pub event_turn_pairs : World → ℤ → Option Driver → List Pair
 event_turn_pairs w now None = []
@@ -296,7 +298,11 @@ unfoldable pub answers : World → List Event → List Answer
 answers w [] = []
 answers w (e ∷ es) = (next w e).1 ∷ answers (next w e).0 es
 
--- the tree and the log at the beginning of a run and after each request of it
-unfoldable pub pairs : World → List Event → List Pair
-pairs w [] = pair_of w.shared ∷ []
-pairs w (e ∷ es) = pair_of w.shared ∷ (event_pairs w e ++ pairs (next w e).0 es)
+-- the tree and the log after each request of these events
+unfoldable pub request_pairs : World → List Event → List Pair
+request_pairs w [] = []
+request_pairs w (e ∷ es) = event_pairs w e ++ request_pairs (next w e).0 es
+
+-- the tree and the log at the beginning of a run, and after each request of it
+abbrev pub pairs : World → List Event → List Pair
+pairs w es = pair_of w.shared ∷ request_pairs w es

@@ -1,6 +1,6 @@
 -- What is true of every world of a run. Each group of facts is a record over the values that it reads, so that what
 -- changes anything else keeps the group as it stands.
-use Rattle.std.specs.Prelude.{◌≡◌, ◌≢◌, ◌≤◌, ℕ, ℤ, pos, negsuc, ◌+ℤ◌, ◌-ℤ◌, ◌≤ℤ◌, ◌<ℤ◌, List, [], ◌∷◌, ◌++◌, length, Option, Some, None, option_map, All, IsTrue, ⊤}
+use Rattle.std.specs.Prelude.{◌≡◌, ◌≢◌, ◌≤◌, ℕ, true, ℤ, pos, negsuc, ◌+ℤ◌, ◌≤ℤ◌, List, [], ◌∷◌, ◌++◌, length, Option, Some, None, is_some, option_map, All, IsTrue, ⊤}
 use Rattle.kz_types.specs.declared.tree.Row.{Row}
 use Rattle.kz_types.specs.declared.tree.Op.{Op}
 use Rattle.kz_types.specs.declared.log.BatchRow.{BatchRow}
@@ -14,11 +14,11 @@ use Rattle.kz_types.specs.declared.record.MetaRecord.TheVariants as meta
 use Rattle.kz_ordered.specs.Order.{bytes_cmp}
 use Rattle.kz_ordered.specs.Ordered.{Rises}
 use Rattle.kz_spec_values.specs.Control.{control_path, epoch_path}
-use Rattle.kz_spec_stores.specs.Tree.{Tree, row_at, path_of_row, area, recorded, unclosed}
+use Rattle.kz_spec_stores.specs.Tree.{Tree, row_at, has_parent, path_of_row, migrated_rows, area, recorded, unclosed, max_long}
 use Rattle.kz_spec_stores.specs.Image.{empty_image, is_broker_config}
-use Rattle.kz_spec_stores.specs.Log.{Log, View, end_of, batch_ends, record_count, image_at, max_records, max_epoch}
+use Rattle.kz_spec_stores.specs.Log.{Log, View, last_of, end_of, batch_ends, record_count, image_at, max_records, max_epoch}
 use Rattle.kz_spec_stores.specs.Rendering.{render}
-use Rattle.kz_spec_machine.specs.Driver.{Shared, Driver, shown_by, remaining_at}
+use Rattle.kz_spec_machine.specs.Driver.{Shared, Driver, is_one_of, shown_by, remaining_at}
 use Rattle.kz_spec_machine.specs.Machine.{World, driver_of}
 
 -- ---- numbers
@@ -33,32 +33,50 @@ pub record IsEpoch (epoch : ℤ) : Type 0 where
   pub least : pos 1 ≤ℤ epoch
   pub most : epoch ≤ℤ max_epoch
 
+-- from 0, which stands for none, to the greatest of 32 bits
+pub record IsEpochOrNone (epoch : ℤ) : Type 0 where
+  pub least : pos 0 ≤ℤ epoch
+  pub most : epoch ≤ℤ max_epoch
+
+-- from 0 to the greatest of 64 bits
+pub record IsTime (now : ℤ) : Type 0 where
+  pub least : pos 0 ≤ℤ now
+  pub most : now ≤ℤ max_long
+
 -- ---- the tree and the log
 
--- no transaction of a znode is above the tree's last one
+-- no transaction of a znode is above the tree's last one, and its version isn't negative
 pub record IsStamped (zxid : ℤ) (r : Row) : Type 0 where
   pub created : r.czxid ≤ℤ zxid
   pub modified : r.mzxid ≤ℤ zxid
   pub children : r.pzxid ≤ℤ zxid
+  pub version : pos 0 ≤ℤ r.version
 
--- The znodes rise by path, and their transactions are those of the tree.
+-- every znode's parent is there, or is the root
+abbrev pub HaveParents : List Row → Type 0
+HaveParents rows = (path : List ℕ) → is_some (row_at path rows) ≡ true → has_parent path rows ≡ true
+
+-- The znodes rise by path, their parents are there, and their transactions are those of the tree.
 pub record TreeShape (t : Tree) : Type 0 where
   pub rise : Rises bytes_cmp path_of_row t.rows
+  pub parents : HaveParents t.rows
   pub stamped : All (IsStamped t.zxid) t.rows
 
 -- each batch begins behind the one before it
 abbrev pub Follows : ℤ → List BatchRow → Type 0
 Follows end [] = ⊤
-Follows end (b ∷ bs) = (b.first ≡ end +ℤ pos 1) × Follows ((b.first +ℤ pos (length b.items)) -ℤ pos 1) bs
+Follows end (b ∷ bs) = (b.first ≡ end +ℤ pos 1) × Follows (last_of b) bs
 
--- The log begins at its base, its batches follow each other, and there are few enough of them.
+-- The log begins at its base with nothing, its batches follow each other, and there are few enough records. Epochs are in
+-- range, and a log that has one has a record.
 pub record LogShape (l : Log) : Type 0 where
   pub base : l.base ≡ negsuc 0
   pub empty : l.base_image ≡ empty_image
   pub follows : Follows l.base l.batches
   pub few : record_count l.batches ≤ max_records
-  pub epoch_least : pos 0 ≤ℤ l.epoch
-  pub epoch_most : l.epoch ≤ℤ max_epoch
+  pub epochs : All (λ (b : BatchRow). IsEpochOrNone b.epoch) l.batches
+  pub epoch : IsEpochOrNone l.epoch
+  pub begun : pos 1 ≤ℤ l.epoch → pos 0 ≤ℤ end_of l
 
 -- an offset is the base or the last of a batch
 pub record IsBatchEnd (l : Log) (offset : ℤ) : Type 0 where
@@ -82,16 +100,17 @@ pub record Kept (s : Shared) : Type 0 where
 abbrev pub claim_version : Tree → Option ℤ
 claim_version t = option_map (λ (r : Row). r.version) (row_at epoch_path t.rows)
 
--- the epoch that `/controller` shows
-abbrev pub shown_in : Tree → Option ℤ
-shown_in t = shown_by (row_at control_path t.rows)
-
 -- A driver's claim is current where it is the data version of `/controller_epoch`.
 abbrev pub IsCurrent : Tree → Option ℤ → Type 0
 IsCurrent t claim = (claim ≡ claim_version t) × (claim ≢ None)
 
+-- the epoch that `/controller` shows
+abbrev pub shown_in : Tree → Option ℤ
+shown_in t = shown_by (row_at control_path t.rows)
+
 -- A claim is never above the data version; while it is current, `/controller` shows the driver's epoch.
 pub record Claimed (version shown epoch : Option ℤ) (v : ℤ) : Type 0 where
+  pub least : pos 0 ≤ℤ v
   pub low : (now : ℤ) → version ≡ Some now → v ≤ℤ now
   pub there : version ≢ None
   pub shows : version ≡ Some v → shown ≡ epoch
@@ -104,11 +123,18 @@ Claims version shown epoch (Some v) = Claimed version shown epoch v
 pub record Views (l : Log) (v : View) : Type 0 where
   pub end : IsBatchEnd l v.position
   pub image : v.image ≡ image_at l v.position
+  pub epoch : IsEpochOrNone v.epoch
 
 -- The driver's epoch, where it has one, isn't above the log's.
 abbrev pub Epochs : ℤ → Option ℤ → Type 0
 Epochs log_epoch None = ⊤
 Epochs log_epoch (Some e) = IsEpoch e × (e ≤ℤ log_epoch)
+
+-- A driver that does anything was elected and hasn't resigned.
+abbrev pub Elected : Option ℤ → Stage → Type 0
+Elected epoch stage.Uninitialized = ⊤
+Elected epoch stage.Inactive = ⊤
+Elected epoch s = epoch ≢ None
 
 -- what a driver that writes will record: its view's end of the log
 pub record Aims (target : Recorded) (own : ℤ) (own_epoch : Option ℤ) (v : View) : Type 0 where
@@ -116,8 +142,12 @@ pub record Aims (target : Recorded) (own : ℤ) (own_epoch : Option ℤ) (v : Vi
   pub controller_epoch : Some target.controller_epoch ≡ own_epoch
   pub offset : target.offset ≡ v.position
   pub not_negative : pos 0 ≤ℤ target.offset
-  pub epoch_least : pos 0 ≤ℤ target.epoch
-  pub epoch_most : target.epoch ≤ℤ max_epoch
+  pub epoch : IsEpochOrNone target.epoch
+
+-- A current driver that reads the migrated area: what it has read is the first part of it.
+pub record Reads (t : Tree) (rows : List Row) : Type 0 where
+  pub rest : List Row
+  pub whole : migrated_rows t ≡ rows ++ rest
 
 -- A current driver that writes: the operations that it holds are all that remains.
 pub record Writes (t : Tree) (l : Log) (target : Recorded) (ops : List Op) : Type 0 where
@@ -131,10 +161,11 @@ pub record Rests (t : Tree) (v : View) (offset : Option ℤ) : Type 0 where
 
 -- What holds at each stage, by cases. What is said of the tree is said of a current driver alone.
 abbrev pub AtStage : Tree → Log → Driver → Stage → Type 0
-AtStage t l d (stage.ReadArea target rows) = Aims target d.id d.epoch d.view
+AtStage t l d (stage.Claim seen) = (r : Row) → seen.epoch ≡ Some r → pos 0 ≤ℤ r.version
+AtStage t l d (stage.ReadArea target rows) = Aims target d.id d.epoch d.view × (IsCurrent t d.claim → Reads t rows)
 AtStage t l d (stage.WriteAll target ops) = Aims target d.id d.epoch d.view × (IsCurrent t d.claim → Writes t l target ops)
-AtStage t l d stage.InformBrokers = IsCurrent t d.claim → Rests t d.view d.recorded
-AtStage t l d stage.Rest = IsCurrent t d.claim → Rests t d.view d.recorded
+AtStage t l d stage.InformBrokers = (d.claim ≢ None) × (IsCurrent t d.claim → Rests t d.view d.recorded)
+AtStage t l d stage.Rest = (d.claim ≢ None) × (IsCurrent t d.claim → Rests t d.view d.recorded)
 AtStage t l d (stage.WriteChange target ops) = Aims target d.id d.epoch d.view × (IsCurrent t d.claim → Writes t l target ops)
 AtStage t l d s = ⊤
 
@@ -142,6 +173,7 @@ AtStage t l d s = ⊤
 pub record Fine (s : Shared) (d : Driver) : Type 0 where
   pub id : IsId d.id
   pub epochs : Epochs s.log.epoch d.epoch
+  pub elected : Elected d.epoch d.stage
   pub claims : Claims (claim_version s.tree) (shown_in s.tree) d.epoch d.claim
   pub views : Views s.log d.view
   pub stage : AtStage s.tree s.log d d.stage
@@ -156,10 +188,16 @@ pub record Sound (w : World) : Type 0 where
 
 -- ---- one controller
 
+-- At most one driver, of a declared controller.
+abbrev pub AtMostOne : List ℤ → List Driver → Type 0
+AtMostOne declared [] = ⊤
+AtMostOne declared (d ∷ []) = is_one_of declared d.id ≡ true
+AtMostOne declared (d ∷ e ∷ ds) = ⊥
+
 -- While one controller alone is declared, it alone runs, and its claim stays current.
 pub record Alone (w : World) : Type 0 where
   pub declared : length w.shared.declared ≤ 1
-  pub running : length w.drivers ≤ 1
+  pub running : AtMostOne w.shared.declared w.drivers
   pub current : (id : ℤ) (d : Driver) → driver_of id w.drivers ≡ Some d → d.claim ≢ None → IsCurrent w.shared.tree d.claim
 
 -- ---- events
@@ -169,12 +207,12 @@ abbrev pub IsChange : MetaRecord → Type 0
 IsChange (meta.Config c) = IsTrue (is_broker_config c)
 IsChange r = ⊥
 
--- An event as a line of a script gives it: ids and times aren't negative, one controller is declared, and a change has one
+-- An event as a line of a script gives it: ids and times are in range, one controller is declared, and a change has one
 -- member of the configuration of a broker.
 abbrev pub IsLawful : Event → Type 0
 IsLawful (event.Quorum ids) = All IsId ids × (length ids ≡ 1)
 IsLawful (event.Start id) = IsId id
-IsLawful (event.Elect id now) = IsId id × (pos 0 ≤ℤ now)
-IsLawful (event.Turn id now) = IsId id × (pos 0 ≤ℤ now)
-IsLawful (event.Change id records now) = IsId id × (pos 0 ≤ℤ now) × All IsChange records × (length records ≡ 1)
+IsLawful (event.Elect id now) = IsId id × IsTime now
+IsLawful (event.Turn id now) = IsId id × IsTime now
+IsLawful (event.Change id records now) = IsId id × IsTime now × All IsChange records × (length records ≡ 1)
 IsLawful event.Check = ⊤

@@ -42,7 +42,7 @@ abbrev pub events_on : Option Event → List Event → List Event
 events_on None rest = []
 events_on (Some e) rest = e ∷ rest
 
--- the events of these lines, up to the first line that is none
+-- the events of these lines, up to the first line that is none or passes a limit
 abbrev pub events_of : List Item → List Event
 events_of [] = []
 events_of (long ∷ is) = []

@@ -7,19 +7,20 @@ use Rattle.kz_spec_lines.specs.Events.{line_event}
 use Rattle.kz_spec_machine.specs.Machine.{Pair, pair_of, next, event_pairs}
 use Rattle.kz_spec_runs.specs.Output.{Place, opening, passed, served, written_for, ending, summary}
 
--- The lines that stand whole, the lines of the event under way, and the tree and the log.
+-- The lines that stand whole, the lines that are being written, of which some front may stand, and the tree and the log.
 pub record Moment : Type 0 where
   pub text : List ℕ
   pub reply : List ℕ
   pub pair : Pair
 
--- a moment at which nothing is written yet
+-- a moment before these lines are written
 abbrev pub moment_at : List ℕ → Pair → Moment
 moment_at reply pair = record { text = []; reply = reply; pair = pair }
 
-abbrev pub moments_at : List ℕ → List Pair → List Moment
-moments_at reply [] = []
-moments_at reply (p ∷ ps) = moment_at reply p ∷ moments_at reply ps
+-- the moments of these requests, before anything is written of the event
+abbrev pub moments_at : List Pair → List Moment
+moments_at [] = []
+moments_at (p ∷ ps) = moment_at [] p ∷ moments_at ps
 
 abbrev pub prefixed : List ℕ → Moment → Moment
 prefixed text m = record { text = text ++ m.text; reply = m.reply; pair = m.pair }
@@ -35,10 +36,11 @@ moments_unless None p rest = rest
 
 abbrev pub moments_on : Place → Option Event → (Place → List Moment) → List Moment
 moments_on p None go = moment_at [] (pair_of p.world.shared) ∷ []
-moments_on p (Some e) go = moments_at (written_for p e) (pair_of p.world.shared ∷ event_pairs p.world e)
-    ++ later (written_for p e) (moments_unless (ending (next p.world e).1) (served p e) (go (served p e)))
+moments_on p (Some e) go = moments_at (pair_of p.world.shared ∷ event_pairs p.world e)
+    ++ (moment_at (written_for p e) (pair_of (next p.world e).0.shared)
+    ∷ later (written_for p e) (moments_unless (ending (next p.world e).1) (served p e) (go (served p e))))
 
--- The moments of these lines from a place on.
+-- The moments of these lines from a place on. The lines of an event are written after its last request.
 unfoldable pub moments : Place → List Item → List Moment
 moments p [] = moment_at (summary p) (pair_of p.world.shared) ∷ []
 moments p (long ∷ is) = moment_at [] (pair_of p.world.shared) ∷ []

@@ -70,7 +70,7 @@ is_broker_config c = int_eq c.resource_type (pos 4) && is_broker_name c.resource
 abbrev pub id_of_broker : RegisterBrokerRecord → ℤ
 id_of_broker b = b.broker_id
 
--- the metadata after a record; one that isn't accepted changes nothing
+-- The metadata after a record; one that isn't accepted changes nothing. Of records on other entities nothing is kept yet.
 abbrev pub applied : ℤ → MetaRecord → Image → Image
 applied epoch (meta.Config c) i = if is_broker_config c then record i { broker_configs = configured c i.broker_configs } else i
 applied epoch (meta.RegisterBroker b) i = if int_le (pos 0) b.broker_id then record i { brokers = put int_cmp id_of_broker b i.brokers } else i

@@ -23,8 +23,8 @@ max_epoch = pos 2147483647
 
 -- ---- the log
 
--- The log's epoch, the offset up to which it is an image alone, that image, and the batches behind it. Where the base
--- is -1 the image is empty.
+-- The log's epoch, the offset up to which it is an image alone, that image, and the batches behind it. In every log of a
+-- run the image is empty where the base is -1, and each batch begins behind the one before it.
 pub record Log : Type 0 where
   pub epoch : ℤ
   pub base : ℤ

@@ -76,7 +76,7 @@ abbrev pub all_records : List Row → Translated
 all_records [] = Ok []
 all_records (r ∷ rs) = joined r.path (row_records r) (all_records rs)
 
--- the records that the migration appends beside those that it translates: Begin, two states of the migration, and End
+-- the records beside the translated ones that the limit leaves room for: those of the election, Begin and End among them
 abbrev pub further_records : ℕ
 further_records = 4
 

@@ -36,7 +36,7 @@ max_long = pos 9223372036854775807
 
 -- ---- the tree
 
--- The last zxid, the live sessions, which rise, and the znodes but the root, by rising path.
+-- The last zxid, the live sessions, and the znodes but the root. In every tree of a run the sessions and the paths rise.
 pub record Tree : Type 0 where
   pub zxid : ℤ
   pub sessions : List ℤ

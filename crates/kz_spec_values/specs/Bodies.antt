@@ -1,15 +1,16 @@
 -- What the body of a migrated znode says, and the text that is written for it.
-use Rattle.std.specs.Prelude.{ℕ, Bool, true, false, not, ◌&&◌, ◌==◌, nat_lt, nat_le, ℤ, pos, negsuc, int_le, nat_abs, List, [], ◌∷◌, ◌++◌, map, length, Option, Some, None, option_map, option_and_then, unwrap_or, Result, Ok, Err, if◌then◌else◌, codes, bytes_eq, decimal}
+use Rattle.std.specs.Prelude.{ℕ, Bool, true, false, not, ◌&&◌, ◌==◌, nat_lt, ℤ, pos, negsuc, int_le, List, [], ◌∷◌, ◌++◌, map, length, Option, Some, None, option_map, option_and_then, unwrap_or, Result, Ok, Err, if◌then◌else◌, codes, bytes_eq}
 use Rattle.std.specs.Str.{is_utf8}
 use Rattle.std.specs.List.{list_all, list_any}
 use Rattle.std.specs.Ordering.{int_eq}
-use Rattle.serde_json.specs.Data.{Data, null, boolean, number, string, array, object, Items, no_items, item, Members, no_members, member, put}
+use Rattle.serde_json.specs.Data.{Data, number, string, array, object, Items, no_items, item, Members, no_members, member, put}
 use Rattle.serde_json.specs.Read.{read}
-use Rattle.serde_json.specs.Find.{get, get_member, as_number, as_i64, as_str, as_array, as_object, of_integer}
+use Rattle.serde_json.specs.Find.{get, as_number, as_i64, as_str, as_array, as_object, of_integer}
+use Rattle.serde_json.specs.View.{items_of}
 use Rattle.serde_json.specs.Written.{compact_text}
-use Rattle.kz_types.specs.Numbers.{canonical, number_of}
+use Rattle.kz_types.specs.Numbers.{number_in, digits_up_to}
+use Rattle.std.specs.Fmt.{signed_decimal}
 use Rattle.kz_types.specs.Ids.{id_of, id_text, zero_id}
-use Rattle.kz_types.specs.Quotas.{is_digit}
 use Rattle.kz_types.specs.declared.id.Id.{Id}
 use Rattle.kz_types.specs.declared.row.AclRow.{AclRow}
 use Rattle.kz_types.specs.declared.bodies.Pair.{Pair}
@@ -112,17 +113,17 @@ place_row row [] = row ∷ []
 place_row row (other ∷ rows) = if int_le row.number other.number then row ∷ other ∷ rows else other ∷ place_row row rows
 
 -- a partition of that number with these replicas
-abbrev pub row_of : Option ℕ → Option (List ℤ) → Option AssignmentRow
+abbrev pub row_of : Option ℤ → Option (List ℤ) → Option AssignmentRow
 row_of found replicas = option_and_then (λ n. option_and_then (λ ids. if are_replicas ids
-    then Some (record { number = pos n; replicas = ids; adding = []; removing = [] }) else None) replicas) found
+    then Some (record { number = n; replicas = ids; adding = []; removing = [] }) else None) replicas) found
 
--- the partitions of an object from numbers to replicas, by rising number
-abbrev pub rows_in : Members → Option (List AssignmentRow)
-rows_in no_members = Some []
-rows_in (member name d ms) = option_and_then (λ row. option_map (place_row row) (rows_in ms)) (row_of (canonical name) (brokers_of d))
+-- the partitions of an object from numbers to replicas, one after another, by rising number
+abbrev pub rows_onto : List AssignmentRow → Members → Option (List AssignmentRow)
+rows_onto rows no_members = Some rows
+rows_onto rows (member name d ms) = option_and_then (λ row. rows_onto (place_row row rows) ms) (row_of (number_in name) (brokers_of d))
 
 abbrev pub rows_of : Data → Option (List AssignmentRow)
-rows_of d = option_and_then rows_in (as_object d)
+rows_of d = option_and_then (rows_onto []) (as_object d)
 
 -- one that is there
 abbrev pub is_there : {A : Type 0} → Option A → Bool
@@ -132,19 +133,23 @@ is_there (Some a) = true
 -- an object from numbers to brokers
 abbrev pub are_lists : Members → Bool
 are_lists no_members = true
-are_lists (member name d ms) = is_there (canonical name) && is_there (brokers_of d) && are_lists ms
+are_lists (member name d ms) = is_there (number_in name) && is_there (brokers_of d) && are_lists ms
 
--- the brokers of a partition, where the object has it
-abbrev pub list_at : Members → ℤ → List ℤ
-list_at ms partition = unwrap_or (option_and_then brokers_of (get_member (decimal (nat_abs partition)) ms)) []
+-- the brokers of a partition, where there is an object and it has the partition
+abbrev pub list_at : Option Data → ℤ → List ℤ
+list_at None partition = []
+list_at (Some d) partition = unwrap_or (option_and_then brokers_of (get (signed_decimal partition) d)) []
 
--- the lists of the partitions that there are: some of their replicas
-abbrev pub lists_for : List AssignmentRow → Data → Option Members
-lists_for rows d = option_and_then
-    (λ ms. if are_lists ms && list_all (λ row. are_some_of row.replicas (list_at ms row.number)) rows then Some ms else None) (as_object d)
+-- the lists of the partitions that there are: some of their replicas, none twice
+abbrev pub fit : List AssignmentRow → Data → Bool
+fit rows d = list_all (λ row. are_some_of row.replicas (list_at (Some d) row.number)) rows
+
+-- an object from numbers to brokers that fits the partitions. Other partitions are passed over
+abbrev pub lists_for : List AssignmentRow → Data → Option (Option Data)
+lists_for rows d = option_and_then (λ ms. if are_lists ms && fit rows d then Some (Some d) else None) (as_object d)
 
 -- a partition with what is added and removed
-abbrev pub with_lists : Members → Members → AssignmentRow → AssignmentRow
+abbrev pub with_lists : Option Data → Option Data → AssignmentRow → AssignmentRow
 with_lists adding removing row = record row { adding = list_at adding row.number; removing = list_at removing row.number }
 
 -- an id other than zero
@@ -160,8 +165,8 @@ abbrev pub topic_of_data : Data → Result Body BodyFault
 topic_of_data d =
     then_read (field (codes "version") (whole (pos 1) (pos 3)) d)
     (λ version. then_read (field (codes "partitions") rows_of d)
-    (λ rows. then_read (optional (codes "adding_replicas") no_members (lists_for rows) (get (codes "adding_replicas") d))
-    (λ adding. then_read (optional (codes "removing_replicas") no_members (lists_for rows) (get (codes "removing_replicas") d))
+    (λ rows. then_read (optional (codes "adding_replicas") None (lists_for rows) (get (codes "adding_replicas") d))
+    (λ adding. then_read (optional (codes "removing_replicas") None (lists_for rows) (get (codes "removing_replicas") d))
     (λ removing. then_read (topic_id_in (get (codes "topic_id") d))
     (λ id. Ok (body.Topic id (map (with_lists adding removing) rows)))))))
 
@@ -195,18 +200,18 @@ operation_of name =
     else if bytes_eq name (codes "IdempotentWrite") then Some (pos 12)
     else None
 
-abbrev pub operation_name : ℕ → List ℕ
+abbrev pub operation_name : ℤ → List ℕ
 operation_name operation =
-    if operation == 2 then codes "All"
-    else if operation == 3 then codes "Read"
-    else if operation == 4 then codes "Write"
-    else if operation == 5 then codes "Create"
-    else if operation == 6 then codes "Delete"
-    else if operation == 7 then codes "Alter"
-    else if operation == 8 then codes "Describe"
-    else if operation == 9 then codes "ClusterAction"
-    else if operation == 10 then codes "DescribeConfigs"
-    else if operation == 11 then codes "AlterConfigs"
+    if int_eq operation (pos 2) then codes "All"
+    else if int_eq operation (pos 3) then codes "Read"
+    else if int_eq operation (pos 4) then codes "Write"
+    else if int_eq operation (pos 5) then codes "Create"
+    else if int_eq operation (pos 6) then codes "Delete"
+    else if int_eq operation (pos 7) then codes "Alter"
+    else if int_eq operation (pos 8) then codes "Describe"
+    else if int_eq operation (pos 9) then codes "ClusterAction"
+    else if int_eq operation (pos 10) then codes "DescribeConfigs"
+    else if int_eq operation (pos 11) then codes "AlterConfigs"
     else codes "IdempotentWrite"
 
 -- 2 denied, 3 allowed
@@ -216,8 +221,8 @@ permission_of name =
     else if bytes_eq name (codes "Allow") then Some (pos 3)
     else None
 
-abbrev pub permission_name : ℕ → List ℕ
-permission_name permission = if permission == 2 then codes "Deny" else codes "Allow"
+abbrev pub permission_name : ℤ → List ℕ
+permission_name permission = if int_eq permission (pos 2) then codes "Deny" else codes "Allow"
 
 -- the text of a member
 abbrev pub text_at : List ℕ → Data → Option (List ℕ)
@@ -235,17 +240,20 @@ abbrev pub entries_in : ℤ → ℤ → List ℕ → Items → Option (List AclR
 entries_in pattern kind name no_items = Some []
 entries_in pattern kind name (item d ds) = option_and_then (λ row. option_map (λ rows. row ∷ rows) (entries_in pattern kind name ds)) (entry_in pattern kind name d)
 
+abbrev pub entries_of_data : ℤ → ℤ → List ℕ → Data → Option (List AclRow)
+entries_of_data pattern kind name d = option_and_then (entries_in pattern kind name) (as_array d)
+
 abbrev pub acls_of_data : ℤ → ℤ → List ℕ → Data → Result Body BodyFault
 acls_of_data pattern kind name d =
     then_read (field (codes "version") (whole (pos 1) (pos 1)) d)
-    (λ version. then_read (field (codes "acls") (λ acls. option_and_then (entries_in pattern kind name) (as_array acls)) d)
+    (λ version. then_read (field (codes "acls") (entries_of_data pattern kind name) d)
     (λ rows. Ok (body.Acls rows)))
 
 -- ---- producer ids
 
 -- one or more digits, leading zeros among them
 abbrev pub digits_number : List ℕ → Option ℤ
-digits_number text = if nat_lt 0 (length text) && list_all is_digit text && nat_le (number_of text) 9223372036854775807 then Some (pos (number_of text)) else None
+digits_number text = if length text == 0 then None else option_map (λ n. pos n) (digits_up_to 9223372036854775807 text)
 
 abbrev pub digits_of_data : Data → Option ℤ
 digits_of_data d = option_and_then digits_number (as_str d)
@@ -291,14 +299,19 @@ abbrev pub json_of : List ℕ → Option Data
 json_of bytes = if is_utf8 bytes then read bytes else None
 
 -- only an object is a body
+abbrev pub object_if : Data → Option Members → Option Data
+object_if d None = None
+object_if d (Some ms) = Some d
+
+abbrev pub object_of : Option Data → Option Data
+object_of o = option_and_then (λ d. object_if d (as_object d)) o
+
+abbrev pub body_of_object : EntityKey → Option Data → Result Body BodyFault
+body_of_object key None = Err NotJson
+body_of_object key (Some d) = body_of key d
+
 abbrev pub body_of_json : EntityKey → Option Data → Result Body BodyFault
-body_of_json key None = Err NotJson
-body_of_json key (Some null) = Err NotJson
-body_of_json key (Some (boolean b)) = Err NotJson
-body_of_json key (Some (number n)) = Err NotJson
-body_of_json key (Some (string s)) = Err NotJson
-body_of_json key (Some (array ds)) = Err NotJson
-body_of_json key (Some (object ms)) = body_of key (object ms)
+body_of_json key o = body_of_object key (object_of o)
 
 abbrev pub body_unless_empty : EntityKey → List ℕ → Option Body → Result Body BodyFault
 body_unless_empty key bytes (Some empty) = if length bytes == 0 then Ok empty else body_of_json key (json_of bytes)
@@ -313,12 +326,8 @@ read_body key bytes = body_unless_empty key bytes (empty_body key)
 abbrev pub whole_data : ℤ → Data
 whole_data z = number (of_integer z)
 
-abbrev pub items_data : List ℤ → Items
-items_data [] = no_items
-items_data (id ∷ ids) = item (whole_data id) (items_data ids)
-
 abbrev pub brokers_data : List ℤ → Data
-brokers_data ids = array (items_data ids)
+brokers_data ids = array (items_of (map whole_data ids))
 
 -- members with texts, one after another
 abbrev pub with_texts : Members → List Pair → Members
@@ -331,7 +340,7 @@ config_data pairs = object (member (codes "config") (object (with_texts no_membe
 
 -- the member of a partition
 abbrev pub with_list : AssignmentRow → List ℤ → Members → Members
-with_list row ids ms = put (decimal (nat_abs row.number)) (brokers_data ids) ms
+with_list row ids ms = put (signed_decimal row.number) (brokers_data ids) ms
 
 -- the same, but for an empty list
 abbrev pub with_some : AssignmentRow → List ℤ → Members → Members
@@ -370,21 +379,17 @@ state_data leader leader_epoch controller_epoch isr recovery = object
 abbrev pub acl_data : AclRow → Data
 acl_data row = object
     (member (codes "host") (string row.host)
-    (member (codes "operation") (string (operation_name (nat_abs row.operation)))
-    (member (codes "permissionType") (string (permission_name (nat_abs row.permission)))
+    (member (codes "operation") (string (operation_name row.operation))
+    (member (codes "permissionType") (string (permission_name row.permission))
     (member (codes "principal") (string row.principal) no_members))))
 
-abbrev pub acl_items : List AclRow → Items
-acl_items [] = no_items
-acl_items (row ∷ rows) = item (acl_data row) (acl_items rows)
-
 abbrev pub acls_data : List AclRow → Data
-acls_data rows = object (member (codes "acls") (array (acl_items rows)) (member (codes "version") (whole_data (pos 1)) no_members))
+acls_data rows = object (member (codes "acls") (array (items_of (map acl_data rows))) (member (codes "version") (whole_data (pos 1)) no_members))
 
 abbrev pub producer_data : ℤ → ℤ → ℤ → Data
 producer_data broker start end = object
-    (member (codes "block_end") (string (decimal (nat_abs end)))
-    (member (codes "block_start") (string (decimal (nat_abs start)))
+    (member (codes "block_end") (string (signed_decimal end))
+    (member (codes "block_start") (string (signed_decimal start))
     (member (codes "broker") (whole_data broker)
     (member (codes "version") (whole_data (pos 1)) no_members))))
 

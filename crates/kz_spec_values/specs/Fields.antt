@@ -17,6 +17,10 @@ pub record Reading : Type 0 where
   pub at : ℕ
   pub left : List ℕ
 
+-- a reader in front of bytes
+abbrev pub start : List ℕ → Reading
+start bytes = record { at = 0; left = bytes }
+
 -- where the bytes end
 abbrev pub end_of : Reading → ℕ
 end_of r = r.at + length r.left
@@ -215,3 +219,8 @@ is_null r = begins_null (uvarint.read r)
 abbrev pub Reads : {X Y : Type 0} → (X → Y) → Reading → Result X ByteFault → Reading → Result (Y × Reading) ByteFault → Type 0
 Reads view old (Ok x) new next = next ≡ Ok (view x, new)
 Reads view old (Err e) new next = (next ≡ Err e) × (new ≡ old)
+
+-- A call of a writer appends these bytes, or leaves what was there.
+abbrev pub Writes : {E : Type 0} → List ℕ → Result (Unit {0}) E → List ℕ → List ℕ → Type 0
+Writes old (Ok done) new bytes = new ≡ old ++ bytes
+Writes old (Err e) new bytes = new ≡ old

@@ -1,5 +1,5 @@
 -- Which bytes spell a record of the metadata log, what is read from bytes, and what is written.
-use Rattle.std.specs.Prelude.{◌≡◌, ℕ, ℤ, pos, negsuc, ◌==◌, List, ◌++◌, length, Option, Some, None, is_none, Result, Ok, Err, if◌then◌else◌}
+use Rattle.std.specs.Prelude.{◌≡◌, ℕ, ◌+◌, ◌<◌, ◌^◌, ℤ, pos, negsuc, ◌==◌, List, ◌++◌, length, Option, Some, None, is_none, Result, Ok, Err, if◌then◌else◌}
 use Rattle.std.specs.Int.{w8, w16, w32, w64}
 use Rattle.std.specs.Ordering.{int_eq}
 use Rattle.kz_types.specs.declared.id.Id.{Id}
@@ -21,7 +21,7 @@ use Rattle.kz_types.specs.declared.record.CodecFault.{CodecFault}
 use Rattle.kz_types.specs.declared.record.CodecFault.TheVariants.{UnknownKey, UnknownVersion, BadField, Rest, NoMemory}
 use Rattle.kz_types.specs.QuotaEntities.{user_first}
 use Rattle.kz_spec_values.specs.Fields.{Reading, Format, mapped, ◌>>=◌, uvarint, unsigned, signed, id, nullable_bytes, nullable_text}
-use Rattle.kz_spec_values.specs.Forms.{lifted, field, present, flag, nullable_ints, ◌⊗◌, list_of, nothing, both, plain, text_content, tag, section, closed}
+use Rattle.kz_spec_values.specs.Forms.{lifted, field, present, flag, nullable_ints, ◌⊗◌, list_of, AllFit, nothing, Known, Content, both, plain, text_content, tag, section, closed}
 
 -- ---- the fields, under the names of Kafka's schemas
 
@@ -85,13 +85,17 @@ topic = mapped
     (λ t. (t.name, t.topic_id))
     (closed (string ⊗ uuid))
 
+-- tag 0: the recovery state
+abbrev pub partition_tags : Known ℤ
+partition_tags = tag 0 (pos 0) (int_eq (pos 0)) (plain (signed w8))
+
 -- partition id, topic id, replicas, in-sync replicas, removing and adding replicas, leader, leader epoch, partition
 -- epoch; tag 0: recovery state, by default 0
 abbrev pub partition : Format CodecFault PartitionRecord
 partition = mapped
     (λ x. record { partition_id = x.0; topic_id = x.1.0; replicas = x.1.1.0; isr = x.1.1.1.0; removing = x.1.1.1.1.0; adding = x.1.1.1.1.1.0; leader = x.1.1.1.1.1.1.0; leader_epoch = x.1.1.1.1.1.1.1.0; partition_epoch = x.1.1.1.1.1.1.1.1.0; recovery = x.1.1.1.1.1.1.1.1.1 })
     (λ p. (p.partition_id, (p.topic_id, (p.replicas, (p.isr, (p.removing, (p.adding, (p.leader, (p.leader_epoch, (p.partition_epoch, p.recovery))))))))))
-    (int32 ⊗ uuid ⊗ ints ⊗ ints ⊗ ints ⊗ ints ⊗ int32 ⊗ int32 ⊗ int32 ⊗ section (tag 0 (pos 0) (int_eq (pos 0)) (plain (signed w8))))
+    (int32 ⊗ uuid ⊗ ints ⊗ ints ⊗ ints ⊗ ints ⊗ int32 ⊗ int32 ⊗ int32 ⊗ section partition_tags)
 
 -- resource type, resource name, name, value
 abbrev pub config : Format CodecFault ConfigRecord
@@ -100,14 +104,27 @@ config = mapped
     (λ c. (c.resource_type, (c.resource_name, (c.name, c.value))))
     (closed (int8 ⊗ string ⊗ string ⊗ nullable_string))
 
--- partition id, topic id; tags 0: in-sync replicas, 1: leader, by default -2, 2: replicas, 3: removing, 4: adding
--- replicas, 5: recovery state, by default -1
+-- a tag of a list of numbers, by default null
+abbrev pub ints_tag : ℕ → Known (Option (List ℤ))
+ints_tag number = tag number None is_none (plain nullable_ints)
+
+abbrev pub leader_tag : Known ℤ
+leader_tag = tag 1 (negsuc 1) (int_eq (negsuc 1)) (plain (signed w32))
+
+abbrev pub stated_recovery_tag : Known ℤ
+stated_recovery_tag = tag 5 (negsuc 0) (int_eq (negsuc 0)) (plain (signed w8))
+
+-- tags 0: in-sync replicas, 1: leader, by default -2, 2: replicas, 3: removing, 4: adding replicas, 5: recovery state,
+-- by default -1
+abbrev pub change_tags : Known (Option (List ℤ) × (ℤ × (Option (List ℤ) × (Option (List ℤ) × (Option (List ℤ) × ℤ)))))
+change_tags = both (ints_tag 0) (both leader_tag (both (ints_tag 2) (both (ints_tag 3) (both (ints_tag 4) stated_recovery_tag))))
+
+-- partition id, topic id, and the tagged parts
 abbrev pub partition_change : Format CodecFault PartitionChangeRecord
 partition_change = mapped
     (λ x. record { partition_id = x.0; topic_id = x.1.0; isr = x.1.1.0; leader = x.1.1.1.0; replicas = x.1.1.1.1.0; removing = x.1.1.1.1.1.0; adding = x.1.1.1.1.1.1.0; recovery = x.1.1.1.1.1.1.1 })
     (λ c. (c.partition_id, (c.topic_id, (c.isr, (c.leader, (c.replicas, (c.removing, (c.adding, c.recovery))))))))
-    (int32 ⊗ uuid ⊗ section (both (tag 0 None is_none (plain nullable_ints)) (both (tag 1 (negsuc 1) (int_eq (negsuc 1)) (plain (signed w32))) (both (tag 2 None is_none (plain nullable_ints))
-    (both (tag 3 None is_none (plain nullable_ints)) (both (tag 4 None is_none (plain nullable_ints)) (tag 5 (negsuc 0) (int_eq (negsuc 0)) (plain (signed w8)))))))))
+    (int32 ⊗ uuid ⊗ section change_tags)
 
 -- name, mechanism, salt, stored key, server key, iterations
 abbrev pub user_scram_credential : Format CodecFault UserScramCredentialRecord
@@ -166,8 +183,11 @@ abbrev pub name_and_mechanism : Format CodecFault (List ℕ × ℤ)
 name_and_mechanism = closed (string ⊗ int8)
 
 -- tag 0: a text, by default null
+abbrev pub text_tags : Known (Option (List ℕ))
+text_tags = tag 0 None is_none text_content
+
 abbrev pub tagged_text : Format CodecFault (Option (List ℕ))
-tagged_text = section (tag 0 None is_none text_content)
+tagged_text = section text_tags
 
 -- no field
 abbrev pub no_fields : Format CodecFault (Unit {0})
@@ -243,6 +263,92 @@ Fits (RemoveUserScramCredential name mechanism) = name_and_mechanism.fits (name,
 Fits (BeginTransaction name) = tagged_text.fits name
 Fits EndTransaction = Unit {0}
 Fits (AbortTransaction reason) = tagged_text.fits reason
+
+-- ---- lengths: what a writer asks for, so that each length and count fits its field
+
+abbrev pub IsShort : List ℕ → Type 0
+IsShort x = length x + 1 < 2 ^ 32
+
+abbrev pub IsShortOrNull : Option (List ℕ) → Type 0
+IsShortOrNull None = Unit {0}
+IsShortOrNull (Some x) = IsShort x
+
+abbrev pub IsFew : {X : Type 0} → List X → Type 0
+IsFew xs = length xs + 1 < 2 ^ 32
+
+-- the field of a tag
+abbrev pub FieldFits : {X : Type 0} → Content X → X → Type 0
+FieldFits content x = length (content.format.written x) < 2 ^ 32
+
+pub record ShortEndpoint (e : Endpoint) : Type 0 where
+  pub name : IsShort e.name
+  pub host : IsShort e.host
+
+abbrev pub ShortFeature : Feature → Type 0
+ShortFeature f = IsShort f.name
+
+pub record ShortEntity (e : QuotaEntity) : Type 0 where
+  pub kind : IsShort e.kind
+  pub name : IsShortOrNull e.name
+
+pub record ShortRegistration (r : RegisterBrokerRecord) : Type 0 where
+  pub few_endpoints : IsFew r.endpoints
+  pub endpoints : AllFit ShortEndpoint r.endpoints
+  pub few_features : IsFew r.features
+  pub features : AllFit ShortFeature r.features
+  pub rack : IsShortOrNull r.rack
+
+pub record ShortPartition (r : PartitionRecord) : Type 0 where
+  pub replicas : IsFew r.replicas
+  pub isr : IsFew r.isr
+  pub removing : IsFew r.removing
+  pub adding : IsFew r.adding
+
+pub record ShortConfig (r : ConfigRecord) : Type 0 where
+  pub resource_name : IsShort r.resource_name
+  pub name : IsShort r.name
+  pub value : IsShortOrNull r.value
+
+pub record ShortChange (r : PartitionChangeRecord) : Type 0 where
+  pub isr : FieldFits (plain nullable_ints) r.isr
+  pub replicas : FieldFits (plain nullable_ints) r.replicas
+  pub removing : FieldFits (plain nullable_ints) r.removing
+  pub adding : FieldFits (plain nullable_ints) r.adding
+
+pub record ShortCredential (r : UserScramCredentialRecord) : Type 0 where
+  pub name : IsShort r.name
+  pub salt : IsShort r.salt
+  pub stored_key : IsShort r.stored_key
+  pub server_key : IsShort r.server_key
+
+pub record ShortQuota (r : ClientQuotaRecord) : Type 0 where
+  pub few : IsFew r.entity
+  pub entity : AllFit ShortEntity r.entity
+  pub key : IsShort r.key
+
+pub record ShortEntry (r : AccessControlEntryRecord) : Type 0 where
+  pub resource_name : IsShort r.resource_name
+  pub principal : IsShort r.principal
+  pub host : IsShort r.host
+
+abbrev pub LengthsFit : MetaRecord → Type 0
+LengthsFit (RegisterBroker r) = ShortRegistration r
+LengthsFit (Topic r) = IsShort r.name
+LengthsFit (Partition r) = ShortPartition r
+LengthsFit (Config r) = ShortConfig r
+LengthsFit (PartitionChange r) = ShortChange r
+LengthsFit (RemoveTopic i) = Unit {0}
+LengthsFit (UserScramCredential r) = ShortCredential r
+LengthsFit (ClientQuota r) = ShortQuota r
+LengthsFit (ProducerIds r) = Unit {0}
+LengthsFit (AccessControlEntry r) = ShortEntry r
+LengthsFit (RemoveAccessControlEntry i) = Unit {0}
+LengthsFit NoOp = Unit {0}
+LengthsFit (ZkMigrationState state) = Unit {0}
+LengthsFit (RemoveUserScramCredential name mechanism) = IsShort name
+LengthsFit (BeginTransaction name) = FieldFits text_content name
+LengthsFit EndTransaction = Unit {0}
+LengthsFit (AbortTransaction reason) = FieldFits text_content reason
 
 -- ---- reading: the first fault in the order of the bytes
 

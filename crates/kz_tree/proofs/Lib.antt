@@ -1,9 +1,10 @@
-pub mod Prefixes
-pub mod LastSlash
+pub mod Areas
+pub mod Ids
 pub mod Kept
+pub mod LastSlash
+pub mod Looks
+pub mod Multis
+pub mod Pages
+pub mod Prefixes
 pub mod Steps
 pub mod Zxids
-pub mod Pages
-pub mod Multis
-pub mod Ids
-pub mod Looks

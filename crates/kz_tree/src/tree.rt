@@ -2,6 +2,9 @@
 ghost use Rattle.std.specs.Prelude.{◌≡◌, ◌+ℤ◌, ◌<ℤ◌, ◌≤ℤ◌, pos, length, option_map, map, Ok, IfOk, IfErr, OnErr};
 ghost use Rattle.kz_spec_stores.specs.Tree as tree;
 ghost use Rattle.kz_spec_stores.specs.Tree.{max_long};
+ghost use Rattle.kz_ordered.specs.Order.{bytes_cmp};
+ghost use Rattle.kz_ordered.specs.Ordered.{Rises};
+ghost use Rattle.kz_spec_stores.specs.Rendering.{path_of_rendered};
 ghost use Rattle.kz_tree.specs.Kept.{IsKept};
 ghost use Rattle.kz_tree.specs.Refusals.{IsFaultOf};
 
@@ -151,8 +154,10 @@ impl Tree {
     }
 
     /// The paths and bodies of the migrated area, by rising path.
+    #[tactic(auto, using(crate::proofs::Areas::area_rises))]
     pub fn area(&self) -> Result<Vec<Rendered>, NoMemory>
-        ensures { IfOk result (λ made. made.items ≡ tree.area self.now) }
+        ensures znodes { IfOk result (λ made. made.items ≡ tree.area self.now) }
+        ensures rising { IfOk result (λ made. Rises bytes_cmp path_of_rendered made.items) }
     {
         reads::area(self.alloc, &self.rows)
     }

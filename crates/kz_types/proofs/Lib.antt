@@ -1,2 +1,5 @@
 pub mod OnLiterals
 pub mod PathRules
+pub mod IdLemmas
+pub mod NumberLemmas
+pub mod NameLemmas

@@ -4,7 +4,7 @@ use Rattle.std.proofs.lemmas.Bool.{cases_lt, ne_eqb, false≢true}
 use Rattle.std.proofs.lemmas.Str.{IsUtf8-from_is_utf8}
 use Rattle.std.proofs.lemmas.List.{drop_more, get_or-take, get_or-drop, get_or_default}
 use Rattle.std.proofs.lemmas.List.Folds.{drop_split}
-use Rattle.std.proofs.lemmas.List.Splits.{slice_split_none, slice_split_at}
+use Rattle.std.proofs.lemmas.List.Splits.{slice_split_none, slice_split_at, slice_split-cons_yes}
 use Rattle.std.specs.List.{All, slice_split, list_all, slice_range}
 use Rattle.std.specs.Str.{IsUtf8, is_utf8}
 use Rattle.kz_types.specs.PathRule.{parts, is_part, is_path, has_path_form}
@@ -94,3 +94,22 @@ pub path_is_text : (bs : List ℕ) → is_path bs ≡ true → IsUtf8 bs
 unfolding is_path has_path_form
 path_is_text bs path = IsUtf8-from_is_utf8 bs
     (both_hold (is_utf8 bs) (slice_index bs 0 == 47) (both_hold (is_utf8 bs && (slice_index bs 0 == 47)) (list_all is_part (parts bs)) (both_hold (has_path_form bs) (nat_le (length bs) 1024) path).0).0).0
+
+-- a path begins with a slash
+pub begins_with_slash : (bs : List ℕ) → is_path bs ≡ true → (slice_index bs 0 == 47) ≡ true
+unfolding is_path has_path_form
+begins_with_slash bs path =
+    (both_hold (is_utf8 bs) (slice_index bs 0 == 47) (both_hold (is_utf8 bs && (slice_index bs 0 == 47)) (list_all is_part (parts bs)) (both_hold (has_path_form bs) (nat_le (length bs) 1024) path).0).0).1
+
+-- its parts are legal
+pub parts_are_legal : (bs : List ℕ) → is_path bs ≡ true → list_all is_part (parts bs) ≡ true
+unfolding is_path has_path_form
+parts_are_legal bs path = (both_hold (is_utf8 bs && (slice_index bs 0 == 47)) (list_all is_part (parts bs)) (both_hold (has_path_form bs) (nat_le (length bs) 1024) path).0).1
+
+-- and its parts are those of what stands behind it
+pub parts_behind : (bs : List ℕ) → is_path bs ≡ true → (1 ≤ length bs) × (parts bs ≡ slice_split (λ b. b == 47) (drop 1 bs))
+parts_behind bs path = by bs (begins_with_slash bs path)
+  where
+    by : (cs : List ℕ) → (slice_index cs 0 == 47) ≡ true → (1 ≤ length cs) × (parts cs ≡ slice_split (λ b. b == 47) (drop 1 cs))
+    by [] h = absurd (false≢true h)
+    by (c ∷ cs) h = (omega arith, ap (drop 1) (slice_split-cons_yes (λ b. b == 47) c cs h))

@@ -1,15 +1,27 @@
--- Canonical decimals: the decimal text of a number of 0 to 2147483647, without a sign and without leading zeros.
-use Rattle.std.specs.Prelude.{ℕ, ◌&&◌, nat_le, List, Option, Some, None, if◌then◌else◌, bytes_eq, decimal}
+-- Decimals, and canonical ones: the decimal text of a number of 0 to 2147483647, without a sign and without leading zeros.
+use Rattle.std.specs.Prelude.{ℕ, Bool, ◌&&◌, nat_le, ℤ, pos, List, Option, Some, None, option_map, if◌then◌else◌, bytes_eq, decimal}
+use Rattle.std.specs.List.{list_all}
 use Rattle.std.specs.Str.Parse.{digits_value}
+
+abbrev pub is_digit : ℕ → Bool
+is_digit b = nat_le 48 b && nat_le b 57
 
 -- the number that digits write
 abbrev pub number_of : List ℕ → ℕ
 number_of digits = digits_value 10 digits
 
--- the number of at most `most` whose decimal text these bytes are
-abbrev pub decimal_up_to : ℕ → List ℕ → Option ℕ
-decimal_up_to most bytes = if bytes_eq (decimal (number_of bytes)) bytes && nat_le (number_of bytes) most then Some (number_of bytes) else None
+-- the number of at most `most` that digits write, with or without zeros in front
+abbrev pub digits_up_to : ℕ → List ℕ → Option ℕ
+digits_up_to most bytes = if list_all is_digit bytes && nat_le (number_of bytes) most then Some (number_of bytes) else None
+
+-- the greatest number of a canonical decimal
+abbrev pub greatest : ℕ
+greatest = 2147483647
 
 -- the number whose canonical decimal these bytes are
 unfoldable pub canonical : List ℕ → Option ℕ
-canonical bytes = decimal_up_to 2147483647 bytes
+canonical bytes = if bytes_eq (decimal (number_of bytes)) bytes && nat_le (number_of bytes) greatest then Some (number_of bytes) else None
+
+-- the same, as a signed number
+abbrev pub number_in : List ℕ → Option ℤ
+number_in bytes = option_map (λ n. pos n) (canonical bytes)

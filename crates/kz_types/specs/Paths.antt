@@ -1,11 +1,12 @@
 -- What each path of ZooKeeper's tree is to the migration, and which entity it holds.
 pub use Rattle.kz_types.specs.PathRule.{is_path, fault_place, parts, is_part}
-use Rattle.std.specs.Prelude.{ℕ, ◌+◌, ◌-◌, ◌*◌, ◌/◌, ◌%◌, Bool, true, false, not, ◌&&◌, ◌||◌, ◌==◌, nat_lt, nat_le, ℤ, pos, int_le, nat_abs, List, [], ◌∷◌, ◌++◌, length, Option, Some, None, option_map, option_and_then, is_some, if◌then◌else◌, codes, bytes_eq}
+use Rattle.std.specs.Prelude.{ℕ, ◌+◌, ◌-◌, ◌*◌, ◌/◌, ◌%◌, Bool, true, false, not, ◌&&◌, ◌||◌, ◌==◌, nat_lt, nat_le, ℤ, pos, int_le, List, [], ◌∷◌, ◌++◌, length, Option, Some, None, option_map, option_and_then, is_some, if◌then◌else◌, codes, bytes_eq}
 use Rattle.std.specs.Str.{is_utf8}
 use Rattle.std.specs.List.{list_any, list_all, starts_with, flat_map}
 use Rattle.std.specs.Fmt.{signed_decimal}
 use Rattle.std.specs.Bool.{nat_eq}
-use Rattle.kz_types.specs.Numbers.{canonical}
+use Rattle.std.specs.Ordering.{int_eq}
+use Rattle.kz_types.specs.Numbers.{canonical, number_in}
 use Rattle.kz_types.specs.declared.kind.Kind.{Kind}
 use Rattle.kz_types.specs.declared.kind.Kind.TheVariants.{Entity, Scaffold, Stray, Base, Control, Reserved, Outside}
 use Rattle.kz_types.specs.declared.key.EntityKey.{EntityKey}
@@ -105,9 +106,9 @@ sanitised_byte b = if is_plain b then b ∷ [] else 37 ∷ hex_digit (b / 16) �
 unfoldable pub sanitised : List ℕ → List ℕ
 sanitised name = flat_map sanitised_byte name
 
--- the value of an upper-case hexadecimal digit
+-- the value of an upper-case hexadecimal digit, and 0 of another byte
 abbrev pub hex_value : ℕ → ℕ
-hex_value c = if nat_le 65 c then c - 55 else c - 48
+hex_value c = if nat_le 48 c && nat_le c 57 then c - 48 else if nat_le 65 c && nat_le c 70 then c - 55 else 0
 
 -- the bytes that a part's plain bytes and escapes stand for
 unfoldable pub unescaped : List ℕ → List ℕ
@@ -125,9 +126,6 @@ restored part = if bytes_eq (sanitised (unescaped part)) part && is_utf8 (unesca
 abbrev pub topic_of : List ℕ → Option (List ℕ)
 topic_of part = if is_topic_name part then Some part else None
 
-abbrev pub number_in : List ℕ → Option ℤ
-number_in part = option_map pos (canonical part)
-
 -- a part other than `<default>`
 abbrev pub address_of : List ℕ → Option (List ℕ)
 address_of part = if is_part part then Some part else None
@@ -142,12 +140,12 @@ resource_type_of part =
     else if bytes_eq part (codes "DelegationToken") then Some (pos 6)
     else None
 
-abbrev pub resource_type_name : ℕ → List ℕ
+abbrev pub resource_type_name : ℤ → List ℕ
 resource_type_name kind =
-    if kind == 2 then codes "Topic"
-    else if kind == 3 then codes "Group"
-    else if kind == 4 then codes "Cluster"
-    else if kind == 5 then codes "TransactionalId"
+    if int_eq kind (pos 2) then codes "Topic"
+    else if int_eq kind (pos 3) then codes "Group"
+    else if int_eq kind (pos 4) then codes "Cluster"
+    else if int_eq kind (pos 5) then codes "TransactionalId"
     else codes "DelegationToken"
 
 -- two parts that are these words
@@ -238,8 +236,8 @@ path_of (User user) = codes "/config/users/" ++ part_or_default sanitised user
 path_of (UserClient user client) = codes "/config/users/" ++ (part_or_default sanitised user ++ (codes "/clients/" ++ part_or_default sanitised client))
 path_of (Ip address) = codes "/config/ips/" ++ part_or_default (λ a. a) address
 path_of (Acl pattern kind name) =
-    (if nat_abs pattern == 3 then codes "/kafka-acl/" else codes "/kafka-acl-extended/prefixed/")
-    ++ (resource_type_name (nat_abs kind) ++ (codes "/" ++ name))
+    (if int_eq pattern (pos 3) then codes "/kafka-acl/" else codes "/kafka-acl-extended/prefixed/")
+    ++ (resource_type_name kind ++ (codes "/" ++ name))
 path_of Producer = codes "/latest_producer_id_block"
 
 -- absent, or one of which the test holds

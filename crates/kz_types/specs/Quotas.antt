@@ -1,6 +1,6 @@
 -- Which texts are quotas, which value they have, and the text that a value is written as.
 use Rattle.std.specs.Prelude.{ℕ, zero, suc, ◌+◌, ◌*◌, ◌/◌, ◌%◌, ◌^◌, Bool, ◌&&◌, ◌||◌, ◌==◌, nat_lt, nat_le, ℤ, pos, negsuc, ◌+ℤ◌, ◌-ℤ◌, neg_ℤ, nat_abs, int_le, List, [], ◌∷◌, ◌++◌, length, drop, take_while, Option, Some, None, Result, Ok, Err, if◌then◌else◌, decimal}
-use Rattle.kz_types.specs.Numbers.{number_of}
+use Rattle.kz_types.specs.Numbers.{is_digit, number_of}
 use Rattle.kz_types.specs.declared.row.QuotaValue.{QuotaValue}
 use Rattle.kz_types.specs.declared.value_fault.QuotaFault.{QuotaFault}
 use Rattle.kz_types.specs.declared.value_fault.QuotaFault.TheVariants.{NotNumber, TooFine, TooLarge}
@@ -10,9 +10,6 @@ pub record Numeral : Type 0 where
   pub whole : List ℕ
   pub decimals : List ℕ
   pub exponent : ℤ
-
-abbrev pub is_digit : ℕ → Bool
-is_digit b = nat_le 48 b && nat_le b 57
 
 -- the digits that a text begins with
 abbrev pub digits_at : List ℕ → List ℕ

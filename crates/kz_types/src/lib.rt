@@ -16,6 +16,7 @@ mod kind;
 mod log;
 mod machine;
 mod memory;
+mod number;
 mod outside;
 mod path;
 mod path_rule;
@@ -32,13 +33,15 @@ pub use duplicate::{Duplicate, copy_all};
 pub use fault::{BodyFault, LogFault, ReadWhy, TreeFault};
 pub use id::Id;
 pub use image::Configuration;
-pub use key::EntityKey;
+pub use key::{EntityKey, may_be_address, may_be_topic};
 pub use kind::Kind;
 pub use log::{BatchRow, Entry};
 pub use machine::{AheadPath, Answer, DriverState, Event, Recorded, Reply, Verdict};
 pub use memory::NoMemory;
+pub use number::{canonical, digits_up_to, number_in};
 pub use outside::{Failed, Status};
 pub use path::ZPath;
+pub use path_rule::may_be_part;
 pub use record::{
     AccessControlEntryRecord, BatchFault, ByteFault, ClientQuotaRecord, CodecFault, ConfigRecord,
     Endpoint, Feature, MetaRecord, PartitionChangeRecord, PartitionRecord, ProducerIdsRecord,

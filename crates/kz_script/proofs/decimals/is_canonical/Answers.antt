@@ -1,4 +1,4 @@
-use Rattle.std.proofs.Common.{◌≡◌, ◌≤◌, ◌<◌, ℕ, Bool, true, false, List, length, Ok, Result, IsTrue, is_some, refl, sym, ap, ◌∙◌, subst, arith}
+use Rattle.std.proofs.Common.{◌≡◌, ◌≤◌, ℕ, Bool, true, false, List, Ok, Result, IsTrue, is_some, refl, subst, arith}
 use Rattle.std.specs.Str.Parse.{digits_value, ParsesUnsigned}
 use Rattle.kz_types.specs.Numbers.{canonical}
 use Rattle.kz_script.proofs.Canonical.{IsCanonical, IsShortest, canonical_is, canonical_is_not, canonical_parses, shortest_is, canonical_is_shortest, is_le, of_le}

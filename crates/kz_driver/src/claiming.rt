@@ -1,0 +1,139 @@
+//! BECOME_CONTROLLER: the look at the control and base znodes, and the claim.
+ghost use Rattle.std.specs.Prelude.{◌≡◌, ⊤, IfOk, OnErr, MatchOption, option_map, is_some, map, length, pos, Ok, Err, ℤ};
+ghost use Rattle.std.specs.Ordering.{int_eq};
+ghost use Rattle.kz_types.specs.declared.tree.Row.{Row as RowValue};
+ghost use Rattle.kz_types.specs.declared.driver.ClaimSeen.{ClaimSeen as ClaimSeenValue};
+ghost use Rattle.kz_types.specs.declared.driver.Stage.TheVariants as stage;
+ghost use Rattle.kz_types.specs.declared.machine.Reply.{Reply as ReplyValue};
+ghost use Rattle.kz_spec_values.specs.Control.{control_path, epoch_path, migration_path};
+ghost use Rattle.kz_spec_stores.specs.Tree.{row_at, look, max_version};
+ghost use Rattle.kz_spec_machine.specs.Driver.{Driver as DriverValue, seen_in, shown_by, looked, unless_fenced, unless_bad_epoch, unless_full_record, views_migrated, claimed_number, claimed_version};
+ghost use Rattle.kz_driver.specs.Rows.{driver_of};
+ghost use Rattle.kz_driver.specs.Stops.{stopped, CanClaim};
+
+use crate::paths::{base_paths, epoch_path, migration_path};
+use crate::row::DriverRow;
+use crate::waiting::resign;
+use kz_state::{read_control, read_epoch};
+use kz_tree::Tree;
+use kz_types::{BodyFault, ClaimSeen, Duplicate, NoMemory, ReadWhy, Reply, Row, Stage, ZPath};
+use std::alloc::Global;
+
+/// Whether the driver has read that the migration is committed.
+pub fn views_migrated(row: &DriverRow) -> bool
+    ensures { result ≡ views_migrated (driver_of row.now) }
+{
+    row.view.image().state() >= 2
+}
+
+// A copy of the znode at a path.
+fn copy_row(alloc: Global, tree: &Tree, path: &str) -> Result<Option<Row>, NoMemory>
+    ensures { IfOk result (λ row. row ≡ row_at path.now tree.now.rows) }
+{
+    match tree.row(path.as_bytes()) {
+        Some(row) => Ok(Some(row.copy(alloc)?)),
+        None => Ok(None),
+    }
+}
+
+fn control_row(alloc: Global, tree: &Tree) -> Result<Option<Row>, NoMemory>
+    ensures { IfOk result (λ row. row ≡ row_at control_path tree.now.rows) }
+{
+    copy_row(alloc, tree, "/controller")
+}
+
+fn epoch_row(alloc: Global, tree: &Tree) -> Result<Option<Row>, NoMemory>
+    ensures { IfOk result (λ row. row ≡ row_at epoch_path tree.now.rows) }
+{
+    copy_row(alloc, tree, "/controller_epoch")
+}
+
+fn migration_row(alloc: Global, tree: &Tree) -> Result<Option<Row>, NoMemory>
+    ensures { IfOk result (λ row. row ≡ row_at migration_path tree.now.rows) }
+{
+    copy_row(alloc, tree, "/migration")
+}
+
+// Whether there is a znode at a path.
+fn is_there(tree: &Tree, path: &ZPath) -> bool
+    ensures { result ≡ is_some (row_at path.now tree.now.rows) }
+{
+    tree.row(path.bytes()).is_some()
+}
+
+// Which base znodes are there, of these paths.
+fn bases_at(tree: &Tree, paths: &[ZPath]) -> [bool; 5]
+    requires { length paths.now ≡ 5 }
+    ensures { result ≡ map is_some (look tree.now paths.now) }
+{
+    [
+        is_there(tree, &paths[0]),
+        is_there(tree, &paths[1]),
+        is_there(tree, &paths[2]),
+        is_there(tree, &paths[3]),
+        is_there(tree, &paths[4]),
+    ]
+}
+
+/// What a look at the control and base znodes sees.
+pub fn seen_in(alloc: Global, tree: &Tree) -> Result<ClaimSeen, NoMemory>
+    ensures { IfOk result (λ seen. seen ≡ seen_in tree.now) }
+{
+    let paths = base_paths(alloc)?;
+    Ok(ClaimSeen {
+        control: control_row(alloc, tree)?,
+        epoch: epoch_row(alloc, tree)?,
+        migration: migration_row(alloc, tree)?,
+        bases: bases_at(tree, &paths),
+    })
+}
+
+// The epoch that `/controller` shows.
+fn shown_by(alloc: Global, row: Option<&Row>) -> Result<Option<i32>, NoMemory>
+    ensures { IfOk result (λ epoch. epoch ≡ shown_by (option_map (λ r. r.now) row.entry)) }
+{
+    match row {
+        Some(row) => read_control(alloc, row.body.as_slice()),
+        None => Ok(None),
+    }
+}
+
+// What is told of `/controller_epoch` where its number can't be read or can't rise, or where it couldn't be set.
+fn epoch_stop(alloc: Global, row: Option<&Row>) -> Result<Option<Reply>, NoMemory>
+    ensures stop { IfOk result (λ stop. (d : DriverValue) (rest : DriverValue × ReplyValue) → unless_bad_epoch (option_map (λ r. r.now) row.entry) d rest ≡ stopped stop d rest) }
+    ensures rises { IfOk result (λ stop. MatchOption stop (CanClaim (option_map (λ r. r.now) row.entry)) (λ told. ⊤)) }
+{
+    let Some(row) = row else {
+        return Ok(None);
+    };
+    match read_epoch(alloc, row.body.as_slice()) {
+        Ok(number) => if number == i32::MAX || row.version == i32::MAX {
+            Ok(Some(Reply::Limit {
+                path: epoch_path(alloc)?,
+            }))
+        } else {
+            Ok(None)
+        },
+        Err(BodyFault::NoMemory) => Err(NoMemory),
+        Err(fault) => Ok(Some(Reply::Untranslatable {
+            path: epoch_path(alloc)?,
+            why: ReadWhy::Body(fault),
+        })),
+    }
+}
+
+// What is told of `/migration` where it couldn't be set.
+fn record_stop(
+    alloc: Global,
+    driver: &DriverRow,
+    row: Option<&Row>,
+) -> Result<Option<Reply>, NoMemory>
+    ensures { IfOk result (λ stop. (rest : DriverValue × ReplyValue) → unless_full_record (option_map (λ r. r.now) row.entry) (driver_of driver.now) rest ≡ stopped stop (driver_of driver.now) rest) }
+{
+    match row {
+        Some(row) if row.version == i32::MAX && !views_migrated(driver) => Ok(Some(Reply::Limit {
+            path: migration_path(alloc)?,
+        })),
+        _ => Ok(None),
+    }
+}

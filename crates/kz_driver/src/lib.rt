@@ -1,0 +1,15 @@
+//! The migration driver of a controller: a state machine whose step makes at most one request of the tree or the log.
+//!
+//! After KIP-866. The driver reaches the tree and the log that it is handed for the step, and keeps nothing of them but
+//! what it has read.
+#![tactic(auto)]
+
+mod claiming;
+mod fence;
+mod paths;
+mod peers;
+mod row;
+mod waiting;
+
+pub use fence::{Claimer, claim_ops, is_last_write, write_ops};
+pub use peers::{Peers, missing_broker, missing_controller};

@@ -1,0 +1,116 @@
+//! The states in which a driver waits: for the controllers, and for the brokers.
+ghost use Rattle.std.specs.Prelude.{◌≡◌, IfOk, OnOk, OnErr, pos};
+ghost use Rattle.std.specs.Ordering.{int_eq};
+ghost use Rattle.kz_types.specs.declared.driver.Stage.TheVariants as stage;
+ghost use Rattle.kz_types.specs.declared.machine.Reply.TheVariants as reply;
+ghost use Rattle.kz_spec_stores.specs.Tree.{broker_ids};
+ghost use Rattle.kz_spec_machine.specs.Driver.{having_read, after_quorum, after_brokers, missing_broker, unless_finalised, at_stage, resigned};
+ghost use Rattle.kz_driver.specs.Rows.{driver_of};
+
+use crate::peers::{Peers, missing_broker, missing_controller};
+use crate::row::DriverRow;
+use kz_log::MemoryLog;
+use kz_tree::Tree;
+use kz_types::{DriverState, NoMemory, Reply, Stage};
+use std::alloc::Global;
+
+/// The driver has no epoch and no claim from now on, and does nothing until it is elected anew.
+pub fn resign(row: &mut DriverRow)
+    ensures { driver_of row.new ≡ resigned (driver_of row.old) }
+{
+    row.epoch = None;
+    row.claim = None;
+    row.stage = Stage::Inactive;
+}
+
+/// Reads the log to its end.
+pub fn read_log(alloc: Global, row: &mut DriverRow, log: &MemoryLog) -> Result<(), NoMemory>
+    ensures ok { OnOk result (driver_of row.new ≡ having_read log.now (driver_of row.old)) }
+    ensures err { OnErr result (row.new ≡ row.old) }
+{
+    row.view = log.read(alloc, &row.view)?;
+    Ok(())
+}
+
+/// Whether the log says that the migration is over.
+pub fn is_finalised(row: &DriverRow) -> bool
+    ensures { result ≡ int_eq row.now.view.image.state (pos 3) }
+{
+    row.view.image().state() == 3
+}
+
+fn after_quorum(row: &mut DriverRow, peers: &Peers) -> Reply
+    ensures { after_quorum peers.now.declared peers.now.running (driver_of row.old) ≡ (driver_of row.new, result) }
+{
+    if is_finalised(row) {
+        resign(row);
+        return Reply::Moved(DriverState::Inactive);
+    }
+    if row.view.image().state() == 2 {
+        row.stage = Stage::Look;
+        return Reply::Moved(DriverState::BecomeController);
+    }
+    match missing_controller(peers.declared.as_slice(), peers.running.as_slice()) {
+        Some(id) => Reply::WaitQuorum { id },
+        None => {
+            row.stage = Stage::WaitForBrokers;
+            Reply::Moved(DriverState::WaitForBrokers)
+        }
+    }
+}
+
+/// WAIT_FOR_CONTROLLER_QUORUM
+pub fn wait_for_quorum(
+    alloc: Global,
+    row: &mut DriverRow,
+    log: &MemoryLog,
+    peers: &Peers,
+) -> Result<Reply, NoMemory>
+    ensures ok { IfOk result (λ told. after_quorum peers.now.declared peers.now.running (having_read log.now (driver_of row.old)) ≡ (driver_of row.new, told)) }
+    ensures err { OnErr result (row.new ≡ row.old) }
+{
+    read_log(alloc, row, log)?;
+    Ok(after_quorum(row, peers))
+}
+
+fn after_read(row: &mut DriverRow) -> Reply
+    ensures { unless_finalised (driver_of row.old) (at_stage stage.CompareBrokers (driver_of row.old), reply.Looked) ≡ (driver_of row.new, result) }
+{
+    if is_finalised(row) {
+        resign(row);
+        return Reply::Moved(DriverState::Inactive);
+    }
+    row.stage = Stage::CompareBrokers;
+    Reply::Looked
+}
+
+/// WAIT_FOR_BROKERS, before the log is read
+pub fn wait_for_brokers(
+    alloc: Global,
+    row: &mut DriverRow,
+    log: &MemoryLog,
+) -> Result<Reply, NoMemory>
+    ensures ok { IfOk result (λ told. unless_finalised (having_read log.now (driver_of row.old)) (at_stage stage.CompareBrokers (having_read log.now (driver_of row.old)), reply.Looked) ≡ (driver_of row.new, told)) }
+    ensures err { OnErr result (row.new ≡ row.old) }
+{
+    read_log(alloc, row, log)?;
+    Ok(after_read(row))
+}
+
+/// WAIT_FOR_BROKERS, before the brokers are listed
+pub fn compare_brokers(row: &mut DriverRow, tree: &Tree) -> Result<Reply, NoMemory>
+    ensures ok { IfOk result (λ told. after_brokers (missing_broker (broker_ids tree.now) row.old.view.image) (driver_of row.old) ≡ (driver_of row.new, told)) }
+    ensures err { OnErr result (row.new ≡ row.old) }
+{
+    let ids = tree.broker_ids()?;
+    match missing_broker(&ids, row.view.image()) {
+        Some(id) => {
+            row.stage = Stage::WaitForBrokers;
+            Ok(Reply::WaitBroker { id })
+        }
+        None => {
+            row.stage = Stage::Look;
+            Ok(Reply::Moved(DriverState::BecomeController))
+        }
+    }
+}

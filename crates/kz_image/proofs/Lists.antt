@@ -1,0 +1,138 @@
+-- What a record changes in the lists of the metadata, at the place of its key, and that they stay in order.
+use Rattle.std.proofs.Common.{◌≡◌, ℕ, zero, suc, ◌+◌, ◌<◌, ℤ, ◌++◌, take, Bool, true, false, cond, List, [], ◌∷◌, Option, Some, None, Ok, Err, Ordering, Less, Equal, Greater, is_eq, length, get_or, set, insert, remove, refl, sym, ap, ◌∙◌, arith}
+use Rattle.std.specs.Ordering.{match_ordering}
+use Rattle.std.specs.List.{All}
+use Rattle.std.proofs.lemmas.List.Elements.{All-cons, All-head, All-tail}
+use Rattle.kz_types.specs.declared.bodies.Pair.{Pair}
+use Rattle.kz_types.specs.declared.image.Configuration.{Configuration}
+use Rattle.kz_types.specs.declared.record.ConfigRecord.{ConfigRecord}
+use Rattle.kz_types.specs.declared.record.MetaRecord.{MetaRecord}
+use Rattle.std.proofs.lemmas.List.{take_more}
+use Rattle.kz_ordered.specs.Order.{bytes_cmp}
+use Rattle.kz_ordered.specs.Ordered.{find, put, without, Rises}
+use Rattle.kz_ordered.specs.Spot.{IsSpot}
+use Rattle.kz_ordered.proofs.Order.{bytes_order}
+use Rattle.kz_ordered.proofs.Lookup.{Rises-put, Rises-without}
+use Rattle.kz_ordered.proofs.Spot.{find_by_spot, find_by_gap, put_by_spot, put_by_gap, without_by_spot, without_by_gap}
+use Rattle.kz_spec_stores.specs.Image.{name_of_configuration, name_of_pair, pairs_of, pairs_at, with_member, with_pairs, configured, Image, applied, all_applied}
+use Rattle.kz_image.specs.InOrder.{IsFilled, AreInOrder}
+
+-- ---- a configuration that is there
+
+remove-set : {A : Type 0} (xs : List A) (i : ℕ) (x : A) → remove (set xs i x) i ≡ remove xs i
+remove-set [] i x = refl
+remove-set (y ∷ ys) zero x = refl
+remove-set (y ∷ ys) (suc i) x = ap (λ zs. y ∷ zs) (remove-set ys i x)
+
+pairs_there : (k : List ℕ) (xs : List Configuration) (i : ℕ) (c : Configuration) → Rises bytes_cmp name_of_configuration xs → IsSpot bytes_cmp name_of_configuration k xs (Ok i) → c ≡ get_or xs i c → pairs_at k xs ≡ c.pairs
+pairs_there k xs i c h s e = ap pairs_of (find_by_spot bytes_order name_of_configuration k xs i c h s ∙ ap (λ x. Some x) (sym e))
+
+set_with_pairs : (k : List ℕ) (ps : List Pair) (xs : List Configuration) (i : ℕ) → Rises bytes_cmp name_of_configuration xs → IsSpot bytes_cmp name_of_configuration k xs (Ok i) → 0 < length ps
+    → set xs i (record { name = k; pairs = ps }) ≡ with_pairs k ps xs
+set_with_pairs k [] xs i h s some = absurd (omega arith)
+set_with_pairs k (p ∷ ps) xs i h s some = sym (put_by_spot bytes_order name_of_configuration (record { name = k; pairs = p ∷ ps }) xs i h s)
+
+remove_with_pairs : (k : List ℕ) (ps : List Pair) (xs : List Configuration) (i : ℕ) → Rises bytes_cmp name_of_configuration xs → IsSpot bytes_cmp name_of_configuration k xs (Ok i) → length ps ≡ 0
+    → remove xs i ≡ with_pairs k ps xs
+remove_with_pairs k [] xs i h s none = sym (without_by_spot bytes_order name_of_configuration k xs i h s)
+remove_with_pairs k (p ∷ ps) xs i h s none = absurd (omega arith)
+
+module _ (change : ConfigRecord) (xs : List Configuration) (i : ℕ) (old new : Configuration) (order : AreInOrder xs) (there : IsSpot bytes_cmp name_of_configuration change.resource_name xs (Ok i))
+    (was : old ≡ get_or xs i old) (is : new ≡ record old { pairs = with_member change.name change.value old.pairs }) where
+  pairs_are : new.pairs ≡ with_member change.name change.value (pairs_at change.resource_name xs)
+  pairs_are = ap (λ (c : Configuration). c.pairs) is ∙ ap (with_member change.name change.value) (sym (pairs_there change.resource_name xs i old order.rising there was))
+
+  name_is : new.name ≡ change.resource_name
+  name_is = ap (λ (c : Configuration). c.name) is ∙ ap (λ (c : Configuration). c.name) was ∙ there.1 old
+
+  pub set_configured : 0 < length new.pairs → set xs i new ≡ configured change xs
+  set_configured some =
+      let config : List ℕ → List Pair → Configuration = λ n ps. record { name = n; pairs = ps } in
+      ap (λ n. set xs i (config n new.pairs)) name_is
+      ∙ set_with_pairs change.resource_name new.pairs xs i order.rising there some
+      ∙ ap (λ ps. with_pairs change.resource_name ps xs) pairs_are
+
+  pub remove_configured : length new.pairs ≡ 0 → remove (set xs i new) i ≡ configured change xs
+  remove_configured none =
+      remove-set xs i new
+      ∙ remove_with_pairs change.resource_name new.pairs xs i order.rising there none
+      ∙ ap (λ ps. with_pairs change.resource_name ps xs) pairs_are
+
+-- ---- a configuration that is absent
+
+pub insert_configured : (change : ConfigRecord) (value : List ℕ) (xs : List Configuration) (i : ℕ) (new : Configuration) → IsSpot bytes_cmp name_of_configuration change.resource_name xs (Err i) → change.value ≡ Some value
+    → new ≡ record { name = change.resource_name; pairs = record { name = change.name; value = value } ∷ [] } → insert xs i new ≡ configured change xs
+insert_configured change value xs i new s has is =
+    let pair : Pair = record { name = change.name; value = value } in
+    let config : Configuration = record { name = change.resource_name; pairs = pair ∷ [] } in
+    ap (insert xs i) is ∙ sym (put_by_gap bytes_order name_of_configuration config xs i s)
+    ∙ ap (λ v. with_pairs change.resource_name (with_member change.name v []) xs) (sym has)
+    ∙ ap (λ c. with_pairs change.resource_name (with_member change.name change.value (pairs_of c)) xs) (sym (find_by_gap bytes_order name_of_configuration change.resource_name xs i s))
+
+pub absent_configured : (change : ConfigRecord) (xs : List Configuration) (i : ℕ) → IsSpot bytes_cmp name_of_configuration change.resource_name xs (Err i) → change.value ≡ None → xs ≡ configured change xs
+absent_configured change xs i s has =
+    sym (without_by_gap bytes_order name_of_configuration change.resource_name xs i s)
+    ∙ ap (λ v. with_pairs change.resource_name (with_member change.name v []) xs) (sym has)
+    ∙ ap (λ c. with_pairs change.resource_name (with_member change.name change.value (pairs_of c)) xs) (sym (find_by_gap bytes_order name_of_configuration change.resource_name xs i s))
+
+-- ---- the order is kept
+
+module _ {A K : Type 0} (P : A → Type 0) (cmp : K → K → Ordering) (key : A → K) where
+  put_by : (o : Ordering) (x y : A) (ys zs : List A) → P x → All P (y ∷ ys) → All P zs → All P (match_ordering o (x ∷ y ∷ ys) (x ∷ ys) (y ∷ zs))
+  put_by Less x y ys zs p q r = All-cons P x (y ∷ ys) p q
+  put_by Equal x y ys zs p q r = All-cons P x ys p (All-tail P y ys q)
+  put_by Greater x y ys zs p q r = All-cons P y zs (All-head P y ys q) r
+
+  All-put : (x : A) (ys : List A) → P x → All P ys → All P (put cmp key x ys)
+  All-put x [] p q = All-cons P x [] p q
+  All-put x (y ∷ ys) p q = put_by (cmp (key x) (key y)) x y ys (put cmp key x ys) p q (All-put x ys p (All-tail P y ys q))
+
+  without_by : (b : Bool) (x : A) (xs zs : List A) → All P (x ∷ xs) → All P zs → All P (cond b xs (x ∷ zs))
+  without_by true x xs zs q r = All-tail P x xs q
+  without_by false x xs zs q r = All-cons P x zs (All-head P x xs q) r
+
+  All-without : (k : K) (xs : List A) → All P xs → All P (without cmp key k xs)
+  All-without k [] q = q
+  All-without k (x ∷ xs) q = without_by (is_eq (cmp k (key x))) x xs (without cmp key k xs) q (All-without k xs (All-tail P x xs q))
+
+-- ---- a configuration's members
+
+pairs_by : (b : Bool) (c : Configuration) (found : Option Configuration) → Rises bytes_cmp name_of_pair c.pairs → Rises bytes_cmp name_of_pair (pairs_of found) → Rises bytes_cmp name_of_pair (pairs_of (cond b (Some c) found))
+pairs_by true c found p q = p
+pairs_by false c found p q = q
+
+pairs_rise : (k : List ℕ) (xs : List Configuration) → All IsFilled xs → Rises bytes_cmp name_of_pair (pairs_at k xs)
+pairs_rise k [] h = tt
+pairs_rise k (x ∷ xs) h = pairs_by (is_eq (bytes_cmp k x.name)) x (find bytes_cmp name_of_configuration k xs) (All-head IsFilled x xs h).1 (pairs_rise k xs (All-tail IsFilled x xs h))
+
+member_rises : (name : List ℕ) (value : Option (List ℕ)) (ps : List Pair) → Rises bytes_cmp name_of_pair ps → Rises bytes_cmp name_of_pair (with_member name value ps)
+member_rises name (Some value) ps h = Rises-put bytes_order name_of_pair (record { name = name; value = value }) ps h
+member_rises name None ps h = Rises-without bytes_order name_of_pair name ps h
+
+with_pairs_in_order : (k : List ℕ) (ps : List Pair) (xs : List Configuration) → Rises bytes_cmp name_of_pair ps → AreInOrder xs → AreInOrder (with_pairs k ps xs)
+with_pairs_in_order k [] xs h order = record {
+  rising = Rises-without bytes_order name_of_configuration k xs order.rising;
+  filled = All-without IsFilled bytes_cmp name_of_configuration k xs order.filled;
+}
+with_pairs_in_order k (p ∷ ps) xs h order =
+    let c : Configuration = record { name = k; pairs = p ∷ ps } in record {
+      rising = Rises-put bytes_order name_of_configuration c xs order.rising;
+      filled = All-put IsFilled bytes_cmp name_of_configuration c xs (omega arith, h) order.filled;
+    }
+
+pub configured_in_order : (change : ConfigRecord) (xs : List Configuration) → AreInOrder xs → AreInOrder (configured change xs)
+configured_in_order change xs order =
+    with_pairs_in_order change.resource_name (with_member change.name change.value (pairs_at change.resource_name xs)) xs
+    (member_rises change.name change.value (pairs_at change.resource_name xs) (pairs_rise change.resource_name xs order.filled)) order
+
+-- ---- records, one after another
+
+pub all_applied-append : (epoch : ℤ) (xs ys : List MetaRecord) (i : Image) → all_applied epoch (xs ++ ys) i ≡ all_applied epoch ys (all_applied epoch xs i)
+all_applied-append epoch [] ys i = refl
+all_applied-append epoch (x ∷ xs) ys i = all_applied-append epoch xs ys (applied epoch x i)
+
+-- one record more
+pub applied_more : (epoch : ℤ) (xs : List MetaRecord) (n : ℕ) (x : MetaRecord) (i : Image) → n < length xs → x ≡ get_or xs n x → applied epoch x (all_applied epoch (take n xs) i) ≡ all_applied epoch (take (n + 1) xs) i
+applied_more epoch xs n x i h e =
+    sym (all_applied-append epoch (take n xs) (x ∷ []) i)
+    ∙ ap (λ ys. all_applied epoch ys i) (sym (take_more xs n x h ∙ ap (λ y. take n xs ++ y ∷ []) (sym e)))

@@ -1,0 +1,51 @@
+//! The registered brokers, by rising id.
+ghost use Rattle.std.specs.Prelude.{◌≡◌, ◌&&◌, OnOk, OnErr};
+ghost use Rattle.std.specs.Ordering.{int_cmp, int_eq};
+ghost use Rattle.std.specs.List.{list_any};
+ghost use Rattle.kz_ordered.specs.Ordered.{put, Rises};
+ghost use Rattle.kz_ordered.specs.Spot.{IsSpot};
+ghost use Rattle.kz_spec_stores.specs.Image.{id_of_broker};
+
+use kz_types::{Duplicate, NoMemory, RegisterBrokerRecord};
+use std::alloc::Global;
+
+// Where the broker of this id stands, or would stand.
+fn broker_place(brokers: &[RegisterBrokerRecord], id: i32) -> Result<usize, usize>
+    requires { Rises int_cmp id_of_broker brokers.now }
+    ensures { IsSpot int_cmp id_of_broker id brokers.now result }
+{
+    brokers.binary_search_by_key(&id, |broker: &RegisterBrokerRecord| broker.broker_id)
+}
+
+/// Registers a broker, in place of an earlier registration. At `Err` nothing has changed.
+pub fn register(
+    alloc: Global,
+    brokers: &mut Vec<RegisterBrokerRecord>,
+    broker: &RegisterBrokerRecord,
+) -> Result<(), NoMemory>
+    requires { Rises int_cmp id_of_broker brokers.old.items }
+    ensures ok { OnOk result (brokers.new.items ≡ put int_cmp id_of_broker broker.now brokers.old.items) }
+    ensures err { OnErr result (brokers.new.items ≡ brokers.old.items) }
+{
+    let place = broker_place(brokers, broker.broker_id);
+    let copy = broker.copy(alloc)?;
+    match place {
+        Ok(place) => {
+            brokers[place] = copy;
+            Ok(())
+        }
+        Err(place) => {
+            brokers.insert(place, copy)?;
+            Ok(())
+        }
+    }
+}
+
+/// Whether a broker is registered as one that is ready to migrate.
+pub fn is_migrating(brokers: &[RegisterBrokerRecord], id: i32) -> bool
+    ensures { result ≡ list_any (λ broker. int_eq broker.broker_id id && broker.migrating) brokers.now }
+{
+    brokers
+        .iter()
+        .any(|broker| broker.broker_id == id && broker.migrating)
+}

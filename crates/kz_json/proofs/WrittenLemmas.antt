@@ -1,0 +1,110 @@
+-- Lemmas on what is written.
+use Rattle.std.proofs.Common.{◌≡◌, ℕ, Bool, true, false, ◌||◌, List, [], ◌∷◌, refl, ◌∙◌}
+use Rattle.std.specs.declared.cmp.Ordering.{Ordering}
+use Rattle.std.specs.declared.cmp.Ordering.TheVariants.{Less, Equal, Greater}
+use Rattle.std.specs.Ordering.{nat_cmp, match_ordering}
+use Rattle.std.specs.Cmp.Lexicographic.{slice_cmp}
+use Rattle.serde_json.specs.Data.{Data, string, Members, no_members, member, put}
+use Rattle.serde_json.specs.View.{items_of}
+use Rattle.serde_json.specs.Written.{has_float, members_have_float, items_have_float}
+use Rattle.std.specs.Prelude.{ℤ, pos, negsuc, map}
+use Rattle.std.specs.Fmt.{signed_decimal}
+use Rattle.kz_types.specs.declared.id.Id.{Id}
+use Rattle.kz_types.specs.declared.row.AclRow.{AclRow}
+use Rattle.kz_types.specs.declared.bodies.AssignmentRow.{AssignmentRow}
+use Rattle.kz_types.specs.declared.bodies.Pair.{Pair}
+use Rattle.kz_spec_values.specs.Bodies.{with_texts, config_data, whole_data, brokers_data, with_list, with_some, replicas_members, adding_members, removing_members, topic_data, state_data, acl_data, acls_data, producer_data}
+
+neither : (a b : Bool) → a ≡ false → b ≡ false → a || b ≡ false
+neither a b p q = (λ i. p i || b) ∙ q
+
+first_of_two : (a b : Bool) → a || b ≡ false → a ≡ false
+first_of_two true b h = h
+first_of_two false b h = refl
+
+second_of_two : (a b : Bool) → a || b ≡ false → b ≡ false
+second_of_two true true h = h
+second_of_two true false h = refl
+second_of_two false b h = h
+
+by_order : (o : Ordering) (a b c : Members) → members_have_float a ≡ false → members_have_float b ≡ false → members_have_float c ≡ false → members_have_float (match_ordering o a b c) ≡ false
+by_order Less a b c p q r = p
+by_order Equal a b c p q r = q
+by_order Greater a b c p q r = r
+
+-- a member without floats brings none
+pub put_no_float : (k : List ℕ) (d : Data) (ms : Members) → has_float d ≡ false → members_have_float ms ≡ false → members_have_float (put k d ms) ≡ false
+put_no_float k d no_members none all = neither (has_float d) false none refl
+put_no_float k d (member l e ms) none all =
+    let rest : members_have_float ms ≡ false = second_of_two (has_float e) (members_have_float ms) all in
+    by_order (slice_cmp nat_cmp k l) (member k d (member l e ms)) (member l d ms) (member l e (put k d ms))
+    (neither (has_float d) (has_float e || members_have_float ms) none all)
+    (neither (has_float d) (members_have_float ms) none rest)
+    (neither (has_float e) (members_have_float (put k d ms)) (first_of_two (has_float e) (members_have_float ms) all) (put_no_float k d ms none rest))
+
+texts_no_float : (ms : Members) (pairs : List Pair) → members_have_float ms ≡ false → members_have_float (with_texts ms pairs) ≡ false
+texts_no_float ms [] none = none
+texts_no_float ms (pair ∷ pairs) none = texts_no_float (put pair.name (string pair.value) ms) pairs (put_no_float pair.name (string pair.value) ms refl none)
+
+-- a configuration has none
+pub config_no_float : (pairs : List Pair) → has_float (config_data pairs) ≡ false
+config_no_float pairs = neither (members_have_float (with_texts no_members pairs)) false (texts_no_float no_members pairs refl) refl
+
+whole_no_float : (z : ℤ) → has_float (whole_data z) ≡ false
+whole_no_float (pos n) = refl
+whole_no_float (negsuc n) = refl
+
+brokers_items : (ids : List ℤ) → items_have_float (items_of (map whole_data ids)) ≡ false
+brokers_items [] = refl
+brokers_items (id ∷ ids) = neither (has_float (whole_data id)) (items_have_float (items_of (map whole_data ids))) (whole_no_float id) (brokers_items ids)
+
+brokers_no_float : (ids : List ℤ) → has_float (brokers_data ids) ≡ false
+brokers_no_float ids = brokers_items ids
+
+list_no_float : (row : AssignmentRow) (ids : List ℤ) (ms : Members) → members_have_float ms ≡ false → members_have_float (with_list row ids ms) ≡ false
+list_no_float row ids ms none = put_no_float (signed_decimal row.number) (brokers_data ids) ms (brokers_no_float ids) none
+
+some_no_float : (row : AssignmentRow) (ids : List ℤ) (ms : Members) → members_have_float ms ≡ false → members_have_float (with_some row ids ms) ≡ false
+some_no_float row [] ms none = none
+some_no_float row (id ∷ ids) ms none = list_no_float row (id ∷ ids) ms none
+
+replicas_no_float : (ms : Members) (rows : List AssignmentRow) → members_have_float ms ≡ false → members_have_float (replicas_members ms rows) ≡ false
+replicas_no_float ms [] none = none
+replicas_no_float ms (row ∷ rows) none = replicas_no_float (with_list row row.replicas ms) rows (list_no_float row row.replicas ms none)
+
+adding_no_float : (ms : Members) (rows : List AssignmentRow) → members_have_float ms ≡ false → members_have_float (adding_members ms rows) ≡ false
+adding_no_float ms [] none = none
+adding_no_float ms (row ∷ rows) none = adding_no_float (with_some row row.adding ms) rows (some_no_float row row.adding ms none)
+
+removing_no_float : (ms : Members) (rows : List AssignmentRow) → members_have_float ms ≡ false → members_have_float (removing_members ms rows) ≡ false
+removing_no_float ms [] none = none
+removing_no_float ms (row ∷ rows) none = removing_no_float (with_some row row.removing ms) rows (some_no_float row row.removing ms none)
+
+-- nor has a topic
+pub topic_no_float : (id : Id) (rows : List AssignmentRow) → has_float (topic_data id rows) ≡ false
+topic_no_float id rows =
+    neither (members_have_float (adding_members no_members rows)) (members_have_float (replicas_members no_members rows) || (members_have_float (removing_members no_members rows) || (false || (false || false))))
+    (adding_no_float no_members rows refl)
+    (neither (members_have_float (replicas_members no_members rows)) (members_have_float (removing_members no_members rows) || (false || (false || false))) (replicas_no_float no_members rows refl)
+    (neither (members_have_float (removing_members no_members rows)) (false || (false || false)) (removing_no_float no_members rows refl) refl))
+
+-- nor a state
+pub state_no_float : (leader leader_epoch controller_epoch : ℤ) (isr : List ℤ) (recovery : ℤ) → has_float (state_data leader leader_epoch controller_epoch isr recovery) ≡ false
+state_no_float a b c isr r =
+    neither (has_float (whole_data c)) (items_have_float (items_of (map whole_data isr)) || (has_float (whole_data a) || (has_float (whole_data b) || (has_float (whole_data r) || (false || false))))) (whole_no_float c)
+    (neither (items_have_float (items_of (map whole_data isr))) (has_float (whole_data a) || (has_float (whole_data b) || (has_float (whole_data r) || (false || false)))) (brokers_items isr)
+    (neither (has_float (whole_data a)) (has_float (whole_data b) || (has_float (whole_data r) || (false || false))) (whole_no_float a)
+    (neither (has_float (whole_data b)) (has_float (whole_data r) || (false || false)) (whole_no_float b)
+    (neither (has_float (whole_data r)) (false || false) (whole_no_float r) refl))))
+
+acl_items_no_float : (rows : List AclRow) → items_have_float (items_of (map acl_data rows)) ≡ false
+acl_items_no_float [] = refl
+acl_items_no_float (row ∷ rows) = acl_items_no_float rows
+
+-- nor access control entries
+pub acls_no_float : (rows : List AclRow) → has_float (acls_data rows) ≡ false
+acls_no_float rows = neither (items_have_float (items_of (map acl_data rows))) (false || false) (acl_items_no_float rows) refl
+
+-- nor a block of producer ids
+pub producer_no_float : (broker start end : ℤ) → has_float (producer_data broker start end) ≡ false
+producer_no_float broker start end = neither (has_float (whole_data broker)) (false || false) (whole_no_float broker) refl

@@ -1,0 +1,15 @@
+//! What the bodies of migrated znodes say, and the bodies that are written.
+#![tactic(auto)]
+
+mod acls;
+mod configs;
+mod others;
+mod reading;
+mod topics;
+mod written;
+
+pub use acls::Resource;
+pub use reading::{read_acls, read_config, read_producer, read_state, read_topic};
+pub use written::{PartitionState, acls_text, config_text, producer_text, state_text, topic_text};
+
+mod fields;

@@ -1,0 +1,344 @@
+//! Bodies, written.
+ghost use Rattle.std.specs.Prelude.{◌≡◌, ◌∷◌, [], List, IfOk, IfErr, OnOk, codes, string_bytes, pos, map, false, ℤ};
+ghost use Rattle.std.specs.Fmt.{signed_decimal};
+ghost use Rattle.kz_types.specs.Ids.{id_text};
+ghost use Rattle.serde_json.specs.View.{view, members_view, items_of};
+ghost use Rattle.serde_json.specs.Data.{Data, object, array, member, no_members, string};
+ghost use Rattle.serde_json.specs.Written.{compact_text, has_float};
+ghost use Rattle.kz_spec_values.specs.Bodies.{with_texts, config_data, whole_data, brokers_data, with_some, replicas_members, adding_members, removing_members, operation_name, permission_name, acl_data, acls_data, topic_data, state_data, producer_data};
+
+use crate::topics::number_text;
+use base64::engine::general_purpose::URL_SAFE_NO_PAD;
+use kz_types::{AclRow, AssignmentRow, Id, NoMemory, Pair};
+use serde_json::{Map, Value, json};
+use std::alloc::Global;
+
+/// An object of the names and values of a configuration, in byte order.
+fn texts_value(alloc: Global, pairs: &[Pair]) -> Result<Value, NoMemory>
+    ensures { IfOk result (λ value. view value ≡ object (with_texts no_members pairs.now)) }
+{
+    let mut members: Map<String, Value> = Map::new(alloc);
+    for pair in pairs {
+        let value = Value::String(String::from_str(alloc, pair.value.as_str())?);
+        serde_json::put(&mut members, alloc, pair.name.as_str(), value)?;
+    }
+    Ok(Value::Object(members))
+}
+
+/// A body of version 1 that has this configuration.
+fn config_value(alloc: Global, config: Value) -> Result<Value, NoMemory>
+    ensures { IfOk result (λ value. view value ≡ object (member (codes "config") (view config) (member (codes "version") (whole_data (pos 1)) no_members))) }
+{
+    Ok(json!(in alloc; {"version": 1, "config": config})?)
+}
+
+/// The text of a configuration's body.
+pub fn config_text(alloc: Global, pairs: &[Pair]) -> Result<String, NoMemory>
+    ensures { IfOk result (λ text. string_bytes text ≡ compact_text (config_data pairs.now)) }
+{
+    let config = texts_value(alloc, pairs)?;
+    let body = config_value(alloc, config)?;
+    Ok(body.to_string(alloc)?)
+}
+
+/// The JSON value of a whole number.
+fn whole_value(number: i64) -> Value
+    ensures { view result ≡ whole_data number }
+{
+    Value::from(number)
+}
+
+/// A list of brokers.
+fn brokers_value(alloc: Global, ids: &[i32]) -> Result<Value, NoMemory>
+    ensures { IfOk result (λ value. view value ≡ brokers_data ids.now) }
+{
+    let mut values = Vec::new(alloc);
+    for id in ids {
+        values.push(whole_value(*id as i64))?;
+    }
+    Ok(Value::Array(values))
+}
+
+/// The replicas of partitions, by their numbers.
+fn replicas_value(alloc: Global, rows: &[AssignmentRow]) -> Result<Value, NoMemory>
+    ensures { IfOk result (λ value. view value ≡ object (replicas_members no_members rows.now)) }
+{
+    let mut members: Map<String, Value> = Map::new(alloc);
+    for row in rows {
+        let name = number_text(alloc, row.number)?;
+        let value = brokers_value(alloc, row.replicas.as_slice())?;
+        serde_json::put(&mut members, alloc, &name, value)?;
+    }
+    Ok(Value::Object(members))
+}
+
+/// The brokers that are added to partitions, by their numbers, but for those to which none is added.
+fn adding_value(alloc: Global, rows: &[AssignmentRow]) -> Result<Value, NoMemory>
+    ensures { IfOk result (λ value. view value ≡ object (adding_members no_members rows.now)) }
+{
+    let mut members: Map<String, Value> = Map::new(alloc);
+    for row in rows {
+        put_some(alloc, &mut members, row, row.adding.as_slice())?;
+    }
+    Ok(Value::Object(members))
+}
+
+/// The brokers that are removed from partitions, by their numbers, but for those from which none is removed.
+fn removing_value(alloc: Global, rows: &[AssignmentRow]) -> Result<Value, NoMemory>
+    ensures { IfOk result (λ value. view value ≡ object (removing_members no_members rows.now)) }
+{
+    let mut members: Map<String, Value> = Map::new(alloc);
+    for row in rows {
+        put_some(alloc, &mut members, row, row.removing.as_slice())?;
+    }
+    Ok(Value::Object(members))
+}
+
+/// Puts the list of a partition, unless it is empty.
+fn put_some(
+    alloc: Global,
+    members: &mut Map<String, Value>,
+    row: &AssignmentRow,
+    ids: &[i32],
+) -> Result<(), NoMemory>
+    ensures { OnOk result (members_view members.new.entries ≡ with_some row.now ids.now (members_view members.old.entries)) }
+{
+    if ids.is_empty() {
+        return Ok(());
+    }
+    let name = number_text(alloc, row.number)?;
+    let value = brokers_value(alloc, ids)?;
+    serde_json::put(members, alloc, &name, value)?;
+    Ok(())
+}
+
+/// A text as a JSON value.
+fn text_value(alloc: Global, text: &str) -> Result<Value, NoMemory>
+    ensures { IfOk result (λ value. view value ≡ string text.now) }
+{
+    Ok(Value::String(String::from_str(alloc, text)?))
+}
+
+/// The body of a topic.
+fn topic_value(
+    alloc: Global,
+    id: Value,
+    adding: Value,
+    partitions: Value,
+    removing: Value,
+) -> Result<Value, NoMemory>
+    ensures { IfOk result (λ value. view value ≡ object
+        (member (codes "adding_replicas") (view adding)
+        (member (codes "partitions") (view partitions)
+        (member (codes "removing_replicas") (view removing)
+        (member (codes "topic_id") (view id)
+        (member (codes "version") (whole_data (pos 3)) no_members)))))) }
+{
+    let mut members: Map<String, Value> = Map::new(alloc);
+    serde_json::put(&mut members, alloc, "adding_replicas", adding)?;
+    serde_json::put(&mut members, alloc, "partitions", partitions)?;
+    serde_json::put(&mut members, alloc, "removing_replicas", removing)?;
+    serde_json::put(&mut members, alloc, "topic_id", id)?;
+    serde_json::put(&mut members, alloc, "version", whole_value(3))?;
+    Ok(Value::Object(members))
+}
+
+/// The body of a partition's state.
+fn state_value(
+    alloc: Global,
+    leader: Value,
+    leader_epoch: Value,
+    controller_epoch: Value,
+    isr: Value,
+    recovery: Value,
+) -> Result<Value, NoMemory>
+    ensures { IfOk result (λ value. view value ≡ object
+        (member (codes "controller_epoch") (view controller_epoch)
+        (member (codes "isr") (view isr)
+        (member (codes "leader") (view leader)
+        (member (codes "leader_epoch") (view leader_epoch)
+        (member (codes "leader_recovery_state") (view recovery)
+        (member (codes "version") (whole_data (pos 1)) no_members))))))) }
+{
+    let mut members: Map<String, Value> = Map::new(alloc);
+    serde_json::put(&mut members, alloc, "controller_epoch", controller_epoch)?;
+    serde_json::put(&mut members, alloc, "isr", isr)?;
+    serde_json::put(&mut members, alloc, "leader", leader)?;
+    serde_json::put(&mut members, alloc, "leader_epoch", leader_epoch)?;
+    serde_json::put(&mut members, alloc, "leader_recovery_state", recovery)?;
+    serde_json::put(&mut members, alloc, "version", whole_value(1))?;
+    Ok(Value::Object(members))
+}
+
+/// The body of a block of producer ids.
+fn producer_value(alloc: Global, broker: Value, start: Value, end: Value) -> Result<Value, NoMemory>
+    ensures { IfOk result (λ value. view value ≡ object
+        (member (codes "block_end") (view end)
+        (member (codes "block_start") (view start)
+        (member (codes "broker") (view broker)
+        (member (codes "version") (whole_data (pos 1)) no_members))))) }
+{
+    let mut members: Map<String, Value> = Map::new(alloc);
+    serde_json::put(&mut members, alloc, "block_end", end)?;
+    serde_json::put(&mut members, alloc, "block_start", start)?;
+    serde_json::put(&mut members, alloc, "broker", broker)?;
+    serde_json::put(&mut members, alloc, "version", whole_value(1))?;
+    Ok(Value::Object(members))
+}
+
+/// An access control entry.
+fn entry_value(
+    alloc: Global,
+    host: Value,
+    operation: Value,
+    permission: Value,
+    principal: Value,
+) -> Result<Value, NoMemory>
+    ensures { IfOk result (λ value. view value ≡ object
+        (member (codes "host") (view host)
+        (member (codes "operation") (view operation)
+        (member (codes "permissionType") (view permission)
+        (member (codes "principal") (view principal) no_members))))) }
+{
+    let mut members: Map<String, Value> = Map::new(alloc);
+    serde_json::put(&mut members, alloc, "host", host)?;
+    serde_json::put(&mut members, alloc, "operation", operation)?;
+    serde_json::put(&mut members, alloc, "permissionType", permission)?;
+    serde_json::put(&mut members, alloc, "principal", principal)?;
+    Ok(Value::Object(members))
+}
+
+/// The body of access control entries.
+fn acls_value(alloc: Global, acls: Value) -> Result<Value, NoMemory>
+    ensures { IfOk result (λ value. view value ≡ object (member (codes "acls") (view acls) (member (codes "version") (whole_data (pos 1)) no_members))) }
+{
+    Ok(json!(in alloc; {"version": 1, "acls": acls})?)
+}
+
+/// The name of an operation.
+fn operation_name(operation: i8) -> &'static str
+    ensures { result.now ≡ operation_name operation }
+{
+    match operation {
+        2 => "All",
+        3 => "Read",
+        4 => "Write",
+        5 => "Create",
+        6 => "Delete",
+        7 => "Alter",
+        8 => "Describe",
+        9 => "ClusterAction",
+        10 => "DescribeConfigs",
+        11 => "AlterConfigs",
+        _ => "IdempotentWrite",
+    }
+}
+
+/// The name of a permission.
+fn permission_name(permission: i8) -> &'static str
+    ensures { result.now ≡ permission_name permission }
+{
+    if permission == 2 { "Deny" } else { "Allow" }
+}
+
+/// An access control entry of a row.
+fn row_value(alloc: Global, row: &AclRow) -> Result<Value, NoMemory>
+    ensures { IfOk result (λ value. view value ≡ acl_data row.now) }
+{
+    let host = text_value(alloc, row.host.as_str())?;
+    let operation = text_value(alloc, operation_name(row.operation))?;
+    let permission = text_value(alloc, permission_name(row.permission))?;
+    let principal = text_value(alloc, row.principal.as_str())?;
+    entry_value(alloc, host, operation, permission, principal)
+}
+
+/// A list of access control entries.
+fn rows_value(alloc: Global, rows: &[AclRow]) -> Result<Value, NoMemory>
+    ensures { IfOk result (λ value. view value ≡ array (items_of (map acl_data rows.now))) }
+{
+    let mut values = Vec::new(alloc);
+    for row in rows {
+        values.push(row_value(alloc, row)?)?;
+    }
+    Ok(Value::Array(values))
+}
+
+/// The text of a value without floats.
+fn value_text(alloc: Global, value: &Value) -> Result<String, NoMemory>
+    requires { has_float (view value.now) ≡ false }
+    ensures { IfOk result (λ text. string_bytes text ≡ compact_text (view value.now)) }
+{
+    Ok(value.to_string(alloc)?)
+}
+
+/// The text of an id.
+fn id_value(alloc: Global, id: &Id) -> Result<Value, NoMemory>
+    ensures { IfOk result (λ value. view value ≡ string (id_text id.now.bytes)) }
+{
+    Ok(Value::String(URL_SAFE_NO_PAD.encode(alloc, &id.bytes)?))
+}
+
+/// The text of a topic's body.
+#[tactic(auto, using(crate::proofs::WrittenLemmas::topic_no_float))]
+pub fn topic_text(alloc: Global, id: &Id, rows: &[AssignmentRow]) -> Result<String, NoMemory>
+    ensures { IfOk result (λ text. string_bytes text ≡ compact_text (topic_data id.now rows.now)) }
+{
+    let adding = adding_value(alloc, rows)?;
+    let partitions = replicas_value(alloc, rows)?;
+    let removing = removing_value(alloc, rows)?;
+    let id = id_value(alloc, id)?;
+    let value = topic_value(alloc, id, adding, partitions, removing)?;
+    value_text(alloc, &value)
+}
+
+/// The state of a partition, as its body has it.
+pub struct PartitionState<'a> {
+    pub leader: i32,
+    pub leader_epoch: i32,
+    pub controller_epoch: i32,
+    pub isr: &'a [i32],
+    pub recovery: i8,
+}
+
+/// The text of the body of a partition's state.
+#[tactic(auto, using(crate::proofs::WrittenLemmas::state_no_float))]
+pub fn state_text(alloc: Global, state: &PartitionState<'_>) -> Result<String, NoMemory>
+    ensures { IfOk result (λ text. string_bytes text ≡ compact_text (state_data state.now.leader state.now.leader_epoch state.now.controller_epoch state.now.isr.now state.now.recovery)) }
+{
+    let leader = whole_value(state.leader as i64);
+    let leader_epoch = whole_value(state.leader_epoch as i64);
+    let controller_epoch = whole_value(state.controller_epoch as i64);
+    let isr = brokers_value(alloc, state.isr)?;
+    let recovery = whole_value(state.recovery as i64);
+    let value = state_value(alloc, leader, leader_epoch, controller_epoch, isr, recovery)?;
+    value_text(alloc, &value)
+}
+
+/// The text of the body of access control entries.
+#[tactic(auto, using(crate::proofs::WrittenLemmas::acls_no_float))]
+pub fn acls_text(alloc: Global, rows: &[AclRow]) -> Result<String, NoMemory>
+    ensures { IfOk result (λ text. string_bytes text ≡ compact_text (acls_data rows.now)) }
+{
+    let acls = rows_value(alloc, rows)?;
+    let value = acls_value(alloc, acls)?;
+    value_text(alloc, &value)
+}
+
+/// A number as a text.
+fn digits_value(alloc: Global, number: i64) -> Result<Value, NoMemory>
+    ensures { IfOk result (λ value. view value ≡ string (signed_decimal number)) }
+{
+    Ok(Value::String(format!(in alloc; "{number}")?))
+}
+
+/// The text of the body of a block of producer ids.
+#[tactic(auto, using(crate::proofs::WrittenLemmas::producer_no_float))]
+pub fn producer_text(alloc: Global, broker: i32, start: i64, end: i64) -> Result<String, NoMemory>
+    ensures { IfOk result (λ text. string_bytes text ≡ compact_text (producer_data broker start end)) }
+{
+    let broker = whole_value(broker as i64);
+    let start = digits_value(alloc, start)?;
+    let end = digits_value(alloc, end)?;
+    let value = producer_value(alloc, broker, start, end)?;
+    value_text(alloc, &value)
+}

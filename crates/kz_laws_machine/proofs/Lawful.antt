@@ -1,0 +1,196 @@
+-- The events that lines give are lawful.
+use Rattle.std.proofs.Common.{◌≡◌, ℕ, suc, ◌==◌, ◌≤◌, nat_le, ℤ, pos, ◌≤ℤ◌, Bool, true, false, not, ◌&&◌, ◌||◌, if◌then◌else◌, List, [], ◌∷◌, length, Option, Some, None, option_map, is_some, All, refl, sym, ap, ◌∙◌, arith}
+use Rattle.std.specs.Prelude.{⊤, option_and_then, codes}
+use Rattle.std.specs.Ordering.{int_eq}
+use Rattle.std.specs.Str.{bytes_eq}
+use Rattle.std.proofs.lemmas.Bool.Decides.{nat_tests}
+use Rattle.std.proofs.lemmas.Int.{ints}
+use Rattle.std.proofs.lemmas.List.Elements.{All-nil, All-cons}
+use Rattle.serde_json.specs.Data.{Data, Items, no_items, item}
+use Rattle.serde_json.specs.Find.{get, as_array, as_u64, as_number}
+use Rattle.kz_types.specs.Numbers.{canonical}
+use Rattle.kz_types.specs.declared.machine.Event.{Event}
+use Rattle.kz_types.specs.declared.machine.Event.TheVariants as event
+use Rattle.kz_types.specs.declared.record.ConfigRecord.{ConfigRecord}
+use Rattle.kz_types.specs.declared.record.MetaRecord.{MetaRecord}
+use Rattle.kz_types.specs.declared.record.MetaRecord.TheVariants as meta
+use Rattle.kz_spec_lines.specs.Json.{json_of, member_count, whole_up_to, text_member, by_name}
+use Rattle.kz_spec_lines.specs.Lines.{Item, line, long, much, items, is_passed_over}
+use Rattle.kz_spec_lines.specs.Records.{record_of}
+use Rattle.kz_spec_lines.specs.Events.{id_of, time_of, controller_of, now_of, timed_count, only_id, quorum_of, start_of, elect_of, turn_of, is_broker_config, is_changeable, changeable_of, only_record, change_of, check_of, event_forms, event_of, line_event}
+use Rattle.kz_spec_stores.specs.Image.{is_empty, is_broker_name}
+use Rattle.kz_spec_stores.specs.Image as image
+use Rattle.kz_spec_machine.specs.Sound.{IsId, IsTime, IsChange, IsLawful}
+use Rattle.kz_spec_runs.specs.InStep.{events_on, events_of, script_events}
+
+-- it is so of what is there
+abbrev OfSome : {A : Type 0} → (A → Type 0) → Option A → Type 0
+OfSome P None = ⊤
+OfSome P (Some x) = P x
+
+after : {A B : Type 0} (P : A → Type 0) (Q : B → Type 0) (f : A → Option B) (o : Option A) → OfSome P o → ((x : A) → P x → OfSome Q (f x)) → OfSome Q (option_and_then f o)
+after P Q f None is then_so = tt
+after P Q f (Some x) is then_so = then_so x is
+
+mapped : {A B : Type 0} (P : A → Type 0) (Q : B → Type 0) (f : A → B) (o : Option A) → OfSome P o → ((x : A) → P x → Q (f x)) → OfSome Q (option_map f o)
+mapped P Q f None is then_so = tt
+mapped P Q f (Some x) is then_so = then_so x is
+
+anything : {A : Type 0} (o : Option A) → OfSome (λ (x : A). ⊤) o
+anything None = tt
+anything (Some x) = tt
+
+where_true : {A : Type 0} (P : A → Type 0) (b : Bool) (o : Option A) → (b ≡ true → OfSome P o) → OfSome P (if b then o else None)
+where_true P true o so = so refl
+where_true P false o so = tt
+
+-- ---- numbers
+
+at_most : (a b : ℕ) → nat_le a b ≡ true → a ≤ b
+at_most a b is = grind (arith, nat_tests)
+
+whole_is : (most : ℕ) (d : Data) → OfSome (λ (i : ℤ). (pos 0 ≤ℤ i) × (i ≤ℤ pos most)) (whole_up_to most d)
+whole_is most d = after (λ (n : ℕ). ⊤) (λ (i : ℤ). (pos 0 ≤ℤ i) × (i ≤ℤ pos most)) (λ n. if nat_le n most then Some (pos n) else None) (option_and_then as_u64 (as_number d))
+    (anything (option_and_then as_u64 (as_number d))) (λ n t. where_true (λ (i : ℤ). (pos 0 ≤ℤ i) × (i ≤ℤ pos most)) (nat_le n most) (Some (pos n)) (λ low. within n (at_most n most low)))
+  where
+    within : (n : ℕ) → n ≤ most → (pos 0 ≤ℤ pos n) × (pos n ≤ℤ pos most)
+    within n low = (omega (arith, ints), omega (arith, ints))
+
+weaker : {A : Type 0} (P Q : A → Type 0) (o : Option A) → OfSome P o → ((x : A) → P x → Q x) → OfSome Q o
+weaker P Q None is so = tt
+weaker P Q (Some x) is so = so x is
+
+id_is : (d : Data) → OfSome IsId (id_of d)
+id_is d = weaker (λ (i : ℤ). (pos 0 ≤ℤ i) × (i ≤ℤ pos 2147483647)) IsId (id_of d) (whole_is 2147483647 d) (λ i both. record { least = both.0; most = both.1 })
+
+time_is : (o : Option Data) → OfSome IsTime (time_of o)
+time_is None = record { least = omega (arith, ints); most = omega (arith, ints) }
+time_is (Some d) = weaker (λ (i : ℤ). (pos 0 ≤ℤ i) × (i ≤ℤ pos 9223372036854775807)) IsTime (whole_up_to 9223372036854775807 d) (whole_is 9223372036854775807 d) (λ i both. record { least = both.0; most = both.1 })
+
+controller_is : (d : Data) → OfSome IsId (controller_of d)
+controller_is d = after (λ (x : Data). ⊤) IsId id_of (get (codes "controller") d) (anything (get (codes "controller") d)) (λ x t. id_is x)
+
+-- ---- events
+
+only_id_is : (ds : Items) → OfSome IsId (only_id ds)
+only_id_is no_items = tt
+only_id_is (item d no_items) = id_is d
+only_id_is (item d (item e ds)) = tt
+
+one_id : (i : ℤ) → IsId i → IsLawful (event.Quorum (i ∷ []))
+one_id i is = (All-cons IsId i [] is (All-nil IsId), refl)
+
+-- the list that a member is
+abbrev items_at : List ℕ → Data → Option Items
+items_at name d = option_and_then as_array (get name d)
+
+quorum_lawful : (d : Data) → OfSome IsLawful (quorum_of d)
+quorum_lawful d = where_true IsLawful (member_count d == 2) _ (λ two. mapped IsId IsLawful (λ i. event.Quorum (i ∷ [])) (option_and_then only_id (items_at (codes "ids") d)) (after (λ (x : Items). ⊤) IsId only_id (items_at (codes "ids") d) (anything (items_at (codes "ids") d)) (λ ds t. only_id_is ds)) one_id)
+
+start_lawful : (d : Data) → OfSome IsLawful (start_of d)
+start_lawful d = where_true IsLawful (member_count d == 2) _ (λ two. mapped IsId IsLawful (λ c. event.Start c) (controller_of d) (controller_is d) (λ c is. is))
+
+elect_lawful : (d : Data) → OfSome IsLawful (elect_of d)
+elect_lawful d = where_true IsLawful (member_count d == timed_count 2 d) _ (λ few. after IsId IsLawful (λ c. option_map (λ t. event.Elect c t) (now_of d)) (controller_of d) (controller_is d)
+    (λ c is. mapped IsTime IsLawful (λ t. event.Elect c t) (now_of d) (time_is (get (codes "now") d)) (λ t low. (is, low))))
+
+turn_lawful : (d : Data) → OfSome IsLawful (turn_of d)
+turn_lawful d = where_true IsLawful (member_count d == timed_count 2 d) _ (λ few. after IsId IsLawful (λ c. option_map (λ t. event.Turn c t) (now_of d)) (controller_of d) (controller_is d)
+    (λ c is. mapped IsTime IsLawful (λ t. event.Turn c t) (now_of d) (time_is (get (codes "now") d)) (λ t low. (is, low))))
+
+-- the same test, said of a record of a change and of a record of the log
+same_empty : (name : List ℕ) → (length name == 0) ≡ is_empty name
+same_empty [] = refl
+same_empty (b ∷ bs) = not_zero (length bs)
+  where
+    not_zero : (n : ℕ) → (suc n == 0) ≡ false
+    not_zero n = grind (arith, nat_tests)
+
+same_name : (name : List ℕ) → (length name == 0 || is_some (canonical name)) ≡ is_broker_name name
+same_name [] = refl
+same_name (b ∷ bs) = ap (λ x. x || is_some (canonical (b ∷ bs))) (same_empty (b ∷ bs))
+
+same_test : (c : ConfigRecord) → is_broker_config c ≡ image.is_broker_config c
+same_test c = ap (λ b. int_eq c.resource_type (pos 4) && b && not (length c.name == 0)) (same_name c.resource_name) ∙ ap (λ b. int_eq c.resource_type (pos 4) && is_broker_name c.resource_name && not b) (same_empty c.name)
+
+-- of every other record the test is false
+change_is : (r : MetaRecord) → is_changeable r ≡ true → IsChange r
+change_is (meta.RegisterBroker b) is = absurd (cc)
+change_is (meta.Topic t) is = absurd (cc)
+change_is (meta.Partition p) is = absurd (cc)
+change_is (meta.Config c) is = sym (same_test c) ∙ is
+change_is (meta.PartitionChange p) is = absurd (cc)
+change_is (meta.RemoveTopic id) is = absurd (cc)
+change_is (meta.UserScramCredential r) is = absurd (cc)
+change_is (meta.ClientQuota r) is = absurd (cc)
+change_is (meta.ProducerIds r) is = absurd (cc)
+change_is (meta.AccessControlEntry r) is = absurd (cc)
+change_is (meta.RemoveAccessControlEntry id) is = absurd (cc)
+change_is meta.NoOp is = absurd (cc)
+change_is (meta.ZkMigrationState s) is = absurd (cc)
+change_is (meta.RemoveUserScramCredential name mechanism) is = absurd (cc)
+change_is (meta.BeginTransaction name) is = absurd (cc)
+change_is meta.EndTransaction is = absurd (cc)
+change_is (meta.AbortTransaction reason) is = absurd (cc)
+
+changeable_is : (d : Data) → OfSome IsChange (changeable_of d)
+changeable_is d = after (λ (x : MetaRecord). ⊤) IsChange (λ r. if is_changeable r then Some r else None) (record_of d) (anything (record_of d)) (λ r t. where_true IsChange (is_changeable r) (Some r) (change_is r))
+
+only_record_is : (ds : Items) → OfSome IsChange (only_record ds)
+only_record_is no_items = tt
+only_record_is (item d no_items) = changeable_is d
+only_record_is (item d (item e ds)) = tt
+
+change_lawful : (d : Data) → OfSome IsLawful (change_of d)
+change_lawful d = where_true IsLawful (member_count d == timed_count 3 d) _ (λ few. after IsId IsLawful _ (controller_of d) (controller_is d)
+    (λ c is. after IsChange IsLawful (λ r. option_map (λ t. event.Change c (r ∷ []) t) (now_of d)) (option_and_then only_record (items_at (codes "records") d)) (after (λ (x : Items). ⊤) IsChange only_record (items_at (codes "records") d) (anything (items_at (codes "records") d)) (λ ds t. only_record_is ds))
+    (λ r change. mapped IsTime IsLawful (λ t. event.Change c (r ∷ []) t) (now_of d) (time_is (get (codes "now") d)) (λ t low. (is, low, All-cons IsChange r [] change (All-nil IsChange), refl)))))
+
+check_lawful : (d : Data) → OfSome IsLawful (check_of d)
+check_lawful d = where_true IsLawful (member_count d == 1) (Some event.Check) (λ one. tt)
+
+named : (b : Bool) (o rest : Option Event) → OfSome IsLawful o → OfSome IsLawful rest → OfSome IsLawful (if b then o else rest)
+named true o rest first second = first
+named false o rest first second = second
+
+abbrev Form : Type 0
+Form = List ℕ × (Data → Option Event)
+
+abbrev AllLawful : List Form → Type 0
+AllLawful [] = ⊤
+AllLawful (f ∷ fs) = ((d : Data) → OfSome IsLawful (f.1 d)) × AllLawful fs
+
+by_name_lawful : (fs : List Form) (name : List ℕ) (d : Data) → AllLawful fs → OfSome IsLawful (by_name fs name d)
+by_name_lawful [] name d all = tt
+by_name_lawful (f ∷ fs) name d all = named (bytes_eq name f.0) (f.1 d) (by_name fs name d) (all.0 d) (by_name_lawful fs name d all.1)
+
+form_lawful : (name : List ℕ) (d : Data) → OfSome IsLawful (by_name event_forms name d)
+form_lawful name d = by_name_lawful event_forms name d (quorum_lawful, (start_lawful, (elect_lawful, (turn_lawful, (change_lawful, (check_lawful, tt))))))
+
+event_lawful : (d : Data) → OfSome IsLawful (event_of d)
+event_lawful d = after (λ (x : List ℕ). ⊤) IsLawful (λ name. by_name event_forms name d) (text_member (codes "event") d) (anything (text_member (codes "event") d)) (λ name t. form_lawful name d)
+
+-- the event that a line is
+pub line_lawful : (bytes : List ℕ) → OfSome IsLawful (line_event bytes)
+unfolding line_event
+line_lawful bytes = after (λ (x : Data). ⊤) IsLawful event_of (json_of bytes) (anything (json_of bytes)) (λ d t. event_lawful d)
+
+-- ---- scripts
+
+on_lawful : (o : Option Event) (rest : List Event) → OfSome IsLawful o → All IsLawful rest → All IsLawful (events_on o rest)
+on_lawful None rest is all = All-nil IsLawful
+on_lawful (Some e) rest is all = All-cons IsLawful e rest is all
+
+passed_over : (b : Bool) (rest more : List Event) → All IsLawful rest → All IsLawful more → All IsLawful (if b then rest else more)
+passed_over true rest more first second = first
+passed_over false rest more first second = second
+
+events_lawful : (is : List Item) → All IsLawful (events_of is)
+events_lawful [] = All-nil IsLawful
+events_lawful (long ∷ is) = All-nil IsLawful
+events_lawful (much ∷ is) = All-nil IsLawful
+events_lawful (line l ∷ is) = passed_over (is_passed_over l) (events_of is) (events_on (line_event l) (events_of is)) (events_lawful is) (on_lawful (line_event l) (events_of is) (line_lawful l) (events_lawful is))
+
+-- the events of a script
+pub script_lawful : (bytes : List ℕ) → All IsLawful (script_events bytes)
+script_lawful bytes = events_lawful (items bytes)

@@ -1,0 +1,59 @@
+-- What is true of every run of the machine.
+use Rattle.std.specs.Prelude.{◌≡◌, ◌≢◌, ◌⊎◌, ℕ, ℤ, true, List, Some, None, All}
+use Rattle.kz_types.specs.declared.tree.Op.{Op}
+use Rattle.kz_types.specs.declared.driver.Stage.TheVariants as stage
+use Rattle.kz_types.specs.declared.machine.Recorded.{Recorded}
+use Rattle.kz_types.specs.declared.machine.Verdict.TheVariants.{Closed}
+use Rattle.kz_types.specs.declared.machine.Event.{Event}
+use Rattle.kz_spec_stores.specs.Tree.{recorded, unclosed}
+use Rattle.kz_spec_stores.specs.Log.{is_migrated_log}
+use Rattle.kz_spec_machine.specs.Driver.{Shared, Driver, remaining_at, step}
+use Rattle.kz_spec_machine.specs.Machine.{World, empty_world, driver_of, turn, next, after_events}
+use Rattle.kz_spec_machine.specs.Verdicts.{verdict}
+use Rattle.kz_spec_machine.specs.Sound.{IsTime, Kept, IsCurrent, Fine, Sound, Alone, IsLawful}
+use Rattle.kz_spec_runs.specs.InStep.{StaysInStep, script_events}
+
+-- The events of a script are lawful.
+abbrev pub ScriptsAreLawful : Type 0
+ScriptsAreLawful = (bytes : List ℕ) → All IsLawful (script_events bytes)
+
+-- What the steps of the one driver rest on and keep: what is shared is sound, the driver is fine, and its claim is current.
+pub record Driven (s : Shared) (d : Driver) : Type 0 where
+  pub kept : Kept s
+  pub fine : Fine s d
+  pub current : d.claim ≢ None → IsCurrent s.tree d.claim
+
+abbrev pub StepsKeepDriven : Type 0
+StepsKeepDriven = (s : Shared) (running : List ℤ) (now : ℤ) (d : Driver) → IsTime now → Driven s d → Driven (step s running now d).shared (step s running now d).driver
+
+abbrev pub TurnsKeepDriven : Type 0
+TurnsKeepDriven = (n : ℕ) (s : Shared) (running : List ℤ) (now : ℤ) (d : Driver) → IsTime now → Driven s d → Driven (turn n s running now d).shared (turn n s running now d).driver
+
+-- In a sound world with one controller, its driver is such a driver.
+abbrev pub OneIsDriven : Type 0
+OneIsDriven = (w : World) (id : ℤ) (d : Driver) → Sound w → Alone w → driver_of id w.drivers ≡ Some d → Driven w.shared d
+
+-- The operations that such a driver holds are those that remain to be written.
+abbrev pub HeldOperationsRemain : Type 0
+HeldOperationsRemain = (s : Shared) (d : Driver) (target : Recorded) (ops : List Op) → Driven s d → d.claim ≢ None → (d.stage ≡ stage.WriteAll target ops) ⊎ (d.stage ≡ stage.WriteChange target ops)
+    → ops ≡ remaining_at s.tree s.log target.offset
+
+-- Where the tree is closed and the log migrated, a check tells so, with the offset that is recorded.
+abbrev pub ClosedIsTold : Type 0
+ClosedIsTold = (s : Shared) (r : Recorded) → Kept s → is_migrated_log s.log ≡ true → recorded s.tree ≡ Some r → unclosed s.tree ≡ None → verdict s.tree s.log ≡ Closed r.offset
+
+-- An event keeps a world sound, and one controller alone.
+abbrev pub EventsKeepSound : Type 0
+EventsKeepSound = (w : World) (e : Event) → IsLawful e → Sound w → Alone w → Sound (next w e).0 × Alone (next w e).0
+
+-- Every world of a run is sound, with one controller alone.
+abbrev pub RunsAreSound : Type 0
+RunsAreSound = (es : List Event) → All IsLawful es → Sound (after_events empty_world es) × Alone (after_events empty_world es)
+
+-- After each turn of a run that comes to rest, the tree is in step with the log.
+abbrev pub RunsStayInStep : Type 0
+RunsStayInStep = (es : List Event) → All IsLawful es → StaysInStep es
+
+-- So it is in the run of every script.
+abbrev pub ScriptsStayInStep : Type 0
+ScriptsStayInStep = (bytes : List ℕ) → StaysInStep (script_events bytes)

@@ -1,0 +1,63 @@
+-- What holds of each znode after operations, and a tree of which no znode is later than what is recorded.
+use Rattle.std.proofs.Common.{◌≡◌, ◌⊎◌, ℕ, ℤ, ◌≤ℤ◌, false, ◌||◌, cond, List, [], ◌∷◌, Option, Some, None, Contains, All, refl, ap, ◌∙◌, subst, inl, inr, filter, arith}
+use Rattle.std.specs.Prelude.{int_lt}
+use Rattle.std.proofs.lemmas.Int.{ints}
+use Rattle.std.proofs.lemmas.List.Elements.{Contains-get_or, All-contains, All-head, All-tail}
+use Rattle.kz_types.specs.declared.tree.Row.{Row}
+use Rattle.kz_types.specs.declared.tree.Op.{Op}
+use Rattle.kz_types.specs.declared.tree.Op.TheVariants.{Create, Set, Delete, Check}
+use Rattle.kz_ordered.proofs.Order.{bytes_order}
+use Rattle.kz_ordered.proofs.Lookup.{Contains-put_cases, Contains-without, found_is_contained}
+use Rattle.kz_spec_stores.specs.Tree.{path_of_row, row_at, put_row, without_row, parent_of, created_row, set_row, touched, after_set, after_op, is_later}
+use Rattle.kz_laws_trees.proofs.Runs.{ran}
+
+pub all_from_contains : {A : Type 0} (P : A → Type 0) (xs : List A) → ((x : A) → Contains xs x → P x) → All P xs
+all_from_contains P xs h k d within = h _ (Contains-get_or xs k d within)
+
+pub all_put : (P : Row → Type 0) (r : Row) (rows : List Row) → P r → All P rows → All P (put_row r rows)
+all_put P r rows own all = all_from_contains P (put_row r rows) (λ x has. either x (Contains-put_cases bytes_order path_of_row r rows x has))
+  where
+    either : (x : Row) → (r ≡ x) ⊎ Contains rows x → P x
+    either x (inl e) = subst P e own
+    either x (inr has) = All-contains P rows x all has
+
+pub all_without : (P : Row → Type 0) (path : List ℕ) (rows : List Row) → All P rows → All P (without_row path rows)
+all_without P path rows all = all_from_contains P (without_row path rows) (λ x has. All-contains P rows x all (Contains-without bytes_order path_of_row path rows x has))
+
+-- What holds of a new znode, and stays when its body is set and when its children change.
+pub record Lasts (P : Row → Type 0) (zxid : ℤ) : Type 0 where
+  pub made : (path body : List ℕ) (owner : Option ℤ) → P (created_row zxid path body owner)
+  pub set : (body : List ℕ) (r : Row) → P r → P (set_row zxid body r)
+  pub touched : (r : Row) → P r → P (record r { pzxid = zxid })
+
+all_touched : (P : Row → Type 0) (zxid : ℤ) (q : List ℕ) (rows : List Row) (m : Option Row) → row_at q rows ≡ m → Lasts P zxid → All P rows → All P (touched zxid m rows)
+all_touched P zxid q rows None is lasts all = all
+all_touched P zxid q rows (Some r) is lasts all = all_put P (record r { pzxid = zxid }) rows (lasts.touched r (All-contains P rows r all (found_is_contained bytes_order path_of_row q rows r is))) all
+
+all_set : (P : Row → Type 0) (zxid : ℤ) (q body : List ℕ) (rows : List Row) (m : Option Row) → row_at q rows ≡ m → Lasts P zxid → All P rows → All P (after_set zxid body m rows)
+all_set P zxid q body rows None is lasts all = all
+all_set P zxid q body rows (Some r) is lasts all = all_put P (set_row zxid body r) rows (lasts.set body r (All-contains P rows r all (found_is_contained bytes_order path_of_row q rows r is))) all
+
+all_after_op : (P : Row → Type 0) (zxid : ℤ) (o : Op) (rows : List Row) → Lasts P zxid → All P rows → All P (after_op zxid o rows)
+all_after_op P zxid (Create path body owner) rows lasts all =
+    all_put P (created_row zxid path body owner) (touched zxid (row_at (parent_of path) rows) rows) (lasts.made path body owner)
+    (all_touched P zxid (parent_of path) rows (row_at (parent_of path) rows) refl lasts all)
+all_after_op P zxid (Set path body version) rows lasts all = all_set P zxid path body rows (row_at path rows) refl lasts all
+all_after_op P zxid (Delete path version) rows lasts all = all_without P path (touched zxid (row_at (parent_of path) rows) rows) (all_touched P zxid (parent_of path) rows (row_at (parent_of path) rows) refl lasts all)
+all_after_op P zxid (Check path version) rows lasts all = all
+
+pub all_ran : (P : Row → Type 0) (zxid : ℤ) (os : List Op) (rows : List Row) → Lasts P zxid → All P rows → All P (ran zxid os rows)
+all_ran P zxid [] rows lasts all = all
+all_ran P zxid (o ∷ os) rows lasts all = all_ran P zxid os (after_op zxid o rows) lasts (all_after_op P zxid o rows lasts all)
+
+-- ---- none is later
+
+not_less : (a b : ℤ) → a ≤ℤ b → int_lt b a ≡ false
+not_less a b h = grind (arith, ints)
+
+pub none_later : (P : Row → Type 0) (zxid : ℤ) → ((r : Row) → P r → (r.mzxid ≤ℤ zxid) × (r.pzxid ≤ℤ zxid)) → (rows : List Row) → All P rows → filter (is_later zxid) rows ≡ []
+none_later P zxid low [] all = refl
+none_later P zxid low (r ∷ rows) all =
+    let both = low r (All-head P r rows all) in
+    ap (λ b. cond b (r ∷ filter (is_later zxid) rows) (filter (is_later zxid) rows)) (ap (λ b. b || int_lt zxid r.pzxid) (not_less r.mzxid zxid both.0) ∙ not_less r.pzxid zxid both.1)
+    ∙ none_later P zxid low rows (All-tail P r rows all)

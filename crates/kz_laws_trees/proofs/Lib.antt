@@ -1,0 +1,16 @@
+pub mod Rows
+pub mod Area
+pub mod Runs
+pub mod Each
+pub mod Parents
+pub mod Below
+pub mod Render
+pub mod Multi
+pub mod Later
+pub mod Claim
+pub mod Beside
+pub mod Logs
+pub mod Ends
+pub mod Pages
+pub mod Migration
+pub mod Growth

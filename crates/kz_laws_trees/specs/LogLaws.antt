@@ -1,0 +1,50 @@
+-- What one batch more makes of a log.
+use Rattle.std.specs.Prelude.{◌≡◌, ℤ, pos, ◌+ℤ◌, ◌≤ℤ◌, List, length, None, Ok, All, ⊤}
+use Rattle.kz_types.specs.declared.record.MetaRecord.{MetaRecord}
+use Rattle.kz_types.specs.declared.record.MetaRecord.TheVariants as meta
+use Rattle.kz_spec_stores.specs.Log.{Log, end_of, image_at, image_of, with_batch, full_log, append}
+use Rattle.kz_spec_machine.specs.Driver.{commit_records}
+use Rattle.kz_spec_machine.specs.Sound.{IsEpochOrNone, LogShape, IsBatchEnd}
+
+-- The metadata at every offset of the log stays.
+abbrev pub BatchLeavesImages : Type 0
+BatchLeavesImages = (l : Log) (epoch now : ℤ) (items : List MetaRecord) (at : ℤ) → at ≤ℤ end_of l → image_at (with_batch l epoch now items) at ≡ image_at l at
+
+-- Its batch ends stay.
+abbrev pub BatchLeavesEnds : Type 0
+BatchLeavesEnds = (l : Log) (epoch now : ℤ) (items : List MetaRecord) (at : ℤ) → IsBatchEnd l at → IsBatchEnd (with_batch l epoch now items) at
+
+-- Its end is so many records further.
+abbrev pub BatchMovesEnd : Type 0
+BatchMovesEnd = (l : Log) (epoch now : ℤ) (items : List MetaRecord) → end_of (with_batch l epoch now items) ≡ end_of l +ℤ pos (length items)
+
+-- A batch within the limits keeps the shape of a log.
+abbrev pub BatchKeepsShape : Type 0
+BatchKeepsShape = (l : Log) (epoch now : ℤ) (items : List MetaRecord) → LogShape l → IsEpochOrNone epoch → full_log l items ≡ None
+    → (pos 1 ≤ℤ epoch → pos 0 ≤ℤ (end_of l +ℤ pos (length items))) → LogShape (with_batch l epoch now items)
+
+-- So does an append.
+abbrev pub AppendKeepsShape : Type 0
+AppendKeepsShape = (l new : Log) (epoch now : ℤ) (items : List MetaRecord) → LogShape l → append l epoch now items ≡ Ok new → LogShape new
+
+-- The log's end is a batch end, and no batch end is behind it.
+abbrev pub EndIsLastBatchEnd : Type 0
+EndIsLastBatchEnd = (l : Log) → LogShape l → IsBatchEnd l (end_of l) × ((at : ℤ) → IsBatchEnd l at → at ≤ℤ end_of l)
+
+-- ---- the migration's state
+
+-- A record that neither ends a transaction nor is of the migration's state.
+abbrev pub IsPlain : MetaRecord → Type 0
+IsPlain (meta.Config c) = ⊤
+IsPlain meta.NoOp = ⊤
+IsPlain (meta.BeginTransaction name) = ⊤
+IsPlain (meta.AbortTransaction reason) = ⊤
+IsPlain r = ⊥
+
+-- A batch of such records leaves the state of the migration.
+abbrev pub PlainKeepsState : Type 0
+PlainKeepsState = (l : Log) (epoch now : ℤ) (items : List MetaRecord) → LogShape l → All IsPlain items → (image_of (with_batch l epoch now items)).state ≡ (image_of l).state
+
+-- The records of the commit make it 2, whatever transaction was open.
+abbrev pub CommitMigrates : Type 0
+CommitMigrates = (l : Log) (epoch now : ℤ) → LogShape l → (image_of (with_batch l epoch now commit_records)).state ≡ pos 2

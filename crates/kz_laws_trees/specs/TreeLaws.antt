@@ -1,0 +1,101 @@
+-- What a multi that isn't refused makes of a tree.
+use Rattle.std.specs.Prelude.{◌≡◌, ◌≢◌, ℕ, ℤ, pos, ◌+ℤ◌, ◌≤ℤ◌, true, false, List, take, drop, Some, None, Ok, All}
+use Rattle.kz_types.specs.declared.tree.Row.{Row}
+use Rattle.kz_types.specs.declared.tree.Op.{Op}
+use Rattle.kz_types.specs.declared.tree.Op.TheVariants.{Create, Set, Delete, Check}
+use Rattle.kz_types.specs.declared.driver.ClaimSeen.{ClaimSeen}
+use Rattle.kz_types.specs.declared.machine.Recorded.{Recorded}
+use Rattle.kz_types.specs.Paths.{is_migrated}
+use Rattle.kz_ordered.specs.Order.{bytes_cmp}
+use Rattle.kz_ordered.specs.Difference.{all_edited, difference}
+use Rattle.kz_spec_values.specs.Control.{recorded_of, written_recorded}
+use Rattle.kz_spec_stores.specs.Tree.{Tree, multi, area, recorded, has_offset, unclosed}
+use Rattle.kz_spec_stores.specs.Image.{Image}
+use Rattle.kz_spec_stores.specs.Rendering.{path_of_rendered, render}
+use Rattle.kz_spec_stores.specs.Difference.{same_body, diff, max_chunk}
+use Rattle.kz_spec_machine.specs.Driver.{Driver, epoch_or_zero, views_migrated, unrecorded, is_last_write, write_ops, claimed_version, claim_ops}
+use Rattle.kz_spec_machine.specs.Sound.{TreeShape, claim_version, shown_in}
+use Rattle.kz_laws_values.specs.Ranges.{IsLong, IsEpoch}
+
+-- the path of an operation
+abbrev pub path_of_op : Op → List ℕ
+path_of_op (Create path body owner) = path
+path_of_op (Set path body version) = path
+path_of_op (Delete path version) = path
+path_of_op (Check path version) = path
+
+-- ---- any multi
+
+-- A multi gives the tree the next zxid and keeps its shape.
+abbrev pub MultiKeepsShape : Type 0
+MultiKeepsShape = (t new : Tree) (ops : List Op) → multi t ops ≡ Ok new → TreeShape t → (new.zxid ≡ t.zxid +ℤ pos 1) × TreeShape new
+
+-- A multi none of whose operations is in the migrated area leaves the area.
+abbrev pub OutsideLeavesArea : Type 0
+OutsideLeavesArea = (t new : Tree) (ops : List Op) → multi t ops ≡ Ok new → TreeShape t → All (λ o. is_migrated (path_of_op o) ≡ false) ops → area new ≡ area t
+
+-- ---- a write
+
+-- These trees are before and after a write to what an image renders, under this claim and with this offset to be recorded.
+abbrev pub IsWritten : Tree → Tree → Image → ℤ → Recorded → Type 0
+IsWritten t new i claim target = multi t (write_ops claim (diff (area t) (render i)) target) ≡ Ok new
+
+-- A write applies the first edits of the area's difference to the rendering, at most 64.
+abbrev pub WriteAppliesEdits : Type 0
+WriteAppliesEdits = (t new : Tree) (i : Image) (claim : ℤ) (target : Recorded) → TreeShape t → IsWritten t new i claim target
+    → area new ≡ all_edited bytes_cmp path_of_rendered (take max_chunk (difference bytes_cmp path_of_rendered same_body (area t) (render i))) (area t)
+
+-- What remains to be written then is the rest of the operations.
+abbrev pub WriteLeavesRest : Type 0
+WriteLeavesRest = (t new : Tree) (i : Image) (claim : ℤ) (target : Recorded) → TreeShape t → IsWritten t new i claim target
+    → diff (area new) (render i) ≡ drop max_chunk (diff (area t) (render i))
+
+-- A write leaves the data version of `/controller_epoch`.
+abbrev pub WriteKeepsClaim : Type 0
+WriteKeepsClaim = (t new : Tree) (i : Image) (claim : ℤ) (target : Recorded) → IsWritten t new i claim target → claim_version new ≡ claim_version t
+
+-- It leaves the epoch that `/controller` shows.
+abbrev pub WriteKeepsShown : Type 0
+WriteKeepsShown = (t new : Tree) (i : Image) (claim : ℤ) (target : Recorded) → IsWritten t new i claim target → shown_in new ≡ shown_in t
+
+-- The area is what the image renders, what is recorded is what this body says, and if that is an offset the tree is closed.
+pub record Completed (new : Tree) (i : Image) (body : List ℕ) : Type 0 where
+  pub area : area new ≡ render i
+  pub recorded : recorded new ≡ recorded_of body
+  pub closed : has_offset (recorded_of body) ≡ true → unclosed new ≡ None
+
+-- The last write completes the area.
+abbrev pub LastWriteCompletes : Type 0
+LastWriteCompletes = (t new : Tree) (i : Image) (claim : ℤ) (target : Recorded) → TreeShape t → is_last_write (diff (area t) (render i)) ≡ true → IsWritten t new i claim target
+    → Completed new i (written_recorded target)
+
+-- A write that isn't the last leaves what is recorded, and the tree unclosed.
+abbrev pub EarlierWriteUnclosed : Type 0
+EarlierWriteUnclosed = (t new : Tree) (i : Image) (claim : ℤ) (target : Recorded) → TreeShape t → is_last_write (diff (area t) (render i)) ≡ false → IsWritten t new i claim target
+    → (recorded new ≡ recorded t) × (unclosed new ≢ None)
+
+-- ---- a claim
+
+-- A claim gives `/controller_epoch` the data version that its driver takes as its claim.
+abbrev pub ClaimGivesVersion : Type 0
+ClaimGivesVersion = (t new : Tree) (seen : ClaimSeen) (d : Driver) (now : ℤ) → ((r : Row) → seen.epoch ≡ Some r → pos 0 ≤ℤ r.version) → multi t (claim_ops seen d now) ≡ Ok new
+    → claim_version new ≡ Some (claimed_version seen.epoch)
+
+-- And `/controller` shows the driver's epoch.
+abbrev pub ClaimShowsEpoch : Type 0
+ClaimShowsEpoch = (t new : Tree) (seen : ClaimSeen) (d : Driver) (now : ℤ) → IsLong d.id → IsEpoch (epoch_or_zero d.epoch) → IsLong now → multi t (claim_ops seen d now) ≡ Ok new
+    → shown_in new ≡ Some (epoch_or_zero d.epoch)
+
+-- What is recorded and the migrated area stay, and a tree that is closed then was closed before.
+pub record Left (t new : Tree) : Type 0 where
+  pub recorded : recorded new ≡ recorded t
+  pub area : area new ≡ area t
+  pub closed : unclosed new ≡ None → unclosed t ≡ None
+
+-- A claim of a driver that knows a migrated log leaves the area and what is recorded.
+abbrev pub ClaimLeavesArea : Type 0
+ClaimLeavesArea = (t new : Tree) (seen : ClaimSeen) (d : Driver) (now : ℤ) → TreeShape t → views_migrated d ≡ true → multi t (claim_ops seen d now) ≡ Ok new → Left t new
+
+-- Every other claim records that there is no offset yet.
+abbrev pub ClaimRecordsNone : Type 0
+ClaimRecordsNone = (t new : Tree) (seen : ClaimSeen) (d : Driver) (now : ℤ) → views_migrated d ≡ false → multi t (claim_ops seen d now) ≡ Ok new → recorded new ≡ recorded_of (written_recorded (unrecorded d))

@@ -1,0 +1,48 @@
+//! Laws of trees of znodes and of logs: what a multi makes of the migrated area, and what an append leaves of a log.
+//!
+//! A law is the contract of a function that does nothing.
+#![tactic(auto)]
+
+ghost use Rattle.kz_laws_trees.specs.TreeLaws.{MultiKeepsShape, OutsideLeavesArea, WriteAppliesEdits, WriteLeavesRest, WriteKeepsClaim, WriteKeepsShown, LastWriteCompletes, EarlierWriteUnclosed, ClaimGivesVersion, ClaimShowsEpoch, ClaimLeavesArea, ClaimRecordsNone};
+ghost use Rattle.kz_laws_trees.specs.LogLaws.{BatchLeavesImages, BatchLeavesEnds, BatchMovesEnd, BatchKeepsShape, AppendKeepsShape, EndIsLastBatchEnd};
+
+/// A multi that isn't refused gives the tree the next zxid and keeps its shape; outside of the migrated area it leaves the
+/// area.
+pub fn multi_keeps()
+    ensures shape { MultiKeepsShape }
+    ensures area { OutsideLeavesArea }
+{}
+
+/// A write applies the next operations, at most 64, of those that lead from the migrated area to the rendering, and leaves
+/// the others and the claim; an earlier write leaves the tree unclosed, and the last one completes the area and closes it.
+pub fn write_leads()
+    ensures applies { WriteAppliesEdits }
+    ensures leaves { WriteLeavesRest }
+    ensures claim { WriteKeepsClaim }
+    ensures shown { WriteKeepsShown }
+    ensures earlier { EarlierWriteUnclosed }
+    ensures last { LastWriteCompletes }
+{}
+
+/// After a claim `/controller_epoch` has the data version that its driver takes as its claim, and `/controller` shows its
+/// epoch. Where the driver knows a migrated log, the migrated area and what is recorded stay; else nothing is recorded yet.
+pub fn claim_leads()
+    ensures version { ClaimGivesVersion }
+    ensures shown { ClaimShowsEpoch }
+    ensures area { ClaimLeavesArea }
+    ensures none { ClaimRecordsNone }
+{}
+
+/// One batch more leaves the images and the batch ends of a log.
+pub fn batch_leaves()
+    ensures images { BatchLeavesImages }
+    ensures ends { BatchLeavesEnds }
+    ensures end { BatchMovesEnd }
+{}
+
+/// A log keeps its shape, and its end is the last batch end.
+pub fn log_keeps()
+    ensures batch { BatchKeepsShape }
+    ensures append { AppendKeepsShape }
+    ensures end { EndIsLastBatchEnd }
+{}

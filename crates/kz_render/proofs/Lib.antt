@@ -1,0 +1,2 @@
+pub mod BrokerPaths
+pub mod OrderedZnodes

@@ -1,0 +1,4 @@
+pub mod Outcomes
+pub mod Cut
+pub mod Runs
+pub mod Statuses

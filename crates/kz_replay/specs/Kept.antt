@@ -1,0 +1,15 @@
+-- What places and streams keep.
+use Rattle.std.specs.Prelude.{ℕ, ◌≤◌, ◌*◌, ◌^◌, length}
+use Rattle.kz_spec_lines.specs.Lines.{max_line, max_input}
+use Rattle.kz_replay.specs.Pending.{State}
+
+-- each event is a line, and takes fewer steps than a list can have items
+pub record IsCounted (lines events steps : ℕ) : Type 0 where
+  pub each_event : events ≤ lines
+  pub each_step : steps ≤ lines * 2 ^ 64
+
+-- a stream is within its limits, and each line ended at a byte
+pub record IsKept (s : State) : Type 0 where
+  pub line : length s.line ≤ max_line
+  pub taken : s.taken ≤ max_input
+  pub lines : s.place.lines ≤ s.taken

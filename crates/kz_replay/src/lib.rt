@@ -1,0 +1,9 @@
+//! The top call: reads a script, runs it, and writes the replies.
+#![tactic(auto)]
+
+mod closing;
+mod ending;
+mod machine;
+mod place;
+mod program;
+mod stream;

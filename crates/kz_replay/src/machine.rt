@@ -1,0 +1,34 @@
+//! What a run asks of the machine.
+ghost use Rattle.std.specs.Prelude.{◌≡◌, IfOk};
+ghost use Rattle.kz_spec_stores.specs.Log.{end_of};
+ghost use Rattle.kz_spec_machine.specs.Machine.{World as WorldValue, empty_world, next};
+ghost use Rattle.kz_spec_runs.specs.Output.{recorded_offset};
+
+use kz_types::{Answer, Event, NoMemory};
+use std::alloc::Global;
+
+/// A machine that has a world.
+pub trait Machine: Drop + Sized {
+    /// The world that it has.
+    ghost world: { Self → WorldValue };
+
+    /// A machine that has the empty world.
+    fn new(alloc: Global) -> Result<Self, NoMemory>
+        ensures { IfOk result (λ machine. world machine ≡ empty_world) };
+
+    /// Lets an event happen. Where memory runs out nothing is said of the world.
+    fn event(&mut self, event: Event) -> Result<Answer, NoMemory>
+        ensures { IfOk result (λ answer. next (world self.old) event ≡ (world self.new, answer)) };
+
+    /// The last transaction of the tree.
+    fn zxid(&self) -> i64
+        ensures { result ≡ (world self.now).shared.tree.zxid };
+
+    /// The last offset of the log.
+    fn end(&self) -> i64
+        ensures { result ≡ end_of (world self.now).shared.log };
+
+    /// The offset that the tree records.
+    fn recorded(&self) -> Result<Option<i64>, NoMemory>
+        ensures { IfOk result (λ offset. offset ≡ recorded_offset (world self.now).shared.tree) };
+}

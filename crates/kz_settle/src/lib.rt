@@ -1,0 +1,4 @@
+//! Which records of a log count, found in one pass.
+#![tactic(auto)]
+
+mod laws;

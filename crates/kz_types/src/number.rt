@@ -1,0 +1,51 @@
+//! Decimals.
+ghost use Rattle.std.specs.Prelude.{◌≡◌, ◌≤◌, IfSome};
+ghost use Rattle.kz_types.specs.Numbers.{canonical, digits_up_to, number_in};
+
+/// The greatest number of a canonical decimal.
+const GREATEST: u64 = 2147483647;
+
+/// The number that digits write, with or without zeros in front. `None` where a byte is no digit and where the number is
+/// above `most`.
+pub fn digits_up_to(text: &[u8], most: u64) -> Option<u64>
+    ensures value { result ≡ digits_up_to most text.now }
+    ensures bound { IfSome result (λ n. n ≤ most) }
+{
+    let mut number: u64 = 0;
+    for at in 0..text.len() {
+        let byte = text[at];
+        if byte < b'0' || b'9' < byte {
+            return None;
+        }
+        let next = number as u128 * 10 + (byte - b'0') as u128;
+        if next > most as u128 {
+            return None;
+        }
+        number = next as u64;
+    }
+    Some(number)
+}
+
+/// The number of 0 to 2147483647 whose decimal text this is: without a sign and without leading zeros.
+pub fn canonical(text: &[u8]) -> Option<u64>
+    ensures value { result ≡ canonical text.now }
+    ensures bound { IfSome result (λ n. n ≤ 2147483647) }
+{
+    if text.len() < 1 {
+        return None;
+    }
+    if 1 < text.len() && text[0] == b'0' {
+        return None;
+    }
+    digits_up_to(text, GREATEST)
+}
+
+/// The same, as a signed number.
+pub fn number_in(text: &[u8]) -> Option<i32>
+    ensures { result ≡ number_in text.now }
+{
+    match canonical(text) {
+        Some(number) => Some(number as i32),
+        None => None,
+    }
+}
