@@ -1,5 +1,5 @@
-use Rattle.std.proofs.Common.{◌≡◌, ℕ, Some, None, Option, option_map, pos, sym, ap, rules}
-use Rattle.kz_state.proofs.Canonical.{IsCanonical, canonical_is_not, is_text}
+use Rattle.std.proofs.Common.{ℕ, Option, option_map, pos, sym, ap, rules}
+use Rattle.kz_state.proofs.Canonical.{canonical_is_not, is_text}
 use Rattle.kz_state.proofs.decimals.canonical_number.Goals as goal
 
 pub returns-in-Err : goal.returns-in-Err

@@ -1,4 +1,4 @@
-use Rattle.std.proofs.Common.{◌≡◌, ◌≤◌, ℕ, List, Some, None, Option, option_map, pos, IsTrue, refl, sym, ap, ◌∙◌, subst, arith, rules, to_z, w32, true, false, ℤ}
+use Rattle.std.proofs.Common.{◌≡◌, ℕ, List, Some, None, Option, option_map, pos, IsTrue, sym, ap, ◌∙◌, subst, arith, rules, to_z, w32, true, false}
 use Rattle.std.proofs.lemmas.Int.{ints}
 use Rattle.kz_types.specs.Numbers.{canonical}
 use Rattle.kz_state.proofs.Canonical.{IsCanonical, IsShortest, canonical_is, canonical_is_not, canonical_parses, shortest_is, canonical_is_shortest, same_number}
