@@ -1,15 +1,17 @@
 -- What is owed of a driver after its answer, and how each way to go on gives it.
-use Rattle.std.proofs.Common.{◌≡◌, ◌≢◌, ℤ, pos, ◌≤ℤ◌, Bool, true, false, if◌then◌else◌, Option, Some, None, refl, sym, subst, arith}
+use Rattle.std.proofs.Common.{◌≡◌, ◌≢◌, ℤ, pos, ◌≤ℤ◌, Bool, true, false, if◌then◌else◌, Option, Some, None, option_map, refl, sym, subst, arith}
 use Rattle.std.specs.Ordering.{int_eq}
 use Rattle.std.proofs.lemmas.Int.{ints}
 use Rattle.kz_types.specs.declared.driver.Stage.{Stage}
 use Rattle.kz_types.specs.declared.machine.DriverState.TheVariants as state
+use Rattle.kz_types.specs.declared.machine.Recorded.{Recorded}
 use Rattle.kz_types.specs.declared.machine.Reply.{Reply}
 use Rattle.kz_types.specs.declared.machine.Reply.TheVariants as reply
-use Rattle.kz_spec_stores.specs.Tree.{Tree}
-use Rattle.kz_spec_stores.specs.Log.{Log, end_of}
+use Rattle.kz_spec_stores.specs.Tree.{Tree, recorded}
+use Rattle.kz_spec_stores.specs.Log.{Log, end_of, is_migrated_log}
 use Rattle.kz_spec_machine.specs.Driver.{Shared, Driver, state_of, at_stage, resigned, begins_again, epoch_or_zero, unless_finalised, having_read, target_of}
 use Rattle.kz_spec_machine.specs.Sound.{IsId, IsEpochOrNone, LogShape, Agreement, claim_version, IsCurrent, shown_in, Claims, Views, Epochs, Elected, Aims, AtStage, Fine}
+use Rattle.kz_spec_stores.specs.Image.{is_migrated_state}
 use Rattle.kz_spec_runs.specs.InStep.{InStep}
 use Rattle.kz_laws_machine.proofs.Agreements.{agreement_grown}
 use Rattle.kz_laws_trees.proofs.Growth.{Grows, view_read, view_grown}
@@ -29,6 +31,12 @@ base_of s d agreement fine = record { agreement = agreement; id = fine.id; epoch
 abbrev pub Current : Shared → Driver → Type 0
 Current s d = d.claim ≢ None → IsCurrent s.tree d.claim
 
+-- The tree is in step with the log, which is migrated, and its end is recorded.
+pub record AtRest (s : Shared) : Type 0 where
+  pub step : InStep s
+  pub migrated : is_migrated_log s.log ≡ true
+  pub offset : option_map (λ (r : Recorded). r.offset) (recorded s.tree) ≡ Some (end_of s.log)
+
 -- What is owed after a step of a driver of this id: the driver is fine, its claim is current, and where it rests the tree
 -- is in step with the log.
 pub record Owed (s : Shared) (id : ℤ) (result : Driver × Reply) : Type 0 where
@@ -36,7 +44,7 @@ pub record Owed (s : Shared) (id : ℤ) (result : Driver × Reply) : Type 0 wher
   pub own : Fine s result.0
   pub current : Current s result.0
   pub same : result.0.id ≡ id
-  pub rest : result.1 ≡ reply.Idle → state_of result.0.stage ≡ state.DualWrite → InStep s
+  pub rest : result.1 ≡ reply.Idle → state_of result.0.stage ≡ state.DualWrite → AtRest s
 
 -- ---- ways to go on
 
@@ -113,8 +121,9 @@ either_epoch true x y a b = a
 either_epoch false x y a b = b
 
 -- what it will record then
-pub aims : (s : Shared) (d : Driver) → LogShape s.log → Base s d → d.epoch ≢ None → d.view.position ≡ end_of s.log → Aims (target_of d) d.id d.epoch d.view
-aims s d shape base elected at_end = record {
+pub aims : (s : Shared) (d : Driver) → LogShape s.log → Base s d → d.epoch ≢ None → d.view.position ≡ end_of s.log → is_migrated_state d.view.image.state ≡ true → Aims (target_of d) d.id d.epoch d.view
+aims s d shape base elected at_end migrated = record {
+  migrated = migrated;
   id = refl;
   controller_epoch = own_epoch d.epoch elected;
   offset = refl;

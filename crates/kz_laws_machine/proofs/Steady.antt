@@ -1,4 +1,12 @@
 -- The tree in step with the log after each turn that comes to rest.
+use Rattle.kz_spec_machine.specs.Verdicts.{verdict}
+use Rattle.kz_spec_stores.specs.Log.{end_of}
+use Rattle.kz_spec_stores.specs.Tree.{recorded}
+use Rattle.kz_types.specs.declared.machine.Verdict.TheVariants.{Closed}
+use Rattle.kz_types.specs.declared.machine.Verdict.{Verdict}
+use Rattle.kz_types.specs.declared.machine.Recorded.{Recorded}
+use Rattle.kz_laws_machine.proofs.Told.{closed_told}
+use Rattle.kz_laws_machine.proofs.Groups.{AtRest}
 use Rattle.std.proofs.Common.{◌≡◌, ◌≢◌, ℤ, Bool, true, false, if◌then◌else◌, cond, List, [], ◌∷◌, ◌++◌, Option, Some, None, option_map, All, refl, sym, ap, ◌∙◌, subst}
 use Rattle.std.specs.Ordering.{int_eq}
 use Rattle.std.proofs.lemmas.Bool.Decides.{Decides-int_eq}
@@ -12,11 +20,16 @@ use Rattle.kz_types.specs.declared.machine.Reply.{Reply}
 use Rattle.kz_types.specs.declared.machine.Reply.TheVariants as reply
 use Rattle.kz_spec_machine.specs.Driver.{Shared, Driver, state_of, is_one_of}
 use Rattle.kz_spec_machine.specs.Machine.{World, empty_world, running_ids, is_running, driver_of, with_driver, turn, work, first_of, unless, running_refusal, turn_result, unless_refused, next, after_events}
-use Rattle.kz_spec_machine.specs.Sound.{IsTime, IsLawful, Sound, Alone, AtMostOne, Each, Fine, IsCurrent}
-use Rattle.kz_spec_runs.specs.InStep.{InStep, last_reply, StaysInStep}
+use Rattle.kz_spec_machine.specs.Sound.{IsTime, IsLawful, Sound, Alone, AtMostOne, Each, Fine, IsCurrent, Kept}
+use Rattle.kz_spec_runs.specs.InStep.{last_reply, StaysInStep, ComesToRest}
 use Rattle.kz_laws_machine.proofs.Worlds.{OneOf, Lone, driver_is, own_of, placed, turn_of, next_kept, empty_lone}
 
 -- ---- one turn
+
+-- what is true when a turn has come to rest
+record RestKept (s : Shared) : Type 0 where
+  kept : Kept s
+  rest : AtRest s
 
 no_turn : (a b : Bool) (x : Answer) (replies : List Reply) → first_of (unless a answer.UnknownController) (unless b answer.NotRunning) ≡ Some x → x ≡ answer.Turn replies → ⊥
 no_turn true true x replies is turn = absurd (cc)
@@ -39,7 +52,7 @@ in_state s (x ∷ []) id d e one is same dual =
 in_state s (x ∷ y ∷ ds) id d e one is same dual = absurd one
 
 turn_rests : (w : World) (id now : ℤ) (new : World) (replies : List Reply) (m : Option Driver) → IsTime now → Lone w → driver_of id w.drivers ≡ m → turn_result w now m ≡ (new, answer.Turn replies)
-    → last_reply replies ≡ Some reply.Idle → option_map (λ (x : Driver). state_of x.stage) (driver_of id new.drivers) ≡ Some state.DualWrite → InStep new.shared
+    → last_reply replies ≡ Some reply.Idle → option_map (λ (x : Driver). state_of x.stage) (driver_of id new.drivers) ≡ Some state.DualWrite → RestKept new.shared
 turn_rests w id now new replies None time lone is made idle dual = absurd (let other : answer.NotRunning ≡ answer.Turn replies = ap (λ (x : World × Answer). x.1) made in cc)
 turn_rests w id now new replies (Some d) time lone is made idle dual =
     let t = turn (work w.shared d) w.shared (running_ids w.drivers) now d in
@@ -48,17 +61,20 @@ turn_rests w id now new replies (Some d) time lone is made idle dual =
     let told : answer.Turn t.replies ≡ answer.Turn replies = ap (λ (x : World × Answer). x.1) made in
     let same : t.replies ≡ replies = cc in
     let drivers : with_driver t.driver w.drivers ≡ new.drivers = ap (λ (x : World). x.drivers) world in
-    subst (λ (x : World). InStep x.shared) world (k.rest (ap last_reply same ∙ idle)
-    (in_state w.shared w.drivers id d t.driver lone.one is k.same (ap (λ ds. option_map (λ (x : Driver). state_of x.stage) (driver_of id ds)) drivers ∙ dual)))
+    subst (λ (x : World). RestKept x.shared) world (record {
+      kept = k.kept;
+      rest = k.rest (ap last_reply same ∙ idle)
+          (in_state w.shared w.drivers id d t.driver lone.one is k.same (ap (λ ds. option_map (λ (x : Driver). state_of x.stage) (driver_of id ds)) drivers ∙ dual));
+    })
 
 by_refusal : (w : World) (id now : ℤ) (new : World) (replies : List Reply) (m : Option Answer) → IsTime now → Lone w → running_refusal w id ≡ m → unless_refused w m (turn_result w now (driver_of id w.drivers)) ≡ (new, answer.Turn replies)
-    → last_reply replies ≡ Some reply.Idle → option_map (λ (x : Driver). state_of x.stage) (driver_of id new.drivers) ≡ Some state.DualWrite → InStep new.shared
+    → last_reply replies ≡ Some reply.Idle → option_map (λ (x : Driver). state_of x.stage) (driver_of id new.drivers) ≡ Some state.DualWrite → RestKept new.shared
 by_refusal w id now new replies (Some a) time lone is made idle dual =
     absurd (no_turn (is_one_of w.shared.declared id) (is_running id w.drivers) a replies is (ap (λ (x : World × Answer). x.1) made))
 by_refusal w id now new replies None time lone is made idle dual = turn_rests w id now new replies (driver_of id w.drivers) time lone refl made idle dual
 
 rests_in_step : (w : World) (id now : ℤ) (new : World) (replies : List Reply) → IsTime now → Lone w → next w (event.Turn id now) ≡ (new, answer.Turn replies)
-    → last_reply replies ≡ Some reply.Idle → option_map (λ (x : Driver). state_of x.stage) (driver_of id new.drivers) ≡ Some state.DualWrite → InStep new.shared
+    → last_reply replies ≡ Some reply.Idle → option_map (λ (x : Driver). state_of x.stage) (driver_of id new.drivers) ≡ Some state.DualWrite → RestKept new.shared
 unfolding next
 rests_in_step w id now new replies time lone made idle dual = by_refusal w id now new replies (running_refusal w id) time lone refl made idle dual
 
@@ -77,12 +93,35 @@ lawful_behind : (before rest : List Event) → All IsLawful (before ++ rest) →
 lawful_behind [] rest all = all
 lawful_behind (e ∷ es) rest all = lawful_behind es rest (All-tail IsLawful e (es ++ rest) all)
 
-pub stays_in_step : (es : List Event) → All IsLawful es → StaysInStep es
-stays_in_step es lawful before after id now new replies is rest =
+-- a turn among lawful events that comes to rest
+rest_of : (es : List Event) → All IsLawful es → (before after : List Event) (id now : ℤ) (new : World) (replies : List Reply) → es ≡ before ++ event.Turn id now ∷ after → ComesToRest (after_events empty_world before) new id now replies → RestKept new.shared
+rest_of es lawful before after id now new replies is rest =
     let all = subst (All IsLawful) is lawful in
     rests_in_step (after_events empty_world before) id now new replies (All-head IsLawful (event.Turn id now) after (lawful_behind before (event.Turn id now ∷ after) all)).1
     (after_kept before empty_world (lawful_before before (event.Turn id now ∷ after) all) empty_lone)
     rest.turned rest.idle rest.dual
+
+pub stays_in_step : (es : List Event) → All IsLawful es → StaysInStep es
+stays_in_step es lawful before after id now new replies is rest = (rest_of es lawful before after id now new replies is rest).rest.step
+
+-- ---- a check then
+
+recorded_end : (m : Option Recorded) (end : ℤ) → option_map (λ (r : Recorded). r.offset) m ≡ Some end → (r : Recorded) × (m ≡ Some r) × (r.offset ≡ end)
+recorded_end None end is = absurd (cc)
+recorded_end (Some r) end is = (r, refl, cc)
+
+told_by : (s : Shared) → RestKept s → verdict s.tree s.log ≡ Closed (end_of s.log)
+told_by s k =
+    let r = recorded_end (recorded s.tree) (end_of s.log) k.rest.offset in
+    closed_told s r.0 k.kept k.rest.migrated r.1 k.rest.step.closed ∙ ap (λ (o : ℤ). Closed o) r.2
+
+check_answers : (w : World) (v : Verdict) → verdict w.shared.tree w.shared.log ≡ v → (next w event.Check).1 ≡ answer.Check v
+unfolding next
+check_answers w v is = ap (λ (x : Verdict). answer.Check x) is
+
+pub rest_is_told : (es : List Event) → All IsLawful es → (before after : List Event) (id now : ℤ) (new : World) (replies : List Reply) → es ≡ before ++ event.Turn id now ∷ after → ComesToRest (after_events empty_world before) new id now replies
+    → (next new event.Check).1 ≡ answer.Check (Closed (end_of new.shared.log))
+rest_is_told es lawful before after id now new replies is rest = check_answers new (Closed (end_of new.shared.log)) (told_by new.shared (rest_of es lawful before after id now new replies is rest))
 
 -- ---- what is true of every world
 

@@ -1,11 +1,13 @@
 -- A step of a driver, by its stage: what is kept of the tree and the log, and what is owed of the driver.
-use Rattle.std.proofs.Common.{◌≡◌, ◌≢◌, nat_lt, ℤ, pos, ◌≤ℤ◌, int_le, int_lt, Bool, true, false, not, ◌&&◌, if◌then◌else◌, List, [], ◌∷◌, ◌++◌, length, take, drop, map, filter, Option, Some, None, option_map, refl, sym, ap, ◌∙◌, subst, arith}
+use Rattle.kz_laws_trees.proofs.Translated.{translated_are_configs}
+use Rattle.kz_laws_trees.specs.LogLaws.{IsPlain}
+use Rattle.std.proofs.Common.{◌≡◌, ◌≢◌, nat_lt, ℤ, pos, ◌≤ℤ◌, int_le, int_lt, Bool, true, false, not, ◌&&◌, if◌then◌else◌, List, [], ◌∷◌, ◌++◌, length, take, drop, map, filter, Option, Some, None, option_map, refl, sym, ap, ◌∙◌, subst, arith, All}
 use Rattle.std.specs.Prelude.{Result, Ok, Err, ⊤}
 use Rattle.std.specs.Ordering.{int_eq}
 use Rattle.std.specs.Result.{result_ok}
 use Rattle.std.proofs.lemmas.Bool.Decides.{Decides-int_eq}
 use Rattle.std.proofs.lemmas.Int.{ints}
-use Rattle.std.proofs.lemmas.List.Elements.{All-contains}
+use Rattle.std.proofs.lemmas.List.Elements.{All-nil, All-cons, All-take, All-drop, All-weaker, All-contains}
 use Rattle.kz_types.specs.declared.tree.Row.{Row}
 use Rattle.kz_types.specs.declared.tree.Op.{Op}
 use Rattle.kz_types.specs.declared.driver.ClaimSeen.{ClaimSeen}
@@ -22,6 +24,7 @@ use Rattle.kz_types.specs.declared.fault.LogFault.{LogFault}
 use Rattle.kz_types.specs.declared.fault.LogFault.TheVariants as log_fault
 use Rattle.kz_types.specs.declared.fault.ReadWhy.TheVariants as why
 use Rattle.kz_types.specs.declared.record.MetaRecord.{MetaRecord}
+use Rattle.kz_types.specs.declared.record.MetaRecord.TheVariants as meta
 use Rattle.kz_types.specs.Paths.{is_migrated}
 use Rattle.kz_ordered.specs.Order.{bytes_cmp}
 use Rattle.kz_ordered.specs.Ordered.{Rises}
@@ -30,19 +33,19 @@ use Rattle.kz_ordered.proofs.Maps.{Rises-filter}
 use Rattle.kz_ordered.proofs.Lookup.{found_is_contained}
 use Rattle.kz_spec_values.specs.Control.{epoch_path, migration_path, read_epoch, recorded_of, written_recorded}
 use Rattle.kz_spec_stores.specs.Tree.{Tree, row_at, path_of_row, multi, migrated_rows, is_after, scan, broker_ids, area, has_offset, rendered_row, max_version, max_long}
-use Rattle.kz_spec_stores.specs.Log.{Log, append, end_of, image_at, image_of}
+use Rattle.kz_spec_stores.specs.Log.{Log, append, end_of, image_at, image_of, with_batch, is_migrated_log}
 use Rattle.kz_spec_stores.specs.Rendering.{render}
 use Rattle.kz_spec_stores.specs.Translation.{Unreadable, translate}
 use Rattle.kz_spec_stores.specs.Difference.{diff, chunk, max_chunk}
-use Rattle.kz_spec_machine.specs.Driver.{Shared, Driver, state_of, at_stage, resigned, begins_again, epoch_or_zero, views_migrated, seen_in, shown_by, unless_fenced, unless_full_epoch, unless_bad_epoch, unless_full_record, looked, claimed_version, claim_ops, remaining_at, is_last_write, write_ops, target_of, page_size, last_path, Request, nothing, read_log, list_brokers, look_up, read_page, write, add, begin_record, begin_request, next_records, write_request, asked, with_tree, with_log, made, missing_controller, missing_broker, having_read, wait_or_move, after_quorum, after_brokers, path_at, after_claim, after_append, after_translation, after_records, written_driver, is_claim_refused, after_write, writes, is_recorded_at, answered}
-use Rattle.kz_spec_machine.specs.Sound.{IsId, IsEpochOrNone, IsStamped, TreeShape, LogShape, IsBatchEnd, Kept, IsTime, claim_version, IsCurrent, shown_in, Claimed, Epochs, Elected, Aims, Reads, Writes, Rests, AtStage}
+use Rattle.kz_spec_machine.specs.Driver.{Shared, Driver, state_of, at_stage, resigned, begins_again, epoch_or_zero, views_migrated, seen_in, shown_by, unless_fenced, unless_full_epoch, unless_bad_epoch, unless_full_record, looked, claimed_version, claim_ops, remaining_at, is_last_write, write_ops, target_of, page_size, last_path, Request, nothing, read_log, list_brokers, look_up, read_page, write, add, begin_record, begin_request, next_records, write_request, asked, with_tree, with_log, made, missing_controller, missing_broker, having_read, wait_or_move, after_quorum, after_brokers, path_at, after_claim, after_append, after_translation, after_records, written_driver, is_claim_refused, after_write, writes, is_recorded_at, answered, batch_size}
+use Rattle.kz_spec_machine.specs.Sound.{IsId, IsEpochOrNone, IsStamped, TreeShape, LogShape, IsBatchEnd, Kept, IsTime, claim_version, IsCurrent, shown_in, Claimed, Epochs, Elected, Aims, Reads, Writes, Rests, AtStage, IsConfig}
 use Rattle.kz_laws_values.proofs.Control.{recorded_is_read}
 use Rattle.kz_laws_trees.proofs.Multi.{multi_ran, shape_kept, write_keeps_version, last_write, remaining_after_write}
 use Rattle.kz_laws_trees.specs.TreeLaws.{Completed}
 use Rattle.kz_laws_trees.proofs.Pages.{behind_last, short_page, one_page_more}
 use Rattle.kz_laws_trees.proofs.Ends.{end_most}
 use Rattle.kz_laws_trees.proofs.Claim.{claim_gives_version, claim_shows, write_keeps_shown}
-use Rattle.kz_laws_trees.proofs.Growth.{append_appends, view_within}
+use Rattle.kz_laws_trees.proofs.Growth.{append_appends, view_within, append_grows, StaysMigrated, plain_stays, commit_is_migrated}
 use Rattle.kz_laws_machine.proofs.Agreements.{rest_area, agreement_last, agreement_more, agreement_claim}
 use Rattle.kz_laws_machine.proofs.Groups.{Base, Current, Owed, moves, stays, resigns, again, chosen, finalised, base_read, zero_or, own_epoch, aims, base_grown, base_written}
 
@@ -138,10 +141,10 @@ looks s d kept is base current elected =
 
 -- ---- the claim
 
-after_claim_stage : (b : Bool) (l : Log) (t : Tree) (d : Driver) → d.epoch ≢ None
+after_claim_stage : (b : Bool) (l : Log) (t : Tree) (d : Driver) → (b ≡ true → is_migrated_log l ≡ true) → d.epoch ≢ None
     → Elected d.epoch (if b then stage.ReadLog else stage.ReadSource []) × AtStage t l d (if b then stage.ReadLog else stage.ReadSource [])
-after_claim_stage true l t d elected = (elected, tt)
-after_claim_stage false l t d elected = (elected, tt)
+after_claim_stage true l t d migrated elected = (elected, migrated refl)
+after_claim_stage false l t d migrated elected = (elected, tt)
 
 version_least : (seen : Option Row) → ((x : Row) → seen ≡ Some x → pos 0 ≤ℤ x.version) → pos 0 ≤ℤ claimed_version seen
 version_least None low = omega (arith, ints)
@@ -166,7 +169,7 @@ claims : (s : Shared) (d : Driver) (seen : ClaimSeen) (now : ℤ) (r : Result Tr
     → ((x : Row) → seen.epoch ≡ Some x → pos 0 ≤ℤ x.version) → Owed (with_tree s r) d.id (after_claim seen d (claim_ops seen d now) r)
 claims s d seen now (Ok t) made-is time is shape base current elected low =
     let e : Driver = record d { claim = Some (claimed_version seen.epoch); stage = if views_migrated d then stage.ReadLog else stage.ReadSource [] } in
-    let both = after_claim_stage (views_migrated d) s.log t e elected in
+    let both = after_claim_stage (views_migrated d) s.log t e base.views.migrated elected in
     let version = claim_gives_version s.tree t seen d now low made-is in
     record {
       agreement = agreement_claim s.tree t s.log seen d now shape base.id (zero_or s.log d.epoch base.epochs) base.agreement made-is;
@@ -191,26 +194,57 @@ paged s d false x y r first second = second
 -- ---- appends
 
 appends : (s : Shared) (d : Driver) (now : ℤ) (items : List MetaRecord) (x next : Stage) (r : Result Log LogFault) → append s.log (epoch_or_zero d.epoch) now items ≡ r → d.stage ≡ x → Kept s → Base s d → Current s d
-    → Elected d.epoch x → AtStage s.tree s.log d x → Elected d.epoch next → ((l : Log) → AtStage s.tree l (at_stage next d) next) → Owed (with_log s r) d.id (after_append next d r)
-appends s d now items x next (Ok l) made-is is kept base current elected at elected-next at-next =
-    let grows = (append_appends s.log (epoch_or_zero d.epoch) now items l made-is kept.log).grows in
-    moves (record s { log = l }) d next (reply.Appended (end_of l)) (base_grown s l d kept.log grows base) current elected-next (at-next l) (λ e. cc)
-appends s d now items x next (Err (log_fault.Stale epoch)) made-is is kept base current elected at elected-next at-next = resigns s d (reply.Stale epoch) base (λ e. cc)
-appends s d now items x next (Err log_fault.Failed) made-is is kept base current elected at elected-next at-next = stays s d x (reply.LogFailed log_fault.Failed) is base current elected at (λ e. cc)
-appends s d now items x next (Err (log_fault.Limit number)) made-is is kept base current elected at elected-next at-next = stays s d x (reply.LogFailed (log_fault.Limit number)) is base current elected at (λ e. cc)
-appends s d now items x next (Err log_fault.NoMemory) made-is is kept base current elected at elected-next at-next = stays s d x (reply.LogFailed log_fault.NoMemory) is base current elected at (λ e. cc)
-appends s d now items x next (Err log_fault.Down) made-is is kept base current elected at elected-next at-next = stays s d x (reply.LogFailed log_fault.Down) is base current elected at (λ e. cc)
-appends s d now items x next (Err (log_fault.Full length)) made-is is kept base current elected at elected-next at-next = stays s d x (reply.LogFailed (log_fault.Full length)) is base current elected at (λ e. cc)
+    → Elected d.epoch x → AtStage s.tree s.log d x → Elected d.epoch next → StaysMigrated s.log (epoch_or_zero d.epoch) now items → ((l : Log) → with_batch s.log (epoch_or_zero d.epoch) now items ≡ l → AtStage s.tree l (at_stage next d) next) → Owed (with_log s r) d.id (after_append next d r)
+appends s d now items x next (Ok l) made-is is kept base current elected at elected-next stays-so at-next =
+    let a = append_appends s.log (epoch_or_zero d.epoch) now items l made-is kept.log in
+    let grows = append_grows s.log (epoch_or_zero d.epoch) now items l a stays-so in
+    moves (record s { log = l }) d next (reply.Appended (end_of l)) (base_grown s l d kept.log grows base) current elected-next (at-next l a.made) (λ e. cc)
+appends s d now items x next (Err (log_fault.Stale epoch)) made-is is kept base current elected at elected-next stays-so at-next = resigns s d (reply.Stale epoch) base (λ e. cc)
+appends s d now items x next (Err log_fault.Failed) made-is is kept base current elected at elected-next stays-so at-next = stays s d x (reply.LogFailed log_fault.Failed) is base current elected at (λ e. cc)
+appends s d now items x next (Err (log_fault.Limit number)) made-is is kept base current elected at elected-next stays-so at-next = stays s d x (reply.LogFailed (log_fault.Limit number)) is base current elected at (λ e. cc)
+appends s d now items x next (Err log_fault.NoMemory) made-is is kept base current elected at elected-next stays-so at-next = stays s d x (reply.LogFailed log_fault.NoMemory) is base current elected at (λ e. cc)
+appends s d now items x next (Err log_fault.Down) made-is is kept base current elected at elected-next stays-so at-next = stays s d x (reply.LogFailed log_fault.Down) is base current elected at (λ e. cc)
+appends s d now items x next (Err (log_fault.Full length)) made-is is kept base current elected at elected-next stays-so at-next = stays s d x (reply.LogFailed (log_fault.Full length)) is base current elected at (λ e. cc)
 
-begins : (s : Shared) (now : ℤ) (d : Driver) (rows : List Row) (r : Result (List MetaRecord) Unreadable) → d.stage ≡ stage.Begin rows → Kept s → Base s d → Current s d → d.epoch ≢ None
+begins : (s : Shared) (now : ℤ) (d : Driver) (rows : List Row) (r : Result (List MetaRecord) Unreadable) → translate rows ≡ r → d.stage ≡ stage.Begin rows → Kept s → Base s d → Current s d → d.epoch ≢ None
     → Owed (made s (epoch_or_zero d.epoch) now (begin_request r)) d.id (after_translation s now d r)
-begins s now d rows (Err e) is kept base current elected = moves s d (stage.ReadSource []) (reply.Untranslatable e.path e.why) base current elected tt (λ i. cc)
-begins s now d rows (Ok records) is kept base current elected =
-    appends s d now (begin_record ∷ []) (stage.Begin rows) (stage.Fill records) (append s.log (epoch_or_zero d.epoch) now (begin_record ∷ [])) refl is kept base current elected tt elected (λ l. tt)
+begins s now d rows (Err e) translated is kept base current elected = moves s d (stage.ReadSource []) (reply.Untranslatable e.path e.why) base current elected tt (λ i. cc)
+begins s now d rows (Ok records) translated is kept base current elected =
+    appends s d now (begin_record ∷ []) (stage.Begin rows) (stage.Fill records) (append s.log (epoch_or_zero d.epoch) now (begin_record ∷ [])) refl is kept base current elected tt elected
+    (plain_stays s.log (epoch_or_zero d.epoch) now (begin_record ∷ []) kept.log (All-cons IsPlain begin_record [] tt (All-nil IsPlain))) (λ l made-is. translated_are_configs rows records translated)
 
-after_records_stage : (records : List MetaRecord) (t : Tree) (d : Driver) → d.epoch ≢ None → Elected d.epoch (after_records records) × ((l : Log) → AtStage t l (at_stage (after_records records) d) (after_records records))
-after_records_stage [] t d elected = (elected, λ l. tt)
-after_records_stage (r ∷ rs) t d elected = (elected, λ l. tt)
+config_plain : (r : MetaRecord) → IsConfig r → IsPlain r
+config_plain (meta.RegisterBroker b) is = absurd is
+config_plain (meta.Topic t) is = absurd is
+config_plain (meta.Partition p) is = absurd is
+config_plain (meta.Config c) is = tt
+config_plain (meta.PartitionChange p) is = absurd is
+config_plain (meta.RemoveTopic id) is = absurd is
+config_plain (meta.UserScramCredential r) is = absurd is
+config_plain (meta.ClientQuota r) is = absurd is
+config_plain (meta.ProducerIds r) is = absurd is
+config_plain (meta.AccessControlEntry r) is = absurd is
+config_plain (meta.RemoveAccessControlEntry id) is = absurd is
+config_plain meta.NoOp is = tt
+config_plain (meta.ZkMigrationState s) is = absurd is
+config_plain (meta.RemoveUserScramCredential name mechanism) is = absurd is
+config_plain (meta.BeginTransaction name) is = tt
+config_plain meta.EndTransaction is = absurd is
+config_plain (meta.AbortTransaction reason) is = tt
+
+-- a migrated log stays so with the records of the migration, and the last of them make it so
+fill_stays : (l : Log) (epoch now : ℤ) (records : List MetaRecord) → LogShape l → All IsConfig records → StaysMigrated l epoch now (next_records records)
+fill_stays l epoch now [] shape all is = commit_is_migrated l epoch now shape
+fill_stays l epoch now (r ∷ rs) shape all is =
+    plain_stays l epoch now (take batch_size (r ∷ rs)) shape (All-take IsPlain batch_size (r ∷ rs) (All-weaker IsConfig IsPlain config_plain (r ∷ rs) all)) is
+
+after_records_elected : (records : List MetaRecord) (e : Option ℤ) → e ≢ None → Elected e (after_records records)
+after_records_elected [] e elected = elected
+after_records_elected (r ∷ rs) e elected = elected
+
+after_records_at : (records : List MetaRecord) (t : Tree) (l more : Log) (epoch now : ℤ) (d : Driver) → LogShape l → All IsConfig records → with_batch l epoch now (next_records records) ≡ more → AtStage t more (at_stage (after_records records) d) (after_records records)
+after_records_at [] t l more epoch now d shape all made-is = subst (λ (x : Log). is_migrated_log x ≡ true) made-is (commit_is_migrated l epoch now shape)
+after_records_at (r ∷ rs) t l more epoch now d shape all made-is = All-drop IsConfig batch_size (r ∷ rs) all
 
 -- ---- writes
 
@@ -275,6 +309,7 @@ rests_there s d t target kept base aim done-all =
       closed = done-all.closed (ap has_offset read ∙ not_below target.offset aim.not_negative);
       same = ap (option_map (λ (r : Recorded). r.offset)) (done-all.recorded ∙ read);
       view = ap (λ (o : ℤ). Some o) aim.offset;
+      migrated = aim.migrated;
     }
 
 written_by : (s : Shared) (d : Driver) (claim : ℤ) (target : Recorded) (x : Stage) (more : List Op → Stage) (last : Stage) (t : Tree) → WritesFrom target x more last
@@ -354,7 +389,7 @@ goes_on_resting s d is kept base current elected at up_to_date =
     let image : area s.tree ≡ render (image_at s.log (end_of s.log)) = rest_area s.tree s.log d.view d.recorded base.agreement old ∙ ap (λ (o : ℤ). render (image_at s.log o)) position in
     let e : Driver = having_read s.log d in
     let base-now = base_read s d kept.log base in
-    let resting : AtStage s.tree s.log e stage.Rest = (at.0, λ c. record { closed = old.closed; same = old.same; view = now }) in
+    let resting : AtStage s.tree s.log e stage.Rest = (at.0, λ c. record { closed = old.closed; same = old.same; view = now; migrated = base.views.migrated old.migrated }) in
     record {
       agreement = base.agreement;
       own = record {
@@ -367,7 +402,7 @@ goes_on_resting s d is kept base current elected at up_to_date =
       };
       current = current;
       same = refl;
-      rest = λ idle dual. record { closed = old.closed; same = image };
+      rest = λ idle dual. record { step = record { closed = old.closed; same = image }; migrated = base.views.migrated old.migrated; offset = old.same ∙ now };
     }
 
 -- what a driver at rest holds when it begins to write: the tree is as it was at the end of its old view
@@ -433,15 +468,16 @@ owed s running now d (stage.ReadSource rows) time is kept base current elected a
     paged s d (nat_lt (length page) page_size) (stage.Begin (rows ++ page)) (stage.ReadSource (rows ++ page)) (reply.Read (length page))
     (moves s d (stage.Begin (rows ++ page)) (reply.Read (length page)) base current elected tt (λ i. cc))
     (moves s d (stage.ReadSource (rows ++ page)) (reply.Read (length page)) base current elected tt (λ i. cc))
-owed s running now d (stage.Begin rows) time is kept base current elected at = begins s now d rows (translate rows) is kept base current elected
+owed s running now d (stage.Begin rows) time is kept base current elected at = begins s now d rows (translate rows) refl is kept base current elected
 owed s running now d (stage.Fill records) time is kept base current elected at =
-    let both = after_records_stage records s.tree d elected in
-    appends s d now (next_records records) (stage.Fill records) (after_records records) (append s.log (epoch_or_zero d.epoch) now (next_records records)) refl is kept base current elected at both.0 both.1
+    appends s d now (next_records records) (stage.Fill records) (after_records records) (append s.log (epoch_or_zero d.epoch) now (next_records records)) refl is kept base current elected at
+    (after_records_elected records d.epoch elected) (fill_stays s.log (epoch_or_zero d.epoch) now records kept.log at)
+    (λ l made-is. after_records_at records s.tree s.log l (epoch_or_zero d.epoch) now d kept.log at made-is)
 owed s running now d stage.ReadLog time is kept base current elected at =
     let e : Driver = having_read s.log d in
     let base-now = base_read s d kept.log base in
     finalised s e (at_stage (stage.ReadArea (target_of e) []) e, reply.Looked) base-now
-    (moves s e (stage.ReadArea (target_of e) []) reply.Looked base-now current elected (aims s e kept.log base-now elected refl, λ c. record { rest = migrated_rows s.tree; whole = refl }) (λ i. cc))
+    (moves s e (stage.ReadArea (target_of e) []) reply.Looked base-now current elected (aims s e kept.log base-now elected refl at, λ c. record { rest = migrated_rows s.tree; whole = refl }) (λ i. cc))
 owed s running now d (stage.ReadArea target rows) time is kept base current elected at =
     let page = scan s.tree (last_path rows) page_size in
     let last = stage.WriteAll target (diff (map rendered_row (rows ++ page)) (render d.view.image)) in
@@ -458,6 +494,6 @@ owed s running now d stage.Rest time is kept base current elected at =
     finalised s e (if is_recorded_at e.recorded e.view.position then (e, reply.Idle) else (at_stage (stage.WriteChange (target_of e) ops) e, reply.Looked)) base-now
     (chosen s d.id (is_recorded_at e.recorded e.view.position) (e, reply.Idle) (at_stage (stage.WriteChange (target_of e) ops) e, reply.Looked)
     (λ same. goes_on_resting s d is kept base current elected at same)
-    (λ new. moves s e (stage.WriteChange (target_of e) ops) reply.Looked base-now current elected (aims s e kept.log base-now elected refl, λ c. change_writes s d kept.log base at c) (λ i. cc)))
+    (λ new. moves s e (stage.WriteChange (target_of e) ops) reply.Looked base-now current elected (aims s e kept.log base-now elected refl (base.views.migrated (at.1 (current at.0)).migrated), λ c. change_writes s d kept.log base at c) (λ i. cc)))
 owed s running now d (stage.WriteChange target ops) time is kept base current elected at =
     writes_under s now d d.claim target (stage.WriteChange target ops) (λ rest. stage.WriteChange target rest) stage.Rest (change_from target ops) is refl kept base current elected at

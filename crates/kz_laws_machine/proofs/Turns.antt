@@ -6,8 +6,8 @@ use Rattle.kz_types.specs.declared.machine.Reply.TheVariants as reply
 use Rattle.kz_spec_machine.specs.Driver.{Shared, Driver, state_of, epoch_or_zero, asked, Stepped, step}
 use Rattle.kz_spec_machine.specs.Machine.{ends, Turned, with_reply, turn}
 use Rattle.kz_spec_machine.specs.Sound.{IsTime, Kept, Fine}
-use Rattle.kz_spec_runs.specs.InStep.{InStep, last_reply}
-use Rattle.kz_laws_machine.proofs.Groups.{base_of, Current, Owed}
+use Rattle.kz_spec_runs.specs.InStep.{last_reply}
+use Rattle.kz_laws_machine.proofs.Groups.{base_of, Current, Owed, AtRest}
 use Rattle.kz_laws_machine.proofs.Steps.{made_shaped, made_declared, owed}
 
 -- what is true after a step
@@ -34,7 +34,7 @@ pub record TurnKept (s : Shared) (id : ℤ) (t : Turned) : Type 0 where
   pub own : Fine t.shared t.driver
   pub current : Current t.shared t.driver
   pub same : t.driver.id ≡ id
-  pub rest : last_reply t.replies ≡ Some reply.Idle → state_of t.driver.stage ≡ state.DualWrite → InStep t.shared
+  pub rest : last_reply t.replies ≡ Some reply.Idle → state_of t.driver.stage ≡ state.DualWrite → AtRest t.shared
 
 -- a reply that doesn't end a turn isn't idle
 last_later : (r : Reply) (rs : List Reply) → ends r ≡ false → last_reply (r ∷ rs) ≡ Some reply.Idle → last_reply rs ≡ Some reply.Idle

@@ -1,26 +1,29 @@
 -- Worlds with at most one driver, event by event.
-use Rattle.std.proofs.Common.{◌≡◌, ℕ, ◌≤◌, ℤ, pos, negsuc, ◌+ℤ◌, ◌≤ℤ◌, int_lt, Bool, true, false, not, ◌||◌, if◌then◌else◌, cond, List, [], ◌∷◌, ◌++◌, length, map, Option, Some, None, option_map, refl, sym, ap, ◌∙◌, subst, arith}
+use Rattle.kz_spec_stores.specs.Image.{is_migrated_state}
+use Rattle.kz_laws_trees.specs.LogLaws.{IsPlain}
+use Rattle.std.proofs.Common.{◌≡◌, ℕ, ◌≤◌, ℤ, pos, negsuc, ◌+ℤ◌, ◌≤ℤ◌, int_lt, Bool, true, false, not, ◌||◌, if◌then◌else◌, cond, List, [], ◌∷◌, ◌++◌, length, map, Option, Some, None, option_map, refl, sym, ap, ◌∙◌, subst, arith, All}
 use Rattle.std.specs.Prelude.{⊤}
 use Rattle.std.specs.Ordering.{int_eq}
 use Rattle.std.proofs.lemmas.Bool.Decides.{Decides-int_eq}
 use Rattle.std.proofs.lemmas.Int.{ints}
-use Rattle.std.proofs.lemmas.List.Elements.{All-nil}
+use Rattle.std.proofs.lemmas.List.Elements.{All-nil, All-cons, All-weaker}
 use Rattle.kz_types.specs.declared.driver.Stage.TheVariants as stage
 use Rattle.kz_types.specs.declared.machine.Event.{Event}
 use Rattle.kz_types.specs.declared.machine.Event.TheVariants as event
 use Rattle.kz_types.specs.declared.machine.Answer.{Answer}
 use Rattle.kz_types.specs.declared.machine.Answer.TheVariants as answer
 use Rattle.kz_types.specs.declared.record.MetaRecord.{MetaRecord}
+use Rattle.kz_types.specs.declared.record.MetaRecord.TheVariants as meta
 use Rattle.kz_types.specs.declared.machine.Recorded.{Recorded}
 use Rattle.kz_spec_stores.specs.Tree.{area}
 use Rattle.kz_spec_stores.specs.Difference.{diff}
-use Rattle.kz_spec_stores.specs.Log.{Log, end_of, image_at, max_epoch, full_log, is_migrated_log}
+use Rattle.kz_spec_stores.specs.Log.{Log, end_of, image_at, max_epoch, full_log, is_migrated_log, image_of, is_open_log}
 use Rattle.kz_spec_stores.specs.Rendering.{render}
 use Rattle.kz_spec_machine.specs.Driver.{Shared, Driver, new_driver, elected_driver, is_one_of}
 use Rattle.kz_spec_machine.specs.Machine.{World, empty_world, running_ids, is_running, driver_of, with_driver, Turned, turn, work, decided, first_of, unless, over, full, running_refusal, leader_refusal, quorum_refusal, declared_world, start_refusal, started_world, election_records, next_epoch, elected_log, election_refusal, elected_world, election_answer, turn_result, change_refusal, changed_log, changed_world, unless_refused, next}
-use Rattle.kz_spec_machine.specs.Sound.{IsId, IsTime, IsEpoch, IsEpochOrNone, LogShape, IsBatchEnd, Kept, Aims, AtStage, Fine, IsLawful}
+use Rattle.kz_spec_machine.specs.Sound.{IsId, IsTime, IsEpoch, IsEpochOrNone, LogShape, IsBatchEnd, Kept, Aims, AtStage, Fine, IsLawful, IsChange}
 use Rattle.kz_laws_trees.proofs.Ends.{end_least, base_is_batch_end, image_before}
-use Rattle.kz_laws_trees.proofs.Growth.{Grows, batch_shape, grows_batch, view_within}
+use Rattle.kz_laws_trees.proofs.Growth.{Grows, batch_shape, grows_batch, view_within, StaysMigrated, plain_stays}
 use Rattle.kz_laws_machine.proofs.Agreements.{agreement_grown}
 use Rattle.kz_laws_machine.proofs.Groups.{base_of, Current, base_grown}
 use Rattle.kz_laws_machine.proofs.Turns.{TurnKept, turned}
@@ -76,12 +79,12 @@ at_grown s l d grows within stage.Look at = tt
 at_grown s l d grows within (stage.Claim seen) at = at
 at_grown s l d grows within (stage.ReadSource rows) at = tt
 at_grown s l d grows within (stage.Begin rows) at = tt
-at_grown s l d grows within (stage.Fill records) at = tt
-at_grown s l d grows within stage.ReadLog at = tt
+at_grown s l d grows within (stage.Fill records) at = at
+at_grown s l d grows within stage.ReadLog at = grows.migrated at
 at_grown s l d grows within (stage.ReadArea target rows) at = at
 at_grown s l d grows within (stage.WriteAll target ops) at = (at.0, λ c. record { remaining = (at.1 c).remaining ∙ ap (λ i. diff (area s.tree) (render i)) (sym (image_there s l d target grows within at.0)) })
-at_grown s l d grows within stage.InformBrokers at = (at.0, λ c. let old = at.1 c in record { closed = old.closed; same = old.same; view = old.view })
-at_grown s l d grows within stage.Rest at = (at.0, λ c. let old = at.1 c in record { closed = old.closed; same = old.same; view = old.view })
+at_grown s l d grows within stage.InformBrokers at = (at.0, λ c. let old = at.1 c in record { closed = old.closed; same = old.same; view = old.view; migrated = old.migrated })
+at_grown s l d grows within stage.Rest at = (at.0, λ c. let old = at.1 c in record { closed = old.closed; same = old.same; view = old.view; migrated = old.migrated })
 at_grown s l d grows within (stage.WriteChange target ops) at = (at.0, λ c. record { remaining = (at.1 c).remaining ∙ ap (λ i. diff (area s.tree) (render i)) (sym (image_there s l d target grows within at.0)) })
 
 fine_grown : (s : Shared) (l : Log) (d : Driver) → Kept s → Grows s.log l → Fine s d → Fine (record s { log = l }) d
@@ -138,7 +141,7 @@ new_fine s id shape is = record {
   epochs = tt;
   elected = tt;
   claims = tt;
-  views = record { end = subst (IsBatchEnd s.log) shape.base (base_is_batch_end s.log); image = sym (image_before s.log shape); epoch = record { least = omega (arith, ints); most = omega (arith, ints) } };
+  views = record { end = subst (IsBatchEnd s.log) shape.base (base_is_batch_end s.log); image = sym (image_before s.log shape); migrated = λ is. absurd (cc); epoch = record { least = omega (arith, ints); most = omega (arith, ints) } };
   stage = tt;
 }
 
@@ -184,11 +187,27 @@ elected_shape l now shape less room =
     begun : (e : ℤ) (n : ℕ) → negsuc 0 ≤ℤ e → 1 ≤ n → pos 0 ≤ℤ (e +ℤ pos n)
     begun e n low some = omega (arith, ints)
 
+not_none : (n : ℤ) (b : Bool) → int_eq n (pos 0) ≡ b → is_migrated_state n ≡ true → b ≡ false
+not_none n true test is = absurd (let none : n ≡ pos 0 = (Decides-int_eq n (pos 0)).0 test in let unmigrated = ap is_migrated_state none in cc)
+not_none n false test is = refl
+
+plain_election : (open_now none : Bool) → none ≡ false → All IsPlain (meta.NoOp ∷ ((if open_now then meta.AbortTransaction None ∷ [] else []) ++ (if none then meta.ZkMigrationState (pos 1) ∷ [] else [])))
+plain_election true false is = All-cons IsPlain meta.NoOp (meta.AbortTransaction None ∷ []) tt (All-cons IsPlain (meta.AbortTransaction None) [] tt (All-nil IsPlain))
+plain_election false false is = All-cons IsPlain meta.NoOp [] tt (All-nil IsPlain)
+plain_election open_now true is = absurd (cc)
+
+-- an election leaves a migrated log so
+election_stays : (l : Log) (now : ℤ) → LogShape l → StaysMigrated l (next_epoch l) now (election_records l)
+election_stays l now shape is = plain_stays l (next_epoch l) now (election_records l) shape (plain_election (is_open_log l) (int_eq (image_of l).state (pos 0)) (not_none (image_of l).state (int_eq (image_of l).state (pos 0)) refl is)) is
+
+election_grows : (l : Log) (now : ℤ) → LogShape l → Grows l (elected_log l now)
+election_grows l now shape = grows_batch l (next_epoch l) now (election_records l) (omega (arith, ints)) (election_stays l now shape)
+
 elected_one : (s : Shared) (now : ℤ) (d : Driver) (b : Bool) → Kept s → int_lt s.log.epoch max_epoch ≡ true → Own s d
     → Own (record s { log = elected_log s.log now }) (if b then elected_driver (next_epoch s.log) d else d)
 elected_one s now d true kept less own =
     let l = elected_log s.log now in
-    let grows = grows_batch s.log (next_epoch s.log) now (election_records s.log) (omega (arith, ints)) in
+    let grows = election_grows s.log now kept.log in
     let base = base_grown s l d kept.log grows (base_of s d kept.agreement own.fine) in
     record {
       fine = record { id = base.id; epochs = (next_range s.log.epoch kept.log.epoch less, omega (arith, ints)); elected = λ none. cc; claims = tt; views = base.views; stage = tt };
@@ -196,7 +215,7 @@ elected_one s now d true kept less own =
       current = λ some. absurd (some refl);
     }
 elected_one s now d false kept less own = record {
-  fine = fine_grown s (elected_log s.log now) d kept (grows_batch s.log (next_epoch s.log) now (election_records s.log) (omega (arith, ints))) own.fine;
+  fine = fine_grown s (elected_log s.log now) d kept (election_grows s.log now kept.log) own.fine;
   declared = own.declared;
   current = own.current;
 }
@@ -214,7 +233,7 @@ election_kept w id now lone none =
       kept = record {
         tree = lone.kept.tree;
         log = elected_shape w.shared.log now lone.kept.log both.0 both.1;
-        agreement = agreement_grown w.shared.tree w.shared.log (elected_log w.shared.log now) lone.kept.log (grows_batch w.shared.log (next_epoch w.shared.log) now (election_records w.shared.log) (omega (arith, ints))) lone.kept.agreement;
+        agreement = agreement_grown w.shared.tree w.shared.log (elected_log w.shared.log now) lone.kept.log (election_grows w.shared.log now lone.kept.log) lone.kept.agreement;
       };
       declared = lone.declared;
       one = elected_all w.shared now id w.drivers lone.kept both.0 lone.one;
@@ -234,11 +253,30 @@ changed_one s l [] kept grows one = tt
 changed_one s l (d ∷ []) kept grows one = record { fine = fine_grown s l d kept grows one.fine; declared = one.declared; current = one.current }
 changed_one s l (d ∷ e ∷ ds) kept grows one = one
 
-change_kept : (w : World) (id : ℤ) (records : List MetaRecord) (now : ℤ) → Lone w → change_refusal w id records ≡ None → Lone (changed_world w records now)
-change_kept w id records now lone none =
+change_plain : (r : MetaRecord) → IsChange r → IsPlain r
+change_plain (meta.RegisterBroker b) is = absurd is
+change_plain (meta.Topic t) is = absurd is
+change_plain (meta.Partition p) is = absurd is
+change_plain (meta.Config c) is = tt
+change_plain (meta.PartitionChange p) is = absurd is
+change_plain (meta.RemoveTopic id) is = absurd is
+change_plain (meta.UserScramCredential r) is = absurd is
+change_plain (meta.ClientQuota r) is = absurd is
+change_plain (meta.ProducerIds r) is = absurd is
+change_plain (meta.AccessControlEntry r) is = absurd is
+change_plain (meta.RemoveAccessControlEntry id) is = absurd is
+change_plain meta.NoOp is = absurd is
+change_plain (meta.ZkMigrationState s) is = absurd is
+change_plain (meta.RemoveUserScramCredential name mechanism) is = absurd is
+change_plain (meta.BeginTransaction name) is = absurd is
+change_plain meta.EndTransaction is = absurd is
+change_plain (meta.AbortTransaction reason) is = absurd is
+
+change_kept : (w : World) (id : ℤ) (records : List MetaRecord) (now : ℤ) → All IsChange records → Lone w → change_refusal w id records ≡ None → Lone (changed_world w records now)
+change_kept w id records now all lone none =
     let l = w.shared.log in
     let shape = lone.kept.log in
-    let grows = grows_batch l l.epoch now records (omega (arith, ints)) in
+    let grows = grows_batch l l.epoch now records (omega (arith, ints)) (plain_stays l l.epoch now records shape (All-weaker IsChange IsPlain change_plain records all)) in
     record {
       kept = record {
         tree = lone.kept.tree;
@@ -296,7 +334,7 @@ next_kept w (event.Quorum ids) lawful lone = decided_kept Lone w (quorum_refusal
 next_kept w (event.Start id) lawful lone = decided_kept Lone w (start_refusal w id) (started_world w id) answer.Done lone (start_kept w id lawful lone)
 next_kept w (event.Elect id now) lawful lone = decided_kept Lone w (election_refusal w id) (elected_world w id now) (election_answer w now) lone (election_kept w id now lone)
 next_kept w (event.Turn id now) lawful lone = unless_kept Lone w (running_refusal w id) (turn_result w now (driver_of id w.drivers)) lone (turn_kept w id now (driver_of id w.drivers) lawful.1 lone refl)
-next_kept w (event.Change id records now) lawful lone = decided_kept Lone w (change_refusal w id records) (changed_world w records now) (answer.Appended (end_of (changed_log w.shared.log records now))) lone (change_kept w id records now lone)
+next_kept w (event.Change id records now) lawful lone = decided_kept Lone w (change_refusal w id records) (changed_world w records now) (answer.Appended (end_of (changed_log w.shared.log records now))) lone (change_kept w id records now lawful.2 lone)
 next_kept w event.Check lawful lone = lone
 
 pub empty_lone : Lone empty_world

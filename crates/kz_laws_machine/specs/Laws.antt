@@ -1,17 +1,20 @@
 -- What is true of every run of the machine.
-use Rattle.std.specs.Prelude.{◌≡◌, ◌≢◌, ◌⊎◌, ℕ, ℤ, true, List, Some, None, All}
+use Rattle.kz_types.specs.declared.machine.Reply.{Reply}
+use Rattle.std.specs.Prelude.{◌≡◌, ◌≢◌, ◌⊎◌, ℕ, ℤ, true, List, Some, None, All, ◌∷◌, ◌++◌}
 use Rattle.kz_types.specs.declared.tree.Op.{Op}
 use Rattle.kz_types.specs.declared.driver.Stage.TheVariants as stage
 use Rattle.kz_types.specs.declared.machine.Recorded.{Recorded}
 use Rattle.kz_types.specs.declared.machine.Verdict.TheVariants.{Closed}
 use Rattle.kz_types.specs.declared.machine.Event.{Event}
+use Rattle.kz_types.specs.declared.machine.Event.TheVariants as event
+use Rattle.kz_types.specs.declared.machine.Answer.TheVariants as answer
 use Rattle.kz_spec_stores.specs.Tree.{recorded, unclosed}
-use Rattle.kz_spec_stores.specs.Log.{is_migrated_log}
+use Rattle.kz_spec_stores.specs.Log.{is_migrated_log, end_of}
 use Rattle.kz_spec_machine.specs.Driver.{Shared, Driver, remaining_at, step}
 use Rattle.kz_spec_machine.specs.Machine.{World, empty_world, driver_of, turn, next, after_events}
 use Rattle.kz_spec_machine.specs.Verdicts.{verdict}
 use Rattle.kz_spec_machine.specs.Sound.{IsTime, Kept, IsCurrent, Fine, Sound, Alone, IsLawful}
-use Rattle.kz_spec_runs.specs.InStep.{StaysInStep, script_events}
+use Rattle.kz_spec_runs.specs.InStep.{StaysInStep, script_events, ComesToRest}
 
 -- The events of a script are lawful.
 abbrev pub ScriptsAreLawful : Type 0
@@ -53,6 +56,13 @@ RunsAreSound = (es : List Event) → All IsLawful es → Sound (after_events emp
 -- After each turn of a run that comes to rest, the tree is in step with the log.
 abbrev pub RunsStayInStep : Type 0
 RunsStayInStep = (es : List Event) → All IsLawful es → StaysInStep es
+
+-- A check then tells that the tree is closed at the log's end.
+abbrev pub RestIsTold : Type 0
+RestIsTold = (es : List Event) → All IsLawful es → (before after : List Event) (id now : ℤ) (new : World) (replies : List Reply)
+    → es ≡ before ++ event.Turn id now ∷ after
+    → ComesToRest (after_events empty_world before) new id now replies
+    → (next new event.Check).1 ≡ answer.Check (Closed (end_of new.shared.log))
 
 -- So it is in the run of every script.
 abbrev pub ScriptsStayInStep : Type 0

@@ -3,7 +3,7 @@
 //! A law is the contract of a function that does nothing.
 #![tactic(auto)]
 
-ghost use Rattle.kz_laws_machine.specs.Laws.{ScriptsAreLawful, StepsKeepDriven, TurnsKeepDriven, OneIsDriven, HeldOperationsRemain, ClosedIsTold, EventsKeepSound, RunsAreSound, RunsStayInStep, ScriptsStayInStep};
+ghost use Rattle.kz_laws_machine.specs.Laws.{ScriptsAreLawful, StepsKeepDriven, TurnsKeepDriven, OneIsDriven, HeldOperationsRemain, ClosedIsTold, EventsKeepSound, RunsAreSound, RunsStayInStep, RestIsTold, ScriptsStayInStep};
 
 /// The events that the lines of a script give are lawful.
 pub fn scripts_are_lawful()
@@ -34,8 +34,9 @@ pub fn always_sound()
 {}
 
 /// After each turn that ends idle in dual write, the tree is closed and its migrated area is the rendering of the metadata
-/// at the log's end.
+/// at the log's end. A check then tells so.
 pub fn stays_in_step()
     ensures events { RunsStayInStep }
+    ensures told { RestIsTold }
     ensures scripts { ScriptsStayInStep }
 {}

@@ -1,5 +1,5 @@
 -- A log that grows keeps its shape, and what a driver knows of it.
-use Rattle.std.proofs.Common.{◌≡◌, ℕ, ◌+◌, ◌≤◌, nat_lt, ℤ, pos, ◌+ℤ◌, ◌≤ℤ◌, int_lt, Bool, true, false, if◌then◌else◌, List, [], ◌∷◌, length, Option, Some, None, All, refl, sym, ◌∙◌, subst, filter, arith}
+use Rattle.std.proofs.Common.{◌≡◌, ℕ, ◌+◌, ◌≤◌, nat_lt, ℤ, pos, ◌+ℤ◌, ◌≤ℤ◌, int_lt, Bool, true, false, if◌then◌else◌, List, [], ◌∷◌, length, Option, Some, None, All, refl, ap, sym, ◌∙◌, subst, filter, arith}
 use Rattle.std.specs.Prelude.{Ok, Err}
 use Rattle.std.specs.Ordering.{int_eq}
 use Rattle.std.proofs.lemmas.Bool.Decides.{nat_tests, Decides-int_eq}
@@ -9,9 +9,13 @@ use Rattle.kz_types.specs.declared.log.BatchRow.{BatchRow}
 use Rattle.kz_types.specs.declared.record.MetaRecord.{MetaRecord}
 use Rattle.kz_types.specs.declared.fault.LogFault.TheVariants as log_fault
 use Rattle.kz_spec_stores.specs.Tree.{max_long}
-use Rattle.kz_spec_stores.specs.Log.{Log, View, end_of, image_at, new_batch, with_batch, record_count, max_records, full_log, added, append, last_epoch, is_behind, read_view}
+use Rattle.kz_spec_stores.specs.Log.{Log, View, end_of, image_at, is_migrated_log, new_batch, with_batch, record_count, max_records, full_log, added, append, last_epoch, is_behind, read_view}
+use Rattle.kz_spec_stores.specs.Image.{is_migrated_state}
+use Rattle.kz_spec_machine.specs.Driver.{commit_records}
 use Rattle.kz_spec_machine.specs.Sound.{IsEpochOrNone, LogShape, IsBatchEnd, Views}
 use Rattle.kz_laws_trees.proofs.Logs.{image_kept, end_more}
+use Rattle.kz_laws_trees.specs.LogLaws.{IsPlain}
+use Rattle.kz_laws_trees.proofs.Migration.{plain_keeps_state, commit_migrates}
 use Rattle.kz_laws_trees.proofs.Ends.{follows_more, count_more, end_is_batch_end, batch_end_kept, batch_end_within}
 
 -- ---- the shape
@@ -53,12 +57,21 @@ pub record Grows (l more : Log) : Type 0 where
   pub image : (at : ℤ) → at ≤ℤ end_of l → image_at more at ≡ image_at l at
   pub batch_end : (at : ℤ) → IsBatchEnd l at → IsBatchEnd more at
   pub epoch : l.epoch ≤ℤ more.epoch
+  pub migrated : is_migrated_log l ≡ true → is_migrated_log more ≡ true
 
-pub grows_itself : (l : Log) → Grows l l
-grows_itself l = record { end = omega (arith, ints); image = λ at low. refl; batch_end = λ at e. e; epoch = omega (arith, ints) }
+-- a migrated log stays so with this batch
+abbrev pub StaysMigrated : Log → ℤ → ℤ → List MetaRecord → Type 0
+StaysMigrated l epoch now items = is_migrated_log l ≡ true → is_migrated_log (with_batch l epoch now items) ≡ true
 
-pub grows_batch : (l : Log) (epoch now : ℤ) (items : List MetaRecord) → l.epoch ≤ℤ epoch → Grows l (with_batch l epoch now items)
-grows_batch l epoch now items low = record {
+pub plain_stays : (l : Log) (epoch now : ℤ) (items : List MetaRecord) → LogShape l → All IsPlain items → StaysMigrated l epoch now items
+plain_stays l epoch now items shape plain is = ap is_migrated_state (plain_keeps_state l epoch now items shape plain) ∙ is
+
+pub commit_is_migrated : (l : Log) (epoch now : ℤ) → LogShape l → is_migrated_log (with_batch l epoch now commit_records) ≡ true
+commit_is_migrated l epoch now shape = ap is_migrated_state (commit_migrates l epoch now shape)
+
+pub grows_batch : (l : Log) (epoch now : ℤ) (items : List MetaRecord) → l.epoch ≤ℤ epoch → StaysMigrated l epoch now items → Grows l (with_batch l epoch now items)
+grows_batch l epoch now items low stays = record {
+  migrated = stays;
   end = subst (λ (e : ℤ). end_of l ≤ℤ e) (sym (end_more l epoch now items)) (omega (arith, ints));
   image = λ at within. image_kept l epoch now items at within;
   batch_end = λ at e. batch_end_kept l epoch now items at e;
@@ -68,26 +81,34 @@ grows_batch l epoch now items low = record {
 -- ---- an append
 
 -- what an append that isn't refused makes of a log
-pub record Appended (l new : Log) : Type 0 where
+pub record Appended (l : Log) (epoch now : ℤ) (items : List MetaRecord) (new : Log) : Type 0 where
   pub shape : LogShape new
-  pub grows : Grows l new
+  pub made : with_batch l epoch now items ≡ new
+  pub same : epoch ≡ l.epoch
 
-appended_by : (l : Log) (epoch now : ℤ) (items : List MetaRecord) (new : Log) (r : Option ℕ) → full_log l items ≡ r → epoch ≡ l.epoch → added r (with_batch l epoch now items) ≡ Ok new → LogShape l → Appended l new
+appended_by : (l : Log) (epoch now : ℤ) (items : List MetaRecord) (new : Log) (r : Option ℕ) → full_log l items ≡ r → epoch ≡ l.epoch → added r (with_batch l epoch now items) ≡ Ok new → LogShape l → Appended l epoch now items new
 appended_by l epoch now items new (Some number) room same is shape = absurd (cc)
 appended_by l epoch now items new None room same is shape =
     let made : with_batch l epoch now items ≡ new = cc in
-    subst (Appended l) made (record {
-      shape = batch_shape l epoch now items shape (subst IsEpochOrNone (sym same) shape.epoch) room
-          (λ high. let old = shape.begun (subst (λ (e : ℤ). pos 1 ≤ℤ e) same high) in omega (arith, ints));
-      grows = grows_batch l epoch now items (omega (arith, ints));
-    })
+    record {
+      shape = subst LogShape made (batch_shape l epoch now items shape (subst IsEpochOrNone (sym same) shape.epoch) room
+          (λ high. let old = shape.begun (subst (λ (e : ℤ). pos 1 ≤ℤ e) same high) in omega (arith, ints)));
+      made = made;
+      same = same;
+    }
 
-pub append_appends : (l : Log) (epoch now : ℤ) (items : List MetaRecord) (new : Log) → append l epoch now items ≡ Ok new → LogShape l → Appended l new
+pub append_appends : (l : Log) (epoch now : ℤ) (items : List MetaRecord) (new : Log) → append l epoch now items ≡ Ok new → LogShape l → Appended l epoch now items new
 append_appends l epoch now items new is shape = by_epoch (int_eq epoch l.epoch) refl is
   where
-    by_epoch : (b : Bool) → int_eq epoch l.epoch ≡ b → (if b then added (full_log l items) (with_batch l epoch now items) else Err (log_fault.Stale l.epoch)) ≡ Ok new → Appended l new
+    by_epoch : (b : Bool) → int_eq epoch l.epoch ≡ b → (if b then added (full_log l items) (with_batch l epoch now items) else Err (log_fault.Stale l.epoch)) ≡ Ok new → Appended l epoch now items new
     by_epoch true same is = appended_by l epoch now items new (full_log l items) refl ((Decides-int_eq epoch l.epoch).0 same) is shape
     by_epoch false same is = absurd (cc)
+
+low_by : (a b : ℤ) → a ≡ b → b ≤ℤ a
+low_by a b is = omega (arith, ints)
+
+pub append_grows : (l : Log) (epoch now : ℤ) (items : List MetaRecord) (new : Log) → Appended l epoch now items new → StaysMigrated l epoch now items → Grows l new
+append_grows l epoch now items new a stays = subst (Grows l) a.made (grows_batch l epoch now items (low_by epoch l.epoch a.same) stays)
 
 -- ---- views
 
@@ -103,6 +124,7 @@ pub view_read : (l : Log) (v : View) → LogShape l → Views l v → Views l (r
 view_read l v shape old = record {
   end = end_is_batch_end l;
   image = refl;
+  migrated = λ is. is;
   epoch = last_epoch_range (if int_lt v.position l.base then pos 0 else v.epoch) (filter (is_behind v.position) l.batches) (first_epoch_range (int_lt v.position l.base) v.epoch old.epoch)
       (All-filter (is_behind v.position) (λ (b : BatchRow). IsEpochOrNone b.epoch) l.batches shape.epochs);
 }
@@ -111,6 +133,7 @@ pub view_grown : (l more : Log) (v : View) → LogShape l → Grows l more → V
 view_grown l more v shape grows old = record {
   end = grows.batch_end v.position old.end;
   image = old.image ∙ sym (grows.image v.position (batch_end_within l v.position shape old.end));
+  migrated = λ is. grows.migrated (old.migrated is);
   epoch = old.epoch;
 }
 

@@ -14,3 +14,4 @@ pub mod Ends
 pub mod Pages
 pub mod Migration
 pub mod Growth
+pub mod Translated

@@ -4,7 +4,7 @@
 #![tactic(auto)]
 
 ghost use Rattle.kz_laws_trees.specs.TreeLaws.{MultiKeepsShape, OutsideLeavesArea, WriteAppliesEdits, WriteLeavesRest, WriteKeepsClaim, WriteKeepsShown, LastWriteCompletes, EarlierWriteUnclosed, ClaimGivesVersion, ClaimShowsEpoch, ClaimLeavesArea, ClaimRecordsNone};
-ghost use Rattle.kz_laws_trees.specs.LogLaws.{BatchLeavesImages, BatchLeavesEnds, BatchMovesEnd, BatchKeepsShape, AppendKeepsShape, EndIsLastBatchEnd};
+ghost use Rattle.kz_laws_trees.specs.LogLaws.{BatchLeavesImages, BatchLeavesEnds, BatchMovesEnd, BatchKeepsShape, AppendKeepsShape, EndIsLastBatchEnd, PlainKeepsState, CommitMigrates};
 
 /// A multi that isn't refused gives the tree the next zxid and keeps its shape; outside of the migrated area it leaves the
 /// area.
@@ -45,4 +45,10 @@ pub fn log_keeps()
     ensures batch { BatchKeepsShape }
     ensures append { AppendKeepsShape }
     ensures end { EndIsLastBatchEnd }
+{}
+
+/// The state of the migration changes by a record of it alone, once its transaction is ended.
+pub fn migration_state()
+    ensures plain { PlainKeepsState }
+    ensures commit { CommitMigrates }
 {}

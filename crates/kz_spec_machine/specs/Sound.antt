@@ -15,8 +15,8 @@ use Rattle.kz_ordered.specs.Order.{bytes_cmp}
 use Rattle.kz_ordered.specs.Ordered.{Rises}
 use Rattle.kz_spec_values.specs.Control.{control_path, epoch_path}
 use Rattle.kz_spec_stores.specs.Tree.{Tree, row_at, has_parent, path_of_row, migrated_rows, area, recorded, unclosed, max_long}
-use Rattle.kz_spec_stores.specs.Image.{empty_image, is_broker_config}
-use Rattle.kz_spec_stores.specs.Log.{Log, View, last_of, end_of, batch_ends, record_count, image_at, max_records, max_epoch}
+use Rattle.kz_spec_stores.specs.Image.{empty_image, is_broker_config, is_migrated_state}
+use Rattle.kz_spec_stores.specs.Log.{Log, View, last_of, end_of, batch_ends, record_count, image_at, is_migrated_log, max_records, max_epoch}
 use Rattle.kz_spec_stores.specs.Rendering.{render}
 use Rattle.kz_spec_machine.specs.Driver.{Shared, Driver, is_one_of, shown_by, remaining_at}
 use Rattle.kz_spec_machine.specs.Machine.{World, driver_of}
@@ -119,10 +119,11 @@ abbrev pub Claims : Option ℤ → Option ℤ → Option ℤ → Option ℤ → 
 Claims version shown epoch None = ⊤
 Claims version shown epoch (Some v) = Claimed version shown epoch v
 
--- What a driver knows of the log is the metadata at a batch end.
+-- What a driver knows of the log is the metadata at a batch end, and a migration that it knows of stays committed.
 pub record Views (l : Log) (v : View) : Type 0 where
   pub end : IsBatchEnd l v.position
   pub image : v.image ≡ image_at l v.position
+  pub migrated : is_migrated_state v.image.state ≡ true → is_migrated_log l ≡ true
   pub epoch : IsEpochOrNone v.epoch
 
 -- The driver's epoch, where it has one, isn't above the log's.
@@ -136,13 +137,14 @@ Elected epoch stage.Uninitialized = ⊤
 Elected epoch stage.Inactive = ⊤
 Elected epoch s = epoch ≢ None
 
--- what a driver that writes will record: its view's end of the log
+-- what a driver that writes will record: its view's end of the log, which is migrated
 pub record Aims (target : Recorded) (own : ℤ) (own_epoch : Option ℤ) (v : View) : Type 0 where
   pub id : target.id ≡ own
   pub controller_epoch : Some target.controller_epoch ≡ own_epoch
   pub offset : target.offset ≡ v.position
   pub not_negative : pos 0 ≤ℤ target.offset
   pub epoch : IsEpochOrNone target.epoch
+  pub migrated : is_migrated_state v.image.state ≡ true
 
 -- A current driver that reads the migrated area: what it has read is the first part of it.
 pub record Reads (t : Tree) (rows : List Row) : Type 0 where
@@ -158,10 +160,18 @@ pub record Rests (t : Tree) (v : View) (offset : Option ℤ) : Type 0 where
   pub closed : unclosed t ≡ None
   pub same : option_map (λ (r : Recorded). r.offset) (recorded t) ≡ offset
   pub view : offset ≡ Some v.position
+  pub migrated : is_migrated_state v.image.state ≡ true
+
+-- the configuration of a resource
+abbrev pub IsConfig : MetaRecord → Type 0
+IsConfig (meta.Config c) = ⊤
+IsConfig r = ⊥
 
 -- What holds at each stage, by cases. What is said of the tree is said of a current driver alone.
 abbrev pub AtStage : Tree → Log → Driver → Stage → Type 0
 AtStage t l d (stage.Claim seen) = (r : Row) → seen.epoch ≡ Some r → pos 0 ≤ℤ r.version
+AtStage t l d (stage.Fill records) = All IsConfig records
+AtStage t l d stage.ReadLog = is_migrated_log l ≡ true
 AtStage t l d (stage.ReadArea target rows) = Aims target d.id d.epoch d.view × (IsCurrent t d.claim → Reads t rows)
 AtStage t l d (stage.WriteAll target ops) = Aims target d.id d.epoch d.view × (IsCurrent t d.claim → Writes t l target ops)
 AtStage t l d stage.InformBrokers = (d.claim ≢ None) × (IsCurrent t d.claim → Rests t d.view d.recorded)

@@ -1,0 +1,8 @@
+use Rattle.kz_laws_trees.proofs.Migration.{plain_keeps_state, commit_migrates}
+use Rattle.kz_laws_trees.proofs.migration_state.Goals as goal
+
+pub returns-clause-plain : goal.returns-clause-plain
+returns-clause-plain c = plain_keeps_state
+
+pub returns-clause-commit : goal.returns-clause-commit
+returns-clause-commit c = commit_migrates
