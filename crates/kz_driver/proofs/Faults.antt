@@ -41,5 +41,6 @@ limit_within t ops j n some h = by (after_ops t.sessions (t.zxid +ℤ pos 1) 0 o
       where
         same : (g : TreeFault) → with_zxid t (Err g) ≡ Err (fault.Limit j n) → Err {A = List Row} g ≡ Err (fault.Limit j n)
         same g e = cc
+
         subst_fault : (g : TreeFault) → after_ops t.sessions (t.zxid +ℤ pos 1) 0 ops t.rows ≡ Err g → with_zxid t (Err g) ≡ Err (fault.Limit j n) → after_ops t.sessions (t.zxid +ℤ pos 1) 0 ops t.rows ≡ Err (fault.Limit j n)
         subst_fault g is e = cc

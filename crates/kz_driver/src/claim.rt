@@ -14,7 +14,9 @@ use crate::fence::{Claimer, claim_ops};
 use crate::row::DriverRow;
 use kz_state::read_epoch;
 use kz_tree::Tree;
-use kz_types::{BodyFault, ClaimSeen, DriverState, NoMemory, Reply, Row, Sequence, Stage, TreeFault};
+use kz_types::{
+    BodyFault, ClaimSeen, DriverState, NoMemory, Reply, Row, Sequence, Stage, TreeFault,
+};
 use std::alloc::Global;
 
 /// What became of a claim.

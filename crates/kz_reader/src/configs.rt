@@ -6,7 +6,9 @@ ghost use Rattle.kz_spec_values.specs.Bodies.{read_body};
 ghost use Rattle.kz_spec_stores.specs.Translation.{broker_name, config_record, config_records, records_of_config};
 
 use kz_json::read_config;
-use kz_types::{Body, BodyFault, ConfigRecord, Duplicate, MetaRecord, NoMemory, Pair, ReadWhy, Sequence, Text};
+use kz_types::{
+    Body, BodyFault, ConfigRecord, Duplicate, MetaRecord, NoMemory, Pair, ReadWhy, Sequence, Text,
+};
 use std::alloc::Global;
 
 // The text of an id.

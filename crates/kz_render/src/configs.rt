@@ -6,7 +6,9 @@ ghost use Rattle.kz_spec_stores.specs.Rendering.{broker_key, config_znode};
 
 use kz_json::config_text;
 use kz_path::path_of;
-use kz_types::{Configuration, EntityKey, NoMemory, PathFault, Rendered, Sequence, Text, ZPath, number_in};
+use kz_types::{
+    Configuration, EntityKey, NoMemory, PathFault, Rendered, Sequence, Text, ZPath, number_in,
+};
 use std::alloc::Global;
 
 // The key of the configuration of a broker, or of all brokers.

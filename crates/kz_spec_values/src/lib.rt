@@ -3,6 +3,6 @@
 //! The definitions stand in specs/. A law is the contract of a function that does nothing.
 #![tactic(auto)]
 
-mod body_examples;
 pub mod batches;
+mod body_examples;
 pub mod records;

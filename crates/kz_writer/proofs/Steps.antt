@@ -29,8 +29,8 @@ next_delete have want done x first before now h e old new =
     let next : i + 1 ≡ length have - done = omega arith in
     let within : i < length have = omega arith in
     let parts : deletes (drop (length have - (done + 1)) have) want ≡ deletes (drop (length have - done) have) want ++ delete_of x want =
-        ap (λ n. deletes (drop n have) want) place ∙ ap (λ rs. deletes rs want) (cut have i x within e) ∙ deletes-cons x (drop (i + 1) have) want
-        ∙ ap (λ n. deletes (drop n have) want ++ delete_of x want) next in
+    ap (λ n. deletes (drop n have) want) place ∙ ap (λ rs. deletes rs want) (cut have i x within e) ∙ deletes-cons x (drop (i + 1) have) want
+    ∙ ap (λ n. deletes (drop n have) want ++ delete_of x want) next in
     new ∙ ap (λ ops. ops ++ delete_of x want) old ∙ append_assoc first (deletes (drop (length have - done) have) want) (delete_of x want) ∙ ap (λ ops. first ++ ops) (sym parts)
 
 -- one znode more from the front

@@ -7,5 +7,5 @@ use Rattle.kz_render.proofs.znodes.put_configs.Given as goal
 abbrev pub invariant-loop-config : goal.invariant-loop-config
 invariant-loop-config l =
     (all_put bytes_cmp path_of_rendered (map config_znode (drop l.config-index l.configs)) l.znodes.items
-        ≡ all_put bytes_cmp path_of_rendered (map config_znode l.fn.configs) l.fn.znodes.items)
+    ≡ all_put bytes_cmp path_of_rendered (map config_znode l.fn.configs) l.fn.znodes.items)
     × Rises bytes_cmp path_of_rendered l.znodes.items
