@@ -12,3 +12,5 @@ pub use paths::path_of;
 mod keys;
 mod kinds;
 mod paths;
+#[cfg(test)]
+mod tests;
