@@ -1,8 +1,8 @@
 //! The entity that a path holds.
-ghost use Rattle.std.specs.Prelude.{◌≡◌, ℤ, pos, List, ℕ, Bool, Option, Some, IfOk, option_map, option_and_then};
+ghost use Rattle.std.specs.Prelude.{◌≡◌, ℤ, pos, List, ℕ, Bool, Option, Some, IfSome, IfOk, option_map, option_and_then};
 ghost use Rattle.kz_types.specs.Numbers.{number_in};
 ghost use Rattle.kz_types.specs.declared.key.EntityKey.TheVariants.{Topic, Partition, TopicConfig, BrokerConfig, Client, User, UserClient, Ip, Acl};
-ghost use Rattle.kz_types.specs.Paths.{key_of, key_of_three, key_of_four, key_of_five, key_of_six, topic_of, address_of, resource_type_of, restored, default_or, are};
+ghost use Rattle.kz_types.specs.Paths.{path_of, key_of, key_of_three, key_of_four, key_of_five, key_of_six, topic_of, address_of, resource_type_of, restored, default_or, are};
 
 use crate::cut::{Parts, cut};
 use crate::names::restore;
@@ -275,8 +275,8 @@ fn key_of_six(
     Ok(None)
 }
 
-/// The entity that a path holds. `None` exactly where it holds none.
-pub fn key_of(alloc: Global, path: &ZPath) -> Result<Option<EntityKey>, NoMemory>
+/// The entity that a path holds, by its parts.
+fn key_of_path(alloc: Global, path: &ZPath) -> Result<Option<EntityKey>, NoMemory>
     ensures { IfOk result (λ key. key ≡ key_of path.now) }
 {
     match cut(path.as_str()) {
@@ -292,4 +292,13 @@ pub fn key_of(alloc: Global, path: &ZPath) -> Result<Option<EntityKey>, NoMemory
         Parts::Six(a, b, c, d, e, f) => key_of_six(alloc, a, b, c, d, e, f),
         Parts::More => Ok(None),
     }
+}
+
+/// The entity that a path holds. `None` exactly where it holds none. Its path is this one.
+pub fn key_of(alloc: Global, path: &ZPath) -> Result<Option<EntityKey>, NoMemory>
+    ensures value { IfOk result (λ key. key ≡ key_of path.now) }
+    ensures path { IfOk result (λ key. IfSome key (λ k. path_of k ≡ path.now)) }
+{
+    let _rule = path.bytes();
+    key_of_path(alloc, path)
 }

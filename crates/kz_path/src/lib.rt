@@ -2,12 +2,15 @@
 #![tactic(auto)]
 
 mod cut;
-mod keys;
-mod kinds;
 mod names;
-mod paths;
 
 pub use keys::key_of;
 pub use kinds::{is_migrated, kind};
 pub use names::{restore, sanitise};
 pub use paths::path_of;
+
+mod keys;
+mod kinds;
+mod paths;
+#[cfg(test)]
+mod tests;

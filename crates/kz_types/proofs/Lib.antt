@@ -3,3 +3,4 @@ pub mod PathRules
 pub mod IdLemmas
 pub mod NumberLemmas
 pub mod NameLemmas
+pub mod KeyLemmas

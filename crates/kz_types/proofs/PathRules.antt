@@ -113,3 +113,11 @@ parts_behind bs path = by bs (begins_with_slash bs path)
     by : (cs : List ℕ) → (slice_index cs 0 == 47) ≡ true → (1 ≤ length cs) × (parts cs ≡ slice_split (λ b. b == 47) (drop 1 cs))
     by [] h = absurd (false≢true h)
     by (c ∷ cs) h = (omega arith, ap (drop 1) (slice_split-cons_yes (λ b. b == 47) c cs h))
+
+-- its parts behind the nothing before its first slash
+pub split_of_path : (bs : List ℕ) → is_path bs ≡ true → slice_split (λ b. b == 47) bs ≡ [] ∷ parts bs
+split_of_path bs path = by bs (begins_with_slash bs path)
+  where
+    by : (cs : List ℕ) → (slice_index cs 0 == 47) ≡ true → slice_split (λ b. b == 47) cs ≡ [] ∷ parts cs
+    by [] h = absurd (false≢true h)
+    by (c ∷ cs) h = let e = slice_split-cons_yes (λ b. b == 47) c cs h in e ∙ ap (λ ps. [] ∷ drop 1 ps) (sym e)

@@ -11,11 +11,11 @@ use Rattle.kz_types.specs.declared.path_rule.Place.TheVariants.{Start, BehindSla
 abbrev pub parts : List ℕ → List (List ℕ)
 parts path = drop 1 (slice_split (λ b. b == 47) path)
 
--- no control character
+-- no control character and no slash
 abbrev pub is_shown : ℕ → Bool
-is_shown b = nat_le 32 b && not (b == 127)
+is_shown b = nat_le 32 b && not (b == 127) && not (b == 47)
 
--- what may stand between two slashes, which a slash itself never does
+-- a part: what may stand between two slashes
 abbrev pub is_part : List ℕ → Bool
 is_part part = nat_lt 0 (length part) && not (bytes_eq part (codes ".")) && not (bytes_eq part (codes "..")) && list_all is_shown part
 

@@ -39,6 +39,7 @@ pub fn partition_paths()
 pub fn address_paths()
     ensures default { path_of (EntityKey.Ip None) ≡ codes "/config/ips/<default>" }
     ensures named { is_legal (EntityKey.Ip (Some (codes "<default>"))) ≡ false }
+    ensures slash { is_legal (EntityKey.Ip (Some (codes "a/b"))) ≡ false }
 {}
 
 /// Kinds at their boundaries.

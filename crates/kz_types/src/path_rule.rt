@@ -19,11 +19,11 @@ pub enum Place {
     Within { low: u8, high: u8, later: u8 },
 }
 
-/// Whether no byte is a control character.
+/// Whether no byte is a control character or a slash.
 fn are_shown(part: &[u8]) -> bool
     ensures { result ≡ list_all is_shown part.now }
 {
-    part.iter().all(|b| 32 <= *b && *b != 127)
+    part.iter().all(|b| 32 <= *b && *b != 127 && *b != b'/')
 }
 
 /// Whether bytes may stand between two slashes.
