@@ -34,6 +34,7 @@ abbrev pub open_behind : Bool → List MetaRecord → Bool
 open_behind inside [] = inside
 open_behind inside (r ∷ rs) = open_behind (opened inside r) rs
 
+-- whether one is open behind these batches
 abbrev pub open_behind_all : Bool → List BatchRow → Bool
 open_behind_all inside [] = inside
 open_behind_all inside (b ∷ bs) = open_behind_all (open_behind inside b.items) bs
