@@ -1,12 +1,10 @@
 //! The bodies of the control znodes: `/controller_epoch`, `/controller` and `/migration` (KIP-866).
 #![tactic(auto)]
 
-mod decimals;
 mod members;
 mod reading;
 mod writing;
 
-pub use decimals::canonical_number;
 pub use kz_types::{BodyFault, Recorded};
 pub use reading::{read_control, read_epoch, read_migration};
 pub use writing::{write_control, write_epoch, write_migration};

@@ -4,9 +4,8 @@ ghost use Rattle.serde_json.specs.View.{view};
 ghost use Rattle.kz_spec_values.specs.Control.{read_epoch, shown_epoch, read_recorded, recorded_in, recorded_or_fault};
 ghost use Rattle.kz_state.specs.Faults.{IsFaultOf};
 
-use crate::decimals::canonical_number;
 use crate::members::{bad_field, field_int, field_long, read_json, whole_int};
-use kz_types::{BodyFault, NoMemory, Recorded};
+use kz_types::{BodyFault, NoMemory, Recorded, number_in};
 use serde_json::Value;
 use std::alloc::Global;
 
@@ -16,7 +15,7 @@ pub fn read_epoch(alloc: Global, body: &[u8]) -> Result<i32, BodyFault>
     ensures ok { IfOk result (λ epoch. read_epoch body.now ≡ Ok epoch) }
     ensures err { IfErr result (IsFaultOf (read_epoch body.now)) }
 {
-    match canonical_number(body) {
+    match number_in(body) {
         Some(epoch) => Ok(epoch),
         None => Err(bad_field(alloc, "controller_epoch")),
     }

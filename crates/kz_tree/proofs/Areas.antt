@@ -1,5 +1,5 @@
 -- The migrated area rises where the znodes do.
-use Rattle.std.proofs.Common.{◌≡◌, List, map, refl}
+use Rattle.std.proofs.Common.{List, map, refl}
 use Rattle.std.specs.List.{filter}
 use Rattle.kz_types.specs.declared.tree.Row.{Row}
 use Rattle.kz_types.specs.Paths.{is_migrated}
