@@ -142,12 +142,12 @@ delta_of c = c.1.1.0
 abbrev pub value_of : Content → List ℕ
 value_of c = c.1.1.1.1.0
 
--- the content that these bytes are, all of them
-abbrev pub whole : List ℕ × Reading → Result (Content × Reading) BatchFault
-whole x = content.read (record { at = x.1.at - length x.0; left = x.0 }) >>= λ c. if length c.1.left == 0 then Ok (c.0, x.1) else Err BadCount
+-- the content that these bytes at this place are, all of them
+abbrev pub whole : ℕ → List ℕ × Reading → Result (Content × Reading) BatchFault
+whole at x = content.read (record { at = at; left = x.0 }) >>= λ c. if length c.1.left == 0 then Ok (c.0, x.1) else Err BadCount
 
 abbrev pub sized_at : ℤ × Reading → Result (Content × Reading) BatchFault
-sized_at (pos n, r) = countable ((front n).read r) >>= whole
+sized_at (pos n, r) = countable ((front n).read r) >>= whole r.at
 sized_at (negsuc n, r) = Err BadCount
 
 -- a record: the length of its content, and the content
@@ -162,7 +162,7 @@ entry = record {
 -- ---- batches
 
 -- What a batch says. The offset of its last record can pass 64 bits. The records of a control batch aren't read.
-pub record Batch : Type 0 where
+pub record BatchContents : Type 0 where
   pub first : ℤ
   pub epoch : ℤ
   pub time : ℤ
@@ -187,7 +187,7 @@ IsContent true bytes values = (pos 0 ≤ℤ last_delta bytes) × (values ≡ [])
 IsContent false bytes values = (cs : List Content) × AreRecords bytes cs × (values ≡ map value_of cs)
 
 -- The bytes are this batch.
-pub record IsBatch (bytes : List ℕ) (batch : Batch) : Type 0 where
+pub record IsBatch (bytes : List ℕ) (batch : BatchContents) : Type 0 where
   pub size : 61 ≤ length bytes
   pub stated : stated_length bytes ≡ pos (length bytes - 12)
   pub format : magic bytes ≡ 2
@@ -211,12 +211,12 @@ abbrev pub is_short : List ℕ → Bool
 is_short bytes = if nat_lt (length bytes) 61 then true else not (sized (stated_length bytes) (length bytes))
 
 -- the bytes that the length field counts, from the attributes on
-abbrev pub summed_part : List ℕ → ℤ → List ℕ
-summed_part bytes (pos n) = take (n - 9) (drop 21 bytes)
-summed_part bytes (negsuc n) = []
+abbrev pub summed_rest : List ℕ → ℤ → List ℕ
+summed_rest rest (pos n) = take (n - 9) rest
+summed_rest rest (negsuc n) = []
 
 abbrev pub summed : List ℕ → List ℕ
-summed bytes = summed_part bytes (stated_length bytes)
+summed bytes = summed_rest (drop 21 bytes) (stated_length bytes)
 
 -- so many records and no more bytes, where that count is one more than the last delta
 abbrev pub records_counted : ℤ → List ℕ → Result (List Content) BatchFault
@@ -233,10 +233,10 @@ abbrev pub values_of : Bool → List ℕ → Result (List (List ℕ)) BatchFault
 values_of true bytes = if is_negative (last_delta bytes) then Err BadCount else Ok []
 values_of false bytes = records_counted (stated_count bytes) bytes >>= λ cs. if is_numbered 0 cs then Ok (map value_of cs) else Err BadOrder
 
-abbrev pub batch_with : List ℕ → List (List ℕ) → Batch
+abbrev pub batch_with : List ℕ → List (List ℕ) → BatchContents
 batch_with bytes values = record { first = base_offset bytes; epoch = leader_epoch bytes; time = base_time bytes; last = base_offset bytes +ℤ last_delta bytes; control = is_control bytes; values = values }
 
-unfoldable pub batch_of : List ℕ → Result Batch BatchFault
+unfoldable pub batch_of : List ℕ → Result BatchContents BatchFault
 batch_of bytes =
     if is_short bytes then Err Short
     else (if not (magic bytes == 2) then Err (BadMagic (magic bytes))
@@ -255,16 +255,24 @@ abbrev pub records_written : ℕ → List (List ℕ) → List ℕ
 records_written n [] = []
 records_written n (v ∷ vs) = entry.written (holding n v) ++ records_written (n + 1) vs
 
+-- from the attributes to the count of records: attributes, last delta, base and greatest timestamp, producer id,
+-- producer epoch, base sequence, count
+abbrev pub header_written : ℤ → ℕ → List ℕ
+header_written time count = to_be_bytes w16 0 ++ (to_be_bytes w32 (cast_unsigned w32 (pos count +ℤ negsuc 0)) ++ (to_be_bytes w64 (cast_unsigned w64 time) ++ (to_be_bytes w64 (cast_unsigned w64 time)
+  ++ (to_be_bytes w64 (cast_unsigned w64 (negsuc 0)) ++ (to_be_bytes w16 (cast_unsigned w16 (negsuc 0)) ++ (to_be_bytes w32 (cast_unsigned w32 (negsuc 0)) ++ to_be_bytes w32 count))))))
+
 -- from the attributes on
 abbrev pub summed_written : ℤ → List (List ℕ) → List ℕ
-summed_written time values = to_be_bytes w16 0 ++ (to_be_bytes w32 (cast_unsigned w32 (pos (length values) +ℤ negsuc 0)) ++ (to_be_bytes w64 (cast_unsigned w64 time) ++ (to_be_bytes w64 (cast_unsigned w64 time)
-    ++ (to_be_bytes w64 (cast_unsigned w64 (negsuc 0)) ++ (to_be_bytes w16 (cast_unsigned w16 (negsuc 0)) ++ (to_be_bytes w32 (cast_unsigned w32 (negsuc 0)) ++ (to_be_bytes w32 (length values) ++ records_written 0 values)))))))
+summed_written time values = header_written time (length values) ++ records_written 0 values
+
+-- first offset, length of what follows, epoch, format 2, sum, and the bytes that are summed
+abbrev pub sealed_written : ℤ → ℤ → List ℕ → List ℕ
+sealed_written first epoch rest = to_be_bytes w64 (cast_unsigned w64 first) ++ (to_be_bytes w32 (length rest + 9) ++ (to_be_bytes w32 (cast_unsigned w32 epoch) ++ (2 ∷ (to_be_bytes w32 (crc32c rest) ++ rest))))
 
 -- A batch of these values, whose first offset, epoch and time are given. All records have the batch's time, no producer
 -- is named, and nothing is compressed.
 abbrev pub batch_written : ℤ → ℤ → ℤ → List (List ℕ) → List ℕ
-batch_written first epoch time values = let rest = summed_written time values in
-    to_be_bytes w64 (cast_unsigned w64 first) ++ (to_be_bytes w32 (length rest + 9) ++ (to_be_bytes w32 (cast_unsigned w32 epoch) ++ (2 ∷ (to_be_bytes w32 (crc32c rest) ++ rest))))
+batch_written first epoch time values = sealed_written first epoch (summed_written time values)
 
 abbrev pub Holds31 : List ℕ → Type 0
 Holds31 value = length value + 32 < 2 ^ 31

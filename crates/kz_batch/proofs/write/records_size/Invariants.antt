@@ -1,0 +1,6 @@
+use Rattle.std.proofs.Common.{◌≡◌, ◌+◌, ◌*◌, ◌^◌, ◌≤◌, ◌++◌, length, map, take}
+use Rattle.kz_spec_values.specs.Batches.{records_written}
+use Rattle.kz_batch.proofs.write.records_size.Given as goal
+
+abbrev pub invariant-loop-value : goal.invariant-loop-value
+invariant-loop-value l = record { index : l.index ≡ l.value-index; size : l.size ≡ length (records_written 0 (map (λ v. v.items) (take l.value-index l.values))); bound : l.size ≤ l.value-index * (2 ^ 63 + 34) }
