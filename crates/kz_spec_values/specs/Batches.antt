@@ -259,7 +259,7 @@ records_written n (v ∷ vs) = entry.written (holding n v) ++ records_written (n
 -- producer epoch, base sequence, count
 abbrev pub header_written : ℤ → ℕ → List ℕ
 header_written time count = to_be_bytes w16 0 ++ (to_be_bytes w32 (cast_unsigned w32 (pos count +ℤ negsuc 0)) ++ (to_be_bytes w64 (cast_unsigned w64 time) ++ (to_be_bytes w64 (cast_unsigned w64 time)
-  ++ (to_be_bytes w64 (cast_unsigned w64 (negsuc 0)) ++ (to_be_bytes w16 (cast_unsigned w16 (negsuc 0)) ++ (to_be_bytes w32 (cast_unsigned w32 (negsuc 0)) ++ to_be_bytes w32 count))))))
+    ++ (to_be_bytes w64 (cast_unsigned w64 (negsuc 0)) ++ (to_be_bytes w16 (cast_unsigned w16 (negsuc 0)) ++ (to_be_bytes w32 (cast_unsigned w32 (negsuc 0)) ++ to_be_bytes w32 count))))))
 
 -- from the attributes on
 abbrev pub summed_written : ℤ → List (List ℕ) → List ℕ
