@@ -39,7 +39,8 @@ shown_digits (b ∷ bs) h =
     let r = digit_range b (first_digit b bs h) in
     let low : nat_le 32 b ≡ true = grind (arith, nat_tests, r.0) in
     let high : b == 127 ≡ false = grind (arith, nat_tests, r.1) in
-    rw (low, high) (shown_digits bs (rest_digits b bs h))
+    let slash : b == 47 ≡ false = grind (arith, nat_tests, r.0) in
+    rw (low, high, slash) (shown_digits bs (rest_digits b bs h))
 
 -- no byte of it is a slash
 no_slash : (bs : List ℕ) → list_all is_digit bs ≡ true → All (λ b. (b == 47) ≡ false) bs

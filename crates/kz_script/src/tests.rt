@@ -201,7 +201,10 @@ fn text_of(alloc: Global, text: &str) -> Result<Text, NoMemory> {
 }
 
 fn path_of(alloc: Global, text: &str) -> Result<ZPath, NoMemory> {
-    Ok(ZPath::from_text(Text::from_str(alloc, text)?))
+    match ZPath::new(alloc, text.as_bytes()) {
+        Ok(path) => Ok(path),
+        Err(_) => Err(NoMemory),
+    }
 }
 
 // The steps of a turn, and what they print.
