@@ -100,7 +100,7 @@ fn batches_have_ends(rt: HostRuntime) -> Result<(), Fail> {
 fn a_view_reads_to_the_end(rt: HostRuntime) -> Result<(), Fail> {
     let alloc = rt.alloc();
     let log = settled(alloc)?;
-    let view = log.read(alloc, View::new(alloc))?;
+    let view = log.read(alloc, &View::new(alloc))?;
     assert_eq!(rt; view.position(), 6);
     assert_eq!(rt; view.epoch(), 1);
     assert_eq!(rt; view.image().broker_configs().len(), 1);
