@@ -1,1 +1,3 @@
+pub mod Faults
+pub mod Lasts
 pub mod Leasts

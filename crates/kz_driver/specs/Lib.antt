@@ -1,3 +1,5 @@
+pub mod Appends
+pub mod Claims
 pub mod Fence
 pub mod Rows
 pub mod Stops

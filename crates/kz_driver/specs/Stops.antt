@@ -1,9 +1,10 @@
 -- A driver that is stopped before its claim.
-use Rattle.std.specs.Prelude.{◌≡◌, ◌≤ℤ◌, ⊤, Option, Some, None}
+use Rattle.std.specs.Prelude.{ℤ, ◌≤ℤ◌, Option, Some, None}
 use Rattle.kz_types.specs.declared.tree.Row.{Row}
 use Rattle.kz_types.specs.declared.machine.Reply.{Reply}
+use Rattle.kz_types.specs.declared.machine.Reply.TheVariants as reply
 use Rattle.kz_spec_stores.specs.Tree.{max_version}
-use Rattle.kz_spec_machine.specs.Driver.{Driver, claimed_number, claimed_version}
+use Rattle.kz_spec_machine.specs.Driver.{Driver, claimed_number, claimed_version, resigned}
 
 -- what is told, or what follows where nothing is
 abbrev pub stopped : Option Reply → Driver → Driver × Reply → Driver × Reply
@@ -13,3 +14,8 @@ stopped (Some told) d rest = (d, told)
 -- the number and the data version of `/controller_epoch` can rise by a claim
 abbrev pub CanClaim : Option Row → Type 0
 CanClaim row = (claimed_number row ≤ℤ max_version) × (claimed_version row ≤ℤ max_version)
+
+-- a driver that another controller of this epoch fences off, or what follows where there is none
+abbrev pub fenced_by : Option ℤ → Driver → Driver × Reply → Driver × Reply
+fenced_by None d rest = rest
+fenced_by (Some epoch) d rest = (resigned d, reply.FencedEpoch epoch)

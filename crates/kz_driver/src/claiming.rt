@@ -9,7 +9,7 @@ ghost use Rattle.kz_spec_values.specs.Control.{control_path, epoch_path, migrati
 ghost use Rattle.kz_spec_stores.specs.Tree.{row_at, look, max_version};
 ghost use Rattle.kz_spec_machine.specs.Driver.{Driver as DriverValue, seen_in, shown_by, looked, unless_fenced, unless_bad_epoch, unless_full_record, views_migrated, claimed_number, claimed_version};
 ghost use Rattle.kz_driver.specs.Rows.{driver_of};
-ghost use Rattle.kz_driver.specs.Stops.{stopped, CanClaim};
+ghost use Rattle.kz_driver.specs.Stops.{stopped, fenced_by, CanClaim};
 
 use crate::paths::{base_paths, epoch_path, migration_path};
 use crate::row::DriverRow;
@@ -136,4 +136,43 @@ fn record_stop(
         })),
         _ => Ok(None),
     }
+}
+
+// The epoch that another controller shows, where it is higher.
+fn higher_epoch(driver: &DriverRow, shown: Option<i32>) -> Option<i32>
+    ensures { (rest : DriverValue × ReplyValue) → unless_fenced shown (driver_of driver.now) rest ≡ fenced_by result (driver_of driver.now) rest }
+{
+    match shown {
+        Some(epoch) if driver.epoch.unwrap_or(0) < epoch => Some(epoch),
+        _ => None,
+    }
+}
+
+// What follows a look that saw this. At `Err` nothing has changed.
+fn after_look(alloc: Global, row: &mut DriverRow, seen: ClaimSeen) -> Result<Reply, NoMemory>
+    ensures ok { IfOk result (λ told. looked seen (driver_of row.old) ≡ (driver_of row.new, told)) }
+    ensures err { OnErr result (row.new ≡ row.old) }
+{
+    let shown = shown_by(alloc, seen.control.as_ref())?;
+    if let Some(epoch) = higher_epoch(row, shown) {
+        resign(row);
+        return Ok(Reply::FencedEpoch { epoch });
+    }
+    if let Some(told) = epoch_stop(alloc, seen.epoch.as_ref())? {
+        return Ok(told);
+    }
+    if let Some(told) = record_stop(alloc, row, seen.migration.as_ref())? {
+        return Ok(told);
+    }
+    row.stage = Stage::Claim { seen };
+    Ok(Reply::Looked)
+}
+
+/// BECOME_CONTROLLER, before the look. At `Err` nothing has changed.
+pub fn look(alloc: Global, row: &mut DriverRow, tree: &Tree) -> Result<Reply, NoMemory>
+    ensures ok { IfOk result (λ told. looked (seen_in tree.now) (driver_of row.old) ≡ (driver_of row.new, told)) }
+    ensures err { OnErr result (row.new ≡ row.old) }
+{
+    let seen = seen_in(alloc, tree)?;
+    after_look(alloc, row, seen)
 }

@@ -4,11 +4,15 @@
 //! what it has read.
 #![tactic(auto)]
 
+mod appending;
+mod asking;
+mod claim;
 mod claiming;
 mod fence;
 mod paths;
 mod peers;
 mod row;
+mod source;
 mod waiting;
 
 pub use fence::{Claimer, claim_ops, is_last_write, write_ops};

@@ -1,0 +1,9 @@
+-- What an append says.
+use Rattle.std.specs.Prelude.{◌≡◌, ℤ, Result, Ok, Err}
+use Rattle.kz_types.specs.declared.fault.LogFault.{LogFault}
+use Rattle.kz_spec_stores.specs.Log.{Log, end_of}
+
+-- the last offset of the log that it makes, or its fault
+abbrev pub IsSaid : Result Log LogFault → Result ℤ LogFault → Type 0
+IsSaid r (Ok end) = (l : Log) × (r ≡ Ok l) × (end ≡ end_of l)
+IsSaid r (Err f) = r ≡ Err f

@@ -1,0 +1,185 @@
+//! BECOME_CONTROLLER: the claim.
+ghost use Rattle.std.specs.Prelude.{◌≡◌, ◌<◌, ℕ, length, Err, ◌≤ℤ◌, IfOk, OnErr, option_map};
+ghost use Rattle.kz_types.specs.declared.driver.ClaimSeen.{ClaimSeen as ClaimSeenValue};
+ghost use Rattle.kz_types.specs.declared.fault.TreeFault.TheVariants.{Limit};
+ghost use Rattle.kz_types.specs.declared.driver.Stage.TheVariants as stage;
+ghost use Rattle.kz_spec_stores.specs.Tree.{multi, max_version};
+ghost use Rattle.kz_spec_machine.specs.Driver.{claimed_number, claimed_version, claim_ops, after_claim};
+ghost use Rattle.kz_driver.specs.Rows.{driver_of};
+ghost use Rattle.kz_driver.specs.Stops.{CanClaim};
+ghost use Rattle.kz_driver.specs.Claims.{claimer_of, claimed_by, after_claimed, tree_after};
+
+use crate::asking::{ask, path_at};
+use crate::claiming::views_migrated;
+use crate::fence::{Claimer, claim_ops};
+use crate::row::DriverRow;
+use kz_state::read_epoch;
+use kz_tree::Tree;
+use kz_types::{
+    BodyFault, ClaimSeen, DriverState, NoMemory, Op, Reply, Row, Sequence, Stage, TreeFault,
+};
+use std::alloc::Global;
+
+/// What became of a claim.
+#[derive(Drop)]
+pub enum Claimed {
+    /// The tree is claimed: the number and the data version of `/controller_epoch`.
+    Done { number: i32, version: i32 },
+    /// The tree wasn't as it was seen.
+    Refused,
+    /// The driver stays as it is, and tells why.
+    Stopped { told: Reply },
+}
+
+// The number that a claim writes.
+fn claimed_number(alloc: Global, row: Option<&Row>) -> Result<i32, NoMemory>
+    requires { claimed_number (option_map (λ r. r.now) row) ≤ℤ max_version }
+    ensures { IfOk result (λ number. number ≡ claimed_number (option_map (λ r. r.now) row.entry)) }
+{
+    match row {
+        None => Ok(1),
+        Some(row) => match read_epoch(alloc, row.body.as_slice()) {
+            Ok(number) => Ok(number + 1),
+            Err(BodyFault::NoMemory) => Err(NoMemory),
+            Err(_) => Ok(1),
+        },
+    }
+}
+
+// The data version that a claim gives.
+fn claimed_version(row: Option<&Row>) -> i32
+    requires { claimed_version (option_map (λ r. r.now) row) ≤ℤ max_version }
+    ensures { result ≡ claimed_version (option_map (λ r. r.now) row.entry) }
+{
+    match row {
+        None => 0,
+        Some(row) => row.version + 1,
+    }
+}
+
+fn claimer_of(driver: &DriverRow, now: i64) -> Claimer
+    ensures { result ≡ claimer_of (driver_of driver.now) now }
+{
+    Claimer {
+        id: driver.id,
+        epoch: driver.epoch.unwrap_or(0),
+        now,
+        migrated: views_migrated(driver),
+    }
+}
+
+// What became of a claim that this fault stops.
+fn stopped_by(alloc: Global, ops: &[Op], fault: TreeFault) -> Result<Claimed, NoMemory>
+    requires { (index number : ℕ) → fault ≡ Limit index number → index < length ops.now }
+    ensures { (seen : ClaimSeenValue) → IfOk result (λ claimed. claimed ≡ claimed_by seen ops.now (Err fault)) }
+{
+    match fault {
+        TreeFault::Refused { .. } => Ok(Claimed::Refused),
+        TreeFault::Limit { index, .. } => Ok(Claimed::Stopped {
+            told: Reply::Limit {
+                path: path_at(alloc, ops, index)?,
+            },
+        }),
+        other => Ok(Claimed::Stopped {
+            told: Reply::TreeFailed(other),
+        }),
+    }
+}
+
+// The operations of a claim of what was seen.
+fn ops_of_claim(
+    alloc: Global,
+    driver: &DriverRow,
+    seen: &ClaimSeen,
+    now: i64,
+) -> Result<Vec<Op>, NoMemory>
+    requires { CanClaim seen.now.epoch }
+    ensures { IfOk result (λ ops. ops.items ≡ claim_ops seen.now (driver_of driver.now) now) }
+{
+    let number = claimed_number(alloc, seen.epoch.as_ref())?;
+    claim_ops(alloc, seen, number, &claimer_of(driver, now))
+}
+
+// Asks the tree for a claim with these operations. At `Err` the tree is as it was.
+fn ask_claim(
+    alloc: Global,
+    seen: &ClaimSeen,
+    ops: &[Op],
+    tree: &mut Tree,
+) -> Result<Claimed, NoMemory>
+    requires can { CanClaim seen.now.epoch }
+    requires some { 0 < length ops.now }
+    ensures said { IfOk result (λ claimed. claimed ≡ claimed_by seen.now ops.now (multi tree.old ops.now)) }
+    ensures tree { IfOk result (λ claimed. tree.new ≡ tree_after (multi tree.old ops.now) tree.old) }
+    ensures err { OnErr result (tree.new ≡ tree.old) }
+{
+    let number = claimed_number(alloc, seen.epoch.as_ref())?;
+    let version = claimed_version(seen.epoch.as_ref());
+    match ask(tree, ops)? {
+        None => Ok(Claimed::Done { number, version }),
+        Some(fault) => stopped_by(alloc, ops, fault),
+    }
+}
+
+// The driver after a claim.
+fn after_claimed(alloc: Global, row: &mut DriverRow, claimed: Claimed) -> Reply
+    ensures { after_claimed claimed (driver_of row.old) ≡ (driver_of row.new, result) }
+{
+    match claimed {
+        Claimed::Done { number, version } => {
+            row.claim = Some(version);
+            row.stage = if views_migrated(row) {
+                Stage::ReadLog
+            } else {
+                Stage::ReadSource {
+                    rows: Sequence::new(alloc),
+                }
+            };
+            Reply::Claimed { zk_epoch: number }
+        }
+        Claimed::Refused => {
+            row.claim = None;
+            row.stage = Stage::Look;
+            Reply::Moved(DriverState::BecomeController)
+        }
+        Claimed::Stopped { told } => told,
+    }
+}
+
+// Makes the claim of what was seen. At `Err` the tree is as it was.
+fn try_claim(
+    alloc: Global,
+    driver: &DriverRow,
+    seen: &ClaimSeen,
+    tree: &mut Tree,
+    now: i64,
+) -> Result<Claimed, NoMemory>
+    requires { CanClaim seen.now.epoch }
+    ensures said { IfOk result (λ claimed. claimed ≡ claimed_by seen.now (claim_ops seen.now (driver_of driver.now) now) (multi tree.old (claim_ops seen.now (driver_of driver.now) now))) }
+    ensures tree { IfOk result (λ claimed. tree.new ≡ tree_after (multi tree.old (claim_ops seen.now (driver_of driver.now) now)) tree.old) }
+    ensures err { OnErr result (tree.new ≡ tree.old) }
+{
+    let ops = ops_of_claim(alloc, driver, seen, now)?;
+    ask_claim(alloc, seen, &ops, tree)
+}
+
+/// BECOME_CONTROLLER, before the claim. At `Err` nothing has changed.
+pub fn claim(
+    alloc: Global,
+    row: &mut DriverRow,
+    tree: &mut Tree,
+    now: i64,
+) -> Result<Reply, NoMemory>
+    requires { (seen : ClaimSeenValue) → row.old.stage ≡ stage.Claim seen → CanClaim seen.epoch }
+    ensures driver { (seen : ClaimSeenValue) → row.old.stage ≡ stage.Claim seen → IfOk result (λ told.
+        after_claimed (claimed_by seen (claim_ops seen (driver_of row.old) now) (multi tree.old (claim_ops seen (driver_of row.old) now))) (driver_of row.old) ≡ (driver_of row.new, told)) }
+    ensures tree { (seen : ClaimSeenValue) → row.old.stage ≡ stage.Claim seen → IfOk result (λ told.
+        tree.new ≡ tree_after (multi tree.old (claim_ops seen (driver_of row.old) now)) tree.old) }
+    ensures err { OnErr result ((row.new ≡ row.old) × (tree.new ≡ tree.old)) }
+{
+    let Stage::Claim { seen } = &row.stage else {
+        return Ok(Reply::Idle);
+    };
+    let claimed = try_claim(alloc, row, seen, tree, now)?;
+    Ok(after_claimed(alloc, row, claimed))
+}
