@@ -7,3 +7,8 @@ use Rattle.kz_spec_stores.specs.Log.{Log, end_of}
 abbrev pub IsSaid : Result Log LogFault → Result ℤ LogFault → Type 0
 IsSaid r (Ok end) = (l : Log) × (r ≡ Ok l) × (end ≡ end_of l)
 IsSaid r (Err f) = r ≡ Err f
+
+-- the log after an append
+abbrev pub log_after : Result Log LogFault → Log → Log
+log_after (Ok new) l = new
+log_after (Err f) l = l

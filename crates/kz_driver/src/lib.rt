@@ -9,6 +9,7 @@ mod asking;
 mod claim;
 mod claiming;
 mod fence;
+mod migrating;
 mod paths;
 mod peers;
 mod row;
