@@ -45,8 +45,8 @@ fn first_records(records: &[MetaRecord]) -> &[MetaRecord]
     &records[..records.len().min(BATCH_SIZE)]
 }
 
-// Appends the next batch, of these records or of those that commit.
-fn add_next(
+/// Appends the next batch, of these records or of those that commit. At `Err` nothing has changed.
+pub fn add_next(
     alloc: Global,
     log: &mut MemoryLog,
     epoch: i32,
