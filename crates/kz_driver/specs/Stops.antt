@@ -1,6 +1,8 @@
 -- A driver that is stopped before its claim.
-use Rattle.std.specs.Prelude.{ℤ, ◌≤ℤ◌, Option, Some, None}
+use Rattle.std.specs.Prelude.{ℤ, ◌≤ℤ◌, ⊤, Option, Some, None}
 use Rattle.kz_types.specs.declared.tree.Row.{Row}
+use Rattle.kz_types.specs.declared.driver.Stage.{Stage}
+use Rattle.kz_types.specs.declared.driver.Stage.TheVariants as stage
 use Rattle.kz_types.specs.declared.machine.Reply.{Reply}
 use Rattle.kz_types.specs.declared.machine.Reply.TheVariants as reply
 use Rattle.kz_spec_stores.specs.Tree.{max_version}
@@ -14,6 +16,11 @@ stopped (Some told) d rest = (d, told)
 -- the number and the data version of `/controller_epoch` can rise by a claim
 abbrev pub CanClaim : Option Row → Type 0
 CanClaim row = (claimed_number row ≤ℤ max_version) × (claimed_version row ≤ℤ max_version)
+
+-- where the driver is before its claim, what it saw can rise
+abbrev pub StageCanClaim : Stage → Type 0
+StageCanClaim (stage.Claim seen) = CanClaim seen.epoch
+StageCanClaim other = ⊤
 
 -- a driver that another controller of this epoch fences off, or what follows where there is none
 abbrev pub fenced_by : Option ℤ → Driver → Driver × Reply → Driver × Reply

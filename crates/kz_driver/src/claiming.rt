@@ -9,7 +9,7 @@ ghost use Rattle.kz_spec_values.specs.Control.{control_path, epoch_path, migrati
 ghost use Rattle.kz_spec_stores.specs.Tree.{row_at, look, max_version};
 ghost use Rattle.kz_spec_machine.specs.Driver.{Driver as DriverValue, seen_in, shown_by, looked, unless_fenced, unless_bad_epoch, unless_full_record, views_migrated, claimed_number, claimed_version};
 ghost use Rattle.kz_driver.specs.Rows.{driver_of};
-ghost use Rattle.kz_driver.specs.Stops.{stopped, fenced_by, CanClaim};
+ghost use Rattle.kz_driver.specs.Stops.{stopped, fenced_by, CanClaim, StageCanClaim};
 
 use crate::paths::{base_paths, epoch_path, migration_path};
 use crate::row::DriverRow;
@@ -151,6 +151,7 @@ fn higher_epoch(driver: &DriverRow, shown: Option<i32>) -> Option<i32>
 // What follows a look that saw this. At `Err` nothing has changed.
 fn after_look(alloc: Global, row: &mut DriverRow, seen: ClaimSeen) -> Result<Reply, NoMemory>
     ensures ok { IfOk result (λ told. looked seen (driver_of row.old) ≡ (driver_of row.new, told)) }
+    ensures can { row.old.stage ≡ stage.Look → IfOk result (λ told. StageCanClaim row.new.stage) }
     ensures err { OnErr result (row.new ≡ row.old) }
 {
     let shown = shown_by(alloc, seen.control.as_ref())?;
@@ -171,6 +172,7 @@ fn after_look(alloc: Global, row: &mut DriverRow, seen: ClaimSeen) -> Result<Rep
 /// BECOME_CONTROLLER, before the look. At `Err` nothing has changed.
 pub fn look(alloc: Global, row: &mut DriverRow, tree: &Tree) -> Result<Reply, NoMemory>
     ensures ok { IfOk result (λ told. looked (seen_in tree.now) (driver_of row.old) ≡ (driver_of row.new, told)) }
+    ensures can { row.old.stage ≡ stage.Look → IfOk result (λ told. StageCanClaim row.new.stage) }
     ensures err { OnErr result (row.new ≡ row.old) }
 {
     let seen = seen_in(alloc, tree)?;
