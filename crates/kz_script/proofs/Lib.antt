@@ -1,2 +1,1 @@
 mod Json
-mod Canonical
