@@ -1,5 +1,5 @@
 -- The records of the next batch are the first ones.
-use Rattle.std.proofs.Common.{◌≡◌, ℕ, ◌<◌, List, [], ◌∷◌, length, take, min, sym, ap, ◌∙◌, arith}
+use Rattle.std.proofs.Common.{◌≡◌, ℕ, ◌<◌, List, [], ◌∷◌, length, take, min, arith}
 use Rattle.std.proofs.lemmas.Grind.{common_steps}
 use Rattle.kz_types.specs.declared.record.MetaRecord.{MetaRecord}
 use Rattle.kz_spec_machine.specs.Driver.{next_records, batch_size}

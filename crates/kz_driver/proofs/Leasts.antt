@@ -1,5 +1,5 @@
 -- The least of the numbers that pass a test, from the end of a list on.
-use Rattle.std.proofs.Common.{◌≡◌, ℕ, suc, ◌+◌, ◌-◌, ◌<◌, ℤ, pos, Bool, true, false, cond, not, List, [], ◌∷◌, Option, length, drop, get_or, refl, sym, ap, ◌∙◌, arith, add-one, drop-cons}
+use Rattle.std.proofs.Common.{◌≡◌, ℕ, ◌+◌, ◌-◌, ◌<◌, ℤ, pos, Bool, true, false, cond, not, List, ◌∷◌, Option, length, drop, get_or, refl, sym, ap, ◌∙◌, arith, add-one, drop-cons}
 use Rattle.std.specs.List.{filter}
 use Rattle.kz_spec_machine.specs.Driver.{least, less_of}
 

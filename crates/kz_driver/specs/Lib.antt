@@ -1,5 +1,7 @@
 pub mod Appends
 pub mod Claims
+pub mod Drivers
 pub mod Fence
 pub mod Rows
 pub mod Stops
+pub mod Writes

@@ -1,11 +1,11 @@
 //! Requests of the log.
-ghost use Rattle.std.specs.Prelude.{◌≡◌, ◌<◌, ◌≤ℤ◌, IfOk, OnErr, MatchResult, Ok, Err, Result, length, pos, drop};
+ghost use Rattle.std.specs.Prelude.{◌≡◌, ◌<◌, ◌≤ℤ◌, IfOk, OnErr, Ok, Err, Result, length, pos, drop};
 ghost use Rattle.kz_types.specs.declared.driver.Stage.{Stage as StageValue};
 ghost use Rattle.kz_types.specs.declared.fault.LogFault.{LogFault as LogFaultValue};
 ghost use Rattle.kz_spec_stores.specs.Log.{Log, append, end_of};
-ghost use Rattle.kz_spec_machine.specs.Driver.{after_append};
+ghost use Rattle.kz_spec_machine.specs.Driver.{epoch_or_zero, after_append};
 ghost use Rattle.kz_driver.specs.Rows.{driver_of};
-ghost use Rattle.kz_driver.specs.Appends.{IsSaid};
+ghost use Rattle.kz_driver.specs.Appends.{IsSaid, log_after};
 
 use crate::row::DriverRow;
 use crate::waiting::resign;
@@ -13,23 +13,28 @@ use kz_log::MemoryLog;
 use kz_types::{LogFault, MetaRecord, NoMemory, Reply, Stage};
 use std::alloc::Global;
 
-/// Appends records, and answers the last offset or the fault.
+// The epoch of a driver, 0 where it has none.
+fn epoch_of(driver: &DriverRow) -> i32
+    ensures { result ≡ epoch_or_zero driver.now.epoch }
+{
+    driver.epoch.unwrap_or(0)
+}
+
+/// A driver appends records, and is told the last offset or the fault.
 pub fn add(
     alloc: Global,
     log: &mut MemoryLog,
-    epoch: i32,
+    driver: &DriverRow,
     now: i64,
     items: &[MetaRecord],
 ) -> Result<Result<i64, LogFault>, NoMemory>
     requires some { 0 < length items.now }
-    requires elected { pos 1 ≤ℤ epoch }
-    ensures said { IfOk result (IsSaid (append log.old epoch now items.now)) }
-    ensures log { IfOk result (λ said. MatchResult said
-        (λ end. append log.old epoch now items.now ≡ Ok log.new)
-        (λ f. log.new ≡ log.old)) }
+    requires elected { pos 1 ≤ℤ epoch_or_zero driver.now.epoch }
+    ensures said { IfOk result (IsSaid (append log.old (epoch_or_zero driver.now.epoch) now items.now)) }
+    ensures log { IfOk result (λ said. log.new ≡ log_after (append log.old (epoch_or_zero driver.now.epoch) now items.now) log.old) }
     ensures err { OnErr result (log.new ≡ log.old) }
 {
-    match log.append(alloc, epoch, now, items) {
+    match log.append(alloc, epoch_of(driver), now, items) {
         Ok(end) => Ok(Ok(end)),
         Err(LogFault::NoMemory) => Err(NoMemory),
         Err(fault) => Ok(Err(fault)),

@@ -5,16 +5,22 @@
 #![tactic(auto)]
 
 mod appending;
+mod area;
 mod asking;
 mod claim;
 mod claiming;
+mod drive;
 mod fence;
 mod migrating;
 mod paths;
 mod peers;
+mod resting;
 mod row;
 mod source;
+mod targets;
 mod waiting;
+mod writing;
 
+pub use drive::Driver;
 pub use fence::{Claimer, claim_ops, is_last_write, write_ops};
 pub use peers::{Peers, missing_broker, missing_controller};

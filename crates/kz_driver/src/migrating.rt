@@ -1,17 +1,25 @@
 //! ZK_MIGRATION: the translated records are appended in a transaction.
-ghost use Rattle.std.specs.Prelude.{◌≡◌, ◌<◌, ◌≤ℤ◌, IfOk, OnErr, MatchResult, Ok, length, pos, [], ◌∷◌};
+ghost use Rattle.std.specs.Prelude.{◌≡◌, ◌<◌, ◌≤ℤ◌, IfOk, OnErr, Ok, Err, List, ℤ, Result, length, pos, [], ◌∷◌};
 ghost use Rattle.kz_types.specs.declared.record.MetaRecord.{MetaRecord as MetaRecordValue};
+ghost use Rattle.kz_types.specs.declared.tree.Row.{Row as RowValue};
 ghost use Rattle.kz_types.specs.declared.driver.Stage.TheVariants as stage;
-ghost use Rattle.kz_spec_stores.specs.Log.{append};
-ghost use Rattle.kz_spec_machine.specs.Driver.{epoch_or_zero, begin_record, commit_records, next_records, after_records, after_append};
+ghost use Rattle.kz_types.specs.declared.fault.LogFault.{LogFault as LogFaultValue};
+ghost use Rattle.kz_spec_stores.specs.Tree.{Tree};
+ghost use Rattle.kz_spec_stores.specs.Log.{Log, append};
+ghost use Rattle.kz_spec_stores.specs.Translation.{translate};
+ghost use Rattle.kz_spec_machine.specs.Driver.{epoch_or_zero, begin_record, commit_records, next_records, after_records, after_append, after_translation};
 ghost use Rattle.kz_driver.specs.Rows.{driver_of};
-ghost use Rattle.kz_driver.specs.Appends.{IsSaid};
+ghost use Rattle.kz_driver.specs.Appends.{IsSaid, log_after, log_begun};
+ghost use Rattle.kz_driver.specs.Drivers.{shared_of};
 
 use crate::appending::{add, after_append, drop_first};
 use crate::row::DriverRow;
+use crate::waiting::resign;
 use kz_log::MemoryLog;
+use kz_reader::{ReadFault, translate};
 use kz_types::{LogFault, MetaRecord, NoMemory, Reply, Sequence, Stage, Text};
 use std::alloc::Global;
+use std::mem;
 
 /// The records of a batch of the migration.
 pub const BATCH_SIZE: usize = 1000;
@@ -49,21 +57,127 @@ fn first_records(records: &[MetaRecord]) -> &[MetaRecord]
 pub fn add_next(
     alloc: Global,
     log: &mut MemoryLog,
-    epoch: i32,
+    driver: &DriverRow,
     now: i64,
     records: &[MetaRecord],
 ) -> Result<Result<i64, LogFault>, NoMemory>
-    requires { pos 1 ≤ℤ epoch }
-    ensures said { IfOk result (IsSaid (append log.old epoch now (next_records records.now))) }
-    ensures log { IfOk result (λ said. MatchResult said
-        (λ end. append log.old epoch now (next_records records.now) ≡ Ok log.new)
-        (λ f. log.new ≡ log.old)) }
+    requires { pos 1 ≤ℤ epoch_or_zero driver.now.epoch }
+    ensures said { IfOk result (IsSaid (append log.old (epoch_or_zero driver.now.epoch) now (next_records records.now))) }
+    ensures log { IfOk result (λ said. log.new ≡ log_after (append log.old (epoch_or_zero driver.now.epoch) now (next_records records.now)) log.old) }
     ensures err { OnErr result (log.new ≡ log.old) }
 {
     if records.is_empty() {
         let last = commit_records(alloc)?;
-        add(alloc, log, epoch, now, &last)
+        add(alloc, log, driver, now, &last)
     } else {
-        add(alloc, log, epoch, now, first_records(records))
+        add(alloc, log, driver, now, first_records(records))
     }
+}
+
+// Begins the transaction of these records. At `Err` nothing has changed.
+fn begin_with(
+    alloc: Global,
+    row: &mut DriverRow,
+    log: &mut MemoryLog,
+    now: i64,
+    records: Vec<MetaRecord>,
+) -> Result<Reply, NoMemory>
+    requires { pos 1 ≤ℤ epoch_or_zero row.old.epoch }
+    ensures driver { IfOk result (λ told. after_append (stage.Fill records.items) (driver_of row.old) (append log.old (epoch_or_zero row.old.epoch) now (begin_record ∷ [])) ≡ (driver_of row.new, told)) }
+    ensures log { IfOk result (λ told. log.new ≡ log_after (append log.old (epoch_or_zero row.old.epoch) now (begin_record ∷ [])) log.old) }
+    ensures err { OnErr result ((row.new ≡ row.old) × (log.new ≡ log.old)) }
+{
+    let first = begin_records(alloc)?;
+    let said = add(alloc, log, row, now, &first)?;
+    let next = Stage::Fill {
+        records: Sequence::from_vec(records),
+    };
+    Ok(after_append(row, next, said))
+}
+
+/// ZK_MIGRATION, beginning: the znodes are translated, and where they can be, the transaction begins. At `Err` nothing has
+/// changed.
+pub fn begin(
+    alloc: Global,
+    row: &mut DriverRow,
+    log: &mut MemoryLog,
+    now: i64,
+) -> Result<Reply, NoMemory>
+    requires { pos 1 ≤ℤ epoch_or_zero row.old.epoch }
+    ensures driver { (rows : List RowValue) → row.old.stage ≡ stage.Begin rows → (t : Tree) (ids : List ℤ) → IfOk result (λ told.
+        after_translation (shared_of t log.old ids) now (driver_of row.old) (translate rows) ≡ (driver_of row.new, told)) }
+    ensures log { (rows : List RowValue) → row.old.stage ≡ stage.Begin rows → IfOk result (λ told.
+        log.new ≡ log_begun log.old (epoch_or_zero row.old.epoch) now (translate rows)) }
+    ensures err { OnErr result ((row.new ≡ row.old) × (log.new ≡ log.old)) }
+{
+    let Stage::Begin { rows } = &row.stage else {
+        return Ok(Reply::Idle);
+    };
+    match translate(alloc, rows.as_slice()) {
+        Ok(records) => begin_with(alloc, row, log, now, records),
+        Err(ReadFault::Untranslatable { path, why }) => {
+            row.stage = Stage::ReadSource {
+                rows: Sequence::new(alloc),
+            };
+            Ok(Reply::Untranslatable { path, why })
+        }
+        Err(ReadFault::NoMemory) => Err(NoMemory),
+    }
+}
+
+// The stage behind a batch.
+fn behind_batch(old: Stage) -> Stage
+    ensures { (records : List MetaRecordValue) → old ≡ stage.Fill records → result ≡ after_records records }
+{
+    match old {
+        Stage::Fill { records } => {
+            let mut records = records.into_vec();
+            if records.is_empty() {
+                return Stage::ReadLog;
+            }
+            drop_first(&mut records, BATCH_SIZE);
+            Stage::Fill {
+                records: Sequence::from_vec(records),
+            }
+        }
+        other => other,
+    }
+}
+
+// The driver after a batch.
+fn after_batch(row: &mut DriverRow, said: Result<i64, LogFault>) -> Reply
+    ensures { (records : List MetaRecordValue) → row.old.stage ≡ stage.Fill records → (r : Result Log LogFaultValue) → IsSaid r said → after_append (after_records records) (driver_of row.old) r ≡ (driver_of row.new, result) }
+{
+    match said {
+        Ok(offset) => {
+            row.stage = behind_batch(mem::replace(&mut row.stage, Stage::ReadLog));
+            Reply::Appended { offset }
+        }
+        Err(LogFault::Stale { epoch }) => {
+            resign(row);
+            Reply::Stale { epoch }
+        }
+        Err(fault) => Reply::LogFailed(fault),
+    }
+}
+
+/// ZK_MIGRATION, filling: the next batch, or the one that commits. At `Err` nothing has changed.
+pub fn fill(
+    alloc: Global,
+    row: &mut DriverRow,
+    log: &mut MemoryLog,
+    now: i64,
+) -> Result<Reply, NoMemory>
+    requires { pos 1 ≤ℤ epoch_or_zero row.old.epoch }
+    ensures driver { (records : List MetaRecordValue) → row.old.stage ≡ stage.Fill records → IfOk result (λ told.
+        after_append (after_records records) (driver_of row.old) (append log.old (epoch_or_zero row.old.epoch) now (next_records records)) ≡ (driver_of row.new, told)) }
+    ensures log { (records : List MetaRecordValue) → row.old.stage ≡ stage.Fill records → IfOk result (λ told.
+        log.new ≡ log_after (append log.old (epoch_or_zero row.old.epoch) now (next_records records)) log.old) }
+    ensures err { OnErr result ((row.new ≡ row.old) × (log.new ≡ log.old)) }
+{
+    let Stage::Fill { records } = &row.stage else {
+        return Ok(Reply::Idle);
+    };
+    let said = add_next(alloc, log, row, now, records.as_slice())?;
+    Ok(after_batch(row, said))
 }

@@ -17,7 +17,7 @@ pub const PAGE_SIZE: usize = 256;
 
 // The last path of znodes.
 #[tactic(auto, using(crate::proofs::Lasts::last_path_is))]
-fn last_path(rows: &[Row]) -> Option<&ZPath>
+pub fn last_path(rows: &[Row]) -> Option<&ZPath>
     ensures { option_map (λ path. path.now) result ≡ last_path rows.entry.now }
 {
     let len = rows.len();

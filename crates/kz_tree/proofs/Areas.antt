@@ -1,15 +1,28 @@
--- The migrated area rises where the znodes do.
-use Rattle.std.proofs.Common.{List, map, refl}
+-- The migrated area and its pages rise where the znodes do.
+use Rattle.std.proofs.Common.{ℕ, zero, suc, List, [], ◌∷◌, map, take, Option, refl}
 use Rattle.std.specs.List.{filter}
 use Rattle.kz_types.specs.declared.tree.Row.{Row}
 use Rattle.kz_types.specs.Paths.{is_migrated}
 use Rattle.kz_ordered.specs.Order.{bytes_cmp}
-use Rattle.kz_ordered.specs.Ordered.{Rises}
+use Rattle.kz_ordered.specs.Ordered.{Rises, RisesAbove}
 use Rattle.kz_ordered.proofs.Order.{bytes_order}
 use Rattle.kz_ordered.proofs.Maps.{Rises-map, Rises-filter}
-use Rattle.kz_spec_stores.specs.Tree.{path_of_row, rendered_row}
+use Rattle.kz_spec_stores.specs.Tree.{path_of_row, rendered_row, is_after}
 use Rattle.kz_spec_stores.specs.Rendering.{path_of_rendered}
 use Rattle.kz_tree.specs.Kept.{AreRows}
 
 pub area_rises : (rows : List Row) → AreRows rows → Rises bytes_cmp path_of_rendered (map rendered_row (filter (λ (row : Row). is_migrated row.path) rows))
 area_rises rows h = Rises-map bytes_cmp path_of_row path_of_rendered rendered_row (λ row. refl) _ (Rises-filter bytes_order path_of_row (λ (row : Row). is_migrated row.path) rows h)
+
+first_above : (n : ℕ) (path : List ℕ) (rows : List Row) → RisesAbove bytes_cmp path_of_row path rows → RisesAbove bytes_cmp path_of_row path (take n rows)
+first_above zero path rows h = tt
+first_above (suc n) path [] h = tt
+first_above (suc n) path (r ∷ rs) h = (h.0, first_above n r.path rs h.1)
+
+first_rise : (n : ℕ) (rows : List Row) → AreRows rows → AreRows (take n rows)
+first_rise zero rows h = tt
+first_rise (suc n) [] h = tt
+first_rise (suc n) (r ∷ rs) h = first_above n r.path rs h
+
+pub page_rises : (rows : List Row) (after : Option (List ℕ)) (n : ℕ) → AreRows rows → AreRows (take n (filter (is_after after) (filter (λ (row : Row). is_migrated row.path) rows)))
+page_rises rows after n h = first_rise n _ (Rises-filter bytes_order path_of_row (is_after after) _ (Rises-filter bytes_order path_of_row (λ (row : Row). is_migrated row.path) rows h))

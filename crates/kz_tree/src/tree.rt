@@ -1,7 +1,7 @@
 //! The tree.
 ghost use Rattle.std.specs.Prelude.{◌≡◌, ◌+ℤ◌, ◌<ℤ◌, ◌≤ℤ◌, pos, length, option_map, map, Ok, IfOk, IfErr, OnErr};
 ghost use Rattle.kz_spec_stores.specs.Tree as tree;
-ghost use Rattle.kz_spec_stores.specs.Tree.{max_long};
+ghost use Rattle.kz_spec_stores.specs.Tree.{max_long, path_of_row};
 ghost use Rattle.kz_ordered.specs.Order.{bytes_cmp};
 ghost use Rattle.kz_ordered.specs.Ordered.{Rises};
 ghost use Rattle.kz_spec_stores.specs.Rendering.{path_of_rendered};
@@ -126,7 +126,8 @@ impl Tree {
 
     /// Copies of the first `limit` znodes of the migrated area behind a path, or of its first ones.
     pub fn scan(&self, after: Option<&ZPath>, limit: usize) -> Result<Vec<Row>, NoMemory>
-        ensures { IfOk result (λ made. made.items ≡ tree.scan self.now (option_map (λ path. path.now) after.entry) limit) }
+        ensures znodes { IfOk result (λ made. made.items ≡ tree.scan self.now (option_map (λ path. path.now) after.entry) limit) }
+        ensures rising { IfOk result (λ made. Rises bytes_cmp path_of_row made.items) }
     {
         reads::scan(self.alloc, &self.rows, after, limit)
     }

@@ -1,4 +1,4 @@
-use Rattle.std.proofs.Common.{◌≡◌, ◌-◌, Bool, cond, pos, w32, length, get_or, rules, ap, ◌∙◌}
+use Rattle.std.proofs.Common.{◌-◌, Bool, cond, pos, w32, length, get_or, rules, ap, ◌∙◌}
 use Rattle.std.proofs.lemmas.Int.{to_z-of_z}
 use mir.Val.{SFits}
 use Rattle.kz_spec_machine.specs.Driver.{is_migrating, less_of}

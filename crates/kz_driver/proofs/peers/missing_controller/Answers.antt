@@ -1,4 +1,4 @@
-use Rattle.std.proofs.Common.{◌≡◌, ◌-◌, Bool, cond, pos, length, get_or, ap, ◌∙◌}
+use Rattle.std.proofs.Common.{◌-◌, Bool, cond, pos, length, get_or, ap, ◌∙◌}
 use Rattle.kz_spec_machine.specs.Driver.{is_one_of, less_of}
 use Rattle.kz_driver.proofs.Leasts.{least_more}
 use Rattle.kz_driver.proofs.peers.missing_controller.Goals as goal

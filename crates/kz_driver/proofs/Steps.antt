@@ -1,0 +1,109 @@
+-- A step by its request and what follows the answer.
+use Rattle.std.proofs.Common.{◌≡◌, ℤ, List, [], ◌∷◌, ◌++◌, length, Option, Some, None, Result, Ok, Err, refl, sym, ap, ◌∙◌, subst}
+use Rattle.std.specs.Prelude.{IfOk, OnErr, nat_lt}
+use Rattle.kz_types.specs.declared.tree.Op.{Op}
+use Rattle.kz_types.specs.declared.tree.Row.{Row}
+use Rattle.kz_types.specs.declared.driver.ClaimSeen.{ClaimSeen}
+use Rattle.kz_types.specs.declared.driver.Stage.{Stage}
+use Rattle.kz_types.specs.declared.driver.Stage.TheVariants as stage
+use Rattle.kz_types.specs.declared.machine.Recorded.{Recorded}
+use Rattle.kz_types.specs.declared.machine.Reply.{Reply}
+use Rattle.kz_types.specs.declared.record.MetaRecord.{MetaRecord}
+use Rattle.kz_types.specs.declared.fault.TreeFault.{TreeFault}
+use Rattle.kz_types.specs.declared.fault.TreeFault.TheVariants as fault
+use Rattle.kz_types.specs.declared.fault.LogFault.{LogFault}
+use Rattle.kz_spec_stores.specs.Tree.{Tree, multi}
+use Rattle.kz_spec_stores.specs.Log.{Log, append}
+use Rattle.kz_spec_stores.specs.Translation.{Unreadable}
+use Rattle.kz_spec_machine.specs.Driver.{Shared, Driver, epoch_or_zero, asked, made, with_tree, with_log, begin_request, write_request, write_ops, answered, after_claim, step, begin_record, after_page, page_size}
+use Rattle.kz_driver.specs.declared.row.DriverRow.{DriverRow}
+use Rattle.kz_driver.specs.Rows.{driver_of}
+use Rattle.kz_driver.specs.Appends.{log_after, log_begun}
+use Rattle.kz_driver.specs.Claims.{claimed_by, after_claimed, tree_after}
+use Rattle.kz_driver.specs.Writes.{tree_written}
+use Rattle.kz_driver.specs.Stops.{StageCanClaim}
+use Rattle.kz_driver.specs.Drivers.{shared_of, IsElected, HasEpoch, HasRisen, IsKept}
+use Rattle.kz_driver.proofs.Keeping.{Keeps, Lives, chosen_stage}
+
+pub stepped : (s new : Shared) (running : List ℤ) (now : ℤ) (d e : Driver) (told : Reply) (at : Stage) → d.stage ≡ at
+    → made s (epoch_or_zero d.epoch) now (asked s now d at) ≡ new
+    → answered s running now d at ≡ (e, told)
+    → step s running now d ≡ record { shared = new; driver = e; reply = told }
+unfolding step
+stepped s new running now d e told at is shared answer =
+    ap (λ (x : Stage). record { shared = made s (epoch_or_zero d.epoch) now (asked s now d x); driver = (answered s running now d x).0; reply = (answered s running now d x).1 }) is
+    ∙ ap (λ (t : Shared). record { shared = t; driver = (answered s running now d at).0; reply = (answered s running now d at).1 }) shared
+    ∙ ap (λ (x : Driver × Reply). record { shared = new; driver = x.0; reply = x.1 }) answer
+
+pub ok_step : {E : Type 0} (r : Result Reply E) (s new : Shared) (running : List ℤ) (now : ℤ) (d e : Driver) (at : Stage) → d.stage ≡ at
+    → IfOk r (λ told. made s (epoch_or_zero d.epoch) now (asked s now d at) ≡ new)
+    → IfOk r (λ told. answered s running now d at ≡ (e, told))
+    → IfOk r (λ told. step s running now d ≡ record { shared = new; driver = e; reply = told })
+ok_step (Ok told) s new running now d e at is shared answer = stepped s new running now d e told at is shared answer
+ok_step (Err f) s new running now d e at is shared answer = tt
+
+-- what holds whatever is told
+pub always : {E P : Type 0} (r : Result Reply E) → P → IfOk r (λ told. P)
+always (Ok told) h = h
+always (Err f) h = tt
+
+pub first_same : {E : Type 0} (A B : Type 0) (r : Result Reply E) → OnErr r (A × B) → OnErr r A
+first_same A B (Ok told) h = tt
+first_same A B (Err f) h = h.0
+
+-- a driver keeps what it holds through a step, and through one that memory stops
+pub kept_step : {E : Type 0} (r : Result Reply E) (old new : DriverRow) (x : Driver × Reply) → IfOk r (λ told. x ≡ (driver_of new, told)) → OnErr r (new ≡ old)
+    → IsKept old.epoch old.stage → Keeps x → IsKept new.epoch new.stage
+kept_step (Ok told) old new x is same k after = subst Keeps is after
+kept_step (Err f) old new x is same k after = subst (λ (d : DriverRow). IsKept d.epoch d.stage) (sym same) k
+
+-- after a look, what was seen can rise where the claim comes next
+pub look_kept : {E : Type 0} (r : Result Reply E) (old new : DriverRow) (x : Driver × Reply) → IfOk r (λ told. x ≡ (driver_of new, told)) → IfOk r (λ told. StageCanClaim new.stage)
+    → OnErr r (new ≡ old) → IsKept old.epoch old.stage → Lives x → IsKept new.epoch new.stage
+look_kept (Ok told) old new x is can same k lives =
+    let now : Lives (driver_of new, told) = subst Lives is lives in
+    record { elected = now.0; can_claim = can; risen = now.1 }
+look_kept (Err f) old new x is can same k lives = subst (λ (d : DriverRow). IsKept d.epoch d.stage) (sym same) k
+
+abbrev IsReady : Driver × Reply → Type 0
+IsReady x = HasEpoch x.0.epoch x.0.stage × StageCanClaim x.0.stage
+
+-- after a page of the area, the znodes that were read rise
+pub area_kept : {E : Type 0} (r : Result Reply E) (old new : DriverRow) (rows page : List Row) (target : Recorded) (ops : List Row → List Op)
+    → IfOk r (λ told. after_page rows page (λ all. stage.ReadArea target all) (λ all. stage.WriteAll target (ops all)) (driver_of old) ≡ (driver_of new, told)) → HasRisen new.stage
+    → OnErr r (new ≡ old) → IsKept old.epoch old.stage → IsElected old.epoch → IsKept new.epoch new.stage
+area_kept (Ok told) old new rows page target ops is risen same k h =
+    let ready : IsReady (after_page rows page (λ all. stage.ReadArea target all) (λ all. stage.WriteAll target (ops all)) (driver_of old)) =
+    chosen_stage (λ s. HasEpoch old.epoch s × StageCanClaim s) (nat_lt (length page) page_size) (stage.WriteAll target (ops (rows ++ page))) (stage.ReadArea target (rows ++ page)) (h, tt) (h, tt) in
+    let now : IsReady (driver_of new, told) = subst IsReady is ready in
+    record { elected = now.0; can_claim = now.1; risen = risen }
+area_kept (Err f) old new rows page target ops is risen same k h = subst (λ (d : DriverRow). IsKept d.epoch d.stage) (sym same) k
+
+-- ---- what requests make of the tree and the log
+
+pub tree_made : (t : Tree) (l : Log) (ids : List ℤ) (r : Result Tree TreeFault) → with_tree (shared_of t l ids) r ≡ shared_of (tree_after r t) l ids
+tree_made t l ids (Ok new) = refl
+tree_made t l ids (Err f) = refl
+
+pub log_made : (t : Tree) (l : Log) (ids : List ℤ) (r : Result Log LogFault) → with_log (shared_of t l ids) r ≡ shared_of t (log_after r l) ids
+log_made t l ids (Ok new) = refl
+log_made t l ids (Err f) = refl
+
+pub begun_made : (t : Tree) (l : Log) (ids : List ℤ) (epoch now : ℤ) (r : Result (List MetaRecord) Unreadable) → made (shared_of t l ids) epoch now (begin_request r) ≡ shared_of t (log_begun l epoch now r) ids
+begun_made t l ids epoch now (Ok records) = log_made t l ids (append l epoch now (begin_record ∷ []))
+begun_made t l ids epoch now (Err e) = refl
+
+pub written_made : (t : Tree) (l : Log) (ids : List ℤ) (epoch now : ℤ) (claim : Option ℤ) (ops : List Op) (target : Recorded) → made (shared_of t l ids) epoch now (write_request claim ops target) ≡ shared_of (tree_written t claim ops target) l ids
+written_made t l ids epoch now None ops target = refl
+written_made t l ids epoch now (Some claim) ops target = tree_made t l ids (multi t (write_ops claim ops target))
+
+-- ---- the claim
+
+pub claim_is : (seen : ClaimSeen) (d : Driver) (ops : List Op) (r : Result Tree TreeFault) → after_claim seen d ops r ≡ after_claimed (claimed_by seen ops r) d
+claim_is seen d ops (Ok t) = refl
+claim_is seen d ops (Err (fault.Refused index code)) = refl
+claim_is seen d ops (Err (fault.Limit index number)) = refl
+claim_is seen d ops (Err fault.NoMemory) = refl
+claim_is seen d ops (Err fault.Device) = refl
+claim_is seen d ops (Err fault.Down) = refl
+claim_is seen d ops (Err (fault.Full length)) = refl

@@ -1,0 +1,15 @@
+use Rattle.std.proofs.Common.{◌≡◌, IfOk, subst}
+use Rattle.kz_types.specs.declared.driver.Stage.TheVariants as stage
+use Rattle.kz_spec_machine.specs.Driver.{remaining_at, writes}
+use Rattle.kz_driver.specs.Rows.{driver_of}
+use Rattle.kz_driver.proofs.Writings.{change_targets}
+use Rattle.kz_driver.proofs.writing.write_change.Goals as goal
+
+pub returns-clause-driver : goal.returns-clause-driver
+returns-clause-driver c target ops is =
+    let row = c.args.row.now in
+    let tree = c.args.tree.now in
+    let same = change_targets row.stage c.in-WriteChange.target c.in-WriteChange.ops target ops c.in-WriteChange.is is in
+    subst (λ r. IfOk c.write_next.result (λ told.
+    writes tree row.claim (remaining_at tree c.args.log.now r.offset) r (λ rest. stage.WriteChange r rest) stage.Rest (driver_of row) ≡ (driver_of c.write_next.new.row, told)))
+    same c.write_next.ensures.driver

@@ -1,0 +1,52 @@
+-- A driver as the code holds it.
+use Rattle.std.specs.Prelude.{ℤ, pos, ◌≤ℤ◌, ⊤, List, Option, Some, None}
+use Rattle.kz_types.specs.declared.driver.Stage.{Stage}
+use Rattle.kz_types.specs.declared.driver.Stage.TheVariants as stage
+use Rattle.kz_ordered.specs.Order.{bytes_cmp}
+use Rattle.kz_ordered.specs.Ordered.{Rises}
+use Rattle.kz_spec_stores.specs.Tree.{Tree, path_of_row}
+use Rattle.kz_spec_stores.specs.Log.{Log}
+use Rattle.kz_types.specs.declared.machine.DriverState.TheVariants as state
+use Rattle.kz_types.specs.declared.machine.Reply.{Reply}
+use Rattle.kz_types.specs.declared.machine.Reply.TheVariants as reply
+use Rattle.kz_spec_machine.specs.Driver.{Shared, Driver, at_stage}
+use Rattle.kz_driver.specs.Stops.{StageCanClaim}
+
+-- what all drivers share
+abbrev pub shared_of : Tree → Log → List ℤ → Shared
+shared_of t l ids = record { tree = t; log = l; declared = ids }
+
+-- an epoch of at least 1
+abbrev pub IsElected : Option ℤ → Type 0
+IsElected None = ⊥
+IsElected (Some e) = pos 1 ≤ℤ e
+
+-- an epoch of at least 1, where there is one
+abbrev pub IsElectedOrNone : Option ℤ → Type 0
+IsElectedOrNone None = ⊤
+IsElectedOrNone (Some e) = pos 1 ≤ℤ e
+
+-- a driver that does anything was elected and hasn't resigned
+abbrev pub HasEpoch : Option ℤ → Stage → Type 0
+HasEpoch epoch stage.Uninitialized = IsElectedOrNone epoch
+HasEpoch epoch stage.Inactive = IsElectedOrNone epoch
+HasEpoch epoch s = IsElected epoch
+
+-- the znodes of the migrated area that a driver has read rise by path
+abbrev pub HasRisen : Stage → Type 0
+HasRisen (stage.ReadArea target rows) = Rises bytes_cmp path_of_row rows
+HasRisen s = ⊤
+
+-- what a driver holds at a stage
+pub record IsKept (epoch : Option ℤ) (s : Stage) : Type 0 where
+  pub elected : HasEpoch epoch s
+  pub can_claim : StageCanClaim s
+  pub risen : HasRisen s
+
+-- a driver that begins, and waits to be elected
+abbrev pub started : Driver → Driver × Reply
+started d = (at_stage stage.Inactive d, reply.Moved state.Inactive)
+
+-- a driver whose brokers are informed, and that rests
+abbrev pub informed : Driver → Driver × Reply
+informed d = (at_stage stage.Rest d, reply.Moved state.DualWrite)

@@ -1,0 +1,154 @@
+//! The driver of a controller.
+ghost use Rattle.std.specs.Prelude.{◌≡◌, ◌≤ℤ◌, pos, IfOk, IfSome, OnErr};
+ghost use Rattle.kz_spec_machine.specs.Driver.{Driver as DriverValue, new_driver, elected_driver, step};
+ghost use Rattle.kz_driver.specs.Drivers.{IsKept, shared_of, started, informed};
+ghost use Rattle.kz_driver.specs.Rows.{driver_of};
+
+use crate::area::read_area;
+use crate::claim::claim;
+use crate::claiming::look;
+use crate::migrating::{begin, fill};
+use crate::peers::Peers;
+use crate::resting::rest;
+use crate::row::DriverRow;
+use crate::source::read_source;
+use crate::targets::begin_sync;
+use crate::waiting::{compare_brokers, wait_for_brokers, wait_for_quorum};
+use crate::writing::{write_all, write_change};
+use kz_log::{MemoryLog, View};
+use kz_tree::Tree;
+use kz_types::{DriverState, NoMemory, Reply, Stage};
+use std::alloc::Global;
+use std::marker::Model;
+
+/// The migration driver of a controller (KIP-866).
+#[derive(Drop)]
+pub struct Driver {
+    alloc: Global,
+    row: DriverRow,
+}
+
+impl Model for Driver {
+    ghost Value = { DriverValue };
+
+    ghost view = { λ d. driver_of d.row };
+
+    ghost invariant = { λ d. IsKept d.row.epoch d.row.stage };
+}
+
+impl Driver {
+    /// The driver of this controller, before its first step: it was never elected and knows nothing.
+    pub fn new(alloc: Global, id: i32) -> Self
+        ensures { result ≡ new_driver id }
+    {
+        Driver {
+            alloc,
+            row: DriverRow {
+                id,
+                epoch: None,
+                claim: None,
+                stage: Stage::Uninitialized,
+                view: View::new(alloc),
+                recorded: None,
+            },
+        }
+    }
+
+    /// The id of its controller.
+    pub fn id(&self) -> i32
+        ensures { result ≡ self.now.id }
+    {
+        self.row.id
+    }
+
+    /// Its epoch, where it was elected and hasn't resigned.
+    pub fn epoch(&self) -> Option<i32>
+        ensures epoch { result ≡ self.now.epoch }
+        ensures elected { IfSome result (λ epoch. pos 1 ≤ℤ epoch) }
+    {
+        self.row.epoch
+    }
+
+    /// Lends its state, with its part.
+    pub fn stage(&self) -> &Stage
+        ensures { result.now ≡ self.now.stage }
+    {
+        &self.row.stage
+    }
+
+    /// Its controller is elected with this epoch. What it knows of the log stays.
+    pub fn elected(&mut self, epoch: i32)
+        requires { pos 1 ≤ℤ epoch }
+        ensures { self.new ≡ elected_driver epoch self.old }
+    {
+        self.row.epoch = Some(epoch);
+        self.row.claim = None;
+        self.row.stage = Stage::WaitForQuorum;
+    }
+
+    /// One step: at most one request of the tree or the log, and what follows its answer. At `Err` nothing has changed.
+    pub fn step(
+        &mut self,
+        tree: &mut Tree,
+        log: &mut MemoryLog,
+        peers: &Peers,
+        now: i64,
+    ) -> Result<Reply, NoMemory>
+        ensures ok { IfOk result (λ told. step (shared_of tree.old log.old peers.now.declared) peers.now.running now self.old
+            ≡ record { shared = shared_of tree.new log.new peers.now.declared; driver = self.new; reply = told }) }
+        ensures err { OnErr result ((self.new ≡ self.old) × (tree.new ≡ tree.old) × (log.new ≡ log.old)) }
+    {
+        step_row(self.alloc, &mut self.row, tree, log, peers, now)
+    }
+}
+
+// UNINITIALIZED
+fn start(row: &mut DriverRow) -> Reply
+    ensures { started (driver_of row.old) ≡ (driver_of row.new, result) }
+{
+    row.stage = Stage::Inactive;
+    Reply::Moved(DriverState::Inactive)
+}
+
+// KRAFT_CONTROLLER_TO_BROKER_COMM
+fn inform_brokers(row: &mut DriverRow) -> Reply
+    ensures { informed (driver_of row.old) ≡ (driver_of row.new, result) }
+{
+    row.stage = Stage::Rest;
+    Reply::Moved(DriverState::DualWrite)
+}
+
+// One step of the driver with these parts. At `Err` nothing has changed.
+fn step_row(
+    alloc: Global,
+    row: &mut DriverRow,
+    tree: &mut Tree,
+    log: &mut MemoryLog,
+    peers: &Peers,
+    now: i64,
+) -> Result<Reply, NoMemory>
+    requires { IsKept row.old.epoch row.old.stage }
+    ensures ok { IfOk result (λ told. step (shared_of tree.old log.old peers.now.declared) peers.now.running now (driver_of row.old)
+        ≡ record { shared = shared_of tree.new log.new peers.now.declared; driver = driver_of row.new; reply = told }) }
+    ensures kept { IsKept row.new.epoch row.new.stage }
+    ensures err { OnErr result ((row.new ≡ row.old) × (tree.new ≡ tree.old) × (log.new ≡ log.old)) }
+{
+    match &row.stage {
+        Stage::Uninitialized => Ok(start(row)),
+        Stage::Inactive => Ok(Reply::Idle),
+        Stage::WaitForQuorum => wait_for_quorum(alloc, row, log, peers),
+        Stage::WaitForBrokers => wait_for_brokers(alloc, row, log),
+        Stage::CompareBrokers => compare_brokers(row, tree),
+        Stage::Look => look(alloc, row, tree),
+        Stage::Claim { .. } => claim(alloc, row, tree, now),
+        Stage::ReadSource { .. } => read_source(alloc, row, tree),
+        Stage::Begin { .. } => begin(alloc, row, log, now),
+        Stage::Fill { .. } => fill(alloc, row, log, now),
+        Stage::ReadLog => begin_sync(alloc, row, log),
+        Stage::ReadArea { .. } => read_area(alloc, row, tree),
+        Stage::WriteAll { .. } => write_all(alloc, row, tree, log),
+        Stage::InformBrokers => Ok(inform_brokers(row)),
+        Stage::Rest => rest(alloc, row, log),
+        Stage::WriteChange { .. } => write_change(alloc, row, tree, log),
+    }
+}
