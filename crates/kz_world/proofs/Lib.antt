@@ -1,0 +1,5 @@
+pub mod Agreements
+pub mod Listings
+pub mod OrderedZnodes
+pub mod Outcomes
+pub mod StepWise

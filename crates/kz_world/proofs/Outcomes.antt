@@ -1,0 +1,154 @@
+-- What events make of a world.
+use Rattle.std.proofs.Common.{◌≡◌, ℕ, zero, suc, ◌<◌, Bool, true, false, cond, ℤ, pos, ◌+ℤ◌, List, [], ◌∷◌, length, set, not, Option, Some, None, option_map, Result, Ok, Err, refl, sym, ap, ◌∙◌, arith}
+use Rattle.std.specs.Prelude.{slice_get, int_lt}
+use Rattle.std.specs.Ordering.{int_eq}
+use Rattle.std.proofs.lemmas.Int.{ints}
+use Rattle.kz_types.specs.declared.fault.LogFault.{LogFault}
+use Rattle.kz_types.specs.declared.fault.LogFault.TheVariants as fault
+use Rattle.kz_types.specs.declared.machine.Answer.{Answer}
+use Rattle.kz_types.specs.declared.machine.Answer.TheVariants as answer
+use Rattle.kz_types.specs.declared.machine.Event.TheVariants as event
+use Rattle.kz_types.specs.declared.machine.Reply.{Reply}
+use Rattle.kz_types.specs.declared.record.MetaRecord.{MetaRecord}
+use Rattle.kz_spec_stores.specs.Image.{all_applied}
+use Rattle.kz_spec_stores.specs.Log.{Log, append, elect, end_of, full_log, added, with_batch, with_next_epoch, max_epoch, image_of, is_migrated_log}
+use Rattle.kz_spec_stores.specs.Rendering.{excess}
+use Rattle.kz_spec_machine.specs.Driver.{Shared, Driver}
+use Rattle.kz_spec_machine.specs.Machine.{World, next, running_ids, is_running, start_refusal, turn, work, turned_world, decided, unless_refused, first_of, unless, over, full, running_refusal, leader_refusal, change_refusal, over_excess, election_refusal, election_records, elected_log, elected_world, election_answer, next_epoch, changed_log, changed_world, turn_result, driver_of}
+use Rattle.kz_world.specs.Worlds.{AreDistinct, elected_drivers, records_refusal}
+use Rattle.kz_world.proofs.StepWise.{turned}
+use Rattle.kz_world.proofs.Listings.{one_place}
+
+-- ---- choices
+
+first_none : (a b : Option Answer) → first_of a b ≡ None → (a ≡ None) × (b ≡ None)
+first_none None b h = (refl, h)
+first_none (Some x) b h = absurd (cc)
+
+by_refusal : (w : World) (refusal : Option Answer) (r : Answer) (new : World) (a : Answer) → refusal ≡ Some r → decided w refusal new a ≡ (w, r)
+by_refusal w refusal r new a h = ap (λ x. decided w x new a) h
+
+-- ---- the log's answers
+
+abbrev log_or : Log → Result Log LogFault → Log
+log_or l (Ok m) = m
+log_or l (Err e) = l
+
+abbrev number_or : ℕ → Result Log LogFault → ℕ
+number_or n (Err (fault.Limit m)) = m
+number_or n other = n
+
+added_ok : (f : Option ℕ) (new l : Log) → added f new ≡ Ok l → (f ≡ None) × (new ≡ l)
+added_ok None new l h = (refl, ap (log_or new) h)
+added_ok (Some n) new l h = absurd (cc)
+
+added_over : (f : Option ℕ) (new : Log) (n : ℕ) → added f new ≡ Err (fault.Limit n) → f ≡ Some n
+added_over None new n h = absurd (cc)
+added_over (Some m) new n h = ap (λ r. Some (number_or m r)) h
+
+elect_ok : (b : Bool) (f : Option ℕ) (new l : Log) → cond b (added f new) (Err (fault.Limit 15)) ≡ Ok l → (b ≡ true) × (f ≡ None) × (new ≡ l)
+elect_ok true f new l h = (refl, (added_ok f new l h).0, (added_ok f new l h).1)
+elect_ok false f new l h = absurd (cc)
+
+elect_over : (b : Bool) (f : Option ℕ) (new : Log) (n : ℕ) → cond b (added f new) (Err (fault.Limit 15)) ≡ Err (fault.Limit n) → first_of (unless b (over 15)) (option_map over f) ≡ Some (over n)
+elect_over true f new n h = ap (option_map over) (added_over f new n h)
+elect_over false f new n h = ap (λ r. Some (over (number_or 15 r))) h
+
+-- ---- elections
+
+pub elected_done : (w : World) (id now : ℤ) (items : List MetaRecord) (l : Log) (ds : List Driver) (epoch end : ℤ) → running_refusal w id ≡ None → items ≡ election_records w.shared.log → elect w.shared.log now items ≡ Ok l
+    → epoch ≡ l.epoch → end ≡ end_of l → ds ≡ elected_drivers id epoch w.drivers
+    → next w (event.Elect id now) ≡ (record { shared = record { tree = w.shared.tree; log = l; declared = w.shared.declared }; drivers = ds }, answer.Elected epoch end)
+unfolding next
+elected_done w id now items l ds epoch end runs items_are ok epoch_is end_is marked =
+    let old = w.shared.log in
+    let done = elect_ok (int_lt old.epoch max_epoch) (full_log old (election_records old)) (elected_log old now) l (ap (elect old now) (sym items_are) ∙ ok) in
+    let up : epoch ≡ next_epoch old = epoch_is ∙ ap (λ (x : Log). x.epoch) (sym done.2) in
+    let target : Log → List Driver → ℤ → ℤ → World × Answer = λ x es e o. (record { shared = record { tree = w.shared.tree; log = x; declared = w.shared.declared }; drivers = es }, answer.Elected e o) in
+    rw (runs, done.0, done.1) (
+    ap (λ x. target x (elected_drivers id (next_epoch old) w.drivers) (next_epoch old) (end_of (elected_log old now))) done.2
+    ∙ ap (λ x. target l x (next_epoch old) (end_of (elected_log old now))) (sym (marked ∙ ap (λ e. elected_drivers id e w.drivers) up))
+    ∙ ap (λ x. target l ds x (end_of (elected_log old now))) (sym up)
+    ∙ ap (target l ds epoch) (ap end_of done.2 ∙ sym end_is))
+
+pub election_over : (w : World) (id now : ℤ) (items : List MetaRecord) (n : ℕ) → running_refusal w id ≡ None → items ≡ election_records w.shared.log → elect w.shared.log now items ≡ Err (fault.Limit n)
+    → next w (event.Elect id now) ≡ (w, answer.Over n)
+unfolding next
+election_over w id now items n runs items_are refused =
+    let old = w.shared.log in
+    by_refusal w (election_refusal w id) (over n) (elected_world w id now) (election_answer w now)
+    (ap (λ a. first_of a (first_of (unless (int_lt old.epoch max_epoch) (over 15)) (full old (election_records old)))) runs
+    ∙ elect_over (int_lt old.epoch max_epoch) (full_log old (election_records old)) (elected_log old now) n (ap (elect old now) (sym items_are) ∙ refused))
+
+-- ---- changes
+
+itself : (x : ℤ) → int_eq x x ≡ true
+itself x = grind (arith, ints)
+
+own_epoch : (l : Log) (now : ℤ) (items : List MetaRecord) (r : Result Log LogFault) → append l l.epoch now items ≡ r → added (full_log l items) (with_batch l l.epoch now items) ≡ r
+own_epoch l now items r h = sym (ap (λ b. cond b (added (full_log l items) (with_batch l l.epoch now items)) (Err (fault.Stale l.epoch))) (itself l.epoch)) ∙ h
+
+change_full : (w : World) (id : ℤ) (records : List MetaRecord) → leader_refusal w id ≡ None → records_refusal w.shared.log records ≡ None → change_refusal w id records ≡ full w.shared.log records
+change_full w id records leads taken =
+    let l = w.shared.log in
+    let none = first_none (unless (is_migrated_log l) answer.NotMigrated) (over_excess (excess (all_applied l.epoch records (image_of l)))) taken in
+    ap (λ a. first_of a (first_of (unless (is_migrated_log l) answer.NotMigrated) (first_of (over_excess (excess (all_applied l.epoch records (image_of l)))) (full l records)))) leads
+    ∙ ap (λ a. first_of a (first_of (over_excess (excess (all_applied l.epoch records (image_of l)))) (full l records))) none.0
+    ∙ ap (λ a. first_of a (full l records)) none.1
+
+pub change_done : (w : World) (id now : ℤ) (records : List MetaRecord) (l : Log) (end : ℤ) → leader_refusal w id ≡ None → records_refusal w.shared.log records ≡ None
+    → append w.shared.log w.shared.log.epoch now records ≡ Ok l → end ≡ end_of l
+    → next w (event.Change id records now) ≡ (record { shared = record { tree = w.shared.tree; log = l; declared = w.shared.declared }; drivers = w.drivers }, answer.Appended end)
+unfolding next
+change_done w id now records l end leads taken ok end_is =
+    let old = w.shared.log in
+    let done = added_ok (full_log old records) (with_batch old old.epoch now records) l (own_epoch old now records (Ok l) ok) in
+    let target : Log → ℤ → World × Answer = λ x o. (record { shared = record { tree = w.shared.tree; log = x; declared = w.shared.declared }; drivers = w.drivers }, answer.Appended o) in
+    ap (λ a. decided w a (changed_world w records now) (answer.Appended (end_of (changed_log old records now)))) (change_full w id records leads taken ∙ ap (option_map over) done.0)
+    ∙ ap (λ x. target x (end_of x)) done.1 ∙ ap (target l) (sym end_is)
+
+pub change_over : (w : World) (id now : ℤ) (records : List MetaRecord) (n : ℕ) → leader_refusal w id ≡ None → records_refusal w.shared.log records ≡ None
+    → append w.shared.log w.shared.log.epoch now records ≡ Err (fault.Limit n) → next w (event.Change id records now) ≡ (w, answer.Over n)
+unfolding next
+change_over w id now records n leads taken refused =
+    let old = w.shared.log in
+    by_refusal w (change_refusal w id records) (over n) (changed_world w records now) (answer.Appended (end_of (changed_log old records now)))
+    (change_full w id records leads taken ∙ ap (option_map over) (added_over (full_log old records) (with_batch old old.epoch now records) n (own_epoch old now records (Err (fault.Limit n)) refused)))
+
+-- ---- starts
+
+allowed : (b : Bool) (a : Answer) → unless b a ≡ None → b ≡ true
+allowed true a h = refl
+allowed false a h = absurd (cc)
+
+not_true : (b : Bool) → not b ≡ true → b ≡ false
+not_true true h = absurd (cc)
+not_true false h = refl
+
+-- a controller that may start doesn't run
+pub starts : (w : World) (id : ℤ) → start_refusal w id ≡ None → is_running id w.drivers ≡ false
+starts w id h = not_true (is_running id w.drivers) (allowed (not (is_running id w.drivers)) answer.AlreadyRunning (first_none _ _ h).1)
+
+-- ---- turns
+
+pub turned_done : (w : World) (now : ℤ) (d : Driver) (at most : ℕ) (running : List ℤ) (s : Shared) (e : Driver) (rs : List Reply) → AreDistinct (running_ids w.drivers) → slice_get w.drivers at ≡ Some d
+    → most ≡ work w.shared d → running ≡ running_ids w.drivers → turn most w.shared running now d ≡ turned s e rs → e.id ≡ d.id
+    → turned_world w (turn (work w.shared d) w.shared (running_ids w.drivers) now d) ≡ (record { shared = s; drivers = set w.drivers at e }, answer.Turn rs)
+turned_done w now d at most running s e rs distinct at_is most_is running_is ok same =
+    ap (turned_world w) (ap (λ n. turn n w.shared (running_ids w.drivers) now d) (sym most_is) ∙ ap (λ is. turn most w.shared is now d) (sym running_is) ∙ ok)
+    ∙ ap (λ ds. (record { shared = s; drivers = ds }, answer.Turn rs)) (one_place w.drivers at d e distinct at_is same)
+
+none_past : (ds : List Driver) (at : ℕ) → at < length ds → slice_get ds at ≡ None → ⊥
+none_past [] at h none = omega (arith, h)
+none_past (d ∷ ds) zero h none = absurd (cc)
+none_past (d ∷ ds) (suc at) h none = none_past ds at (omega (arith, h)) none
+
+by_driver : (w : World) (now : ℤ) (r : World × Answer) (ds : List Driver) (at : ℕ) (o : Option Driver) → at < length ds → slice_get ds at ≡ o → ((d : Driver) → slice_get ds at ≡ Some d → turn_result w now (Some d) ≡ r) → turn_result w now o ≡ r
+by_driver w now r ds at None h is each = absurd (none_past ds at h is)
+by_driver w now r ds at (Some d) h is each = each d is
+
+pub turn_found : (w : World) (id now : ℤ) (at : ℕ) (r : World × Answer) → running_refusal w id ≡ None → at < length w.drivers → driver_of id w.drivers ≡ slice_get w.drivers at
+    → ((d : Driver) → slice_get w.drivers at ≡ Some d → turn_result w now (Some d) ≡ r) → next w (event.Turn id now) ≡ r
+unfolding next
+turn_found w id now at r runs h found each =
+    ap (λ a. unless_refused w a (turn_result w now (driver_of id w.drivers))) runs ∙ ap (turn_result w now) found ∙ by_driver w now r w.drivers at (slice_get w.drivers at) h refl each

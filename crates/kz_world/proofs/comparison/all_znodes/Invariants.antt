@@ -1,0 +1,12 @@
+use Rattle.std.proofs.Common.{◌≡◌, drop}
+use Rattle.kz_ordered.specs.Order.{bytes_cmp}
+use Rattle.kz_ordered.specs.Ordered.{all_put, Rises}
+use Rattle.kz_spec_stores.specs.Tree.{area}
+use Rattle.kz_spec_stores.specs.Rendering.{path_of_rendered}
+use Rattle.kz_world.proofs.comparison.all_znodes.Given as goal
+
+abbrev pub invariant-loop-znode : goal.invariant-loop-znode
+invariant-loop-znode l =
+    (all_put bytes_cmp path_of_rendered (drop l.znode-index l.rendering) l.znodes.items
+    ≡ all_put bytes_cmp path_of_rendered l.rendering (area l.tree))
+    × Rises bytes_cmp path_of_rendered l.znodes.items
