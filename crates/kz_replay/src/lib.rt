@@ -1,7 +1,6 @@
 //! The top call: reads a script, runs it, and writes the replies.
 #![tactic(auto)]
 
-mod closing;
 mod ending;
 mod machine;
 mod place;

@@ -7,10 +7,9 @@ ghost use Rattle.kz_spec_runs.specs.Output.{Place as PlaceValue, opening, served
 ghost use Rattle.kz_replay.specs.Endings.{status_of, followed};
 ghost use Rattle.kz_replay.specs.Kept.{IsCounted};
 
-use crate::closing::summary_line;
 use crate::ending::{Ending, Printed};
 use crate::machine::Machine;
-use kz_script::{LineFault, read_event, write_answer};
+use kz_script::{LineFault, read_event, summary, write_answer};
 use kz_types::{Answer, Event, LogFault, NoMemory, Reply};
 use std::alloc::Global;
 use std::marker::Model;
@@ -128,6 +127,7 @@ impl<M: Machine> Place<M> {
             Err(LineFault::NoMemory) => Err(NoMemory),
         }
     }
+
     /// The last line of a run that ends here.
     pub fn summary(&self, alloc: Global) -> Result<Vec<u8>, NoMemory>
         ensures { IfOk result (λ text. text.items ≡ summary self.now) }
@@ -135,6 +135,6 @@ impl<M: Machine> Place<M> {
         let zxid = self.machine.zxid();
         let offset = self.machine.end();
         let recorded = self.machine.recorded()?;
-        summary_line(alloc, self.events, self.steps, zxid, offset, recorded)
+        summary(alloc, self.events, self.steps, zxid, offset, recorded)
     }
 }

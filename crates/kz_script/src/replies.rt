@@ -207,12 +207,13 @@ fn offset_or_none(alloc: Global, offset: Option<i64>) -> Result<String, NoMemory
 }
 
 /// The last line of a run: how many events were read and how many steps drivers made, the tree's last transaction, the
-/// end of the log, which is -1 where it is empty, and the offset that the tree records, if it records one.
+/// end of the log, which is -1 where it is empty, and the offset that the tree records, if it records one. The steps of
+/// all turns can pass 64 bits.
 #[tactic(auto, unfolding(kz_spec_lines::specs::Replies::summary_line))]
 pub fn summary(
     alloc: Global,
     events: u64,
-    steps: u64,
+    steps: u128,
     zxid: i64,
     offset: i64,
     recorded: Option<i64>,
