@@ -1,8 +1,12 @@
 //! The top call: reads a script, runs it, and writes the replies.
 #![tactic(auto)]
 
+mod command;
 mod ending;
 mod machine;
 mod place;
 mod program;
 mod stream;
+
+pub use command::run;
+pub use kz_types::Status;

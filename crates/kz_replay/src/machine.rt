@@ -5,6 +5,7 @@ ghost use Rattle.kz_spec_machine.specs.Machine.{World as WorldValue, empty_world
 ghost use Rattle.kz_spec_runs.specs.Output.{recorded_offset};
 
 use kz_types::{Answer, Event, NoMemory};
+use kz_world::World;
 use std::alloc::Global;
 
 /// A machine that has a world.
@@ -31,4 +32,31 @@ pub trait Machine: Drop + Sized {
     /// The offset that the tree records.
     fn recorded(&self) -> Result<Option<i64>, NoMemory>
         ensures { IfOk result (λ offset. offset ≡ recorded_offset (world self.now).shared.tree) };
+}
+
+impl Machine for World {
+    ghost world = { λ w. w };
+
+    fn new(alloc: Global) -> Result<Self, NoMemory> {
+        World::new(alloc)
+    }
+
+    fn event(&mut self, event: Event) -> Result<Answer, NoMemory> {
+        World::event(self, event)
+    }
+
+    fn zxid(&self) -> i64 {
+        World::zxid(self)
+    }
+
+    fn end(&self) -> i64 {
+        World::end(self)
+    }
+
+    fn recorded(&self) -> Result<Option<i64>, NoMemory> {
+        match World::recorded(self)? {
+            Some(told) => Ok(Some(told.offset)),
+            None => Ok(None),
+        }
+    }
 }
