@@ -3,10 +3,12 @@
 
 mod command;
 mod ending;
+mod exit;
 mod machine;
 mod place;
 mod program;
 mod stream;
 
 pub use command::run;
+pub use exit::{code, text};
 pub use kz_types::Status;
