@@ -12,3 +12,6 @@ mod stream;
 pub use command::run;
 pub use exit::{code, text};
 pub use kz_types::Status;
+
+#[cfg(test)]
+mod tests;
