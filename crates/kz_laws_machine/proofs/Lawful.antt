@@ -1,5 +1,5 @@
 -- The events that lines give are lawful.
-use Rattle.std.proofs.Common.{◌≡◌, ℕ, suc, ◌==◌, ◌≤◌, nat_le, ℤ, pos, ◌≤ℤ◌, Bool, true, false, not, ◌&&◌, ◌||◌, if◌then◌else◌, List, [], ◌∷◌, length, Option, Some, None, option_map, is_some, All, refl, sym, ap, ◌∙◌, arith}
+use Rattle.std.proofs.Common.{◌≡◌, ℕ, suc, ◌==◌, ◌≤◌, nat_le, ℤ, pos, ◌≤ℤ◌, Bool, true, false, not, ◌&&◌, ◌||◌, if◌then◌else◌, List, [], ◌∷◌, length, Option, Some, None, option_map, is_some, All, refl, sym, ap, ◌∙◌, subst, arith}
 use Rattle.std.specs.Prelude.{⊤, option_and_then, codes}
 use Rattle.std.specs.Ordering.{int_eq}
 use Rattle.std.specs.Str.{bytes_eq}
@@ -171,9 +171,12 @@ event_lawful : (d : Data) → OfSome IsLawful (event_of d)
 event_lawful d = after (λ (x : List ℕ). ⊤) IsLawful (λ name. by_name event_forms name d) (text_member (codes "event") d) (anything (text_member (codes "event") d)) (λ name t. form_lawful name d)
 
 -- the event that a line is
-pub line_lawful : (bytes : List ℕ) → OfSome IsLawful (line_event bytes)
+line_lawful : (bytes : List ℕ) → OfSome IsLawful (line_event bytes)
 unfolding line_event
 line_lawful bytes = after (λ (x : Data). ⊤) IsLawful event_of (json_of bytes) (anything (json_of bytes)) (λ d t. event_lawful d)
+
+pub lawful_line : (bytes : List ℕ) (e : Event) → line_event bytes ≡ Some e → IsLawful e
+lawful_line bytes e is = subst (OfSome IsLawful) is (line_lawful bytes)
 
 -- ---- scripts
 

@@ -2,6 +2,7 @@
 ghost use Rattle.std.specs.Prelude.{◌≡◌, IfOk};
 ghost use Rattle.kz_spec_stores.specs.Log.{end_of};
 ghost use Rattle.kz_spec_machine.specs.Machine.{World as WorldValue, empty_world, next};
+ghost use Rattle.kz_spec_machine.specs.Sound.{IsLawful};
 ghost use Rattle.kz_spec_runs.specs.Output.{recorded_offset};
 
 use kz_types::{Answer, Event, NoMemory};
@@ -17,8 +18,9 @@ pub trait Machine: Drop + Sized {
     fn new(alloc: Global) -> Result<Self, NoMemory>
         ensures { IfOk result (λ machine. world machine ≡ empty_world) };
 
-    /// Lets an event happen. Where memory runs out nothing is said of the world.
+    /// Lets an event happen, as a line of a script gives it. Where memory runs out nothing is said of the world.
     fn event(&mut self, event: Event) -> Result<Answer, NoMemory>
+        requires { IsLawful event }
         ensures { IfOk result (λ answer. next (world self.old) event ≡ (world self.new, answer)) };
 
     /// The last transaction of the tree.
@@ -41,6 +43,7 @@ impl Machine for World {
         World::new(alloc)
     }
 
+    #[tactic(auto, using(crate::proofs::Records::has_records))]
     fn event(&mut self, event: Event) -> Result<Answer, NoMemory> {
         World::event(self, event)
     }

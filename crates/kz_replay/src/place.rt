@@ -3,6 +3,7 @@ ghost use Rattle.std.specs.Prelude.{◌≡◌, ◌+◌, ◌<◌, ◌≤◌, ◌^
 ghost use Rattle.kz_types.specs.declared.outside.Status.TheVariants as status;
 ghost use Rattle.kz_spec_lines.specs.Lines.{Item, line as line_item, is_passed_over};
 ghost use Rattle.kz_spec_machine.specs.Machine.{next};
+ghost use Rattle.kz_spec_machine.specs.Sound.{IsLawful};
 ghost use Rattle.kz_spec_runs.specs.Output.{Place as PlaceValue, opening, served, written_for, steps_of, ending, ending_of_reply, ended, outcome, summary};
 ghost use Rattle.kz_replay.specs.Endings.{status_of, followed};
 ghost use Rattle.kz_replay.specs.Kept.{IsCounted};
@@ -87,7 +88,8 @@ impl<M: Machine> Place<M> {
 
     // Lets the event of a line happen.
     fn serve(&mut self, alloc: Global, event: Event) -> Result<Printed, NoMemory>
-        requires { self.old.lines < 2 ^ 33 }
+        requires lines { self.old.lines < 2 ^ 33 }
+        requires lawful { IsLawful event }
         ensures text { IfOk result (λ p. p.text.items ≡ written_for self.old event) }
         ensures end { IfOk result (λ p. option_map status_of p.end ≡ ending (next self.old.world event).1) }
         ensures place { IfOk result (λ p. self.new ≡ served self.old event) }
@@ -103,6 +105,7 @@ impl<M: Machine> Place<M> {
     }
 
     /// Goes over a line.
+    #[tactic(auto, using(kz_laws_machine::proofs::Lawful::lawful_line))]
     pub fn advance(&mut self, alloc: Global, line: &[u8]) -> Result<Printed, NoMemory>
         requires { self.old.lines < 2 ^ 33 }
         ensures ok { IfOk result (λ p. (more : List Item) → outcome self.old (line_item line.now ∷ more)

@@ -1,5 +1,5 @@
 -- What is found at the batch ends, path by path.
-use Rattle.std.proofs.Common.{◌≡◌, ℕ, suc, ◌+◌, ◌-◌, ◌<◌, Bool, true, false, not, ◌&&◌, ◌||◌, cond, ℤ, ◌<ℤ◌, ◌≤ℤ◌, int_le, int_lt, List, [], ◌∷◌, length, map, drop, get_or, add-one, drop-cons, Option, Some, None, is_none, option_map, filter, refl, sym, ap, ◌∙◌, arith}
+use Rattle.std.proofs.Common.{◌≡◌, ℕ, suc, ◌+◌, ◌-◌, ◌<◌, Bool, true, false, not, ◌&&◌, ◌||◌, cond, ℤ, ◌≤ℤ◌, int_le, int_lt, List, [], ◌∷◌, length, map, drop, get_or, add-one, drop-cons, Option, Some, None, is_none, option_map, filter, refl, sym, ap, ◌∙◌, arith}
 use Rattle.std.proofs.lemmas.Bool.{false≢true}
 use Rattle.std.proofs.lemmas.Int.{ints}
 use Rattle.std.specs.List.{find, list_any, filter_map, cons_option}
@@ -16,43 +16,28 @@ use Rattle.kz_world.specs.Agreement.{agrees_in, first_among, all_first, marked, 
 
 -- ---- one batch end more
 
-not_yet : (x y : ℤ) → x <ℤ y → int_le y x ≡ false
-not_yet x y h = grind (arith, ints)
-
 reached : (x y : ℤ) → y ≤ℤ x → int_le y x ≡ true
 reached x y h = grind (arith, ints)
 
--- one before the offset doesn't count
-pub before_offset : (t : Tree) (l : Log) (offset end : ℤ) (ends : List ℤ) (zs : List Rendered) → end <ℤ offset → all_first t l offset ends zs ≡ all_first t l offset (end ∷ ends) zs
-before_offset t l offset end ends [] h = refl
-before_offset t l offset end ends (z ∷ zs) h =
-    let skips : first_among t l offset ends z.path ≡ first_among t l offset (end ∷ ends) z.path = rw (not_yet end offset h) refl in
-    ap (λ (m : Option ℤ). m ∷ all_first t l offset ends zs) skips ∙ ap (λ ms. first_among t l offset (end ∷ ends) z.path ∷ ms) (before_offset t l offset end ends zs h)
+from_offset : (there : List Rendered) (l : Log) (offset end : ℤ) (ends : List ℤ) (zs : List Rendered) → int_le offset end ≡ true
+    → marked end there (render (image_at l end)) zs (all_first there l offset ends zs) ≡ all_first there l offset (end ∷ ends) zs
+from_offset there l offset end ends [] h = refl
+from_offset there l offset end ends (z ∷ zs) h =
+    rw h (ap (λ ms. cond (agrees_in there (render (image_at l end)) z.path) (Some end) (first_among there l offset ends z.path) ∷ ms) (from_offset there l offset end ends zs h))
 
-from_offset : (t : Tree) (l : Log) (offset end : ℤ) (ends : List ℤ) (zs : List Rendered) → int_le offset end ≡ true
-    → marked end (area t) (render (image_at l end)) zs (all_first t l offset ends zs) ≡ all_first t l offset (end ∷ ends) zs
-from_offset t l offset end ends [] h = refl
-from_offset t l offset end ends (z ∷ zs) h = rw h (ap (λ ms. cond (agrees_at t l z.path end) (Some end) (first_among t l offset ends z.path) ∷ ms) (from_offset t l offset end ends zs h))
-
-pub next_end : (t : Tree) (l : Log) (offset end : ℤ) (ends : List ℤ) (area_now rendering zs : List Rendered) (marks : List (Option ℤ)) → offset ≤ℤ end → area_now ≡ area t → rendering ≡ render (image_at l end)
-    → marks ≡ all_first t l offset ends zs → marked end area_now rendering zs marks ≡ all_first t l offset (end ∷ ends) zs
-next_end t l offset end ends area_now rendering zs marks h a r m =
-    ap (λ x. marked end x rendering zs marks) a ∙ ap (λ x. marked end (area t) x zs marks) r ∙ ap (marked end (area t) (render (image_at l end)) zs) m
-    ∙ from_offset t l offset end ends zs (reached end offset h)
-
--- ---- walks over two lists
-
-cut_at : {A : Type 0} (xs : List A) (i : ℕ) (x : A) → i < length xs → x ≡ get_or xs i x → drop i xs ≡ x ∷ drop (i + 1) xs
-cut_at xs i x h is = rw (add-one, drop-cons xs i x h) (ap (λ y. y ∷ drop (suc i) xs) (sym is))
+pub next_end : (l : Log) (offset end : ℤ) (ends : List ℤ) (there rendering zs : List Rendered) (marks : List (Option ℤ)) → offset ≤ℤ end → rendering ≡ render (image_at l end) → marks ≡ all_first there l offset ends zs
+    → marked end there rendering zs marks ≡ all_first there l offset (end ∷ ends) zs
+next_end l offset end ends there rendering zs marks h r m =
+    ap (λ x. marked end there x zs marks) r ∙ ap (marked end there (render (image_at l end)) zs) m ∙ from_offset there l offset end ends zs (reached end offset h)
 
 -- ---- what is found at all znodes
 
 found_along : (t : Tree) (l : Log) (offset : ℤ) (zs : List Rendered)
-    → all_found (area t) (render (image_at l offset)) zs (all_first t l offset (batch_ends l) zs) ≡ map (found_at t l offset) (map (λ (z : Rendered). z.path) zs)
+    → all_found (area t) (render (image_at l offset)) zs (all_first (area t) l offset (batch_ends l) zs) ≡ map (found_at t l offset) (map (λ (z : Rendered). z.path) zs)
 found_along t l offset [] = refl
 found_along t l offset (z ∷ zs) = ap (λ fs. found_at t l offset z.path ∷ fs) (found_along t l offset zs)
 
-pub found_is : (t : Tree) (l : Log) (offset : ℤ) (area_now rendering zs : List Rendered) (marks : List (Option ℤ)) → area_now ≡ area t → rendering ≡ render (image_at l offset) → marks ≡ all_first t l offset (batch_ends l) zs
+pub found_is : (t : Tree) (l : Log) (offset : ℤ) (area_now rendering zs : List Rendered) (marks : List (Option ℤ)) → area_now ≡ area t → rendering ≡ render (image_at l offset) → marks ≡ all_first (area t) l offset (batch_ends l) zs
     → all_found area_now rendering zs marks ≡ map (found_at t l offset) (map (λ (z : Rendered). z.path) zs)
 found_is t l offset area_now rendering zs marks a r m =
     ap (λ x. all_found x rendering zs marks) a ∙ ap (λ x. all_found (area t) x zs marks) r ∙ ap (all_found (area t) (render (image_at l offset)) zs) m ∙ found_along t l offset zs
@@ -69,9 +54,9 @@ any_here false p e rest later h = h
 
 -- an end from the offset on agrees where a first one does
 any_is_first : (t : Tree) (l : Log) (offset : ℤ) (path : List ℕ) (ends : List ℤ)
-    → not (list_any (agrees_at t l path) (filter (λ e. int_le offset e) ends)) ≡ is_none (first_among t l offset ends path)
+    → not (list_any (agrees_at t l path) (filter (λ e. int_le offset e) ends)) ≡ is_none (first_among (area t) l offset ends path)
 any_is_first t l offset path [] = refl
-any_is_first t l offset path (e ∷ ends) = any_here (int_le offset e) (agrees_at t l path) e (filter (λ x. int_le offset x) ends) (first_among t l offset ends path) (any_is_first t l offset path ends)
+any_is_first t l offset path (e ∷ ends) = any_here (int_le offset e) (agrees_at t l path) e (filter (λ x. int_le offset x) ends) (first_among (area t) l offset ends path) (any_is_first t l offset path ends)
 
 disagrees_is : (t : Tree) (l : Log) (offset : ℤ) (is_closed : Bool) (path : List ℕ) → disagrees t l offset is_closed path ≡ is_disagreeing is_closed (found_at t l offset path)
 disagrees_is t l offset is_closed path = ap (λ b. b || (is_closed && not (agrees_at t l path offset))) (any_is_first t l offset path (batch_ends l))
@@ -103,7 +88,7 @@ later_by x y p false none here = and_false (int_lt x y) ∙ sym (and_false (int_
 
 -- where the offset itself doesn't agree, the first end from it on is the first behind it
 first_is_later : (t : Tree) (l : Log) (offset : ℤ) (path : List ℕ) (ends : List ℤ) → agrees_at t l path offset ≡ false
-    → find (λ e. int_lt offset e && agrees_at t l path e) ends ≡ first_among t l offset ends path
+    → find (λ e. int_lt offset e && agrees_at t l path e) ends ≡ first_among (area t) l offset ends path
 first_is_later t l offset path [] none = refl
 first_is_later t l offset path (e ∷ ends) none =
     ap (λ b. cond b (Some e) (find (λ x. int_lt offset x && agrees_at t l path x) ends)) (later_by offset e (agrees_at t l path) (agrees_at t l path e) none refl)
@@ -134,6 +119,9 @@ verdict_found t l offset is_closed =
     ∙ ap (unless_one_disagrees (find (is_disagreeing is_closed) (map (found_at t l offset) (paths_at t l offset)))) (closed_is t l offset is_closed)
 
 -- ---- batch ends from the last on
+
+cut_at : {A : Type 0} (xs : List A) (i : ℕ) (x : A) → i < length xs → x ≡ get_or xs i x → drop i xs ≡ x ∷ drop (i + 1) xs
+cut_at xs i x h is = rw (add-one, drop-cons xs i x h) (ap (λ y. y ∷ drop (suc i) xs) (sym is))
 
 pub ends_more : (es : List ℤ) (done : ℕ) (end : ℤ) → done < length es → end ≡ get_or es (length es - 1 - done) end → end ∷ drop (length es - done) es ≡ drop (length es - (done + 1)) es
 ends_more es done end h is =

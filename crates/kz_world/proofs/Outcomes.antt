@@ -1,5 +1,5 @@
 -- What events make of a world.
-use Rattle.std.proofs.Common.{◌≡◌, ℕ, zero, suc, ◌<◌, Bool, true, false, cond, ℤ, pos, ◌+ℤ◌, List, [], ◌∷◌, length, set, not, Option, Some, None, option_map, Result, Ok, Err, refl, sym, ap, ◌∙◌, arith}
+use Rattle.std.proofs.Common.{◌≡◌, ℕ, zero, suc, ◌<◌, Bool, true, false, cond, ℤ, List, [], ◌∷◌, length, set, not, Option, Some, None, option_map, Result, Ok, Err, refl, sym, ap, ◌∙◌, arith}
 use Rattle.std.specs.Prelude.{slice_get, int_lt}
 use Rattle.std.specs.Ordering.{int_eq}
 use Rattle.std.proofs.lemmas.Int.{ints}
@@ -11,7 +11,7 @@ use Rattle.kz_types.specs.declared.machine.Event.TheVariants as event
 use Rattle.kz_types.specs.declared.machine.Reply.{Reply}
 use Rattle.kz_types.specs.declared.record.MetaRecord.{MetaRecord}
 use Rattle.kz_spec_stores.specs.Image.{all_applied}
-use Rattle.kz_spec_stores.specs.Log.{Log, append, elect, end_of, full_log, added, with_batch, with_next_epoch, max_epoch, image_of, is_migrated_log}
+use Rattle.kz_spec_stores.specs.Log.{Log, append, elect, end_of, full_log, added, with_batch, max_epoch, image_of, is_migrated_log}
 use Rattle.kz_spec_stores.specs.Rendering.{excess}
 use Rattle.kz_spec_machine.specs.Driver.{Shared, Driver}
 use Rattle.kz_spec_machine.specs.Machine.{World, next, running_ids, is_running, start_refusal, turn, work, turned_world, decided, unless_refused, first_of, unless, over, full, running_refusal, leader_refusal, change_refusal, over_excess, election_refusal, election_records, elected_log, elected_world, election_answer, next_epoch, changed_log, changed_world, turn_result, driver_of}

@@ -5,8 +5,9 @@ use Rattle.kz_types.specs.declared.tree.Rendered.{Rendered}
 use Rattle.kz_types.specs.declared.machine.AheadPath.{AheadPath}
 use Rattle.kz_types.specs.declared.machine.Verdict.{Verdict}
 use Rattle.kz_types.specs.declared.machine.Verdict.TheVariants.{Closed, Ahead, Disagrees}
-use Rattle.kz_spec_stores.specs.Tree.{Tree}
-use Rattle.kz_spec_stores.specs.Log.{Log, batch_ends}
+use Rattle.kz_spec_stores.specs.Tree.{Tree, area as area_of}
+use Rattle.kz_spec_stores.specs.Log.{Log, batch_ends, image_at}
+use Rattle.kz_spec_stores.specs.Rendering.{render}
 use Rattle.kz_spec_machine.specs.Verdicts.{body_at, same_bodies, agrees_at}
 use Rattle.kz_world.specs.declared.comparison.Found.{Found}
 
@@ -14,13 +15,13 @@ use Rattle.kz_world.specs.declared.comparison.Found.{Found}
 abbrev pub agrees_in : List Rendered → List Rendered → List ℕ → Bool
 agrees_in area rendering path = same_bodies (body_at path area) (body_at path rendering)
 
--- the first of these batch ends, from an offset on, at which the tree agrees at a path
-abbrev pub first_among : Tree → Log → ℤ → List ℤ → List ℕ → Option ℤ
-first_among t l offset ends path = find (λ e. int_le offset e && agrees_at t l path e) ends
+-- the first of these batch ends, from an offset on, at which the area is as rendered there at a path
+abbrev pub first_among : List Rendered → Log → ℤ → List ℤ → List ℕ → Option ℤ
+first_among area l offset ends path = find (λ e. int_le offset e && agrees_in area (render (image_at l e)) path) ends
 
 -- the first of these batch ends for each of these znodes
-abbrev pub all_first : Tree → Log → ℤ → List ℤ → List Rendered → List (Option ℤ)
-all_first t l offset ends znodes = map (λ (z : Rendered). first_among t l offset ends z.path) znodes
+abbrev pub all_first : List Rendered → Log → ℤ → List ℤ → List Rendered → List (Option ℤ)
+all_first area l offset ends znodes = map (λ (z : Rendered). first_among area l offset ends z.path) znodes
 
 -- one batch end more before the others, at which the tree is compared with this rendering
 abbrev pub marked : ℤ → List Rendered → List Rendered → List Rendered → List (Option ℤ) → List (Option ℤ)
@@ -36,7 +37,7 @@ all_found area rendering (z ∷ zs) (m ∷ ms) = record { path = z.path; here = 
 
 -- what is found at a path
 abbrev pub found_at : Tree → Log → ℤ → List ℕ → Found
-found_at t l offset path = record { path = path; here = agrees_at t l path offset; first = first_among t l offset (batch_ends l) path }
+found_at t l offset path = record { path = path; here = agrees_at t l path offset; first = first_among (area_of t) l offset (batch_ends l) path }
 
 abbrev pub is_disagreeing : Bool → Found → Bool
 is_disagreeing is_closed f = is_none f.first || (is_closed && not f.here)

@@ -126,7 +126,6 @@ fn marked(
 // The marks of these znodes, with one batch end more.
 fn marks_with(
     alloc: Global,
-    tree: &Tree,
     log: &MemoryLog,
     offset: i64,
     end: i64,
@@ -134,10 +133,9 @@ fn marks_with(
     znodes: &[Rendered],
     marks: Vec<Option<i64>>,
 ) -> Result<Vec<Option<i64>>, NoMemory>
-    requires area { area.now ≡ area_of tree.now }
     requires rising { Rises bytes_cmp path_of_rendered area.now }
     requires as_many { length marks.items ≡ length znodes.now }
-    ensures marks { (ends : List ℤ) → marks.items ≡ all_first tree.now log.now offset ends znodes.now → IfOk result (λ made. made.items ≡ all_first tree.now log.now offset (end ∷ ends) znodes.now) }
+    ensures marks { (ends : List ℤ) → marks.items ≡ all_first area.now log.now offset ends znodes.now → IfOk result (λ made. made.items ≡ all_first area.now log.now offset (end ∷ ends) znodes.now) }
     ensures as_many { IfOk result (λ made. length made.items ≡ length znodes.now) }
 {
     if end < offset {
@@ -148,25 +146,23 @@ fn marks_with(
     Ok(made)
 }
 
-// For each of these znodes the first batch end, from an offset on, at which the tree is as rendered there.
+// For each of these znodes the first batch end, from an offset on, at which the area is as rendered there.
 fn all_marks(
     alloc: Global,
-    tree: &Tree,
     log: &MemoryLog,
     offset: i64,
     area: &[Rendered],
     znodes: &[Rendered],
 ) -> Result<Vec<Option<i64>>, NoMemory>
-    requires area { area.now ≡ area_of tree.now }
-    requires rising { Rises bytes_cmp path_of_rendered area.now }
-    ensures { IfOk result (λ marks. marks.items ≡ all_first tree.now log.now offset (batch_ends log.now) znodes.now) }
+    requires { Rises bytes_cmp path_of_rendered area.now }
+    ensures { IfOk result (λ marks. marks.items ≡ all_first area.now log.now offset (batch_ends log.now) znodes.now) }
 {
     let ends = log.batch_ends(alloc)?;
     let count = ends.len();
     let mut marks = no_marks(alloc, znodes)?;
     for done in 0..count {
         let end = ends[count - 1 - done];
-        marks = marks_with(alloc, tree, log, offset, end, area, znodes, marks)?;
+        marks = marks_with(alloc, log, offset, end, area, znodes, marks)?;
     }
     Ok(marks)
 }
@@ -208,7 +204,7 @@ fn find_all(
     let area = tree.area()?;
     let rendering = rendering_at(alloc, log, offset)?;
     let znodes = all_znodes(alloc, tree, &rendering)?;
-    let marks = all_marks(alloc, tree, log, offset, &area, &znodes)?;
+    let marks = all_marks(alloc, log, offset, &area, &znodes)?;
     let found = all_found(alloc, &area, &rendering, &znodes, &marks)?;
     Ok(found)
 }

@@ -24,39 +24,40 @@ fn one_config(alloc: Global) -> Result<Sequence<MetaRecord>, NoMemory>
     Ok(records)
 }
 
-fn ids(alloc: Global, id: i32) -> Result<Sequence<i32>, NoMemory> {
+// A world in which this controller is declared.
+fn declared(alloc: Global, id: i32) -> Result<World, NoMemory> {
     let mut ids = Sequence::new(alloc);
     ids.push(id)?;
-    Ok(ids)
+    let mut world = World::new(alloc)?;
+    let _ = world.event(Event::Quorum { ids })?;
+    Ok(world)
+}
+
+// A world in which it runs.
+fn started(alloc: Global, id: i32) -> Result<World, NoMemory> {
+    let mut world = declared(alloc, id)?;
+    let _ = world.event(Event::Start { controller: id })?;
+    Ok(world)
 }
 
 #[test]
-fn controllers_are_declared_started_and_elected(rt: HostRuntime) -> Result<(), Fail> {
-    let alloc = rt.alloc();
-    let mut world = World::new(alloc)?;
-    let start = world.event(Event::Start { controller: 1 })?;
-    assert!(rt; matches!(start, Answer::UnknownController));
-    let declared = world.event(Event::Quorum {
-        ids: ids(alloc, 1)?,
-    })?;
-    assert!(rt; matches!(declared, Answer::Done));
-    let early = world.event(Event::Elect {
-        controller: 1,
-        now: 5,
-    })?;
-    assert!(rt; matches!(early, Answer::NotRunning));
-    let started = world.event(Event::Start { controller: 1 })?;
-    assert!(rt; matches!(started, Answer::Done));
-    let again = world.event(Event::Start { controller: 1 })?;
-    assert!(rt; matches!(again, Answer::AlreadyRunning));
-    let other = world.event(Event::Quorum {
-        ids: ids(alloc, 2)?,
-    })?;
-    assert!(rt; matches!(other, Answer::Running { id: 1 }));
-    let first = world.event(Event::Elect {
+fn a_controller_starts_once(rt: HostRuntime) -> Result<(), Fail> {
+    let mut world = declared(rt.alloc(), 1)?;
+    let first = world.event(Event::Start { controller: 1 })?;
+    let second = world.event(Event::Start { controller: 1 })?;
+    assert!(rt; matches!(first, Answer::Done));
+    assert!(rt; matches!(second, Answer::AlreadyRunning));
+    Ok(())
+}
+
+#[test]
+fn each_election_has_an_epoch(rt: HostRuntime) -> Result<(), Fail> {
+    let mut world = started(rt.alloc(), 1)?;
+    let event = Event::Elect {
         controller: 1,
         now: 6,
-    })?;
+    };
+    let first = world.event(event)?;
     assert!(rt;
         matches!(
             first,
@@ -66,60 +67,21 @@ fn controllers_are_declared_started_and_elected(rt: HostRuntime) -> Result<(), F
             }
         )
     );
-    let second = world.event(Event::Elect {
-        controller: 1,
-        now: 7,
-    })?;
-    assert!(rt;
-        matches!(
-            second,
-            Answer::Elected {
-                epoch: 2,
-                offset: 2
-            }
-        )
-    );
-    assert_eq!(rt; world.end(), 2);
-    assert_eq!(rt; world.zxid(), 0);
+    assert_eq!(rt; world.end(), 1);
     Ok(())
 }
 
 #[test]
-fn a_change_needs_a_leader_and_a_migration(rt: HostRuntime) -> Result<(), Fail> {
+fn a_change_needs_a_leader(rt: HostRuntime) -> Result<(), Fail> {
     let alloc = rt.alloc();
-    let mut world = World::new(alloc)?;
-    let _ = world.event(Event::Quorum {
-        ids: ids(alloc, 1)?,
-    })?;
-    let _ = world.event(Event::Start { controller: 1 })?;
-    let records = one_config(alloc)?;
-    let early = world.event(Event::Change {
+    let mut world = started(alloc, 1)?;
+    let event = Event::Change {
         controller: 1,
-        records,
-        now: 5,
-    })?;
-    assert!(rt; matches!(early, Answer::NotLeader));
-    let _ = world.event(Event::Elect {
-        controller: 1,
-        now: 6,
-    })?;
-    let records = one_config(alloc)?;
-    let unmigrated = world.event(Event::Change {
-        controller: 1,
-        records,
+        records: one_config(alloc)?,
         now: 7,
-    })?;
-    assert!(rt; matches!(unmigrated, Answer::NotMigrated));
-    let check = world.event(Event::Check)?;
-    assert!(rt;
-        matches!(
-            check,
-            Answer::Check {
-                verdict: Verdict::Unmigrated
-            }
-        )
-    );
-    assert_eq!(rt; world.recorded()?, None);
+    };
+    let answer = world.event(event)?;
+    assert!(rt; matches!(answer, Answer::NotLeader));
     Ok(())
 }
 
@@ -159,11 +121,8 @@ fn rooted(alloc: Global) -> Result<Tree, NoMemory> {
 // A log whose migration is committed at its end, offset 1.
 fn migrated(alloc: Global) -> Result<MemoryLog, NoMemory> {
     let mut log = MemoryLog::new(alloc);
-    match log.elect(
-        alloc,
-        5,
-        &[MetaRecord::NoOp, MetaRecord::ZkMigrationState { state: 2 }],
-    ) {
+    let items = [MetaRecord::NoOp, MetaRecord::ZkMigrationState { state: 2 }];
+    match log.elect(alloc, 5, &items) {
         Ok(_) => Ok(log),
         Err(_) => Err(NoMemory),
     }
@@ -184,11 +143,10 @@ fn add_recorded(alloc: Global, tree: &mut Tree) -> Result<(), NoMemory> {
 #[test]
 fn a_recorded_tree_is_closed(rt: HostRuntime) -> Result<(), Fail> {
     let alloc = rt.alloc();
-    let log = migrated(alloc)?;
     let mut tree = rooted(alloc)?;
-    assert!(rt; matches!(verdict(alloc, &tree, &log)?, Verdict::Unrecorded));
     add_recorded(alloc, &mut tree)?;
-    assert!(rt; matches!(verdict(alloc, &tree, &log)?, Verdict::Closed { offset: 1 }));
+    let told = verdict(alloc, &tree, &migrated(alloc)?)?;
+    assert!(rt; matches!(told, Verdict::Closed { offset: 1 }));
     Ok(())
 }
 
@@ -202,10 +160,9 @@ fn disagreeing(verdict: &Verdict) -> Option<&str> {
 #[test]
 fn a_root_that_is_missing_disagrees(rt: HostRuntime) -> Result<(), Fail> {
     let alloc = rt.alloc();
-    let log = migrated(alloc)?;
     let mut tree = Tree::new(alloc);
     add_recorded(alloc, &mut tree)?;
-    let told = verdict(alloc, &tree, &log)?;
+    let told = verdict(alloc, &tree, &migrated(alloc)?)?;
     assert_eq!(rt; disagreeing(&told), Some("/brokers/topics"));
     Ok(())
 }

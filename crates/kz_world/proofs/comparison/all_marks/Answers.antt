@@ -8,7 +8,6 @@ use Rattle.kz_world.proofs.comparison.all_marks.Goals as goal
 
 pub loop-done-preserved : goal.loop-done-preserved
 loop-done-preserved c =
-    let t = c.args.tree.now in
     let l = c.args.log.now in
     let es = batch_ends l in
     let offset = to_z w64 (of_z w64 c.args.offset) in
@@ -22,6 +21,6 @@ loop-done-preserved c =
     let within : done < length es = omega (arith, lt, count_is) in
     let is = c.index-end.ensures ∙ ap (λ xs. get_or xs (c.len-count.result - 1 - done) end) items_are ∙ ap (λ n. get_or es (n - 1 - done) end) count_is in (
       c.in_ok-marks-2.ensures.marks (drop (length es - done) es) c.loop-done.invariant.0
-          ∙ ap (λ xs. all_first t l offset xs c.args.znodes.now) (ap (λ x. x ∷ drop (length es - done) es) (to_z-of_z w64 end fits) ∙ ends_more es done end within is),
+          ∙ ap (λ xs. all_first c.args.area.now l offset xs c.args.znodes.now) (ap (λ x. x ∷ drop (length es - done) es) (to_z-of_z w64 end fits) ∙ ends_more es done end within is),
       c.in_ok-marks-2.ensures.as_many,
     )

@@ -5,5 +5,5 @@ use Rattle.kz_world.proofs.comparison.all_marks.Given as goal
 
 abbrev pub invariant-loop-done : goal.invariant-loop-done
 invariant-loop-done l =
-    (l.marks.items ≡ all_first l.tree l.log l.offset (drop (length (batch_ends l.log) - l.done) (batch_ends l.log)) l.znodes)
+    (l.marks.items ≡ all_first l.area l.log l.offset (drop (length (batch_ends l.log) - l.done) (batch_ends l.log)) l.znodes)
     × (length l.marks.items ≡ length l.znodes)

@@ -19,5 +19,7 @@ returns c =
     let znodes_are = c.deref-6.ensures.value ∙ c.in_ok-znodes.ensures ∙ ap (λ r. all_put bytes_cmp path_of_rendered r (area t)) (c.deref.ensures.value ∙ rendering_is) in
     c.in_ok-found.ensures
     ∙ found_is t l c.args.offset c.deref-4.result.now c.deref-5.result.now c.deref-6.result.now c.deref-7.result.now (c.deref-4.ensures.value ∙ c.in_ok-area.ensures.znodes) (c.deref-5.ensures.value ∙ rendering_is)
-    (c.deref-7.ensures.value ∙ c.in_ok-marks.ensures ∙ ap (λ o. all_first t l o (batch_ends l) c.deref-3.result.now) offset_is ∙ ap (all_first t l c.args.offset (batch_ends l)) (c.deref-3.ensures.value ∙ sym c.deref-6.ensures.value))
+    (c.deref-7.ensures.value ∙ c.in_ok-marks.ensures ∙ ap (λ o. all_first c.deref-2.result.now l o (batch_ends l) c.deref-3.result.now) offset_is
+    ∙ ap (λ there. all_first there l c.args.offset (batch_ends l) c.deref-3.result.now) (c.deref-2.ensures.value ∙ c.in_ok-area.ensures.znodes)
+    ∙ ap (all_first (area t) l c.args.offset (batch_ends l)) (c.deref-3.ensures.value ∙ sym c.deref-6.ensures.value))
     ∙ ap (λ (zs : _). map (found_at t l c.args.offset) (map (λ (z : Rendered). z.path) zs)) znodes_are

@@ -12,5 +12,5 @@ returns-clause-marks c = λ ends before.
     let late : c.args.offset ≤ℤ c.args.end = omega (arith, ints, c.if-end-offset.false) in
     c.in_ok-made.ensures.marks
     ∙ ap (λ e. marked e c.args.area.now c.deref.result.now c.args.znodes.now c.deref-2.result.now) end_is
-    ∙ next_end c.args.tree.now c.args.log.now c.args.offset c.args.end ends c.args.area.now c.deref.result.now c.args.znodes.now c.deref-2.result.now late c.requires.area
+    ∙ next_end c.args.log.now c.args.offset c.args.end ends c.args.area.now c.deref.result.now c.args.znodes.now c.deref-2.result.now late
     (c.deref.ensures.value ∙ c.in_ok-rendering.ensures.znodes ∙ ap (λ e. render (image_at c.args.log.now e)) end_is) (c.deref-2.ensures.value ∙ before)
