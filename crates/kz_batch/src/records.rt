@@ -9,7 +9,7 @@ ghost use Rattle.kz_batch.specs.Answers.{Says, Finds};
 use kz_bytes::Reader;
 use kz_types::BatchFault;
 
-// What a batch takes of a record: its offset delta and its value.
+/// What a batch takes of a record: its offset delta and its value.
 #[derive(Clone, Copy)]
 pub struct Entry<'a> {
     pub delta: i64,
@@ -118,14 +118,14 @@ fn read_content<'a>(reader: &mut Reader<'a>) -> Result<Entry<'a>, BatchFault>
     Ok(Entry { delta, value })
 }
 
-// Whether no byte is left.
+/// Whether no byte is left.
 pub fn is_done(reader: &mut Reader) -> bool
     ensures { result ≡ (length reader.old.left == 0) }
 {
     reader.part(1).is_err()
 }
 
-// A record: the length of its content, and the content.
+/// A record: the length of its content, and the content.
 pub fn read_entry<'a>(reader: &mut Reader<'a>) -> Result<Entry<'a>, BatchFault>
     ensures { Finds (λ x c. (delta_of c ≡ x.delta) × (value_of c ≡ x.value.now)) result reader.new (entry.read reader.old) }
 {
@@ -153,7 +153,7 @@ fn follows(ordered: bool, delta: i64, number: u32) -> bool
     ordered && delta == number as i64
 }
 
-// So many records: whether they have the offsets 0, 1, 2 and so on.
+/// So many records: whether they have the offsets 0, 1, 2 and so on.
 pub fn read_records(reader: &mut Reader, count: u32) -> Result<bool, BatchFault>
     ensures { Finds (λ ordered cs. ordered ≡ is_numbered 0 cs) result reader.new (items_at entry.read count reader.old) }
 {

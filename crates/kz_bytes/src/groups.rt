@@ -13,7 +13,7 @@ pub struct Number<'a> {
     pub left: &'a [u8],
 }
 
-// The number at the front of bytes that begin at this place: at most `more` bytes from 128 on, then one below `last`.
+/// The number at the front of bytes that begin at this place: at most `more` bytes from 128 on, then one below `last`.
 #[tactic(auto, unfolding(kz_spec_values::specs::Fields::groups_at, crate::specs::Groups::limit))]
 pub fn read_groups(at: usize, bytes: &[u8], more: u8, last: u8) -> Result<Number<'_>, ByteFault>
     requires fits { limit more last ≤ 2 ^ 64 }

@@ -39,7 +39,7 @@ fn possible(bytes: &[u8], error_len: Option<usize>) -> usize
     }
 }
 
-// The first byte at which no text of this length goes on; none where the bytes are UTF-8.
+/// The first byte at which no text of this length goes on; none where the bytes are UTF-8.
 pub fn text_fault(bytes: &[u8]) -> Option<usize>
     ensures place { MatchOption result (IsUtf8 bytes.now × (is_utf8 bytes.now ≡ true)) (λ at. (is_utf8 bytes.now ≡ false) × (at ≡ text_fault bytes.now)) }
     ensures bound { IfSome result (λ at. at ≤ length bytes.now) }

@@ -28,36 +28,42 @@ pub fn uvarint(reader: &mut Reader) -> Result<u32, CodecFault>
     lifted!(reader.uvarint())
 }
 
+/// A signed number of 8 bits.
 pub fn int8(reader: &mut Reader) -> Result<i8, CodecFault>
     ensures { Gives (λ x. (x, reader.new)) result (int8.read reader.old) }
 {
     lifted!(reader.i8())
 }
 
+/// A signed number of 16 bits, the high byte first.
 pub fn int16(reader: &mut Reader) -> Result<i16, CodecFault>
     ensures { Gives (λ x. (x, reader.new)) result (int16.read reader.old) }
 {
     lifted!(reader.i16())
 }
 
+/// An unsigned number of 16 bits, the high byte first.
 pub fn uint16(reader: &mut Reader) -> Result<u16, CodecFault>
     ensures { Gives (λ x. (x, reader.new)) result (uint16.read reader.old) }
 {
     lifted!(reader.u16())
 }
 
+/// A signed number of 32 bits, the high byte first.
 pub fn int32(reader: &mut Reader) -> Result<i32, CodecFault>
     ensures { Gives (λ x. (x, reader.new)) result (int32.read reader.old) }
 {
     lifted!(reader.i32())
 }
 
+/// A signed number of 64 bits, the high byte first.
 pub fn int64(reader: &mut Reader) -> Result<i64, CodecFault>
     ensures { Gives (λ x. (x, reader.new)) result (int64.read reader.old) }
 {
     lifted!(reader.i64())
 }
 
+/// An id of 16 bytes.
 pub fn uuid(reader: &mut Reader) -> Result<Id, CodecFault>
     ensures { Gives (λ x. (x, reader.new)) result (uuid.read reader.old) }
 {

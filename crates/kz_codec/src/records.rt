@@ -15,6 +15,7 @@ use kz_types::{
 };
 use std::alloc::Global;
 
+/// An endpoint of a broker, with its tagged section.
 pub fn read_endpoint(alloc: Global, reader: &mut Reader) -> Result<Endpoint, CodecFault>
     ensures { Gives (λ x. (x, reader.new)) result (endpoint.read reader.old) }
 {
@@ -60,6 +61,7 @@ fn endpoints(alloc: Global, reader: &mut Reader) -> Result<Sequence<Endpoint>, C
     read_endpoints(alloc, reader, count - 1)
 }
 
+/// A feature of a broker, with its tagged section.
 pub fn read_feature(alloc: Global, reader: &mut Reader) -> Result<Feature, CodecFault>
     ensures { Gives (λ x. (x, reader.new)) result (feature.read reader.old) }
 {
@@ -99,6 +101,7 @@ fn features(alloc: Global, reader: &mut Reader) -> Result<Sequence<Feature>, Cod
     read_features(alloc, reader, count - 1)
 }
 
+/// The fields of RegisterBrokerRecord.
 pub fn read_register_broker(
     alloc: Global,
     reader: &mut Reader,
@@ -128,6 +131,7 @@ pub fn read_register_broker(
     })
 }
 
+/// The fields of TopicRecord.
 pub fn read_topic(alloc: Global, reader: &mut Reader) -> Result<TopicRecord, CodecFault>
     ensures { Gives (λ x. (x, reader.new)) result (topic.read reader.old) }
 {
@@ -137,6 +141,7 @@ pub fn read_topic(alloc: Global, reader: &mut Reader) -> Result<TopicRecord, Cod
     Ok(TopicRecord { name, topic_id })
 }
 
+/// The fields of PartitionRecord.
 pub fn read_partition(alloc: Global, reader: &mut Reader) -> Result<PartitionRecord, CodecFault>
     ensures { Gives (λ x. (x, reader.new)) result (partition.read reader.old) }
 {
@@ -164,6 +169,7 @@ pub fn read_partition(alloc: Global, reader: &mut Reader) -> Result<PartitionRec
     })
 }
 
+/// The fields of ConfigRecord.
 pub fn read_config(alloc: Global, reader: &mut Reader) -> Result<ConfigRecord, CodecFault>
     ensures { Gives (λ x. (x, reader.new)) result (config.read reader.old) }
 {
@@ -180,6 +186,7 @@ pub fn read_config(alloc: Global, reader: &mut Reader) -> Result<ConfigRecord, C
     })
 }
 
+/// The fields of PartitionChangeRecord.
 pub fn read_partition_change(
     alloc: Global,
     reader: &mut Reader,
@@ -201,6 +208,7 @@ pub fn read_partition_change(
     })
 }
 
+/// The fields of UserScramCredentialRecord.
 pub fn read_user_scram_credential(
     alloc: Global,
     reader: &mut Reader,
@@ -224,6 +232,7 @@ pub fn read_user_scram_credential(
     })
 }
 
+/// An entity of a quota, with its tagged section.
 pub fn read_quota_entity(alloc: Global, reader: &mut Reader) -> Result<QuotaEntity, CodecFault>
     ensures { Gives (λ x. (x, reader.new)) result (quota_entity.read reader.old) }
 {
@@ -272,6 +281,7 @@ fn entities(alloc: Global, reader: &mut Reader) -> Result<QuotaEntities, CodecFa
     Ok(QuotaEntities::from_vec(parts.into_vec()))
 }
 
+/// The fields of ClientQuotaRecord.
 pub fn read_client_quota(
     alloc: Global,
     reader: &mut Reader,
@@ -292,6 +302,7 @@ pub fn read_client_quota(
     })
 }
 
+/// The fields of ProducerIdsRecord.
 pub fn read_producer_ids(reader: &mut Reader) -> Result<ProducerIdsRecord, CodecFault>
     ensures { Gives (λ x. (x, reader.new)) result (producer_ids.read reader.old) }
 {
@@ -306,6 +317,7 @@ pub fn read_producer_ids(reader: &mut Reader) -> Result<ProducerIdsRecord, Codec
     })
 }
 
+/// The fields of AccessControlEntryRecord.
 pub fn read_access_control_entry(
     alloc: Global,
     reader: &mut Reader,
@@ -333,6 +345,7 @@ pub fn read_access_control_entry(
     })
 }
 
+/// The one id of a record that has no other field.
 pub fn read_id_alone(reader: &mut Reader) -> Result<Id, CodecFault>
     ensures { Gives (λ x. (x, reader.new)) result (id_alone.read reader.old) }
 {
@@ -341,6 +354,7 @@ pub fn read_id_alone(reader: &mut Reader) -> Result<Id, CodecFault>
     Ok(id)
 }
 
+/// The one state of ZkMigrationStateRecord.
 pub fn read_state_alone(reader: &mut Reader) -> Result<i8, CodecFault>
     ensures { Gives (λ x. (x, reader.new)) result (state_alone.read reader.old) }
 {
@@ -349,6 +363,7 @@ pub fn read_state_alone(reader: &mut Reader) -> Result<i8, CodecFault>
     Ok(state)
 }
 
+/// The fields of RemoveUserScramCredentialRecord.
 pub fn read_name_and_mechanism(alloc: Global, reader: &mut Reader) -> Result<(Text, i8), CodecFault>
     ensures { Gives (λ x. (x, reader.new)) result (name_and_mechanism.read reader.old) }
 {

@@ -396,7 +396,7 @@ fn state_tag_count(state: i8) -> u32
     if state == -1 { 0 } else { 1 }
 }
 
-// How many parts of a change are tagged.
+/// How many parts of a change are tagged.
 pub fn change_tag_count(r: &PartitionChangeRecord) -> u32
     ensures { result ≡ length (change_tags.tags (r.now.isr, (r.now.leader, (r.now.replicas, (r.now.removing, (r.now.adding, r.now.recovery)))))) }
 {

@@ -282,7 +282,7 @@ static EIGHT: [u32; 256] = [
     0xE54C35A1, 0xAC704886, 0x7734CFEF, 0x3E08B2C8, 0xC451B7CC, 0x8D6DCAEB, 0x56294D82, 0x1F1530A5,
 ];
 
-// A byte after 8 bits.
+/// A byte after 8 bits.
 #[inline]
 pub fn after_one(byte: u8) -> u32
     ensures { result ≡ after_bits 8 byte }
@@ -290,7 +290,7 @@ pub fn after_one(byte: u8) -> u32
     ONE[byte as usize]
 }
 
-// A byte after 16 bits.
+/// A byte after 16 bits.
 #[inline]
 pub fn after_two(byte: u8) -> u32
     ensures { result ≡ after_bits 16 byte }
@@ -298,7 +298,7 @@ pub fn after_two(byte: u8) -> u32
     TWO[byte as usize]
 }
 
-// A byte after 24 bits.
+/// A byte after 24 bits.
 #[inline]
 pub fn after_three(byte: u8) -> u32
     ensures { result ≡ after_bits 24 byte }
@@ -306,7 +306,7 @@ pub fn after_three(byte: u8) -> u32
     THREE[byte as usize]
 }
 
-// A byte after 32 bits.
+/// A byte after 32 bits.
 #[inline]
 pub fn after_four(byte: u8) -> u32
     ensures { result ≡ after_bits 32 byte }
@@ -314,7 +314,7 @@ pub fn after_four(byte: u8) -> u32
     FOUR[byte as usize]
 }
 
-// A byte after 40 bits.
+/// A byte after 40 bits.
 #[inline]
 pub fn after_five(byte: u8) -> u32
     ensures { result ≡ after_bits 40 byte }
@@ -322,7 +322,7 @@ pub fn after_five(byte: u8) -> u32
     FIVE[byte as usize]
 }
 
-// A byte after 48 bits.
+/// A byte after 48 bits.
 #[inline]
 pub fn after_six(byte: u8) -> u32
     ensures { result ≡ after_bits 48 byte }
@@ -330,7 +330,7 @@ pub fn after_six(byte: u8) -> u32
     SIX[byte as usize]
 }
 
-// A byte after 56 bits.
+/// A byte after 56 bits.
 #[inline]
 pub fn after_seven(byte: u8) -> u32
     ensures { result ≡ after_bits 56 byte }
@@ -338,7 +338,7 @@ pub fn after_seven(byte: u8) -> u32
     SEVEN[byte as usize]
 }
 
-// A byte after 64 bits.
+/// A byte after 64 bits.
 #[inline]
 pub fn after_eight(byte: u8) -> u32
     ensures { result ≡ after_bits 64 byte }

@@ -15,7 +15,7 @@ use std::mem;
 /// The znodes of a page.
 pub const PAGE_SIZE: usize = 256;
 
-// The last path of znodes.
+/// The last path of znodes.
 #[tactic(auto, using(crate::proofs::Lasts::last_path_is))]
 pub fn last_path(rows: &[Row]) -> Option<&ZPath>
     ensures { option_map (λ path. path.now) result ≡ last_path rows.entry.now }

@@ -15,6 +15,7 @@ use kz_types::{Answer, Event, LogFault, NoMemory, Reply};
 use std::alloc::Global;
 use std::marker::Model;
 
+/// A run between two lines: its machine, and how many lines, events and steps it has gone over.
 #[derive(Drop)]
 pub struct Place<M: Machine> {
     machine: M,

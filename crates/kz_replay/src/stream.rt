@@ -22,6 +22,7 @@ const MAX_LINE: usize = 2_097_152;
 
 const MAX_INPUT: u64 = 4_294_967_296;
 
+/// A run in the middle of its input: its place, the bytes of the line so far, and how many bytes it has taken.
 #[derive(Drop)]
 pub struct Stream<M: Machine> {
     alloc: Global,

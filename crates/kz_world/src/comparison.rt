@@ -285,7 +285,7 @@ fn verdict_of(alloc: Global, tree: &Tree, log: &MemoryLog) -> Result<Verdict, No
     }
 }
 
-// Whether the migration is committed.
+/// Whether the migration is committed.
 pub fn is_migrated(alloc: Global, log: &MemoryLog) -> Result<bool, NoMemory>
     ensures { IfOk result (λ migrated. migrated ≡ is_migrated_log log.now) }
 {
