@@ -1,0 +1,26 @@
+//! Laws of the definitions of records: a text is read as a record exactly where it spells that record, no text spells two
+//! records, and none that spells a record goes on to another one.
+//!
+//! Each law is the contract of a function that does nothing.
+#![tactic(auto)]
+
+ghost use Rattle.std.specs.Prelude.{◌≡◌, ◌++◌, ℕ, List, [], Ok};
+ghost use Rattle.kz_types.specs.declared.record.MetaRecord.{MetaRecord};
+ghost use Rattle.kz_spec_values.specs.Records.{Spells, record_of};
+ghost use Rattle.kz_laws_records.specs.Texts.{AreBytes};
+
+/// What spells a record is read as that record, and bytes that are read as a record spell it.
+pub fn read_is_spelled()
+    ensures accepted { (text : List ℕ) (meta : MetaRecord) → Spells meta text → record_of text ≡ Ok meta }
+    ensures spelled { (text : List ℕ) (meta : MetaRecord) → AreBytes text → record_of text ≡ Ok meta → Spells meta text }
+{}
+
+/// A text spells at most one record.
+pub fn one_record_is_spelled()
+    ensures { (text : List ℕ) (one other : MetaRecord) → Spells one text → Spells other text → one ≡ other }
+{}
+
+/// No spelling goes on to another one.
+pub fn no_spelling_goes_on()
+    ensures { (text more : List ℕ) (one other : MetaRecord) → Spells one text → Spells other (text ++ more) → more ≡ [] }
+{}
