@@ -50,7 +50,7 @@ front_given : (n : ℕ) (x : List ℕ) (r next : Reading) → AreSmall r.left �
 front_given n x r next small h =
     let c = passed_false (nat_lt (length r.left) n) (bytes.Short (end_of r)) (Ok (take n r.left, past n r)) (x, next) h in
     let long : n ≤ length r.left = ltb-false (length r.left) n c.0 in
-    subst (λ q. Comes (front n) q.0 r.left q.1.left) (ok_same _ (take n r.left, past n r) (x, next) refl c.1)
+    subst (λ q. Comes (front n) q.0 r.left q.1.left) (ok_same (take n r.left, past n r) (x, next) c.1)
     (record { bytes = take n r.left; split = sym (take-append-drop n r.left); spelled = (length-take-le n r.left long, refl) })
 
 pub front_exact : (n : ℕ) → Exact (front n)
@@ -116,7 +116,7 @@ unsigned_given w has n r next small h =
     let one = front_given (byte_len w) c.value.0 r c.value.1 small c.first in
     let same : one.bytes ≡ c.value.0 = one.spelled.1 in
     let bound : AreSmall c.value.0 = subst AreSmall same (small_front one.bytes c.value.1.left (subst AreSmall one.split small)) in
-    subst (λ q. Comes (unsigned w) q.0 r.left q.1.left) (ok_same _ (from_be_bytes w c.value.0, c.value.1) (n, next) refl c.second)
+    subst (λ q. Comes (unsigned w) q.0 r.left q.1.left) (ok_same (from_be_bytes w c.value.0, c.value.1) (n, next) c.second)
     (record {
       bytes = one.bytes;
       split = one.split;
@@ -140,7 +140,7 @@ signed_given : (w : Width) → HasBytes w → HasSigns w → (z : ℤ) (r next :
 signed_given w has signs z r next small h =
     let c = came ((unsigned w).read r) (λ x. Ok (cast_signed w x.0, x.1)) (z, next) h in
     let one = unsigned_given w has c.value.0 r c.value.1 small c.first in
-    subst (λ q. Comes (signed w) q.0 r.left q.1.left) (ok_same _ (cast_signed w c.value.0, c.value.1) (z, next) refl c.second)
+    subst (λ q. Comes (signed w) q.0 r.left q.1.left) (ok_same (cast_signed w c.value.0, c.value.1) (z, next) c.second)
     (record {
       bytes = one.bytes;
       split = one.split;
@@ -180,7 +180,7 @@ field_exact f ef = record {
 there_same : {X : Type 0} (at : ℕ) (o : Option X) (mid : Reading) (x : X) (next : Reading) → there at (o, mid) ≡ Ok (x, next) → (o ≡ Some x) × (mid ≡ next)
 there_same {X = X} at None mid x next h = absurd (cc)
 there_same {X = X} at (Some y) mid x next h =
-    let e : (y, mid) ≡ (x, next) = ok_same _ (y, mid) (x, next) refl h in
+    let e : (y, mid) ≡ (x, next) = ok_same (y, mid) (x, next) h in
     (ap (λ (p : X × Reading). Some p.0) e, ap (λ (p : X × Reading). p.1) e)
 
 present_given : {X : Type 0} (f : Format ByteFault (Option X)) → Exact f → (x : X) (r next : Reading) → AreSmall r.left → (present f).read r ≡ Ok (x, next) → Comes (present f) x r.left next.left
@@ -208,10 +208,10 @@ flag_comes : (c : ℕ) (tail : List ℕ) (at : ℕ) (b : Bool) (next : Reading) 
     → cond {A = Result (Bool × Reading) CodecFault} is_0 (Ok (false, record { at = at + 1; left = tail })) (cond is_1 (Ok (true, record { at = at + 1; left = tail })) (Err (codec.BadField at))) ≡ Ok (b, next)
     → Comes flag b (c ∷ tail) next.left
 flag_comes c tail at b next true is_1 e f h =
-    subst (λ q. Comes flag q.0 (c ∷ tail) q.1.left) (ok_same _ (false, record { at = at + 1; left = tail }) (b, next) refl h)
+    subst (λ q. Comes flag q.0 (c ∷ tail) q.1.left) (ok_same (false, record { at = at + 1; left = tail }) (b, next) h)
     (record { bytes = 0 ∷ []; split = ap (λ n. n ∷ tail) (eqb-true c 0 e); spelled = refl })
 flag_comes c tail at b next false true e f h =
-    subst (λ q. Comes flag q.0 (c ∷ tail) q.1.left) (ok_same _ (true, record { at = at + 1; left = tail }) (b, next) refl h)
+    subst (λ q. Comes flag q.0 (c ∷ tail) q.1.left) (ok_same (true, record { at = at + 1; left = tail }) (b, next) h)
     (record { bytes = 1 ∷ []; split = ap (λ n. n ∷ tail) (eqb-true c 1 f); spelled = refl })
 flag_comes c tail at b next false false e f h = absurd (cc)
 

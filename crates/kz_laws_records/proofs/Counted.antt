@@ -15,7 +15,7 @@ use Rattle.kz_laws_records.proofs.Basics.{passed_true, cond_true, cond_false, fr
 -- ---- numbers of variable size
 
 -- so far goes a number with so many groups before the last
-abbrev limit : ℕ → ℕ → ℕ
+abbrev pub limit : ℕ → ℕ → ℕ
 limit zero last = last
 limit (suc more) last = 128 * limit more last
 
@@ -48,7 +48,7 @@ record Groups (more last n : ℕ) (left rest : List ℕ) : Type 0 where
   few : length bytes ≤ more + 1
   fits : n < limit more last
 
-more_groups : (b high n : ℕ) (bytes : List ℕ) → 128 ≤ b → b < 256 → n + 128 ≡ b + 128 * high → IsGroups high bytes → IsGroups n (b ∷ bytes)
+pub more_groups : (b high n : ℕ) (bytes : List ℕ) → 128 ≤ b → b < 256 → n + 128 ≡ b + 128 * high → IsGroups high bytes → IsGroups n (b ∷ bytes)
 more_groups b high n [] least most e g = absurd g
 more_groups b high n (c ∷ tail) least most e g = (least, most, (high, e, g))
 
@@ -61,7 +61,7 @@ OkRead x = Ok x
 last_group : (more last at n b : ℕ) (tail : List ℕ) (next : Reading) → b < 128 → b < limit more last
     → OkRead (b, record { at = at + 1; left = tail }) ≡ Ok (n, next) → Groups more last n (b ∷ tail) next.left
 last_group more last at n b tail next low fits h =
-    subst (λ q. Groups more last q.0 (b ∷ tail) q.1.left) (ok_same _ (b, record { at = at + 1; left = tail }) (n, next) refl h)
+    subst (λ q. Groups more last q.0 (b ∷ tail) q.1.left) (ok_same (b, record { at = at + 1; left = tail }) (n, next) h)
     (record { bytes = b ∷ []; split = refl; groups = (low, refl); few = omega arith; fits = fits })
 
 higher_group : (more last at n b : ℕ) (tail : List ℕ) (high : ℕ) (behind next : Reading) → 128 ≤ b → b < 256
@@ -93,7 +93,7 @@ group_step more last at n b tail next small some few true e h go =
 group_step more last at n b tail next small some few false e h go =
     let c = came (groups_at more last (at + 1) tail) (λ high. Ok (b + 128 * high.0 - 128, high.1)) (n, next) h in
     higher_group more last at n b tail c.value.0 c.value.1 next (ltb-false b 128 e) small.0 (go c.value.0 c.value.1 c.first)
-    (ok_same _ (b + 128 * c.value.0 - 128, c.value.1) (n, next) refl c.second)
+    (ok_same (b + 128 * c.value.0 - 128, c.value.1) (n, next) c.second)
 
 groups_given : (more last at n : ℕ) (left : List ℕ) (next : Reading) → AreSmall left → 0 < last → last ≤ 128
     → groups_at more last at left ≡ Ok (n, next) → Groups more last n left next.left
@@ -138,13 +138,13 @@ counted_behind : (size n : ℕ) (value : Option (List ℕ)) (left : List ℕ) (m
     → cond {A = Result (Option (List ℕ) × Reading) ByteFault} none (Ok (None, mid)) ((front (size * (n - 1))).read mid >>= λ items. Ok (Some items.0, items.1)) ≡ Ok (value, next)
     → Comes (counted size) value left next.left
 counted_behind size n value left mid next true small one e h =
-    subst (λ q. Comes (counted size) q.0 left q.1.left) (ok_same _ (None, mid) (value, next) refl h)
+    subst (λ q. Comes (counted size) q.0 left q.1.left) (ok_same (None, mid) (value, next) h)
     (record { bytes = one.bytes; split = one.split; spelled = subst (λ k. uvarint.spells k one.bytes) (eqb-true n 0 e) one.spelled })
 counted_behind size n value left mid next false small one e h =
     let c = came ((front (size * (n - 1))).read mid) (λ items. Ok (Some items.0, items.1)) (value, next) h in
     let two = (front_exact (size * (n - 1))).given c.value.0 mid c.value.1 (small_behind uvarint n left mid.left one small) c.first in
     let some : n ≡ (n - 1) + 1 = omega (arith, eqb-false n 0 e) in
-    subst (λ q. Comes (counted size) q.0 left q.1.left) (ok_same _ (Some c.value.0, c.value.1) (value, next) refl c.second)
+    subst (λ q. Comes (counted size) q.0 left q.1.left) (ok_same (Some c.value.0, c.value.1) (value, next) c.second)
     (record {
       bytes = one.bytes ++ two.bytes;
       split = one.split ∙ ap (λ b. one.bytes ++ b) two.split ∙ sym (append_assoc one.bytes two.bytes c.value.1.left);
@@ -167,11 +167,11 @@ judged_is end (Some text) t = cond_true (is_utf8 text) _ _ (is_utf8-from_IsUtf8 
 
 pub judged_good : (end : ℕ) (value other : Option (List ℕ)) → judged end value ≡ Ok other → IsText other × (value ≡ other)
 judged_good end None other h =
-    let e : None ≡ other = ok_same _ None other refl h in
+    let e : None ≡ other = ok_same None other h in
     (subst IsText e tt, e)
 judged_good end (Some text) other h =
     let c = passed_true (is_utf8 text) (NotUtf8 (end - length text + text_fault text)) (Ok (Some text)) other h in
-    let e : Some text ≡ other = ok_same _ (Some text) other refl c.1 in
+    let e : Some text ≡ other = ok_same (Some text) other c.1 in
     (subst IsText e (IsUtf8-from_is_utf8 text c.0), e)
 
 text_taken : (value : Option (List ℕ)) (bytes rest : List ℕ) (at : ℕ) → nullable_text.spells value bytes → Takes nullable_text.read value bytes rest at
@@ -185,7 +185,7 @@ text_given value r next small h =
     let d = came (judged c.value.1.at c.value.0) (λ text. Ok (text, c.value.1)) (value, next) c.second in
     let one = counted_given 1 c.value.0 r c.value.1 small c.first in
     let good = judged_good c.value.1.at c.value.0 d.value d.first in
-    subst (λ q. Comes nullable_text q.0 r.left q.1.left) (ok_same _ (d.value, c.value.1) (value, next) refl d.second)
+    subst (λ q. Comes nullable_text q.0 r.left q.1.left) (ok_same (d.value, c.value.1) (value, next) d.second)
     (record { bytes = one.bytes; split = one.split; spelled = (good.0, subst (λ v. nullable_bytes.spells v one.bytes) good.1 one.spelled) })
 
 pub text_exact : Exact nullable_text
@@ -251,7 +251,7 @@ ints_given value r next small h =
     let c = came ((counted 4).read r) (λ x. Ok (option_map ints_of x.0, x.1)) (value, next) h in
     let one = counted_given 4 c.value.0 r c.value.1 small c.first in
     let i = there_or_null c.value.0 one.bytes (small_front one.bytes c.value.1.left (subst AreSmall one.split small)) one.spelled in
-    subst (λ q. Comes nullable_ints q.0 r.left q.1.left) (ok_same _ (option_map ints_of c.value.0, c.value.1) (value, next) refl c.second)
+    subst (λ q. Comes nullable_ints q.0 r.left q.1.left) (ok_same (option_map ints_of c.value.0, c.value.1) (value, next) c.second)
     (record { bytes = one.bytes; split = one.split; spelled = (i.fit, subst (λ v. (counted 4).spells v one.bytes) (sym i.there) one.spelled) })
 
 pub ints_exact : Exact nullable_ints

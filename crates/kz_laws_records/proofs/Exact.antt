@@ -40,8 +40,11 @@ came (Err e) k y h = absurd (cc)
 pub follows : {A B E : Type 0} (m : Result A E) (k : A → Result B E) (x : A) (y : B) → m ≡ Ok x → k x ≡ Ok y → m >>= k ≡ Ok y
 follows m k x y e h = ap (λ n. n >>= k) e ∙ h
 
-pub ok_same : {A E : Type 0} (m : Result A E) (x y : A) → m ≡ Ok x → m ≡ Ok y → x ≡ y
-ok_same m x y e h = cc
+pub ok_same : {A E : Type 0} (x y : A) → ◌≡◌ {A = Result A E} (Ok x) (Ok y) → x ≡ y
+ok_same x y h = cc
+
+pub result_same : {A E : Type 0} (m : Result A E) (x y : A) → m ≡ Ok x → m ≡ Ok y → x ≡ y
+result_same m x y e h = cc
 
 -- ---- exact formats
 
@@ -90,7 +93,7 @@ pair_given f g ef eg p r next small h =
     let d = came (g.read c.value.1) (λ y. Ok ((c.value.0, y.0), y.1)) (p, next) c.second in
     let one = ef.given c.value.0 r c.value.1 small c.first in
     let two = eg.given d.value.0 c.value.1 d.value.1 (small_behind f c.value.0 r.left c.value.1.left one small) d.first in
-    subst (λ q. Comes (f ⊗ g) q.0 r.left q.1.left) (ok_same _ ((c.value.0, d.value.0), d.value.1) (p, next) refl d.second)
+    subst (λ q. Comes (f ⊗ g) q.0 r.left q.1.left) (ok_same ((c.value.0, d.value.0), d.value.1) (p, next) d.second)
     (record {
       bytes = one.bytes ++ two.bytes;
       split = one.split ∙ ap (λ b. one.bytes ++ b) two.split ∙ sym (append_assoc one.bytes two.bytes d.value.1.left);
@@ -117,7 +120,7 @@ mapped_given : {E X Y : Type 0} (made : X → Y) (back : Y → X) (f : Format E 
 mapped_given made back f t ef y r next small h =
     let c = came (f.read r) (λ x. Ok (made x.0, x.1)) (y, next) h in
     let one = ef.given c.value.0 r c.value.1 small c.first in
-    subst (λ q. Comes (mapped made back f) q.0 r.left q.1.left) (ok_same _ (made c.value.0, c.value.1) (y, next) refl c.second)
+    subst (λ q. Comes (mapped made back f) q.0 r.left q.1.left) (ok_same (made c.value.0, c.value.1) (y, next) c.second)
     (record { bytes = one.bytes; split = one.split; spelled = subst (λ x. f.spells x one.bytes) (sym (t.there c.value.0)) one.spelled })
 
 pub mapped_exact : {E X Y : Type 0} (made : X → Y) (back : Y → X) (f : Format E X) → Turns made back → Exact f → Exact (mapped made back f)

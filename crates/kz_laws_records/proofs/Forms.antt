@@ -107,7 +107,7 @@ entities_given : (parts : List QuotaEntity) (r next : Reading) → AreSmall r.le
 entities_given parts r next small h =
     let c = came ((list_of quota_entity).read r) (λ x. Ok (user_first x.0, x.1)) (parts, next) h in
     let one = (list_exact quota_entity quota_entity_exact).given c.value.0 r c.value.1 small c.first in
-    subst (λ q. Comes quota_entities q.0 r.left q.1.left) (ok_same _ (user_first c.value.0, c.value.1) (parts, next) refl c.second)
+    subst (λ q. Comes quota_entities q.0 r.left q.1.left) (ok_same (user_first c.value.0, c.value.1) (parts, next) c.second)
     (record { bytes = one.bytes; split = one.split; spelled = (c.value.0, refl, one.spelled) })
 
 quota_entities_exact : Exact quota_entities

@@ -17,7 +17,7 @@ pub record ExactContent {X : Type 0} (c : Content X) : Type 0 where
   pub judge_good : (end : ℕ) (x y : X) → c.judge end x ≡ Ok y → c.good y × (x ≡ y)
 
 pub plain_exact : {X : Type 0} (f : Format ByteFault X) → Exact f → ExactContent (plain f)
-plain_exact f ef = record { exact = ef; judge_is = λ end x good. refl; judge_good = λ end x y h. (tt, ok_same _ x y refl h) }
+plain_exact f ef = record { exact = ef; judge_is = λ end x good. refl; judge_good = λ end x y h. (tt, ok_same x y h) }
 
 pub text_content_exact : ExactContent text_content
 text_content_exact = record { exact = counted_exact 1; judge_is = judged_is; judge_good = judged_good }
@@ -64,7 +64,7 @@ fills_is c ec false place at bytes x next f = ap (λ y. Ok y) f
 fills_says : {X : Type 0} (c : Content X) → ExactContent c → (same : Bool) (place at : ℕ) (bytes : List ℕ) (x next : X) → AreSmall bytes
     → cond same (filled c place (record { at = at; left = bytes })) (Ok x) ≡ Ok next → Fills c same bytes x next
 fills_says c ec true place at bytes x next small h = filled_says c ec place at bytes next small h
-fills_says c ec false place at bytes x next small h = ok_same _ x next refl h
+fills_says c ec false place at bytes x next small h = ok_same x next h
 
 pub none_later : (number least : ℕ) (ts : List Tag) → number < least → Rising least ts → field_of number ts ≡ None
 none_later number least [] lt r = refl
@@ -139,7 +139,7 @@ both_gives : {S T : Type 0} (a : Known S) (b : Known T) (one : ℕ → List ℕ 
 both_gives a b one two ea eb number place at bytes s next small h =
     let c = came (a.take number place (record { at = at; left = bytes }) s.0) (λ first. b.take number place (record { at = at; left = bytes }) s.1 >>= λ second. Ok (first, second)) next h in
     let d = came (b.take number place (record { at = at; left = bytes }) s.1) (λ second. Ok (c.value, second)) next c.second in
-    subst (λ q. step_of_both one two number bytes s q) (ok_same _ (c.value, d.value) next refl d.second)
+    subst (λ q. step_of_both one two number bytes s q) (ok_same (c.value, d.value) next d.second)
     (ea.gives number place at bytes s.0 c.value small c.first, eb.gives number place at bytes s.1 d.value small d.first)
 
 pub both_exact : {S T : Type 0} (a : Known S) (b : Known T) (one : ℕ → List ℕ → S → S → Type 0) (two : ℕ → List ℕ → T → T → Type 0) → ExactTags a one → ExactTags b two → ExactTags (both a b) (step_of_both one two)

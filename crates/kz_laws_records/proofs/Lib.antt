@@ -6,3 +6,5 @@ pub mod Sections
 pub mod Known
 pub mod Forms
 pub mod Records
+pub mod Written
+pub mod WrittenForms

@@ -32,13 +32,13 @@ record Items {E X : Type 0} (f : Format E X) (n : ℕ) (xs : List X) (left rest 
 items_given : {E X : Type 0} (f : Format E X) → Exact f → (n : ℕ) (xs : List X) (r next : Reading) → AreSmall r.left → items_at f.read n r ≡ Ok (xs, next) → Items f n xs r.left next.left
 unfolding items_at
 items_given f ef zero xs r next small h =
-    subst (λ q. Items f 0 q.0 r.left q.1.left) (ok_same _ ([], r) (xs, next) refl h) (record { bytes = []; split = refl; each = refl; count = refl })
+    subst (λ q. Items f 0 q.0 r.left q.1.left) (ok_same ([], r) (xs, next) h) (record { bytes = []; split = refl; each = refl; count = refl })
 items_given f ef (suc n) xs r next small h =
     let c = came (f.read r) (λ y. items_at f.read n y.1 >>= λ ys. Ok (y.0 ∷ ys.0, ys.1)) (xs, next) h in
     let d = came (items_at f.read n c.value.1) (λ ys. Ok (c.value.0 ∷ ys.0, ys.1)) (xs, next) c.second in
     let one = ef.given c.value.0 r c.value.1 small c.first in
     let more = items_given f ef n d.value.0 c.value.1 d.value.1 (small_behind f c.value.0 r.left c.value.1.left one small) d.first in
-    subst (λ q. Items f (suc n) q.0 r.left q.1.left) (ok_same _ (c.value.0 ∷ d.value.0, d.value.1) (xs, next) refl d.second)
+    subst (λ q. Items f (suc n) q.0 r.left q.1.left) (ok_same (c.value.0 ∷ d.value.0, d.value.1) (xs, next) d.second)
     (record {
       bytes = one.bytes ++ more.bytes;
       split = one.split ∙ ap (λ b. one.bytes ++ b) more.split ∙ sym (append_assoc one.bytes more.bytes d.value.1.left);

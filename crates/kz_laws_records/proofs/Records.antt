@@ -7,7 +7,7 @@ use Rattle.kz_types.specs.declared.record.CodecFault.TheVariants.{UnknownKey, Un
 use Rattle.kz_spec_values.specs.Fields.{Reading, Format, ◌>>=◌, uvarint}
 use Rattle.kz_spec_values.specs.Forms.{lifted}
 use Rattle.kz_spec_values.specs.Records.{register_broker, topic, partition, config, partition_change, id_alone, user_scram_credential, client_quota, producer_ids, access_control_entry, no_fields, state_alone, name_and_mechanism, tagged_text, IsValue, Spells, version_of, as_record, fields_at, versioned, record_at, record_of}
-use Rattle.kz_laws_records.proofs.Exact.{AreSmall, came, ok_same, Takes, taken_then, Exact, small_behind}
+use Rattle.kz_laws_records.proofs.Exact.{AreSmall, came, ok_same, result_same, Takes, taken_then, Exact, small_behind}
 use Rattle.kz_laws_records.proofs.Basics.{passed_true, lifted_same, cond_true}
 use Rattle.kz_laws_records.proofs.Counted.{uvarint_exact}
 use Rattle.kz_laws_records.proofs.Known.{none_left}
@@ -93,7 +93,7 @@ fields_given : {X : Type 0} (key least version : ℕ) (form : Format CodecFault 
 fields_given key least version form made ef known spells same m r next small h =
     let c = came (form.read r) (λ x. Ok (made x.0, x.1)) (m, next) h in
     let one = ef.given c.value.0 r c.value.1 small c.first in
-    subst (λ q. Fields key q.0 r.left q.1.left) (ok_same _ (made c.value.0, c.value.1) (m, next) refl c.second)
+    subst (λ q. Fields key q.0 r.left q.1.left) (ok_same (made c.value.0, c.value.1) (m, next) c.second)
     (record {
       bytes = one.bytes;
       split = one.split;
@@ -188,16 +188,16 @@ read_is_spelled m text small h =
     let one = record_given c.value.0 (record { at = 0; left = text }) c.value.1 small c.first in
     let d = passed_true (length c.value.1.left == 0) (Rest c.value.1.at) (Ok c.value.0) m c.second in
     let whole : text ≡ one.bytes = one.split ∙ ap (λ b. one.bytes ++ b) (none_left c.value.1.left (eqb-true (length c.value.1.left) 0 d.0)) ∙ append-nil one.bytes in
-    subst (λ b. Spells m b) (sym whole) (subst (λ q. Spells q one.bytes) (ok_same _ c.value.0 m refl d.1) one.spelled)
+    subst (λ b. Spells m b) (sym whole) (subst (λ q. Spells q one.bytes) (ok_same c.value.0 m d.1) one.spelled)
 
 -- ---- the laws
 
 pub one_record : (text : List ℕ) (r s : MetaRecord) → Spells r text → Spells s text → r ≡ s
-one_record text r s a b = ok_same (record_of text) r s (spelled_is_read r text a) (spelled_is_read s text b)
+one_record text r s a b = result_same (record_of text) r s (spelled_is_read r text a) (spelled_is_read s text b)
 
 pub no_prefix : (text more : List ℕ) (r s : MetaRecord) → Spells r text → Spells s (text ++ more) → more ≡ []
 no_prefix text more r s a b =
     let whole : Takes record_at s (text ++ more) [] 0 = record_takes s (text ++ more) [] 0 b in
-    ap (λ x. x.1.left) (ok_same (record_at (record { at = 0; left = text ++ more })) (r, record { at = 0 + length text; left = more }) (s, record { at = 0 + length (text ++ more); left = [] })
+    ap (λ x. x.1.left) (result_same (record_at (record { at = 0; left = text ++ more })) (r, record { at = 0 + length text; left = more }) (s, record { at = 0 + length (text ++ more); left = [] })
     (record_takes r text more 0 a)
     (ap (λ b. record_at (record { at = 0; left = b })) (sym (append-nil (text ++ more))) ∙ whole))

@@ -58,7 +58,7 @@ content_given n r t small h =
     let one = uvarint_exact.given c.value.0 r c.value.1 small (lifted_same (uvarint.read r) c.value c.first) in
     let d = came (lifted ((front c.value.0).read c.value.1)) (λ content. Ok ((n, record { at = c.value.1.at; left = content.0 }), content.1)) t c.second in
     let two = (front_exact c.value.0).given d.value.0 c.value.1 d.value.1 (small_behind uvarint c.value.0 r.left c.value.1.left one small) (lifted_same ((front c.value.0).read c.value.1) d.value d.first) in
-    subst (λ q. (q.0.0 ≡ n) × OneField q.0.1.left r.left q.1.left) (ok_same _ (tag_read n (record { at = c.value.1.at; left = d.value.0 }) d.value.1) t refl d.second) (
+    subst (λ q. (q.0.0 ≡ n) × OneField q.0.1.left r.left q.1.left) (ok_same (tag_read n (record { at = c.value.1.at; left = d.value.0 }) d.value.1) t d.second) (
       refl,
       record {
         size = one.bytes;
@@ -139,7 +139,7 @@ tags_given : {S : Type 0} (k : Known S) (step : ℕ → List ℕ → S → S →
     → (n least : ℕ) (s end : S) (r next : Reading) → AreSmall r.left → tags_at k.take n least s r ≡ Ok (end, next) → Tags step n least s end r.left next.left
 unfolding tags_at
 tags_given k step ek zero least s end r next small h =
-    subst (λ q. Tags step 0 least s q.0 r.left q.1.left) (ok_same _ (s, r) (end, next) refl h) (record { tags = []; bytes = []; split = refl; count = refl; are = refl; steps = refl })
+    subst (λ q. Tags step 0 least s q.0 r.left q.1.left) (ok_same (s, r) (end, next) h) (record { tags = []; bytes = []; split = refl; count = refl; are = refl; steps = refl })
 tags_given k step ek (suc n) least s end r next small h =
     let c = came (tag_at least r) (λ x. k.take x.0.0 r.at x.0.1 s >>= λ mid. tags_at k.take n (x.0.0 + 1) mid x.1) (end, next) h in
     let t = tag_given least r c.value small c.first in

@@ -1,12 +1,12 @@
-//! Laws of the definitions of records: a text is read as a record exactly where it spells that record, no text spells two
-//! records, and none that spells a record goes on to another one.
+//! Laws of the definitions of records: a text is read as a record exactly where it spells that record, it spells at most one
+//! record, no spelling is a proper prefix of another, and what is written for a record is read as it.
 //!
 //! Each law is the contract of a function that does nothing.
 #![tactic(auto)]
 
 ghost use Rattle.std.specs.Prelude.{◌≡◌, ◌++◌, ℕ, List, [], Ok};
 ghost use Rattle.kz_types.specs.declared.record.MetaRecord.{MetaRecord};
-ghost use Rattle.kz_spec_values.specs.Records.{Spells, record_of};
+ghost use Rattle.kz_spec_values.specs.Records.{Spells, Fits, LengthsFit, written, record_of};
 ghost use Rattle.kz_laws_records.specs.Texts.{AreBytes};
 
 /// What spells a record is read as that record, and bytes that are read as a record spell it.
@@ -20,7 +20,13 @@ pub fn one_record_is_spelled()
     ensures { (text : List ℕ) (one other : MetaRecord) → Spells one text → Spells other text → one ≡ other }
 {}
 
-/// No spelling goes on to another one.
-pub fn no_spelling_goes_on()
+/// No spelling of a record is a proper prefix of another spelling.
+pub fn no_spelling_is_a_prefix()
     ensures { (text more : List ℕ) (one other : MetaRecord) → Spells one text → Spells other (text ++ more) → more ≡ [] }
+{}
+
+/// What is written for a record spells it and is read as it. `LengthsFit` counts the fields of tags, which `Fits` doesn't.
+pub fn written_is_spelled()
+    ensures spelled { (meta : MetaRecord) → Fits meta → LengthsFit meta → Spells meta (written meta) }
+    ensures accepted { (meta : MetaRecord) → Fits meta → LengthsFit meta → record_of (written meta) ≡ Ok meta }
 {}

@@ -1,5 +1,5 @@
 use Rattle.kz_laws_records.proofs.Records.{no_prefix}
-use Rattle.kz_laws_records.proofs.no_spelling_goes_on.Goals as goal
+use Rattle.kz_laws_records.proofs.no_spelling_is_a_prefix.Goals as goal
 
 pub returns : goal.returns
 returns c = no_prefix
