@@ -1,5 +1,5 @@
 -- What is written for a record spells it, where the record fits and its lengths fit.
-use Rattle.std.proofs.Common.{◌≡◌, ℕ, ◌+◌, ◌<◌, ◌^◌, ℤ, pos, negsuc, true, is_none, List, ◌++◌, length, Option, Some, None, Ok, refl, sym, ap, ◌∙◌, arith}
+use Rattle.std.proofs.Common.{◌≡◌, ℕ, ◌+◌, ◌<◌, ◌^◌, ℤ, pos, negsuc, true, is_none, List, ◌++◌, length, Option, Some, None, Ok, append_assoc, refl, sym, ap, ◌∙◌, arith}
 use Rattle.std.specs.Ordering.{int_eq}
 use Rattle.std.specs.Int.{w8, w16, w32, w64, to_be_bytes, cast_unsigned}
 use Rattle.std.proofs.lemmas.Bool.Decides.{Decides-int_eq}
@@ -11,7 +11,6 @@ use Rattle.kz_spec_values.specs.Forms.{nullable_ints, ◌⊗◌, nothing, plain,
 use Rattle.kz_spec_values.specs.Records.{int8, int16, uint16, int32, int64, uuid, string, nullable_string, bytes, ints as all_ints, endpoint, feature, register_broker, topic, partition_tags, partition, config, ints_tag, leader_tag, stated_recovery_tag, change_tags, partition_change, user_scram_credential, quota_entity, quota_entities, client_quota, producer_ids, access_control_entry, id_alone, state_alone, name_and_mechanism, text_tags, tagged_text, no_fields, IsValue, head_written, Spells, written, Fits, FieldFits, LengthsFit, record_of}
 use Rattle.kz_laws_records.proofs.Written.{Writes, any, unsigned_writes, signed_writes, id_writes, uvarint_spells, counted_writes, text_writes, ints_writes, field_writes, present_writes, flag_writes, pair_writes, mapped_writes, list_writes, WritesTags, section_writes, nothing_writes, closed_writes, both_writes, tag_writes}
 use Rattle.kz_laws_records.proofs.Records.{spelled_is_read}
-use Rattle.std.proofs.Common.{append_assoc}
 
 int8_writes : Writes int8 any
 int8_writes = field_writes (signed w8) (signed_writes w8)
