@@ -1,5 +1,5 @@
 -- What events make of a world.
-use Rattle.std.proofs.Common.{◌≡◌, ℕ, zero, suc, ◌<◌, Bool, true, false, cond, ℤ, List, [], ◌∷◌, length, set, not, Option, Some, None, option_map, Result, Ok, Err, refl, sym, ap, ◌∙◌, arith}
+use Rattle.std.proofs.Common.{◌≡◌, ℕ, zero, suc, ◌<◌, ◌≤◌, Bool, true, false, cond, ℤ, List, [], ◌∷◌, length, set, not, Option, Some, None, option_map, Result, Ok, Err, refl, sym, ap, ◌∙◌, subst, arith}
 use Rattle.std.specs.Prelude.{slice_get, int_lt}
 use Rattle.std.specs.Ordering.{int_eq}
 use Rattle.std.proofs.lemmas.Int.{ints}
@@ -15,7 +15,7 @@ use Rattle.kz_spec_stores.specs.Log.{Log, append, elect, end_of, full_log, added
 use Rattle.kz_spec_stores.specs.Rendering.{excess}
 use Rattle.kz_spec_machine.specs.Driver.{Shared, Driver}
 use Rattle.kz_spec_machine.specs.Machine.{World, next, running_ids, is_running, start_refusal, turn, work, turned_world, decided, unless_refused, first_of, unless, over, full, running_refusal, leader_refusal, change_refusal, over_excess, election_refusal, election_records, elected_log, elected_world, election_answer, next_epoch, changed_log, changed_world, turn_result, driver_of}
-use Rattle.kz_world.specs.Worlds.{AreDistinct, elected_drivers, records_refusal}
+use Rattle.kz_world.specs.Worlds.{AreDistinct, IsPartlyTurned, elected_drivers, records_refusal}
 use Rattle.kz_world.proofs.StepWise.{turned}
 use Rattle.kz_world.proofs.Listings.{one_place}
 
@@ -131,12 +131,26 @@ starts w id h = not_true (is_running id w.drivers) (allowed (not (is_running id 
 
 -- ---- turns
 
+-- so many steps of a driver's turn
+turned_by : (w : World) (now : ℤ) (d : Driver) (at k : ℕ) (running : List ℤ) (s : Shared) (e : Driver) (rs : List Reply) → AreDistinct (running_ids w.drivers) → slice_get w.drivers at ≡ Some d
+    → running ≡ running_ids w.drivers → turn k w.shared running now d ≡ turned s e rs → e.id ≡ d.id
+    → turned_world w (turn k w.shared (running_ids w.drivers) now d) ≡ (record { shared = s; drivers = set w.drivers at e }, answer.Turn rs)
+turned_by w now d at k running s e rs distinct at_is running_is ok same =
+    ap (turned_world w) (ap (λ is. turn k w.shared is now d) (sym running_is) ∙ ok)
+    ∙ ap (λ ds. (record { shared = s; drivers = ds }, answer.Turn rs)) (one_place w.drivers at d e distinct at_is same)
+
 pub turned_done : (w : World) (now : ℤ) (d : Driver) (at most : ℕ) (running : List ℤ) (s : Shared) (e : Driver) (rs : List Reply) → AreDistinct (running_ids w.drivers) → slice_get w.drivers at ≡ Some d
     → most ≡ work w.shared d → running ≡ running_ids w.drivers → turn most w.shared running now d ≡ turned s e rs → e.id ≡ d.id
     → turned_world w (turn (work w.shared d) w.shared (running_ids w.drivers) now d) ≡ (record { shared = s; drivers = set w.drivers at e }, answer.Turn rs)
 turned_done w now d at most running s e rs distinct at_is most_is running_is ok same =
-    ap (turned_world w) (ap (λ n. turn n w.shared (running_ids w.drivers) now d) (sym most_is) ∙ ap (λ is. turn most w.shared is now d) (sym running_is) ∙ ok)
-    ∙ ap (λ ds. (record { shared = s; drivers = ds }, answer.Turn rs)) (one_place w.drivers at d e distinct at_is same)
+    ap (λ n. turned_world w (turn n w.shared (running_ids w.drivers) now d)) (sym most_is) ∙ turned_by w now d at most running s e rs distinct at_is running_is ok same
+
+pub turned_partly : (w : World) (now : ℤ) (d : Driver) (at most k : ℕ) (running : List ℤ) (s : Shared) (e : Driver) (rs : List Reply) → AreDistinct (running_ids w.drivers) → slice_get w.drivers at ≡ Some d
+    → most ≡ work w.shared d → running ≡ running_ids w.drivers → k ≤ most → turn k w.shared running now d ≡ turned s e rs → e.id ≡ d.id
+    → IsPartlyTurned w now (slice_get w.drivers at) (record { shared = s; drivers = set w.drivers at e })
+turned_partly w now d at most k running s e rs distinct at_is most_is running_is few ok same =
+    subst (λ o. IsPartlyTurned w now o (record { shared = s; drivers = set w.drivers at e })) (sym at_is)
+    (k, subst (λ n. k ≤ n) most_is few, ap (λ (r : World × Answer). r.0) (turned_by w now d at k running s e rs distinct at_is running_is ok same))
 
 none_past : (ds : List Driver) (at : ℕ) → at < length ds → slice_get ds at ≡ None → ⊥
 none_past [] at h none = omega (arith, h)

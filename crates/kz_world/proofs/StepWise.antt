@@ -1,5 +1,5 @@
 -- A turn as it goes on, and that a step keeps the driver's id.
-use Rattle.std.proofs.Common.{◌≡◌, ℕ, suc, ◌+◌, ◌-◌, ◌<◌, Bool, true, false, cond, ℤ, pos, List, [], ◌∷◌, ◌++◌, Option, Some, None, Result, Ok, Err, refl, sym, ap, ◌∙◌, arith, append_assoc, append-nil}
+use Rattle.std.proofs.Common.{◌≡◌, ℕ, suc, ◌+◌, ◌-◌, ◌<◌, ◌≤◌, ◌⊎◌, inl, inr, Bool, true, false, cond, ℤ, pos, List, [], ◌∷◌, ◌++◌, Option, Some, None, Result, Ok, Err, OnErr, refl, sym, ap, ◌∙◌, arith, append_assoc, append-nil}
 use Rattle.std.specs.Ordering.{int_eq}
 use Rattle.kz_types.specs.declared.driver.Stage.{Stage}
 use Rattle.kz_types.specs.declared.driver.Stage.TheVariants as stage
@@ -21,6 +21,7 @@ use Rattle.kz_spec_stores.specs.Image.{Image}
 use Rattle.kz_spec_stores.specs.Translation.{Unreadable, translate}
 use Rattle.kz_spec_machine.specs.Driver.{Shared, Driver, Stepped, step, answered, unless_finalised, wait_or_move, after_quorum, after_brokers, missing_controller, missing_broker, having_read, seen_in, looked, shown_by, unless_fenced, unless_full_epoch, unless_bad_epoch, unless_full_record, epoch_or_zero, claim_ops, after_claim, after_translation, after_append, begin_record, next_records, after_records, after_rest, is_recorded_at, writes, after_write, written_driver, is_last_write, is_claim_refused, write_ops, remaining_at}
 use Rattle.kz_spec_machine.specs.Machine.{Turned, ends, turn, with_reply}
+use Rattle.kz_driver.specs.Drivers.{shared_of}
 
 -- ---- the driver's id
 
@@ -133,6 +134,11 @@ same_id s running now d t e r is = sym (ap (λ (x : Stepped). x.driver.id) is) �
 
 -- ---- the turn
 
+-- what stands at an error
+pub at_err : {T E P : Type 0} (r : Result T E) → P → OnErr r P
+at_err (Ok x) h = tt
+at_err (Err e) h = h
+
 -- the replies before, with a turn that goes on
 abbrev pub with_replies : List Reply → Turned → Turned
 with_replies rs t = record t { replies = rs ++ t.replies }
@@ -151,41 +157,64 @@ first_step : (n : ℕ) (s : Shared) (running : List ℤ) (now : ℤ) (d : Driver
 unfolding turn
 first_step n s running now d = refl
 
-one_less : (most i : ℕ) → i < most → most - i ≡ suc (most - (i + 1))
-one_less most i h = omega arith
+ends_at : (n : ℕ) (s : Shared) (running : List ℤ) (now : ℤ) (d : Driver) (t : Shared) (e : Driver) (r : Reply) → step s running now d ≡ stepped t e r → ends r ≡ true → turn (suc n) s running now d ≡ turned t e (r ∷ [])
+ends_at n s running now d t e r is last = first_step n s running now d ∙ ap (by_step n running now) is ∙ ap (λ b. cond b (turned t e (r ∷ [])) (with_reply r (turn n t running now e))) last
 
-first_at : (most i : ℕ) (s : Shared) (running : List ℤ) (now : ℤ) (d : Driver) (t : Shared) (e : Driver) (r : Reply) → i < most → step s running now d ≡ stepped t e r
-    → turn (most - i) s running now d ≡ by_step (most - (i + 1)) running now (stepped t e r)
-first_at most i s running now d t e r h is =
-    ap (λ n. turn n s running now d) (one_less most i h) ∙ first_step (most - (i + 1)) s running now d ∙ ap (by_step (most - (i + 1)) running now) is
+goes_on_at : (n : ℕ) (s : Shared) (running : List ℤ) (now : ℤ) (d : Driver) (t : Shared) (e : Driver) (r : Reply) → step s running now d ≡ stepped t e r → ends r ≡ false → turn (suc n) s running now d ≡ with_reply r (turn n t running now e)
+goes_on_at n s running now d t e r is more = first_step n s running now d ∙ ap (by_step n running now) is ∙ ap (λ b. cond b (turned t e (r ∷ [])) (with_reply r (turn n t running now e))) more
 
-pub ends_at : (most i : ℕ) (s : Shared) (running : List ℤ) (now : ℤ) (d : Driver) (t : Shared) (e : Driver) (r : Reply) → i < most → step s running now d ≡ stepped t e r → ends r ≡ true
-    → turn (most - i) s running now d ≡ turned t e (r ∷ [])
-ends_at most i s running now d t e r h is last =
-    first_at most i s running now d t e r h is ∙ ap (λ b. cond b (turned t e (r ∷ [])) (with_reply r (turn (most - (i + 1)) t running now e))) last
+-- one step alone, whether the turn ends with it or not
+alone_by : (b : Bool) (t : Shared) (running : List ℤ) (now : ℤ) (e : Driver) (r : Reply) → cond b (turned t e (r ∷ [])) (with_reply r (turn 0 t running now e)) ≡ turned t e (r ∷ [])
+unfolding turn
+alone_by true t running now e r = refl
+alone_by false t running now e r = refl
 
-pub goes_on_at : (most i : ℕ) (s : Shared) (running : List ℤ) (now : ℤ) (d : Driver) (t : Shared) (e : Driver) (r : Reply) → i < most → step s running now d ≡ stepped t e r → ends r ≡ false
-    → turn (most - i) s running now d ≡ with_reply r (turn (most - (i + 1)) t running now e)
-goes_on_at most i s running now d t e r h is more =
-    first_at most i s running now d t e r h is ∙ ap (λ b. cond b (turned t e (r ∷ [])) (with_reply r (turn (most - (i + 1)) t running now e))) more
+alone : (s : Shared) (running : List ℤ) (now : ℤ) (d : Driver) (t : Shared) (e : Driver) (r : Reply) → step s running now d ≡ stepped t e r → turn 1 s running now d ≡ turned t e (r ∷ [])
+alone s running now d t e r is = first_step 0 s running now d ∙ ap (by_step 0 running now) is ∙ alone_by (ends r) t running now e r
 
 joined : (rs : List Reply) (r : Reply) (t : Turned) → with_replies (rs ++ r ∷ []) t ≡ with_replies rs (with_reply r t)
 joined rs r t = ap (turned t.shared t.driver) (append_assoc rs (r ∷ []) t.replies)
 
+-- So many steps of a turn are made, with these replies: any number of further steps makes the turn of so many steps more.
+abbrev pub GoesOn : ℕ → List Reply → (ℕ → Turned) → Shared → List ℤ → ℤ → Driver → Type 0
+GoesOn i rs whole s running now d = (k : ℕ) → with_replies rs (turn k s running now d) ≡ whole (i + k)
+
 -- the whole turn, where it ends with this step
-pub whole_ends : (most i : ℕ) (whole : Turned) (rs qs : List Reply) (s : Shared) (running : List ℤ) (now : ℤ) (d : Driver) (t : Shared) (e : Driver) (r : Reply) → i < most
-    → with_replies rs (turn (most - i) s running now d) ≡ whole → step s running now d ≡ stepped t e r → qs ≡ rs ++ r ∷ [] → ends r ≡ true → whole ≡ turned t e qs
+pub whole_ends : (most i : ℕ) (whole : ℕ → Turned) (rs qs : List Reply) (s : Shared) (running : List ℤ) (now : ℤ) (d : Driver) (t : Shared) (e : Driver) (r : Reply) → i < most
+    → GoesOn i rs whole s running now d → step s running now d ≡ stepped t e r → qs ≡ rs ++ r ∷ [] → ends r ≡ true → whole most ≡ turned t e qs
 whole_ends most i whole rs qs s running now d t e r h before is more last =
-    sym before ∙ ap (with_replies rs) (ends_at most i s running now d t e r h is last) ∙ ap (turned t e) (sym more)
+    let rest : most ≡ i + suc (most - (i + 1)) = omega arith in
+    ap whole rest ∙ sym (before (suc (most - (i + 1)))) ∙ ap (with_replies rs) (ends_at (most - (i + 1)) s running now d t e r is last) ∙ ap (turned t e) (sym more)
 
 -- where it goes on
-pub whole_goes_on : (most i : ℕ) (whole : Turned) (rs qs : List Reply) (s : Shared) (running : List ℤ) (now : ℤ) (d : Driver) (t : Shared) (e : Driver) (r : Reply) → i < most
-    → with_replies rs (turn (most - i) s running now d) ≡ whole → step s running now d ≡ stepped t e r → qs ≡ rs ++ r ∷ [] → ends r ≡ false → with_replies qs (turn (most - (i + 1)) t running now e) ≡ whole
-whole_goes_on most i whole rs qs s running now d t e r h before is more on =
-    ap (λ x. with_replies x (turn (most - (i + 1)) t running now e)) more ∙ joined rs r (turn (most - (i + 1)) t running now e)
-    ∙ ap (with_replies rs) (sym (goes_on_at most i s running now d t e r h is on)) ∙ before
+pub whole_goes_on : (i : ℕ) (whole : ℕ → Turned) (rs qs : List Reply) (s : Shared) (running : List ℤ) (now : ℤ) (d : Driver) (t : Shared) (e : Driver) (r : Reply)
+    → GoesOn i rs whole s running now d → step s running now d ≡ stepped t e r → qs ≡ rs ++ r ∷ [] → ends r ≡ false → GoesOn (i + 1) qs whole t running now e
+whole_goes_on i whole rs qs s running now d t e r before is more on k =
+    let next : i + suc k ≡ i + 1 + k = omega arith in
+    ap (λ x. with_replies x (turn k t running now e)) more ∙ joined rs r (turn k t running now e) ∙ ap (with_replies rs) (sym (goes_on_at k s running now d t e r is on)) ∙ before (suc k) ∙ ap whole next
 
--- where there is no step left
-pub whole_over : (whole : Turned) (rs : List Reply) (n : ℕ) (s : Shared) (running : List ℤ) (now : ℤ) (d : Driver) → n ≡ 0 → with_replies rs (turn n s running now d) ≡ whole → whole ≡ turned s d rs
+-- the steps that are made, without a further one
+pub so_far : (i : ℕ) (whole : ℕ → Turned) (rs : List Reply) (s : Shared) (running : List ℤ) (now : ℤ) (d : Driver) → GoesOn i rs whole s running now d → whole i ≡ turned s d rs
 unfolding turn
-whole_over whole rs n s running now d none before = sym before ∙ ap (λ k. with_replies rs (turn k s running now d)) none ∙ ap (turned s d) (append-nil rs)
+so_far i whole rs s running now d before =
+    let here : i ≡ i + 0 = omega arith in
+    ap whole here ∙ sym (before 0) ∙ ap (turned s d) (append-nil rs)
+
+-- the steps that are made, with one more whose reply isn't kept
+one_more : (i : ℕ) (whole : ℕ → Turned) (rs : List Reply) (s : Shared) (running : List ℤ) (now : ℤ) (d : Driver) (t : Shared) (e : Driver) (r : Reply) → GoesOn i rs whole s running now d → step s running now d ≡ stepped t e r
+    → whole (i + 1) ≡ turned t e (rs ++ r ∷ [])
+one_more i whole rs s running now d t e r before is = sym (before 1) ∙ ap (with_replies rs) (alone s running now d t e r is)
+
+-- where memory runs out, in the next step or behind it
+pub stopped : (most i : ℕ) (whole : ℕ → Turned) (rs : List Reply) (ids running : List ℤ) (now : ℤ) (d e : Driver) (t u : Tree) (l m : Log) → i < most → GoesOn i rs whole (shared_of t l ids) running now d
+    → ((e ≡ d) × (u ≡ t) × (m ≡ l)) ⊎ ((r : Reply) × (step (shared_of t l ids) running now d ≡ stepped (shared_of u m ids) e r))
+    → (k : ℕ) × (qs : List Reply) × (k ≤ most) × (whole k ≡ turned (shared_of u m ids) e qs)
+stopped most i whole rs ids running now d e t u l m h before (inl same) = (
+  i,
+  rs,
+  omega (arith, h),
+  so_far i whole rs (shared_of t l ids) running now d before ∙ ap (λ x. turned (shared_of t l ids) x rs) (sym same.0)
+      ∙ ap (λ x. turned (shared_of x l ids) e rs) (sym same.1) ∙ ap (λ x. turned (shared_of u x ids) e rs) (sym same.2),
+)
+stopped most i whole rs ids running now d e t u l m h before (inr made) =
+    (i + 1, rs ++ made.0 ∷ [], omega (arith, h), one_more i whole rs (shared_of t l ids) running now d (shared_of u m ids) e made.0 before made.1)

@@ -1,5 +1,5 @@
 //! A change.
-ghost use Rattle.std.specs.Prelude.{◌≡◌, ◌<◌, pos, ◌≤ℤ◌, length, None, IfOk};
+ghost use Rattle.std.specs.Prelude.{◌≡◌, ◌<◌, pos, ◌≤ℤ◌, length, None, IfOk, OnErr};
 ghost use Rattle.kz_types.specs.declared.machine.Event.TheVariants as event;
 ghost use Rattle.kz_spec_machine.specs.Machine.{leader_refusal, next};
 ghost use Rattle.kz_world.specs.Worlds.{world_of, ids_of, records_refusal};
@@ -23,6 +23,7 @@ fn append(
     requires some { 0 < length records.now }
     ensures ok { IfOk result (λ answer. next (world_of parts.old) (event.Change id records.now now) ≡ (world_of parts.new, answer)) }
     ensures ids { ids_of parts.new ≡ ids_of parts.old }
+    ensures err { OnErr result (world_of parts.new ≡ world_of parts.old) }
 {
     let epoch = parts.log.epoch();
     match parts.log.append(alloc, epoch, now, records) {
@@ -33,7 +34,7 @@ fn append(
     }
 }
 
-/// Asks a controller to append these records. A refused change changes nothing.
+/// Asks a controller to append these records. Refused, and where memory runs out, it changes nothing.
 #[tactic(auto, unfolding(kz_spec_machine::specs::Machine::next))]
 pub fn change(
     alloc: Global,
@@ -45,6 +46,7 @@ pub fn change(
     requires { 0 < length records.now }
     ensures ok { IfOk result (λ answer. next (world_of parts.old) (event.Change id records.now now) ≡ (world_of parts.new, answer)) }
     ensures ids { ids_of parts.new ≡ ids_of parts.old }
+    ensures err { OnErr result (world_of parts.new ≡ world_of parts.old) }
 {
     if let Some(refusal) = leader_refusal(parts, id) {
         return Ok(refusal);

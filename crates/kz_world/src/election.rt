@@ -1,5 +1,5 @@
 //! An election.
-ghost use Rattle.std.specs.Prelude.{◌≡◌, ◌<◌, ◌∷◌, [], ◌++◌, length, None, IfOk, OnOk, if◌then◌else◌};
+ghost use Rattle.std.specs.Prelude.{◌≡◌, ◌<◌, ◌∷◌, [], ◌++◌, length, None, IfOk, OnOk, OnErr, if◌then◌else◌};
 ghost use Rattle.kz_types.specs.declared.record.MetaRecord.TheVariants as meta;
 ghost use Rattle.kz_types.specs.declared.machine.Event.TheVariants as event;
 ghost use Rattle.kz_spec_machine.specs.Machine.{election_records, running_refusal, next};
@@ -56,6 +56,7 @@ fn elect_running(
     requires some { 0 < length items.now }
     ensures ok { IfOk result (λ answer. next (world_of parts.old) (event.Elect id now) ≡ (world_of parts.new, answer)) }
     ensures ids { ids_of parts.new ≡ ids_of parts.old }
+    ensures err { OnErr result (world_of parts.new ≡ world_of parts.old) }
 {
     let _epoch = parts.log.epoch();
     match parts.log.elect(alloc, now, items) {
@@ -72,11 +73,12 @@ fn elect_running(
     }
 }
 
-/// Elects a controller as the leader of the log. A refused election changes nothing.
+/// Elects a controller as the leader of the log. Refused, and where memory runs out, it changes nothing.
 #[tactic(auto, unfolding(kz_spec_machine::specs::Machine::next))]
 pub fn elect(alloc: Global, parts: &mut Parts, id: i32, now: i64) -> Result<Answer, NoMemory>
     ensures ok { IfOk result (λ answer. next (world_of parts.old) (event.Elect id now) ≡ (world_of parts.new, answer)) }
     ensures ids { ids_of parts.new ≡ ids_of parts.old }
+    ensures err { OnErr result (world_of parts.new ≡ world_of parts.old) }
 {
     if let Some(refusal) = running_refusal(parts, id) {
         return Ok(refusal);

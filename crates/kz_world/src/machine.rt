@@ -1,9 +1,9 @@
 //! The machine.
-ghost use Rattle.std.specs.Prelude.{◌≡◌, IfOk};
+ghost use Rattle.std.specs.Prelude.{◌≡◌, IfOk, OnErr};
 ghost use Rattle.kz_spec_stores.specs.Tree.{recorded};
 ghost use Rattle.kz_spec_stores.specs.Log.{end_of};
 ghost use Rattle.kz_spec_machine.specs.Machine.{World as WorldValue, empty_world, next};
-ghost use Rattle.kz_world.specs.Worlds.{world_of, ids_of, AreDistinct, HasRecords};
+ghost use Rattle.kz_world.specs.Worlds.{world_of, ids_of, AreDistinct, HasRecords, IsLeft};
 
 use crate::change::change;
 use crate::comparison::verdict;
@@ -48,12 +48,14 @@ impl World {
         })
     }
 
-    /// Lets an event happen, and answers it. A refused event leaves the world as it was. Where memory runs out, a turn may
-    /// have made some of its steps. A change has a record, since the log takes no batch without one.
+    /// Lets an event happen, and answers it. A refused event leaves the world as it was. Where memory runs out, the world
+    /// is as it was, or, in a turn, as some of the turn's steps left it. A change has a record, since the log takes no
+    /// batch without one.
     #[tactic(auto, unfolding(kz_spec_machine::specs::Machine::next))]
     pub fn event(&mut self, event: Event) -> Result<Answer, NoMemory>
         requires { HasRecords event }
-        ensures { IfOk result (λ answer. next self.old event ≡ (self.new, answer)) }
+        ensures ok { IfOk result (λ answer. next self.old event ≡ (self.new, answer)) }
+        ensures err { OnErr result (IsLeft self.old event self.new) }
     {
         match event {
             Event::Quorum { ids } => Ok(declare(&mut self.parts, ids)),

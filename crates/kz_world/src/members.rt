@@ -1,5 +1,5 @@
 //! Which controllers are declared, and which run.
-ghost use Rattle.std.specs.Prelude.{◌≡◌, IfOk};
+ghost use Rattle.std.specs.Prelude.{◌≡◌, IfOk, OnErr};
 ghost use Rattle.kz_types.specs.declared.machine.Event.TheVariants as event;
 ghost use Rattle.kz_spec_machine.specs.Machine.{next};
 ghost use Rattle.kz_world.specs.Worlds.{world_of, ids_of, AreDistinct};
@@ -23,12 +23,13 @@ pub fn declare(parts: &mut Parts, ids: Sequence<i32>) -> Answer
     Answer::Done
 }
 
-/// Starts a controller. Refused, it changes nothing.
+/// Starts a controller. Refused, and where memory runs out, it changes nothing.
 #[tactic(auto, unfolding(kz_spec_machine::specs::Machine::next))]
 pub fn start(alloc: Global, parts: &mut Parts, id: i32) -> Result<Answer, NoMemory>
     requires { AreDistinct (ids_of parts.old) }
     ensures ok { IfOk result (λ answer. next (world_of parts.old) (event.Start id) ≡ (world_of parts.new, answer)) }
     ensures distinct { AreDistinct (ids_of parts.new) }
+    ensures err { OnErr result (world_of parts.new ≡ world_of parts.old) }
 {
     match start_refusal(parts, id) {
         Some(refusal) => Ok(refusal),

@@ -1,5 +1,5 @@
 //! The steps of a turn.
-ghost use Rattle.std.specs.Prelude.{◌≡◌, ◌++◌, ◌∷◌, [], ◌<◌, IfOk};
+ghost use Rattle.std.specs.Prelude.{◌≡◌, ◌⊎◌, ◌++◌, ◌∷◌, [], ℕ, List, ◌<◌, ◌≤◌, IfOk, OnErr};
 ghost use Rattle.kz_types.specs.declared.machine.Reply.{Reply as ReplyValue};
 ghost use Rattle.kz_spec_machine.specs.Driver.{step};
 ghost use Rattle.kz_spec_machine.specs.Machine.{ends, turn};
@@ -39,7 +39,8 @@ fn ends(reply: &Reply) -> bool
     }
 }
 
-// One step, and whether the turn ends with it.
+// One step, and whether the turn ends with it. Where memory runs out, the step changed nothing, or it was made and its
+// reply found no room.
 fn add_step(
     replies: &mut Vec<Reply>,
     tree: &mut Tree,
@@ -53,6 +54,8 @@ fn add_step(
         × (replies.new.items ≡ replies.old.items ++ reply ∷ [])
         × (last ≡ ends reply)) }
     ensures id { driver.new.id ≡ driver.old.id }
+    ensures err { OnErr result (((driver.new ≡ driver.old) × (tree.new ≡ tree.old) × (log.new ≡ log.old))
+        ⊎ ((reply : ReplyValue) × (step (shared_of tree.old log.old peers.now.declared) peers.now.running now driver.old ≡ record { shared = shared_of tree.new log.new peers.now.declared; driver = driver.new; reply = reply }))) }
 {
     let reply = driver.step(tree, log, peers, now)?;
     let last = ends(&reply);
@@ -74,6 +77,8 @@ pub fn turn(
     ensures ok { IfOk result (λ replies. turn most (shared_of tree.old log.old peers.now.declared) peers.now.running now driver.old
         ≡ record { shared = shared_of tree.new log.new peers.now.declared; driver = driver.new; replies = replies.items }) }
     ensures id { driver.new.id ≡ driver.old.id }
+    ensures err { OnErr result ((k : ℕ) × (replies : List ReplyValue) × (k ≤ most)
+        × (turn k (shared_of tree.old log.old peers.now.declared) peers.now.running now driver.old ≡ record { shared = shared_of tree.new log.new peers.now.declared; driver = driver.new; replies = replies })) }
 {
     let mut replies = Vec::new(alloc);
     for _done in 0..most {

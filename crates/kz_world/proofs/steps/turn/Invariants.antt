@@ -1,11 +1,10 @@
-use Rattle.std.proofs.Common.{◌≡◌, ◌-◌}
+use Rattle.std.proofs.Common.{◌≡◌}
 use Rattle.kz_spec_machine.specs.Machine.{turn}
 use Rattle.kz_driver.specs.Drivers.{shared_of}
-use Rattle.kz_world.proofs.StepWise.{with_replies}
+use Rattle.kz_world.proofs.StepWise.{GoesOn}
 use Rattle.kz_world.proofs.steps.turn.Given as goal
 
 abbrev pub invariant-loop-done : goal.invariant-loop-done
 invariant-loop-done l =
-    (with_replies l.replies.items (turn (l.most - l._done) (shared_of l.tree l.log l.peers.declared) l.peers.running l.now l.driver)
-    ≡ turn l.most (shared_of l.fn.tree l.fn.log l.peers.declared) l.peers.running l.now l.fn.driver)
+    GoesOn l._done l.replies.items (λ k. turn k (shared_of l.fn.tree l.fn.log l.peers.declared) l.peers.running l.now l.fn.driver) (shared_of l.tree l.log l.peers.declared) l.peers.running l.now l.driver
     × (l.driver.id ≡ l.fn.driver.id)

@@ -1,4 +1,4 @@
-use Rattle.std.proofs.Common.{◌≡◌, sym, ap, subst, ◌∙◌, w64, to_z, of_z, List, ℤ, set}
+use Rattle.std.proofs.Common.{◌≡◌, inr, sym, ap, subst, ◌∙◌, w64, to_z, of_z, List, ℤ, set}
 use Rattle.std.proofs.lemmas.Int.{to_z-of_z}
 use Rattle.std.proofs.lemmas.Option.{get_or_from_slice_get}
 use Rattle.kz_types.specs.declared.machine.Reply.{Reply}
@@ -7,10 +7,29 @@ use Rattle.kz_spec_machine.specs.Driver.{Driver}
 use Rattle.kz_spec_machine.specs.Machine.{World, turn, work, running_ids}
 use Rattle.kz_driver.specs.Drivers.{shared_of}
 use Rattle.kz_world.specs.Worlds.{world_of}
-use Rattle.kz_world.proofs.StepWise.{turned}
+use Rattle.kz_world.proofs.StepWise.{turned, at_err}
 use Rattle.kz_world.proofs.Listings.{get_here, same_ids}
-use Rattle.kz_world.proofs.Outcomes.{turned_done}
+use Rattle.kz_world.proofs.Outcomes.{turned_done, turned_partly}
 use Rattle.kz_world.proofs.turns.turn_at.Goals as goal
+
+pub returns-in_err-replies-clause-err : goal.returns-in_err-replies-clause-err
+returns-in_err-replies-clause-err c =
+    let p = c.args.parts.now in
+    let ds = p.drivers.items in
+    let at = c.args.at in
+    let now = c.args.now in
+    let d = c.index_mut.result.now in
+    let e = c.turn.new.driver in
+    let most = c.in_ok-most.most in
+    let running = c.in_ok-running_ids.field-0 in
+    let at_is = get_here ds at d c.requires.within c.index_mut.ensures.value in
+    let read_is : c.index.result.now ≡ d = c.index.ensures ∙ get_or_from_slice_get ds at d c.index.result.now at_is in
+    let most_is = c.in_ok-most.ensures p.declared ∙ ap (work (shared_of p.tree p.log p.declared)) read_is in
+    let running_is = c.in_ok-running_ids.ensures ∙ ap running_ids c.deref.ensures.value in
+    let left = c.in_err-replies.ensures.err in
+    let made = subst (λ (ids : List ℤ). turn left.0 (shared_of p.tree p.log ids) running (to_z w64 (of_z w64 now)) d ≡ turned (shared_of c.turn.new.tree c.turn.new.log ids) e left.1) c.in_ok-copy.ensures left.3 in
+    let made_now = subst (λ n. turn left.0 (shared_of p.tree p.log p.declared) running n d ≡ turned (shared_of c.turn.new.tree c.turn.new.log p.declared) e left.1) (to_z-of_z w64 now c.ranges.now) made in
+    at_err c.from_residual-in_err-replies.result (inr (turned_partly (world_of p) now d at most left.0 running (shared_of c.turn.new.tree c.turn.new.log p.declared) e left.1 c.requires.distinct at_is most_is running_is left.2 made_now c.turn.ensures.id))
 
 pub returns-in_err-replies-clause-ids : goal.returns-in_err-replies-clause-ids
 returns-in_err-replies-clause-ids c =
