@@ -19,7 +19,7 @@ abbrev pub limit : ℕ → ℕ → ℕ
 limit zero last = last
 limit (suc more) last = 128 * limit more last
 
-groups_takes : (more last n : ℕ) (bytes rest : List ℕ) (at : ℕ) → 0 < last → last ≤ 128
+pub groups_takes : (more last n : ℕ) (bytes rest : List ℕ) (at : ℕ) → 0 < last → last ≤ 128
     → IsGroups n bytes → length bytes ≤ more + 1 → n < limit more last
     → groups_at more last at (bytes ++ rest) ≡ Ok (n, record { at = at + length bytes; left = rest })
 unfolding groups_at
@@ -41,12 +41,12 @@ groups_takes (suc more) last n (b ∷ c ∷ tail) rest at some few g l fits =
     ∙ ap (λ p. Ok (n, record { at = p; left = rest })) place
 
 -- groups that were read
-record Groups (more last n : ℕ) (left rest : List ℕ) : Type 0 where
-  bytes : List ℕ
-  split : left ≡ bytes ++ rest
-  groups : IsGroups n bytes
-  few : length bytes ≤ more + 1
-  fits : n < limit more last
+pub record Groups (more last n : ℕ) (left rest : List ℕ) : Type 0 where
+  pub bytes : List ℕ
+  pub split : left ≡ bytes ++ rest
+  pub groups : IsGroups n bytes
+  pub few : length bytes ≤ more + 1
+  pub fits : n < limit more last
 
 pub more_groups : (b high n : ℕ) (bytes : List ℕ) → 128 ≤ b → b < 256 → n + 128 ≡ b + 128 * high → IsGroups high bytes → IsGroups n (b ∷ bytes)
 more_groups b high n [] least most e g = absurd g
@@ -95,7 +95,7 @@ group_step more last at n b tail next small some few false e h go =
     higher_group more last at n b tail c.value.0 c.value.1 next (ltb-false b 128 e) small.0 (go c.value.0 c.value.1 c.first)
     (ok_same (b + 128 * c.value.0 - 128, c.value.1) (n, next) c.second)
 
-groups_given : (more last at n : ℕ) (left : List ℕ) (next : Reading) → AreSmall left → 0 < last → last ≤ 128
+pub groups_given : (more last at n : ℕ) (left : List ℕ) (next : Reading) → AreSmall left → 0 < last → last ≤ 128
     → groups_at more last at left ≡ Ok (n, next) → Groups more last n left next.left
 unfolding groups_at
 groups_given zero last at n [] next small some few h = absurd (cc)

@@ -8,3 +8,5 @@ pub mod Forms
 pub mod Records
 pub mod Written
 pub mod WrittenForms
+pub mod BatchParts
+pub mod Batches

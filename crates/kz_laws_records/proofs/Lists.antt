@@ -13,7 +13,7 @@ items_none : {E X : Type 0} (f : Format E X) (rest : List ℕ) (at : ℕ) → Ta
 unfolding items_at
 items_none f rest at = ap (λ n. Ok ([], record { at = n; left = rest })) (sym (add-zero at))
 
-items_takes : {E X : Type 0} (f : Format E X) → Exact f → (xs : List X) (body rest : List ℕ) (at : ℕ) → Each f.spells xs body → Takes (items_at f.read (length xs)) xs body rest at
+pub items_takes : {E X : Type 0} (f : Format E X) → Exact f → (xs : List X) (body rest : List ℕ) (at : ℕ) → Each f.spells xs body → Takes (items_at f.read (length xs)) xs body rest at
 unfolding items_at
 items_takes f ef [] body rest at s = subst (λ b. Takes (items_at f.read 0) [] b rest at) (sym s) (items_none f rest at)
 items_takes f ef (x ∷ xs) body rest at s =
@@ -23,13 +23,13 @@ items_takes f ef (x ∷ xs) body rest at s =
     (ap (λ m. m >>= λ ys. Ok (x ∷ ys.0, ys.1)) (items_takes f ef xs s.1 rest (at + length s.0) s.4)))
 
 -- items that were read
-record Items {E X : Type 0} (f : Format E X) (n : ℕ) (xs : List X) (left rest : List ℕ) : Type 0 where
-  bytes : List ℕ
-  split : left ≡ bytes ++ rest
-  each : Each f.spells xs bytes
-  count : length xs ≡ n
+pub record Items {E X : Type 0} (f : Format E X) (n : ℕ) (xs : List X) (left rest : List ℕ) : Type 0 where
+  pub bytes : List ℕ
+  pub split : left ≡ bytes ++ rest
+  pub each : Each f.spells xs bytes
+  pub count : length xs ≡ n
 
-items_given : {E X : Type 0} (f : Format E X) → Exact f → (n : ℕ) (xs : List X) (r next : Reading) → AreSmall r.left → items_at f.read n r ≡ Ok (xs, next) → Items f n xs r.left next.left
+pub items_given : {E X : Type 0} (f : Format E X) → Exact f → (n : ℕ) (xs : List X) (r next : Reading) → AreSmall r.left → items_at f.read n r ≡ Ok (xs, next) → Items f n xs r.left next.left
 unfolding items_at
 items_given f ef zero xs r next small h =
     subst (λ q. Items f 0 q.0 r.left q.1.left) (ok_same ([], r) (xs, next) h) (record { bytes = []; split = refl; each = refl; count = refl })

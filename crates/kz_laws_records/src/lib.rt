@@ -1,5 +1,6 @@
 //! Laws of the definitions of records: a text is read as a record exactly where it spells that record, it spells at most one
-//! record, no spelling is a proper prefix of another, and what is written for a record is read as it.
+//! record, no spelling is a proper prefix of another, and what is written for a record is read as it. Bytes are read as a batch of
+//! records exactly where they are that batch, and they are at most one batch.
 //!
 //! Each law is the contract of a function that does nothing.
 #![tactic(auto)]
@@ -7,6 +8,7 @@
 ghost use Rattle.std.specs.Prelude.{◌≡◌, ◌++◌, ℕ, List, [], Ok};
 ghost use Rattle.kz_types.specs.declared.record.MetaRecord.{MetaRecord};
 ghost use Rattle.kz_spec_values.specs.Records.{Spells, Fits, LengthsFit, written, record_of};
+ghost use Rattle.kz_spec_values.specs.Batches.{BatchContents, IsBatch, batch_of};
 ghost use Rattle.kz_laws_records.specs.Texts.{AreBytes};
 
 /// What spells a record is read as that record, and bytes that are read as a record spell it.
@@ -29,4 +31,15 @@ pub fn no_spelling_is_a_prefix()
 pub fn written_is_spelled()
     ensures spelled { (meta : MetaRecord) → Fits meta → LengthsFit meta → Spells meta (written meta) }
     ensures accepted { (meta : MetaRecord) → Fits meta → LengthsFit meta → record_of (written meta) ≡ Ok meta }
+{}
+
+/// Bytes that are a batch are read as it, and bytes that are read as a batch are it.
+pub fn batch_read_is_spelled()
+    ensures accepted { (bytes : List ℕ) (batch : BatchContents) → IsBatch bytes batch → batch_of bytes ≡ Ok batch }
+    ensures spelled { (bytes : List ℕ) (batch : BatchContents) → AreBytes bytes → batch_of bytes ≡ Ok batch → IsBatch bytes batch }
+{}
+
+/// Bytes are at most one batch.
+pub fn one_batch_is_spelled()
+    ensures { (bytes : List ℕ) (one other : BatchContents) → IsBatch bytes one → IsBatch bytes other → one ≡ other }
 {}
