@@ -10,3 +10,4 @@ pub mod Written
 pub mod WrittenForms
 pub mod BatchParts
 pub mod Batches
+pub mod WrittenBatches

@@ -31,9 +31,9 @@ pub id_writes : Writes id any
 id_writes = record { writes = λ i fits short. (fits, refl) }
 
 -- the groups of a number that takes at most so many
-record Fewest (n most : ℕ) (bytes : List ℕ) : Type 0 where
-  groups : IsGroups n bytes
-  few : length bytes ≤ most + 1
+pub record Fewest (n most : ℕ) (bytes : List ℕ) : Type 0 where
+  pub groups : IsGroups n bytes
+  pub few : length bytes ≤ most + 1
 
 one_group : (n most : ℕ) → n < 128 → Fewest n most (n ∷ [])
 one_group n most low = record { groups = (low, refl); few = omega arith }
@@ -52,7 +52,7 @@ first_only : (n more : ℕ) → n < 128 → groups_of (suc more) n ≡ n ∷ []
 unfolding groups_of
 first_only n more lt = ap (λ b. cond b (n ∷ []) ((128 + n % 128) ∷ groups_of more (n / 128))) (lt-ltb n 128 lt)
 
-groups_written : (more most n : ℕ) → most ≤ more → n < limit most 128 → Fewest n most (groups_of more n)
+pub groups_written : (more most n : ℕ) → most ≤ more → n < limit most 128 → Fewest n most (groups_of more n)
 unfolding groups_of
 groups_written zero zero n le lt = one_group n 0 lt
 groups_written zero (suc most) n le lt = absurd (omega (arith, le))
@@ -93,7 +93,7 @@ pair_writes f g short wf wg = record { writes = λ p fits is. (f.written p.0, g.
 pub mapped_writes : {E X Y : Type 0} (made : X → Y) (back : Y → X) (f : Format E X) (short : X → Type 0) → Writes f short → Writes (mapped made back f) (λ y. short (back y))
 mapped_writes made back f short wf = record { writes = λ y fits is. wf.writes (back y) fits is }
 
-items_spell : {X : Type 0} (f : Format CodecFault X) → Writes f any → (xs : List X) → AllFit f.fits xs → Each f.spells xs (items_written f.written xs)
+pub items_spell : {E X : Type 0} (f : Format E X) → Writes f any → (xs : List X) → AllFit f.fits xs → Each f.spells xs (items_written f.written xs)
 items_spell f wf [] fits = refl
 items_spell f wf (x ∷ xs) fits = (f.written x, items_written f.written xs, refl, wf.writes x fits.0 tt, items_spell f wf xs fits.1)
 

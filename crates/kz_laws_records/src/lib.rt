@@ -1,15 +1,19 @@
 //! Laws of the definitions of records: a text is read as a record exactly where it spells that record, it spells at most one
 //! record, no spelling is a proper prefix of another, and what is written for a record is read as it. Bytes are read as a batch of
-//! records exactly where they are that batch, and they are at most one batch.
+//! records exactly where they are that batch, they are at most one batch, and what is written for values is read as a batch of them.
 //!
 //! Each law is the contract of a function that does nothing.
 #![tactic(auto)]
 
-ghost use Rattle.std.specs.Prelude.{◌≡◌, ◌++◌, ℕ, List, [], Ok};
+ghost use Rattle.std.specs.Prelude.{◌≡◌, ◌++◌, ℕ, ℤ, List, [], Ok};
+ghost use Rattle.std.specs.Int.{w32, w64};
+ghost use Rattle.std.specs.Int.RustNames.{FitsSigned};
+ghost use Rattle.std.specs.List.{All};
 ghost use Rattle.kz_types.specs.declared.record.MetaRecord.{MetaRecord};
 ghost use Rattle.kz_spec_values.specs.Records.{Spells, Fits, LengthsFit, written, record_of};
-ghost use Rattle.kz_spec_values.specs.Batches.{BatchContents, IsBatch, batch_of};
+ghost use Rattle.kz_spec_values.specs.Batches.{BatchContents, IsBatch, BatchFits, batch_of, batch_written};
 ghost use Rattle.kz_laws_records.specs.Texts.{AreBytes};
+ghost use Rattle.kz_laws_records.specs.WrittenContents.{contents_of};
 
 /// What spells a record is read as that record, and bytes that are read as a record spell it.
 pub fn read_is_spelled()
@@ -42,4 +46,11 @@ pub fn batch_read_is_spelled()
 /// Bytes are at most one batch.
 pub fn one_batch_is_spelled()
     ensures { (bytes : List ℕ) (one other : BatchContents) → IsBatch bytes one → IsBatch bytes other → one ≡ other }
+{}
+
+/// What is written for values whose lengths fit is a batch of these values and is read as it. The values are bytes, since the
+/// sum of other numbers can pass its field.
+pub fn written_batch_is_spelled()
+    ensures spelled { (first epoch time : ℤ) (values : List (List ℕ)) → FitsSigned w64 first → FitsSigned w32 epoch → FitsSigned w64 time → BatchFits values → All AreBytes values → IsBatch (batch_written first epoch time values) (contents_of first epoch time values) }
+    ensures accepted { (first epoch time : ℤ) (values : List (List ℕ)) → FitsSigned w64 first → FitsSigned w32 epoch → FitsSigned w64 time → BatchFits values → All AreBytes values → batch_of (batch_written first epoch time values) ≡ Ok (contents_of first epoch time values) }
 {}
