@@ -1,14 +1,13 @@
 -- A key is read from its path.
-use Rattle.std.proofs.Common.{◌≡◌, ℕ, ◌==◌, Bool, true, false, ◌&&◌, List, [], ◌∷◌, ◌++◌, Option, Some, None, refl, sym, ap, subst, ◌∙◌, inl, inr, codes, ℤ, pos}
-use Rattle.std.specs.Prelude.{◌⊎◌, option_map, option_and_then, IfSome}
+use Rattle.std.proofs.Common.{◌≡◌, ℕ, ◌==◌, true, ◌&&◌, List, [], ◌∷◌, ◌++◌, Option, Some, refl, sym, ap, subst, ◌∙◌, inl, inr, codes, ℤ, pos}
+use Rattle.std.specs.Prelude.{option_map, option_and_then, IfSome}
 use Rattle.std.specs.List.{slice_split}
 use Rattle.std.specs.Fmt.{signed_decimal}
 use Rattle.std.proofs.lemmas.Bool.{and_parts}
 use Rattle.kz_types.specs.declared.key.EntityKey.{EntityKey}
 use Rattle.kz_types.specs.declared.key.EntityKey.TheVariants.{Topic, Partition, TopicConfig, BrokerConfig, Client, User, UserClient, Ip, Acl, Producer}
-use Rattle.kz_types.specs.Numbers.{number_in}
 use Rattle.kz_types.specs.PathRule.{is_part}
-use Rattle.kz_types.specs.Paths.{is_topic_name, sanitised, default_or, part_or_default, restored, topic_of, address_of, resource_type_of, resource_type_name, is_absent_or, is_not_negative, is_address, is_pattern, is_resource_type, key_of, key_of_parts, path_of, is_legal}
+use Rattle.kz_types.specs.Paths.{is_topic_name, sanitised, part_or_default, resource_type_name, is_absent_or, is_not_negative, is_address, is_pattern, is_resource_type, key_of, key_of_parts, path_of, is_legal}
 use Rattle.kz_laws_paths.specs.TextKeys.{IsText, IsSmall, HasTexts}
 use Rattle.kz_laws_paths.proofs.Names.{some_same}
 use Rattle.kz_laws_paths.proofs.Parts.{HasNoSlash, split_part, split_last, topic_has_none, topic_is_read, part_has_none, sanitised_has_none, named_is_read, address_has_none, address_is_read, number_has_none, number_is_read, broker_has_none, broker_is_read, IsOneOf, pattern_is, type_has_none, type_is_read}

@@ -1,3 +1,5 @@
 pub mod Names
 pub mod Parts
 pub mod Keys
+pub mod Legal
+pub mod Texts

@@ -1,8 +1,7 @@
 -- Parts without a slash, and what is read from them.
-use Rattle.std.proofs.Common.{◌≡◌, ℕ, ◌+◌, ◌/◌, ◌%◌, ◌^◌, ◌<◌, ◌≤◌, nat_lt, nat_le, ◌==◌, not, Bool, true, false, cond, ◌&&◌, ◌||◌, List, [], ◌∷◌, ◌++◌, length, Option, Some, None, refl, sym, ap, subst, ◌∙◌, arith, inl, inr, decimal, codes, ℤ, pos, negsuc}
+use Rattle.std.proofs.Common.{◌≡◌, ℕ, ◌+◌, ◌/◌, ◌%◌, ◌≤◌, nat_lt, nat_le, ◌==◌, not, Bool, true, false, ◌&&◌, List, [], ◌∷◌, ◌++◌, Option, Some, None, refl, sym, ap, subst, ◌∙◌, arith, inl, inr, decimal, ℤ, pos, negsuc}
 use Rattle.std.specs.Prelude.{◌⊎◌, option_map, if◌then◌else◌, bytes_eq, IfSome}
 use Rattle.std.specs.List.{All, list_all, slice_split}
-use Rattle.std.specs.Ordering.{int_eq}
 use Rattle.std.specs.Fmt.{signed_decimal}
 use Rattle.std.proofs.lemmas.Bool.{cases_lt, and_parts, and_from, false≢true, ne_eqb, false_from_ne_true, leb-true, ltb-true, ltb-false}
 use Rattle.std.proofs.lemmas.Int.{ints}
@@ -11,7 +10,7 @@ use Rattle.std.proofs.lemmas.Str.Parse.{numerals_by_value}
 use Rattle.std.proofs.lemmas.List.Folds.{list_all-append}
 use Rattle.std.proofs.lemmas.List.Sums.{AllPass-from_list_all}
 use Rattle.std.proofs.lemmas.List.Splits.{slice_split_none, slice_split_at}
-use Rattle.kz_types.specs.Numbers.{canonical, number_in, is_digit}
+use Rattle.kz_types.specs.Numbers.{number_in, is_digit}
 use Rattle.kz_types.specs.PathRule.{is_part, is_shown}
 use Rattle.kz_types.specs.Paths.{is_topic_name, is_topic_byte, is_plain, hex_digit, sanitised, sanitised_byte, default_part, default_or, part_or_default, restored, topic_of, address_of, resource_type_of, resource_type_name, is_absent_or, is_not_negative, is_address, is_pattern, is_resource_type}
 use Rattle.kz_types.proofs.NumberLemmas.{bytes_eq-true, tells, canonical_complete}

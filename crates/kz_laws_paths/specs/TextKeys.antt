@@ -1,5 +1,5 @@
 -- The keys of which the laws of paths speak.
-use Rattle.std.specs.Prelude.{◌≡◌, ⊤, ℕ, true, ℤ, pos, ◌≤ℤ◌, List, Option, IfSome}
+use Rattle.std.specs.Prelude.{◌≡◌, ⊤, ℕ, true, ℤ, pos, ◌≤ℤ◌, List, IfSome}
 use Rattle.std.specs.Str.{is_utf8}
 use Rattle.kz_types.specs.declared.key.EntityKey.{EntityKey}
 use Rattle.kz_types.specs.declared.key.EntityKey.TheVariants.{Topic, Partition, TopicConfig, BrokerConfig, Client, User, UserClient, Ip, Acl, Producer}
@@ -8,7 +8,7 @@ use Rattle.kz_types.specs.declared.key.EntityKey.TheVariants.{Topic, Partition, 
 abbrev pub IsText : List ℕ → Type 0
 IsText name = is_utf8 name ≡ true
 
--- a number that a canonical decimal can write
+-- a number that isn't too large for a canonical decimal
 abbrev pub IsSmall : ℤ → Type 0
 IsSmall n = n ≤ℤ pos 2147483647
 

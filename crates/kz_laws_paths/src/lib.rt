@@ -7,6 +7,7 @@
 ghost use Rattle.std.specs.Prelude.{◌≡◌, ℕ, true, List, Some};
 ghost use Rattle.std.specs.Str.{is_utf8};
 ghost use Rattle.kz_types.specs.declared.key.EntityKey.{EntityKey};
+ghost use Rattle.kz_types.specs.PathRule.{is_path};
 ghost use Rattle.kz_types.specs.Paths.{sanitised, restored, key_of, path_of, is_legal};
 ghost use Rattle.kz_laws_paths.specs.TextKeys.{HasTexts};
 
@@ -16,12 +17,19 @@ pub fn names_are_restored()
     ensures written { (part name : List ℕ) → restored part ≡ Some name → sanitised name ≡ part }
 {}
 
-/// The path of a legal key holds this key. Its names are UTF-8 and its numbers are at most 2147483647.
+/// The path of a legal key holds this key, where its names are UTF-8 and its numbers are at most 2147483647.
 pub fn path_holds_its_key()
     ensures { (key : EntityKey) → is_legal key ≡ true → HasTexts key → key_of (path_of key) ≡ Some key }
 {}
 
-/// Legal keys with one path are one key.
+/// A path that holds a key is the path of this key. The key is legal, its names are UTF-8, and its numbers are at most 2147483647.
+pub fn key_has_its_path()
+    ensures path { (path : List ℕ) (key : EntityKey) → is_path path ≡ true → key_of path ≡ Some key → path_of key ≡ path }
+    ensures legal { (path : List ℕ) (key : EntityKey) → is_path path ≡ true → key_of path ≡ Some key → is_legal key ≡ true }
+    ensures texts { (path : List ℕ) (key : EntityKey) → is_path path ≡ true → key_of path ≡ Some key → HasTexts key }
+{}
+
+/// Legal keys with one path are one key, where their names are UTF-8 and their numbers are at most 2147483647.
 pub fn keys_have_one_path()
     ensures { (key other : EntityKey) → is_legal key ≡ true → HasTexts key → is_legal other ≡ true → HasTexts other → path_of key ≡ path_of other → key ≡ other }
 {}
