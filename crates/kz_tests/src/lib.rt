@@ -1,0 +1,7 @@
+//! Calls of the crates below that have no tests of their own, each once with ample memory, the expected values from outside.
+#![tactic(auto)]
+
+#[cfg(test)]
+mod types;
+#[cfg(test)]
+mod values;
