@@ -7,3 +7,5 @@ mod sorted;
 mod types;
 #[cfg(test)]
 mod values;
+#[cfg(test)]
+mod writer;
