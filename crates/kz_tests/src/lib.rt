@@ -4,6 +4,8 @@
 #[cfg(test)]
 mod json;
 #[cfg(test)]
+mod reader;
+#[cfg(test)]
 mod render;
 #[cfg(test)]
 mod sorted;
