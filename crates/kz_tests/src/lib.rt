@@ -2,6 +2,8 @@
 #![tactic(auto)]
 
 #[cfg(test)]
+mod driver;
+#[cfg(test)]
 mod json;
 #[cfg(test)]
 mod reader;
