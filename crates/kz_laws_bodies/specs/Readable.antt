@@ -1,0 +1,52 @@
+-- The bodies that are read as they were written.
+use Rattle.std.specs.Prelude.{◌≡◌, ⊤, ℕ, true, ℤ, pos, negsuc, List, [], ◌∷◌}
+use Rattle.std.specs.Str.{is_utf8}
+use Rattle.std.specs.declared.cmp.Ordering.TheVariants.{Less}
+use Rattle.kz_ordered.specs.Order.{bytes_cmp}
+use Rattle.kz_types.specs.declared.bodies.Pair.{Pair}
+use Rattle.kz_laws_values.specs.Ranges.{IsBetween}
+
+-- bytes that are a text
+abbrev pub IsText : List ℕ → Type 0
+IsText bytes = is_utf8 bytes ≡ true
+
+-- ---- configurations
+
+-- pairs whose names and values are texts
+abbrev pub AreTexts : List Pair → Type 0
+AreTexts [] = ⊤
+AreTexts (pair ∷ pairs) = IsText pair.name × IsText pair.value × AreTexts pairs
+
+-- a name below the name of each pair
+abbrev pub IsBelow : List ℕ → List Pair → Type 0
+IsBelow name [] = ⊤
+IsBelow name (pair ∷ pairs) = (bytes_cmp name pair.name ≡ Less) × IsBelow name pairs
+
+-- pairs that rise by name
+abbrev pub AreRising : List Pair → Type 0
+AreRising [] = ⊤
+AreRising (pair ∷ pairs) = IsBelow pair.name pairs × AreRising pairs
+
+-- A configuration of texts, by rising name.
+pub record IsConfiguration (pairs : List Pair) : Type 0 where
+  pub texts : AreTexts pairs
+  pub rising : AreRising pairs
+
+-- ---- partitions
+
+-- a number from 0 to 2147483647
+abbrev pub IsWhole : ℤ → Type 0
+IsWhole n = IsBetween (pos 0) (pos 2147483647) n
+
+-- ids of brokers
+abbrev pub AreBrokers : List ℤ → Type 0
+AreBrokers [] = ⊤
+AreBrokers (id ∷ ids) = IsWhole id × AreBrokers ids
+
+-- The state of a partition: -1 or -2 stand for no leader, and the recovery is 0 or 1.
+pub record IsState (leader leader_epoch controller_epoch : ℤ) (isr : List ℤ) (recovery : ℤ) : Type 0 where
+  pub leader_is : IsBetween (negsuc 1) (pos 2147483647) leader
+  pub leader_epoch_is : IsWhole leader_epoch
+  pub controller_epoch_is : IsWhole controller_epoch
+  pub isr_is : AreBrokers isr
+  pub recovery_is : IsBetween (pos 0) (pos 1) recovery
