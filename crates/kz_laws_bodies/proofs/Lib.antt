@@ -1,3 +1,5 @@
 pub mod Plain
 pub mod Configs
 pub mod States
+pub mod Producers
+pub mod Entries

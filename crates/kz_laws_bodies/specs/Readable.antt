@@ -3,6 +3,7 @@ use Rattle.std.specs.Prelude.{◌≡◌, ⊤, ℕ, true, ℤ, pos, negsuc, List,
 use Rattle.std.specs.Str.{is_utf8}
 use Rattle.std.specs.declared.cmp.Ordering.TheVariants.{Less}
 use Rattle.kz_ordered.specs.Order.{bytes_cmp}
+use Rattle.kz_types.specs.declared.row.AclRow.{AclRow}
 use Rattle.kz_types.specs.declared.bodies.Pair.{Pair}
 use Rattle.kz_laws_values.specs.Ranges.{IsBetween}
 
@@ -50,3 +51,32 @@ pub record IsState (leader leader_epoch controller_epoch : ℤ) (isr : List ℤ)
   pub controller_epoch_is : IsWhole controller_epoch
   pub isr_is : AreBrokers isr
   pub recovery_is : IsBetween (pos 0) (pos 1) recovery
+
+-- ---- producer ids
+
+-- a number from 0 to 9223372036854775807
+abbrev pub IsOffset : ℤ → Type 0
+IsOffset n = IsBetween (pos 0) (pos 9223372036854775807) n
+
+-- A block of producer ids: -1 stands for no broker.
+pub record IsBlock (broker start end : ℤ) : Type 0 where
+  pub broker_is : IsBetween (negsuc 0) (pos 2147483647) broker
+  pub start_is : IsOffset start
+  pub end_is : IsOffset end
+
+-- ---- access control entries
+
+-- An entry of this resource, with the codes of an operation and of a permission.
+pub record IsEntry (pattern kind : ℤ) (name : List ℕ) (row : AclRow) : Type 0 where
+  pub pattern_is : row.pattern ≡ pattern
+  pub kind_is : row.kind ≡ kind
+  pub name_is : row.name ≡ name
+  pub principal_is : IsText row.principal
+  pub host_is : IsText row.host
+  pub operation_is : IsBetween (pos 2) (pos 12) row.operation
+  pub permission_is : IsBetween (pos 2) (pos 3) row.permission
+
+-- entries of this resource
+abbrev pub AreEntries : ℤ → ℤ → List ℕ → List AclRow → Type 0
+AreEntries pattern kind name [] = ⊤
+AreEntries pattern kind name (row ∷ rows) = IsEntry pattern kind name row × AreEntries pattern kind name rows

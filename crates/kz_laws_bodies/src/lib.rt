@@ -5,11 +5,13 @@
 
 ghost use Rattle.std.specs.Prelude.{◌≡◌, ℕ, ℤ, true, List, Ok};
 ghost use Rattle.kz_types.specs.declared.key.EntityKey.{EntityKey};
-ghost use Rattle.kz_types.specs.declared.key.EntityKey.TheVariants.{Partition};
+ghost use Rattle.kz_types.specs.declared.key.EntityKey.TheVariants.{Partition, Acl};
+ghost use Rattle.kz_types.specs.declared.key.EntityKey.TheVariants as key_of;
+ghost use Rattle.kz_types.specs.declared.row.AclRow.{AclRow};
 ghost use Rattle.kz_types.specs.declared.bodies.Pair.{Pair};
-ghost use Rattle.kz_types.specs.declared.bodies.Body.TheVariants.{Config, State};
+ghost use Rattle.kz_types.specs.declared.bodies.Body.TheVariants.{Config, State, Acls, Producer, Blank};
 ghost use Rattle.kz_spec_values.specs.Bodies.{read_body, written, is_of_kind};
-ghost use Rattle.kz_laws_bodies.specs.Readable.{IsConfiguration, IsState};
+ghost use Rattle.kz_laws_bodies.specs.Readable.{IsConfiguration, IsState, IsBlock, AreEntries};
 
 /// A configuration of a broker or a topic is read as it was written.
 pub fn configuration_is_read()
@@ -23,4 +25,17 @@ pub fn state_is_read()
         → IsState leader leader_epoch controller_epoch isr recovery
         → read_body (Partition topic partition) (written (State leader leader_epoch controller_epoch isr recovery))
             ≡ Ok (State leader leader_epoch controller_epoch isr recovery) }
+{}
+
+/// A block of producer ids is read as it was written, and so is an empty body.
+pub fn producer_is_read()
+    ensures block { (broker start end : ℤ) → IsBlock broker start end
+        → read_body key_of.Producer (written (Producer broker start end)) ≡ Ok (Producer broker start end) }
+    ensures blank { read_body key_of.Producer (written Blank) ≡ Ok Blank }
+{}
+
+/// Access control entries are read as they were written.
+pub fn entries_are_read()
+    ensures { (pattern kind : ℤ) (name : List ℕ) (rows : List AclRow) → AreEntries pattern kind name rows
+        → read_body (Acl pattern kind name) (written (Acls rows)) ≡ Ok (Acls rows) }
 {}
