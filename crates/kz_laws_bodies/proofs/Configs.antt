@@ -41,7 +41,7 @@ put_last k d (member l e ms) h =
     ap (λ r. match_ordering r (member k d (member l e ms)) (member l d ms) (member l e (put k d ms))) (cmp_greater bytes_order k l h.0)
     ∙ ap (member l e) (put_last k d ms h.1)
 
-below_after : (ms : Members) (k : List ℕ) (d : Data) (name : List ℕ) → AreBelow ms name → bytes_cmp k name ≡ Less → AreBelow (after ms (member k d no_members)) name
+pub below_after : (ms : Members) (k : List ℕ) (d : Data) (name : List ℕ) → AreBelow ms name → bytes_cmp k name ≡ Less → AreBelow (after ms (member k d no_members)) name
 below_after no_members k d name h less = (less, tt)
 below_after (member l e ms) k d name h less = (h.0, below_after ms k d name h.1 less)
 

@@ -3,3 +3,7 @@ pub mod Configs
 pub mod States
 pub mod Producers
 pub mod Entries
+pub mod Members
+pub mod Rows
+pub mod Lists
+pub mod Topics

@@ -1,8 +1,13 @@
 -- The bodies that are read as they were written.
-use Rattle.std.specs.Prelude.{◌≡◌, ⊤, ℕ, true, ℤ, pos, negsuc, List, [], ◌∷◌}
+use Rattle.std.specs.Prelude.{◌≡◌, ⊤, ℕ, true, false, ℤ, pos, negsuc, ◌<ℤ◌, List, [], ◌∷◌, length, bytes_eq}
 use Rattle.std.specs.Str.{is_utf8}
 use Rattle.std.specs.declared.cmp.Ordering.TheVariants.{Less}
 use Rattle.kz_ordered.specs.Order.{bytes_cmp}
+use Rattle.base64.specs.GeneralPurpose.{IsBytes}
+use Rattle.kz_types.specs.Ids.{zero_id}
+use Rattle.kz_types.specs.declared.id.Id.{Id}
+use Rattle.kz_types.specs.declared.bodies.AssignmentRow.{AssignmentRow}
+use Rattle.kz_spec_values.specs.Bodies.{are_replicas, are_some_of}
 use Rattle.kz_types.specs.declared.row.AclRow.{AclRow}
 use Rattle.kz_types.specs.declared.bodies.Pair.{Pair}
 use Rattle.kz_laws_values.specs.Ranges.{IsBetween}
@@ -80,3 +85,35 @@ pub record IsEntry (pattern kind : ℤ) (name : List ℕ) (row : AclRow) : Type 
 abbrev pub AreEntries : ℤ → ℤ → List ℕ → List AclRow → Type 0
 AreEntries pattern kind name [] = ⊤
 AreEntries pattern kind name (row ∷ rows) = IsEntry pattern kind name row × AreEntries pattern kind name rows
+
+-- ---- topics
+
+-- a number below the number of each partition
+abbrev pub IsBefore : ℤ → List AssignmentRow → Type 0
+IsBefore n [] = ⊤
+IsBefore n (row ∷ rows) = (n <ℤ row.number) × IsBefore n rows
+
+-- partitions that rise by number
+abbrev pub AreInOrder : List AssignmentRow → Type 0
+AreInOrder [] = ⊤
+AreInOrder (row ∷ rows) = IsBefore row.number rows × AreInOrder rows
+
+-- A partition: some replicas, none twice, and what is added and removed is among them, none twice.
+pub record IsPartition (row : AssignmentRow) : Type 0 where
+  pub number_is : IsWhole row.number
+  pub brokers_are : AreBrokers row.replicas
+  pub replicas_are : are_replicas row.replicas ≡ true
+  pub adding_are : are_some_of row.replicas row.adding ≡ true
+  pub removing_are : are_some_of row.replicas row.removing ≡ true
+
+abbrev pub ArePartitions : List AssignmentRow → Type 0
+ArePartitions [] = ⊤
+ArePartitions (row ∷ rows) = IsPartition row × ArePartitions rows
+
+-- An assignment: an id of 16 bytes that isn't zero, and partitions by rising number.
+pub record IsAssignment (id : Id) (rows : List AssignmentRow) : Type 0 where
+  pub bytes_are : IsBytes id.bytes
+  pub length_is : length id.bytes ≡ 16
+  pub id_is : bytes_eq id.bytes zero_id ≡ false
+  pub order : AreInOrder rows
+  pub rows_are : ArePartitions rows

@@ -6,12 +6,14 @@
 ghost use Rattle.std.specs.Prelude.{◌≡◌, ℕ, ℤ, true, List, Ok};
 ghost use Rattle.kz_types.specs.declared.key.EntityKey.{EntityKey};
 ghost use Rattle.kz_types.specs.declared.key.EntityKey.TheVariants.{Partition, Acl};
-ghost use Rattle.kz_types.specs.declared.key.EntityKey.TheVariants as key_of;
+ghost use Rattle.kz_types.specs.declared.key.EntityKey.TheVariants as keys;
+ghost use Rattle.kz_types.specs.declared.id.Id.{Id};
+ghost use Rattle.kz_types.specs.declared.bodies.AssignmentRow.{AssignmentRow};
 ghost use Rattle.kz_types.specs.declared.row.AclRow.{AclRow};
 ghost use Rattle.kz_types.specs.declared.bodies.Pair.{Pair};
-ghost use Rattle.kz_types.specs.declared.bodies.Body.TheVariants.{Config, State, Acls, Producer, Blank};
+ghost use Rattle.kz_types.specs.declared.bodies.Body.TheVariants.{Topic, Config, State, Acls, Producer, Blank};
 ghost use Rattle.kz_spec_values.specs.Bodies.{read_body, written, is_of_kind};
-ghost use Rattle.kz_laws_bodies.specs.Readable.{IsConfiguration, IsState, IsBlock, AreEntries};
+ghost use Rattle.kz_laws_bodies.specs.Readable.{IsConfiguration, IsState, IsBlock, AreEntries, IsAssignment};
 
 /// A configuration of a broker or a topic is read as it was written.
 pub fn configuration_is_read()
@@ -30,12 +32,18 @@ pub fn state_is_read()
 /// A block of producer ids is read as it was written, and so is an empty body.
 pub fn producer_is_read()
     ensures block { (broker start end : ℤ) → IsBlock broker start end
-        → read_body key_of.Producer (written (Producer broker start end)) ≡ Ok (Producer broker start end) }
-    ensures blank { read_body key_of.Producer (written Blank) ≡ Ok Blank }
+        → read_body keys.Producer (written (Producer broker start end)) ≡ Ok (Producer broker start end) }
+    ensures blank { read_body keys.Producer (written Blank) ≡ Ok Blank }
 {}
 
 /// Access control entries are read as they were written.
 pub fn entries_are_read()
     ensures { (pattern kind : ℤ) (name : List ℕ) (rows : List AclRow) → AreEntries pattern kind name rows
         → read_body (Acl pattern kind name) (written (Acls rows)) ≡ Ok (Acls rows) }
+{}
+
+/// The assignment of a topic is read as it was written.
+pub fn topic_is_read()
+    ensures { (name : List ℕ) (id : Id) (rows : List AssignmentRow) → IsAssignment id rows
+        → read_body (keys.Topic name) (written (Topic id rows)) ≡ Ok (Topic id rows) }
 {}
