@@ -1,6 +1,6 @@
 -- A configuration is read as it was written.
-use Rattle.std.proofs.Common.{◌≡◌, ℕ, true, List, [], ◌∷◌, Option, Some, Ok, refl, sym, ap, ◌∙◌, arith, codes, pos, Less, Greater}
-use Rattle.std.specs.Prelude.{⊤, option_map, option_and_then}
+use Rattle.std.proofs.Common.{◌≡◌, ℕ, true, List, [], ◌∷◌, Some, Ok, refl, sym, ap, ◌∙◌, arith, codes, pos, Less}
+use Rattle.std.specs.Prelude.{⊤, option_map}
 use Rattle.std.specs.Ordering.{match_ordering}
 use Rattle.std.proofs.lemmas.Int.{ints}
 use Rattle.serde_json.specs.Data.{Data, string, object, Members, no_members, member, put}
@@ -11,8 +11,8 @@ use Rattle.kz_types.specs.declared.key.EntityKey.{EntityKey}
 use Rattle.kz_types.specs.declared.key.EntityKey.TheVariants.{Topic, Partition, TopicConfig, BrokerConfig, Client, User, UserClient, Ip, Acl, Producer}
 use Rattle.kz_ordered.specs.Order.{bytes_cmp}
 use Rattle.kz_ordered.proofs.Order.{bytes_order, cmp_greater}
-use Rattle.kz_spec_values.specs.Bodies.{with_texts, texts_in, config_data, config_of, whole_data, body_of, read_body, written, empty_body, is_of_kind}
-use Rattle.kz_laws_bodies.specs.Readable.{IsText, AreTexts, IsBelow, AreRising, IsConfiguration}
+use Rattle.kz_spec_values.specs.Bodies.{with_texts, texts_in, config_of, whole_data, body_of, read_body, written, is_of_kind}
+use Rattle.kz_laws_bodies.specs.Readable.{AreTexts, IsBelow, AreRising, IsConfiguration}
 use Rattle.kz_laws_bodies.proofs.Plain.{puts, IsPlain, ArePlainMembers, object_says, whole_is_plain, word}
 
 -- ---- members that rise

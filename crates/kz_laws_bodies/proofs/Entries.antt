@@ -1,13 +1,12 @@
 -- Access control entries are read as they were written.
-use Rattle.std.proofs.Common.{◌≡◌, ℕ, zero, suc, ◌+◌, ◌≤◌, ℤ, pos, negsuc, true, List, [], ◌∷◌, Some, Ok, refl, sym, ap, subst, ◌∙◌, arith, codes}
+use Rattle.std.proofs.Common.{◌≡◌, ℕ, zero, suc, ◌≤◌, ℤ, pos, negsuc, List, [], ◌∷◌, Some, Ok, refl, sym, ap, ◌∙◌, arith, codes}
 use Rattle.std.specs.Prelude.{map, option_map, option_and_then}
 use Rattle.std.proofs.lemmas.Int.{ints}
-use Rattle.serde_json.specs.Data.{Data, array, object, no_members, member}
 use Rattle.serde_json.specs.View.{items_of}
 use Rattle.kz_types.specs.declared.row.AclRow.{AclRow}
 use Rattle.kz_types.specs.declared.bodies.Body.TheVariants as body
 use Rattle.kz_types.specs.declared.key.EntityKey.TheVariants.{Acl}
-use Rattle.kz_spec_values.specs.Bodies.{whole_data, operation_of, operation_name, permission_of, permission_name, entry_in, entries_in, acl_data, acls_data, acls_of_data, body_of, read_body, written}
+use Rattle.kz_spec_values.specs.Bodies.{operation_of, operation_name, permission_of, permission_name, entry_in, entries_in, acl_data, acls_data, acls_of_data, body_of, read_body, written}
 use Rattle.kz_laws_values.specs.Ranges.{IsBetween}
 use Rattle.kz_laws_bodies.specs.Readable.{IsText, IsEntry, AreEntries}
 use Rattle.kz_laws_bodies.proofs.Plain.{IsPlain, ArePlainItems, object_says, whole_is_plain, word}

@@ -1,8 +1,8 @@
 -- What is added and removed is read from the members that are written for it.
-use Rattle.std.proofs.Common.{◌≡◌, ◌≢◌, ℕ, suc, ℤ, pos, Bool, true, false, ◌||◌, List, [], ◌∷◌, Option, Some, None, refl, sym, ap, subst, ◌∙◌, arith, ◌&&◌}
-use Rattle.std.specs.Prelude.{⊤, ◌<ℤ◌, map, option_and_then, unwrap_or, if◌then◌else◌}
+use Rattle.std.proofs.Common.{◌≡◌, ◌≢◌, ℕ, suc, ℤ, Bool, true, false, ◌||◌, List, [], ◌∷◌, Option, Some, None, refl, sym, ap, subst, ◌∙◌, arith, ◌&&◌}
+use Rattle.std.specs.Prelude.{⊤, map, option_and_then, unwrap_or, if◌then◌else◌}
 use Rattle.std.specs.Fmt.{signed_decimal}
-use Rattle.std.specs.List.{list_all, list_any}
+use Rattle.std.specs.List.{list_all}
 use Rattle.std.specs.Ordering.{int_eq}
 use Rattle.std.proofs.lemmas.Bool.{and_parts, and_from}
 use Rattle.std.proofs.lemmas.Int.{ints}
@@ -11,8 +11,8 @@ use Rattle.serde_json.specs.Find.{get_member}
 use Rattle.kz_types.specs.Numbers.{number_in}
 use Rattle.kz_types.specs.declared.bodies.AssignmentRow.{AssignmentRow}
 use Rattle.kz_spec_values.specs.Bodies.{brokers_of, brokers_data, is_in, are_distinct, are_some_of, is_there, are_lists, list_at, fit, lists_for, with_some, adding_members, removing_members}
-use Rattle.kz_laws_bodies.specs.Readable.{IsText, IsWhole, AreBrokers, IsBefore, AreInOrder, IsPartition, ArePartitions}
-use Rattle.kz_laws_bodies.proofs.Plain.{IsPlain, ArePlainMembers}
+use Rattle.kz_laws_bodies.specs.Readable.{IsWhole, AreBrokers, IsBefore, AreInOrder, IsPartition, ArePartitions}
+use Rattle.kz_laws_bodies.proofs.Plain.{ArePlainMembers}
 use Rattle.kz_laws_bodies.proofs.States.{brokers_plain, brokers_read}
 use Rattle.kz_laws_bodies.proofs.Members.{by_order, put_plain, Rise, put_rises, get_put, get_put_other}
 use Rattle.kz_laws_bodies.proofs.Rows.{bare, less_other, number_read, number_text_is, texts_differ}
@@ -106,7 +106,7 @@ lists_are : (pick : AssignmentRow → List ℤ) → IsPick pick → (rows : List
 lists_are pick is rows ms h r =
     all_put AreLists pick is
     (λ row ids found number brokers lists. put_lists (signed_decimal row.number) (brokers_data ids) found
-      (there (number_in (signed_decimal row.number)) row.number (number_read row.number number)) (there (brokers_of (brokers_data ids)) ids (brokers_read ids brokers)) lists)
+    (there (number_in (signed_decimal row.number)) row.number (number_read row.number number)) (there (brokers_of (brokers_data ids)) ids (brokers_read ids brokers)) lists)
     rows ms h r
 
 -- ---- each is found at its number
@@ -162,8 +162,7 @@ listed_from : (pick : AssignmentRow → List ℤ) → IsPick pick → (rows : Li
     → AreListed pick (lists_members pick ms rows) rows
 listed_from pick is [] ms h o none = tt
 listed_from pick is (row ∷ rows) ms h o none =
-    let other = is_other row.number rows h.0.number_is h.1 o.0 in
-    (
+    let other = is_other row.number rows h.0.number_is h.1 o.0 in (
       ap brokers_or_none (get_lists_past pick (signed_decimal row.number) rows (with_some row (pick row) ms) other) ∙ own_list row (pick row) ms (pick_whole pick is row h.0) none.0,
       listed_from pick is rows (with_some row (pick row) ms) h.1 o.1 (still_missing row (pick row) ms rows other none.1),
     )
@@ -181,4 +180,4 @@ pub lists_read : (pick : AssignmentRow → List ℤ) → IsPick pick → (rows :
 lists_read pick is rows h o =
     let ms : Members = lists_members pick no_members rows in
     λ i. if and_from (are_lists ms) (fit (map bare rows) (object ms)) (lists_are pick is rows no_members h refl) (fits pick is ms rows h (listed pick is rows h o)) i
-      then Some (Some (object ms)) else None
+    then Some (Some (object ms)) else None

@@ -1,6 +1,6 @@
 -- The text of plain data is read as that data.
-use Rattle.std.proofs.Common.{◌≡◌, ℕ, zero, suc, max, ◌≤◌, ◌==◌, ℤ, pos, Bool, true, false, cond, List, length, [], ◌∷◌, Option, Some, None, refl, sym, ap, subst, ◌∙◌, arith}
-use Rattle.std.specs.Prelude.{⊤, IsUtf8, option_map, option_and_then, Result}
+use Rattle.std.proofs.Common.{◌≡◌, ℕ, zero, suc, max, ◌≤◌, ◌==◌, ℤ, Bool, true, false, cond, List, length, ◌∷◌, Option, Some, None, refl, sym, ap, subst, ◌∙◌, arith}
+use Rattle.std.specs.Prelude.{⊤, IsUtf8, option_map, option_and_then}
 use Rattle.std.proofs.lemmas.Str.{IsUtf8-from_is_utf8, is_utf8-from_IsUtf8}
 use Rattle.std.proofs.lemmas.Bool.{ne_eqb}
 use Rattle.json.specs.Tree as tree
@@ -10,7 +10,6 @@ use Rattle.serde_json.specs.Find.{of_integer}
 use Rattle.serde_json.specs.Read.{of_json, of_items, of_members, number_of}
 use Rattle.serde_json.specs.Written.{compact_text, members_text, number_text, outline, items_outline, members_outline}
 use Rattle.kz_types.specs.declared.bodies.Body.{Body}
-use Rattle.kz_types.specs.declared.fault.BodyFault.{BodyFault}
 use Rattle.kz_types.specs.declared.key.EntityKey.{EntityKey}
 use Rattle.kz_spec_values.specs.Bodies.{whole_data, json_of, body_of, body_of_json, body_unless_empty, empty_body, read_body}
 use Rattle.kz_laws_values.specs.Ranges.{IsLong}

@@ -1,6 +1,6 @@
 -- A block of producer ids is read as it was written.
-use Rattle.std.proofs.Common.{◌≡◌, ℕ, suc, ◌==◌, ◌<◌, ◌≤◌, ◌^◌, ℤ, pos, negsuc, nat_le, Bool, true, false, cond, ◌&&◌, List, [], ◌∷◌, length, Option, Some, None, Ok, decimal, refl, ap, ◌∙◌, arith, codes, le-leb}
-use Rattle.std.specs.Prelude.{◌≤ℤ◌, option_map, if◌then◌else◌}
+use Rattle.std.proofs.Common.{◌≡◌, ℕ, ◌<◌, ◌≤◌, ◌^◌, ℤ, pos, negsuc, nat_le, true, ◌&&◌, List, length, Some, None, Ok, decimal, refl, ◌∙◌, arith, codes, le-leb}
+use Rattle.std.specs.Prelude.{option_map, if◌then◌else◌}
 use Rattle.std.specs.List.{list_all}
 use Rattle.std.specs.Fmt.{signed_decimal}
 use Rattle.std.proofs.lemmas.Bool.{ne_eqb}
@@ -8,12 +8,11 @@ use Rattle.std.proofs.lemmas.Int.{ints}
 use Rattle.std.proofs.lemmas.Fmt.{decimal_is_IsNumeral, digits_decimal}
 use Rattle.std.proofs.lemmas.Str.{is_utf8-from_IsUtf8}
 use Rattle.std.proofs.lemmas.Str.Parse.{numerals_by_value}
-use Rattle.serde_json.specs.Data.{object, no_members, member}
 use Rattle.kz_types.specs.Numbers.{is_digit, number_of, digits_up_to}
 use Rattle.kz_types.proofs.NumberLemmas.{tells}
 use Rattle.kz_types.specs.declared.bodies.Body.TheVariants as body
 use Rattle.kz_types.specs.declared.key.EntityKey.TheVariants.{Producer}
-use Rattle.kz_spec_values.specs.Bodies.{greatest, whole_data, digits_number, producer_data, producer_of_data, body_of, empty_body, read_body, written}
+use Rattle.kz_spec_values.specs.Bodies.{greatest, digits_number, producer_data, producer_of_data, body_of, empty_body, read_body, written}
 use Rattle.kz_laws_values.specs.Ranges.{IsBetween, IsLong}
 use Rattle.kz_laws_values.proofs.ReadsBack.{whole_in_range, signed_is_utf8}
 use Rattle.kz_laws_bodies.specs.Readable.{IsText, IsOffset, IsBlock}

@@ -1,6 +1,6 @@
 -- The partitions of an assignment are read from the members that are written for them.
-use Rattle.std.proofs.Common.{◌≡◌, ◌≢◌, ℕ, ◌≤◌, ℤ, pos, negsuc, Bool, true, false, List, [], ◌∷◌, Option, Some, None, refl, sym, ap, subst, ◌∙◌, arith, inl, inr, ◌&&◌}
-use Rattle.std.specs.Prelude.{⊤, ◌<ℤ◌, ◌≤ℤ◌, int_le, map, option_map, option_and_then, if◌then◌else◌}
+use Rattle.std.proofs.Common.{◌≡◌, ◌≢◌, ℕ, ◌≤◌, ℤ, pos, negsuc, Bool, true, false, List, [], ◌∷◌, Option, Some, None, refl, sym, ap, subst, ◌∙◌, arith}
+use Rattle.std.specs.Prelude.{⊤, ◌<ℤ◌, int_le, map, option_map, option_and_then, if◌then◌else◌}
 use Rattle.std.specs.Fmt.{signed_decimal}
 use Rattle.std.proofs.lemmas.Int.{ints}
 use Rattle.std.proofs.lemmas.Str.{is_utf8-from_IsUtf8}
@@ -128,8 +128,8 @@ rows_put k d row is num (member l e ms) acc h =
     (λ less. ap (option_and_then (λ r. rows_onto (place_row r acc) (member l e ms))) is)
     (λ same. absurd (h.0 (ap number_in (sym same) ∙ num)))
     (λ more. past_row row acc (put k d ms) ms (row_of (number_in l) (brokers_of e))
-      (λ other found same. h.0 (row_number (number_in l) (brokers_of e) other found ∙ ap (λ n. Some n) (sym same)))
-      (λ rows. rows_put k d row is num ms rows h.1))
+    (λ other found same. h.0 (row_number (number_in l) (brokers_of e) other found ∙ ap (λ n. Some n) (sym same)))
+    (λ rows. rows_put k d row is num ms rows h.1))
 
 -- ---- the partitions that are written
 

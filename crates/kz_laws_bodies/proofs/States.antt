@@ -1,13 +1,11 @@
 -- The state of a partition is read as it was written.
-use Rattle.std.proofs.Common.{◌≡◌, ℕ, ℤ, pos, negsuc, true, List, [], ◌∷◌, Some, Ok, refl, ap, ◌∙◌, arith, codes}
+use Rattle.std.proofs.Common.{◌≡◌, ℕ, ℤ, pos, negsuc, List, [], ◌∷◌, Some, Ok, refl, ap, ◌∙◌, arith, codes}
 use Rattle.std.specs.Prelude.{map, option_map, option_and_then}
 use Rattle.std.proofs.lemmas.Int.{ints}
-use Rattle.serde_json.specs.Data.{object, no_members, member}
 use Rattle.serde_json.specs.View.{items_of}
 use Rattle.kz_types.specs.declared.bodies.Body.TheVariants as body
-use Rattle.kz_types.specs.declared.key.EntityKey.{EntityKey}
 use Rattle.kz_types.specs.declared.key.EntityKey.TheVariants.{Partition}
-use Rattle.kz_spec_values.specs.Bodies.{greatest, whole, whole_data, brokers_in, brokers_data, state_data, state_of_data, body_of, read_body, written}
+use Rattle.kz_spec_values.specs.Bodies.{greatest, whole, whole_data, brokers_in, state_data, state_of_data, body_of, read_body, written}
 use Rattle.kz_laws_values.specs.Ranges.{IsBetween, IsLong}
 use Rattle.kz_laws_values.proofs.ReadsBack.{whole_in_range}
 use Rattle.kz_laws_bodies.specs.Readable.{IsWhole, AreBrokers, IsState}

@@ -1,24 +1,23 @@
 -- The assignment of a topic is read as it was written.
-use Rattle.std.proofs.Common.{◌≡◌, ℕ, suc, ℤ, pos, Bool, true, false, List, [], ◌∷◌, Option, Some, None, Ok, refl, sym, ap, subst, ◌∙◌, arith, codes}
-use Rattle.std.specs.Prelude.{map, option_and_then, bytes_eq, Result, Err, if◌then◌else◌}
+use Rattle.std.proofs.Common.{◌≡◌, ℕ, suc, ℤ, pos, List, [], ◌∷◌, Some, Ok, refl, ap, ◌∙◌, arith, codes}
+use Rattle.std.specs.Prelude.{map, Err, if◌then◌else◌}
 use Rattle.std.specs.Fmt.{signed_decimal}
 use Rattle.std.proofs.lemmas.Int.{ints}
 use Rattle.std.proofs.lemmas.Str.{is_utf8-from_IsUtf8, IsUtf8-from_ascii}
 use Rattle.base64.specs.Engines.{url_safe_no_pad}
 use Rattle.base64.proofs.EngineFacts.{IsAscii-encode_of}
-use Rattle.serde_json.specs.Data.{Data, object, string, Members, no_members, member}
+use Rattle.serde_json.specs.Data.{object, string, Members, no_members, member}
 use Rattle.serde_json.specs.Written.{compact_text}
-use Rattle.kz_types.specs.Ids.{id_of, id_text, zero_id}
+use Rattle.kz_types.specs.Ids.{id_of, id_text}
 use Rattle.kz_types.proofs.IdLemmas.{id_of_text}
 use Rattle.kz_types.specs.declared.id.Id.{Id}
 use Rattle.kz_types.specs.declared.bodies.AssignmentRow.{AssignmentRow}
-use Rattle.kz_types.specs.declared.bodies.Body.{Body}
 use Rattle.kz_types.specs.declared.bodies.Body.TheVariants as body
 use Rattle.kz_types.specs.declared.fault.BodyFault.TheVariants.{NoTopicId}
 use Rattle.kz_types.specs.declared.key.EntityKey.TheVariants.{Topic}
-use Rattle.kz_spec_values.specs.Bodies.{whole_data, brokers_data, list_at, lists_for, with_list, with_lists, replicas_members, adding_members, removing_members, topic_id_of, topic_data, topic_of_data, body_of, read_body, written}
-use Rattle.kz_laws_bodies.specs.Readable.{IsText, AreInOrder, IsPartition, ArePartitions, IsAssignment}
-use Rattle.kz_laws_bodies.proofs.Plain.{puts, IsPlain, ArePlainMembers, object_says, whole_is_plain, word}
+use Rattle.kz_spec_values.specs.Bodies.{whole_data, brokers_data, with_list, with_lists, replicas_members, topic_id_of, topic_data, topic_of_data, body_of, read_body, written}
+use Rattle.kz_laws_bodies.specs.Readable.{IsText, ArePartitions, IsAssignment}
+use Rattle.kz_laws_bodies.proofs.Plain.{IsPlain, ArePlainMembers, object_says, whole_is_plain, word}
 use Rattle.kz_laws_bodies.proofs.States.{brokers_plain}
 use Rattle.kz_laws_bodies.proofs.Members.{put_plain, Rise, put_rises, puts_same}
 use Rattle.kz_laws_bodies.proofs.Rows.{bare, number_text_is, rows_read}

@@ -49,7 +49,7 @@ abbrev pub AreBrokers : List ℤ → Type 0
 AreBrokers [] = ⊤
 AreBrokers (id ∷ ids) = IsWhole id × AreBrokers ids
 
--- The state of a partition: -1 or -2 stand for no leader, and the recovery is 0 or 1.
+-- The state of a partition: its leader is from -2 to 2147483647, and its recovery is 0 or 1.
 pub record IsState (leader leader_epoch controller_epoch : ℤ) (isr : List ℤ) (recovery : ℤ) : Type 0 where
   pub leader_is : IsBetween (negsuc 1) (pos 2147483647) leader
   pub leader_epoch_is : IsWhole leader_epoch
@@ -63,7 +63,7 @@ pub record IsState (leader leader_epoch controller_epoch : ℤ) (isr : List ℤ)
 abbrev pub IsOffset : ℤ → Type 0
 IsOffset n = IsBetween (pos 0) (pos 9223372036854775807) n
 
--- A block of producer ids: -1 stands for no broker.
+-- A block of producer ids: its broker is from -1 to 2147483647.
 pub record IsBlock (broker start end : ℤ) : Type 0 where
   pub broker_is : IsBetween (negsuc 0) (pos 2147483647) broker
   pub start_is : IsOffset start

@@ -26,7 +26,7 @@ pub fn state_is_read()
     ensures { (topic : List ℕ) (partition leader leader_epoch controller_epoch : ℤ) (isr : List ℤ) (recovery : ℤ)
         → IsState leader leader_epoch controller_epoch isr recovery
         → read_body (Partition topic partition) (written (State leader leader_epoch controller_epoch isr recovery))
-            ≡ Ok (State leader leader_epoch controller_epoch isr recovery) }
+        ≡ Ok (State leader leader_epoch controller_epoch isr recovery) }
 {}
 
 /// A block of producer ids is read as it was written, and so is an empty body.
