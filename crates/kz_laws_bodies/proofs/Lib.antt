@@ -7,3 +7,4 @@ pub mod Members
 pub mod Rows
 pub mod Lists
 pub mod Topics
+pub mod Ranges

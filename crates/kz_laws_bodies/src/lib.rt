@@ -21,18 +21,23 @@ pub fn configuration_is_read()
         → read_body key (written (Config pairs)) ≡ Ok (Config pairs) }
 {}
 
-/// The state of a partition is read as it was written.
+/// The state of a partition is read as it was written where its numbers are in their ranges, and those of each state that is read are.
 pub fn state_is_read()
-    ensures { (topic : List ℕ) (partition leader leader_epoch controller_epoch : ℤ) (isr : List ℤ) (recovery : ℤ)
+    ensures read { (topic : List ℕ) (partition leader leader_epoch controller_epoch : ℤ) (isr : List ℤ) (recovery : ℤ)
         → IsState leader leader_epoch controller_epoch isr recovery
         → read_body (Partition topic partition) (written (State leader leader_epoch controller_epoch isr recovery))
-        ≡ Ok (State leader leader_epoch controller_epoch isr recovery) }
+            ≡ Ok (State leader leader_epoch controller_epoch isr recovery) }
+    ensures only { (topic bytes : List ℕ) (partition leader leader_epoch controller_epoch : ℤ) (isr : List ℤ) (recovery : ℤ)
+        → read_body (Partition topic partition) bytes ≡ Ok (State leader leader_epoch controller_epoch isr recovery)
+        → IsState leader leader_epoch controller_epoch isr recovery }
 {}
 
-/// A block of producer ids is read as it was written, and so is an empty body.
+/// A block of producer ids is read as it was written where its numbers are in their ranges, and those of each block that is read are.
+/// An empty body is read as it was written, too.
 pub fn producer_is_read()
     ensures block { (broker start end : ℤ) → IsBlock broker start end
         → read_body keys.Producer (written (Producer broker start end)) ≡ Ok (Producer broker start end) }
+    ensures only { (bytes : List ℕ) (broker start end : ℤ) → read_body keys.Producer bytes ≡ Ok (Producer broker start end) → IsBlock broker start end }
     ensures blank { read_body keys.Producer (written Blank) ≡ Ok Blank }
 {}
 
