@@ -48,16 +48,16 @@ below_after (member l e ms) k d name h less = (h.0, below_after ms k d name h.1 
 -- ---- members of texts
 
 -- a member for each pair
-abbrev texts_members : List Pair → Members
+abbrev pub texts_members : List Pair → Members
 texts_members [] = no_members
 texts_members (pair ∷ pairs) = member pair.name (string pair.value) (texts_members pairs)
 
 -- each name of the members is below that of each pair
-abbrev AreAllBelow : Members → List Pair → Type 0
+abbrev pub AreAllBelow : Members → List Pair → Type 0
 AreAllBelow ms [] = ⊤
 AreAllBelow ms (pair ∷ pairs) = AreBelow ms pair.name × AreAllBelow ms pairs
 
-all_below_after : (ms : Members) (k : List ℕ) (d : Data) (pairs : List Pair) → AreAllBelow ms pairs → IsBelow k pairs → AreAllBelow (after ms (member k d no_members)) pairs
+pub all_below_after : (ms : Members) (k : List ℕ) (d : Data) (pairs : List Pair) → AreAllBelow ms pairs → IsBelow k pairs → AreAllBelow (after ms (member k d no_members)) pairs
 all_below_after ms k d [] h less = tt
 all_below_after ms k d (pair ∷ pairs) h less = (below_after ms k d pair.name h.0 less.0, all_below_after ms k d pairs h.1 less.1)
 
@@ -68,28 +68,28 @@ texts_rise ms (pair ∷ pairs) h r =
     ∙ texts_rise (after ms (member pair.name (string pair.value) no_members)) pairs (all_below_after ms pair.name (string pair.value) pairs h.1 r.0) r.1
     ∙ after_after ms (member pair.name (string pair.value) no_members) (texts_members pairs)
 
-none_below : (pairs : List Pair) → AreAllBelow no_members pairs
+pub none_below : (pairs : List Pair) → AreAllBelow no_members pairs
 none_below [] = tt
 none_below (pair ∷ pairs) = (tt, none_below pairs)
 
-written_texts : (pairs : List Pair) → AreRising pairs → with_texts no_members pairs ≡ texts_members pairs
+pub written_texts : (pairs : List Pair) → AreRising pairs → with_texts no_members pairs ≡ texts_members pairs
 written_texts pairs r = texts_rise no_members pairs (none_below pairs) r
 
-puts_texts : (pairs : List Pair) (found : Members) → puts (texts_members pairs) found ≡ with_texts found pairs
+pub puts_texts : (pairs : List Pair) (found : Members) → puts (texts_members pairs) found ≡ with_texts found pairs
 puts_texts [] found = refl
 puts_texts (pair ∷ pairs) found = puts_texts pairs (put pair.name (string pair.value) found)
 
-texts_plain : (n : ℕ) (pairs : List Pair) → AreTexts pairs → ArePlainMembers n (texts_members pairs)
+pub texts_plain : (n : ℕ) (pairs : List Pair) → AreTexts pairs → ArePlainMembers n (texts_members pairs)
 texts_plain n [] h = tt
 texts_plain n (pair ∷ pairs) h = (h.0, h.1, texts_plain n pairs h.2)
 
-texts_read : (pairs : List Pair) → texts_in (texts_members pairs) ≡ Some pairs
+pub texts_read : (pairs : List Pair) → texts_in (texts_members pairs) ≡ Some pairs
 texts_read [] = refl
 texts_read (pair ∷ pairs) = ap (option_map (λ ps. pair ∷ ps)) (texts_read pairs)
 
 -- ---- the whole
 
-abbrev config_members : Members → Members
+abbrev pub config_members : Members → Members
 config_members texts = member (codes "config") (object texts) (member (codes "version") (whole_data (pos 1)) no_members)
 
 config_plain : (pairs : List Pair) → IsConfiguration pairs → IsPlain 3 (object (config_members (texts_members pairs)))

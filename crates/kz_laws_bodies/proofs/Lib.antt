@@ -8,3 +8,4 @@ pub mod Rows
 pub mod Lists
 pub mod Topics
 pub mod Ranges
+pub mod QuotaBodies

@@ -1,5 +1,5 @@
 -- The bodies that are read as they were written.
-use Rattle.std.specs.Prelude.{◌≡◌, ⊤, ℕ, true, false, ℤ, pos, negsuc, ◌<ℤ◌, List, [], ◌∷◌, length, bytes_eq}
+use Rattle.std.specs.Prelude.{◌≡◌, ⊤, ℕ, true, false, ℤ, pos, negsuc, ◌<ℤ◌, List, [], ◌∷◌, length, map, bytes_eq, Some, Ok}
 use Rattle.std.specs.Str.{is_utf8}
 use Rattle.std.specs.declared.cmp.Ordering.TheVariants.{Less}
 use Rattle.kz_ordered.specs.Order.{bytes_cmp}
@@ -7,6 +7,12 @@ use Rattle.base64.specs.GeneralPurpose.{IsBytes}
 use Rattle.kz_types.specs.Ids.{zero_id}
 use Rattle.kz_types.specs.declared.id.Id.{Id}
 use Rattle.kz_types.specs.declared.bodies.AssignmentRow.{AssignmentRow}
+use Rattle.kz_types.specs.Paths.{is_among}
+use Rattle.kz_types.specs.Quotas.{quota_of, quota_text}
+use Rattle.kz_types.specs.declared.bodies.QuotaRow.{QuotaRow}
+use Rattle.kz_types.specs.declared.bodies.ScramPair.{ScramPair}
+use Rattle.kz_types.specs.declared.key.EntityKey.{EntityKey}
+use Rattle.kz_spec_values.specs.Credentials.{quota_keys, credential_key, mechanism_name, credential_of, credential_text, quota_pair, credential_pair}
 use Rattle.kz_spec_values.specs.Bodies.{are_replicas, are_some_of}
 use Rattle.kz_types.specs.declared.row.AclRow.{AclRow}
 use Rattle.kz_types.specs.declared.bodies.Pair.{Pair}
@@ -117,3 +123,32 @@ pub record IsAssignment (id : Id) (rows : List AssignmentRow) : Type 0 where
   pub id_is : bytes_eq id.bytes zero_id ≡ false
   pub order : AreInOrder rows
   pub rows_are : ArePartitions rows
+
+-- ---- quotas and credentials
+
+-- A quota that this entity may have, whose text is read as its value.
+pub record IsQuota (key : EntityKey) (row : QuotaRow) : Type 0 where
+  pub name_is : is_among (quota_keys key) row.key ≡ true
+  pub text_is : IsText (quota_text row.value)
+  pub value_is : quota_of (quota_text row.value) ≡ Ok row.value
+
+abbrev pub AreQuotas : EntityKey → List QuotaRow → Type 0
+AreQuotas key [] = ⊤
+AreQuotas key (row ∷ rows) = IsQuota key row × AreQuotas key rows
+
+-- A credential that this entity may have, whose text is read as its value.
+pub record IsCredential (key : EntityKey) (pair : ScramPair) : Type 0 where
+  pub mechanism_is : credential_key key (mechanism_name pair.mechanism) ≡ Some pair.mechanism
+  pub text_is : IsText (credential_text pair.value)
+  pub value_is : credential_of (credential_text pair.value) ≡ Some pair.value
+
+abbrev pub AreCredentials : EntityKey → List ScramPair → Type 0
+AreCredentials key [] = ⊤
+AreCredentials key (pair ∷ pairs) = IsCredential key pair × AreCredentials key pairs
+
+-- The quotas and the credentials of an entity, each by rising name.
+pub record IsQuotaBody (key : EntityKey) (quotas : List QuotaRow) (scrams : List ScramPair) : Type 0 where
+  pub quotas_are : AreQuotas key quotas
+  pub scrams_are : AreCredentials key scrams
+  pub quotas_rise : AreRising (map quota_pair quotas)
+  pub scrams_rise : AreRising (map credential_pair scrams)

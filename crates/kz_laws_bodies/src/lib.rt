@@ -9,11 +9,13 @@ ghost use Rattle.kz_types.specs.declared.key.EntityKey.TheVariants.{Partition, A
 ghost use Rattle.kz_types.specs.declared.key.EntityKey.TheVariants as keys;
 ghost use Rattle.kz_types.specs.declared.id.Id.{Id};
 ghost use Rattle.kz_types.specs.declared.bodies.AssignmentRow.{AssignmentRow};
+ghost use Rattle.kz_types.specs.declared.bodies.QuotaRow.{QuotaRow};
+ghost use Rattle.kz_types.specs.declared.bodies.ScramPair.{ScramPair};
 ghost use Rattle.kz_types.specs.declared.row.AclRow.{AclRow};
 ghost use Rattle.kz_types.specs.declared.bodies.Pair.{Pair};
-ghost use Rattle.kz_types.specs.declared.bodies.Body.TheVariants.{Topic, Config, State, Acls, Producer, Blank};
+ghost use Rattle.kz_types.specs.declared.bodies.Body.TheVariants.{Topic, Config, State, Quota, Acls, Producer, Blank};
 ghost use Rattle.kz_spec_values.specs.Bodies.{read_body, written, is_of_kind};
-ghost use Rattle.kz_laws_bodies.specs.Readable.{IsConfiguration, IsState, IsBlock, AreEntries, IsAssignment};
+ghost use Rattle.kz_laws_bodies.specs.Readable.{IsConfiguration, IsState, IsBlock, AreEntries, IsAssignment, IsQuotaBody};
 
 /// A configuration of a broker or a topic is read as it was written.
 pub fn configuration_is_read()
@@ -51,4 +53,11 @@ pub fn entries_are_read()
 pub fn topic_is_read()
     ensures { (name : List ℕ) (id : Id) (rows : List AssignmentRow) → IsAssignment id rows
         → read_body (keys.Topic name) (written (Topic id rows)) ≡ Ok (Topic id rows) }
+{}
+
+/// Quotas and credentials are read as they were written, where the text of each value is read as this value.
+pub fn quotas_are_read()
+    ensures { (key : EntityKey) (quotas : List QuotaRow) (scrams : List ScramPair)
+        → is_of_kind key (Quota quotas scrams) ≡ true → IsQuotaBody key quotas scrams
+        → read_body key (written (Quota quotas scrams)) ≡ Ok (Quota quotas scrams) }
 {}
