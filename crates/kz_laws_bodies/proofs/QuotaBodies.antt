@@ -1,5 +1,5 @@
 -- Quotas and credentials are read as they were written.
-use Rattle.std.proofs.Common.{◌≡◌, ℕ, Bool, true, false, ◌||◌, List, [], ◌∷◌, ◌++◌, Option, Some, None, Result, Ok, refl, sym, ap, subst, ◌∙◌, arith, codes, pos, Less, Greater}
+use Rattle.std.proofs.Common.{◌≡◌, ℕ, Bool, true, false, ◌||◌, List, [], ◌∷◌, ◌++◌, Some, None, Ok, refl, sym, ap, subst, ◌∙◌, arith, codes, pos, Less}
 use Rattle.std.specs.Prelude.{⊤, map, bytes_eq, int_le, Err, if◌then◌else◌}
 use Rattle.std.specs.Ordering.{match_ordering}
 use Rattle.std.specs.Result.{result_ok}
@@ -7,7 +7,6 @@ use Rattle.std.proofs.lemmas.Int.{ints}
 use Rattle.serde_json.specs.Data.{Data, string, object, Members, no_members, member, put}
 use Rattle.serde_json.specs.Written.{compact_text}
 use Rattle.kz_types.specs.Paths.{is_among}
-use Rattle.kz_types.specs.Quotas.{quota_of, quota_text}
 use Rattle.kz_types.proofs.NumberLemmas.{bytes_eq-true}
 use Rattle.kz_types.specs.declared.bodies.Pair.{Pair}
 use Rattle.kz_types.specs.declared.bodies.QuotaRow.{QuotaRow}
@@ -18,8 +17,8 @@ use Rattle.kz_types.specs.declared.key.EntityKey.{EntityKey}
 use Rattle.kz_types.specs.declared.key.EntityKey.TheVariants.{Topic, Partition, TopicConfig, BrokerConfig, Client, User, UserClient, Ip, Acl, Producer}
 use Rattle.kz_ordered.specs.Order.{bytes_cmp}
 use Rattle.kz_ordered.proofs.Order.{bytes_order, cmp_greater}
-use Rattle.kz_spec_values.specs.Credentials.{client_keys, quota_keys, mechanism_of, mechanism_name, credential_key, credential_of, credential_text, credential_entry, quota_entry, entry_by, entry_of, entries_of, both, quota_pair, credential_pair}
-use Rattle.kz_spec_values.specs.Bodies.{then_read, with_texts, pairs_of, quota_of_data, whole_data, body_of, read_body, written, is_of_kind}
+use Rattle.kz_spec_values.specs.Credentials.{client_keys, quota_keys, mechanism_of, mechanism_name, credential_key, credential_entry, quota_entry, entry_by, entry_of, entries_of, both, quota_pair, credential_pair}
+use Rattle.kz_spec_values.specs.Bodies.{then_read, with_texts, pairs_of, quota_of_data, body_of, read_body, written, is_of_kind}
 use Rattle.kz_laws_bodies.specs.Readable.{IsText, AreTexts, IsBelow, AreRising, IsQuota, AreQuotas, IsCredential, AreCredentials, IsQuotaBody}
 use Rattle.kz_laws_bodies.proofs.Plain.{IsPlain, object_says, whole_is_plain, word}
 use Rattle.kz_laws_bodies.proofs.Configs.{after, after_after, AreBelow, texts_members, AreAllBelow, all_below_after, none_below, written_texts, puts_texts, texts_plain, texts_read, config_members}

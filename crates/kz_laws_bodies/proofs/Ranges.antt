@@ -1,5 +1,5 @@
 -- The numbers that are read are in their ranges.
-use Rattle.std.proofs.Common.{◌≡◌, ℕ, ◌≤◌, ◌==◌, ℤ, pos, negsuc, nat_le, Bool, true, false, ◌&&◌, List, [], ◌∷◌, length, Option, Some, None, Result, Ok, Err, refl, sym, ap, subst, ◌∙◌, arith, inl, inr, codes}
+use Rattle.std.proofs.Common.{◌≡◌, ℕ, ◌≤◌, ◌==◌, ℤ, pos, negsuc, nat_le, Bool, true, false, ◌&&◌, List, [], ◌∷◌, length, Option, Some, None, Result, Ok, Err, refl, subst, arith, inl, inr, codes}
 use Rattle.std.specs.Prelude.{⊤, ◌⊎◌, ◌≤ℤ◌, int_le, option_map, option_and_then, if◌then◌else◌}
 use Rattle.std.specs.List.{list_all}
 use Rattle.std.proofs.lemmas.Bool.{and_parts, leb-true}
@@ -12,9 +12,9 @@ use Rattle.kz_types.specs.declared.bodies.Body.TheVariants as body
 use Rattle.kz_types.specs.declared.fault.BodyFault.{BodyFault}
 use Rattle.kz_types.specs.declared.key.EntityKey.{EntityKey}
 use Rattle.kz_types.specs.declared.key.EntityKey.TheVariants.{Partition, Producer}
-use Rattle.kz_spec_values.specs.Bodies.{then_read, of_form, required, optional, field, greatest, within, whole, brokers_in, brokers_of, digits_number, digits_of_data, state_of_data, producer_of_data, json_of, object_of, body_of, body_of_object, body_of_json, body_unless_empty, empty_body, read_body}
+use Rattle.kz_spec_values.specs.Bodies.{then_read, of_form, required, optional, field, greatest, within, whole, brokers_in, brokers_of, digits_number, digits_of_data, state_of_data, producer_of_data, json_of, object_of, body_of, body_of_object, body_of_json, empty_body, read_body}
 use Rattle.kz_laws_values.specs.Ranges.{IsBetween}
-use Rattle.kz_laws_bodies.specs.Readable.{IsWhole, AreBrokers, IsState, IsOffset, IsBlock}
+use Rattle.kz_laws_bodies.specs.Readable.{AreBrokers, IsState, IsOffset, IsBlock}
 use Rattle.kz_laws_bodies.proofs.Rows.{some_same}
 
 -- ---- what holds of what is read

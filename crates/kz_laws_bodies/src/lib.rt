@@ -28,7 +28,7 @@ pub fn state_is_read()
     ensures read { (topic : List ℕ) (partition leader leader_epoch controller_epoch : ℤ) (isr : List ℤ) (recovery : ℤ)
         → IsState leader leader_epoch controller_epoch isr recovery
         → read_body (Partition topic partition) (written (State leader leader_epoch controller_epoch isr recovery))
-            ≡ Ok (State leader leader_epoch controller_epoch isr recovery) }
+        ≡ Ok (State leader leader_epoch controller_epoch isr recovery) }
     ensures only { (topic bytes : List ℕ) (partition leader leader_epoch controller_epoch : ℤ) (isr : List ℤ) (recovery : ℤ)
         → read_body (Partition topic partition) bytes ≡ Ok (State leader leader_epoch controller_epoch isr recovery)
         → IsState leader leader_epoch controller_epoch isr recovery }
