@@ -9,3 +9,4 @@ pub mod Lists
 pub mod Topics
 pub mod Ranges
 pub mod QuotaBodies
+pub mod Credentials

@@ -21,6 +21,7 @@ use Rattle.kz_spec_values.specs.Credentials.{client_keys, quota_keys, mechanism_
 use Rattle.kz_spec_values.specs.Bodies.{then_read, with_texts, pairs_of, quota_of_data, body_of, read_body, written, is_of_kind}
 use Rattle.kz_laws_bodies.specs.Readable.{IsText, AreTexts, IsBelow, AreRising, IsQuota, AreQuotas, IsCredential, AreCredentials, IsQuotaBody}
 use Rattle.kz_laws_bodies.proofs.Plain.{IsPlain, object_says, whole_is_plain, word}
+use Rattle.kz_laws_bodies.proofs.Credentials.{credential_is, credential_is_text}
 use Rattle.kz_laws_bodies.proofs.Configs.{after, after_after, AreBelow, texts_members, AreAllBelow, all_below_after, none_below, written_texts, puts_texts, texts_plain, texts_read, config_members}
 
 -- ---- names
@@ -135,7 +136,7 @@ quota_texts key (row ∷ rows) h = ((quota_name key row h.0).1, h.0.text_is, quo
 
 credential_texts : (key : EntityKey) (pairs : List ScramPair) → AreCredentials key pairs → AreTexts (map credential_pair pairs)
 credential_texts key [] h = tt
-credential_texts key (pair ∷ pairs) h = (mechanism_text (int_le pair.mechanism (pos 1)), h.0.text_is, credential_texts key pairs h.1)
+credential_texts key (pair ∷ pairs) h = (mechanism_text (int_le pair.mechanism (pos 1)), credential_is_text pair.value h.0.value_is, credential_texts key pairs h.1)
 
 name_below : (key : EntityKey) (pair : ScramPair) (rows : List QuotaRow) → AreQuotas key rows → IsBelow (mechanism_name pair.mechanism) (map quota_pair rows)
 name_below key pair [] h = tt
@@ -159,7 +160,7 @@ quotas_read key (row ∷ rows) h = λ i. both (quota_read key row h.0 i) (quotas
 
 credential_read : (key : EntityKey) (pair : ScramPair) → IsCredential key pair → entry_of key (credential_pair pair) ≡ Ok (record { quotas = []; scrams = pair ∷ [] })
 credential_read key pair h =
-    ap (entry_by key (credential_pair pair)) h.mechanism_is ∙ ap (credential_entry (mechanism_name pair.mechanism) pair.mechanism) h.value_is
+    ap (entry_by key (credential_pair pair)) h.mechanism_is ∙ ap (credential_entry (mechanism_name pair.mechanism) pair.mechanism) (credential_is pair.value h.value_is)
 
 all_read : (key : EntityKey) (pairs : List ScramPair) (rows : List QuotaRow) → AreCredentials key pairs → AreQuotas key rows
     → entries_of key (map credential_pair pairs ++ map quota_pair rows) ≡ Ok (record { quotas = rows; scrams = pairs })

@@ -12,9 +12,10 @@ use Rattle.kz_types.specs.Quotas.{quota_of, quota_text}
 use Rattle.kz_types.specs.declared.bodies.QuotaRow.{QuotaRow}
 use Rattle.kz_types.specs.declared.bodies.ScramPair.{ScramPair}
 use Rattle.kz_types.specs.declared.key.EntityKey.{EntityKey}
-use Rattle.kz_spec_values.specs.Credentials.{quota_keys, credential_key, mechanism_name, credential_of, credential_text, quota_pair, credential_pair}
+use Rattle.kz_spec_values.specs.Credentials.{quota_keys, credential_key, mechanism_name, quota_pair, credential_pair}
 use Rattle.kz_spec_values.specs.Bodies.{are_replicas, are_some_of}
 use Rattle.kz_types.specs.declared.row.AclRow.{AclRow}
+use Rattle.kz_types.specs.declared.row.ScramRow.{ScramRow}
 use Rattle.kz_types.specs.declared.bodies.Pair.{Pair}
 use Rattle.kz_laws_values.specs.Ranges.{IsBetween}
 
@@ -112,6 +113,7 @@ pub record IsPartition (row : AssignmentRow) : Type 0 where
   pub adding_are : are_some_of row.replicas row.adding ≡ true
   pub removing_are : are_some_of row.replicas row.removing ≡ true
 
+-- such partitions
 abbrev pub ArePartitions : List AssignmentRow → Type 0
 ArePartitions [] = ⊤
 ArePartitions (row ∷ rows) = IsPartition row × ArePartitions rows
@@ -132,16 +134,24 @@ pub record IsQuota (key : EntityKey) (row : QuotaRow) : Type 0 where
   pub text_is : IsText (quota_text row.value)
   pub value_is : quota_of (quota_text row.value) ≡ Ok row.value
 
+-- such quotas
 abbrev pub AreQuotas : EntityKey → List QuotaRow → Type 0
 AreQuotas key [] = ⊤
 AreQuotas key (row ∷ rows) = IsQuota key row × AreQuotas key rows
 
--- A credential that this entity may have, whose text is read as its value.
+-- A credential of bytes, with 1 to 2147483647 iterations.
+pub record IsScram (row : ScramRow) : Type 0 where
+  pub salt_is : IsBytes row.salt
+  pub stored_key_is : IsBytes row.stored_key
+  pub server_key_is : IsBytes row.server_key
+  pub iterations_are : IsBetween (pos 1) (pos 2147483647) row.iterations
+
+-- A credential that this entity may have.
 pub record IsCredential (key : EntityKey) (pair : ScramPair) : Type 0 where
   pub mechanism_is : credential_key key (mechanism_name pair.mechanism) ≡ Some pair.mechanism
-  pub text_is : IsText (credential_text pair.value)
-  pub value_is : credential_of (credential_text pair.value) ≡ Some pair.value
+  pub value_is : IsScram pair.value
 
+-- such credentials
 abbrev pub AreCredentials : EntityKey → List ScramPair → Type 0
 AreCredentials key [] = ⊤
 AreCredentials key (pair ∷ pairs) = IsCredential key pair × AreCredentials key pairs
