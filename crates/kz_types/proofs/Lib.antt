@@ -7,3 +7,4 @@ pub mod KeyLemmas
 pub mod QuotaNumerals
 pub mod QuotaScales
 pub mod QuotaTexts
+pub mod PathBuffers

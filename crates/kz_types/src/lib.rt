@@ -20,6 +20,7 @@ mod memory;
 mod number;
 mod outside;
 mod path;
+mod path_buffer;
 mod path_rule;
 mod quota;
 mod record;

@@ -5,7 +5,7 @@ ghost use Rattle.std.specs.Str.{is_utf8};
 ghost use Rattle.kz_types.specs.PathRule.{parts, is_shown, is_part, is_path, after_first_byte, after_later_byte, after_byte, fault_place};
 
 /// The most bytes of a path.
-const MAX_PATH: usize = 1024;
+pub const MAX_PATH: usize = 1024;
 
 /// Where a path stands after its first bytes.
 #[derive(Clone, Copy)]
