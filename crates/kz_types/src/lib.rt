@@ -55,3 +55,6 @@ pub use sequence::Sequence;
 pub use text::Text;
 pub use tree::{Op, Rendered, Row};
 pub use value_fault::{PathFault, QuotaFault};
+
+#[cfg(test)]
+mod tests;
