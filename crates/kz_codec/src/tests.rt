@@ -1,7 +1,8 @@
-ghost use Rattle.std.specs.Prelude.{◌<◌};
+ghost use Rattle.std.specs.Prelude.{◌≡◌, ◌<◌, length};
+ghost use Rattle.kz_spec_values.specs.Records.{LengthsFit};
 
 use super::*;
-use kz_types::{CodecFault, MetaRecord};
+use kz_types::{CodecFault, MetaRecord, Text};
 use std::alloc::{AllocError, Global};
 use std::test::Fail;
 
@@ -271,14 +272,44 @@ fn each_fault_at_its_place(rt: HostRuntime) -> Result<(), Fail> {
     Ok(())
 }
 
+// Whether these are the bytes that are written for a record.
+fn is_written(alloc: Global, record: &MetaRecord, text: &str) -> bool
+    requires { LengthsFit record.now }
+{
+    match (write_value(alloc, record), unhex(alloc, text)) {
+        (Ok(bytes), Ok(expected)) => bytes.as_slice() == expected.as_slice(),
+        _ => false,
+    }
+}
+
+// Whether these are the bytes that are written for the beginning of a transaction of this name.
+fn is_written_beginning(alloc: Global, name: &str, text: &str) -> bool
+    requires { length name.now ≡ 12 }
+{
+    match Text::from_str(alloc, name) {
+        Ok(name) => {
+            let name = Some(name);
+            is_written(alloc, &MetaRecord::BeginTransaction { name }, text)
+        }
+        Err(_) => false,
+    }
+}
+
 #[test]
-fn written_records(rt: HostRuntime) -> Result<(), Fail> {
-    let bytes = write_value(rt.alloc(), &MetaRecord::NoOp)
-        .ok()
-        .ok_or("memory")?;
-    assert_eq!(rt; bytes.as_slice(), [1, 20, 0, 0].as_slice());
+fn written_records(rt: HostRuntime) {
+    assert!(rt; is_written(rt.alloc(), &MetaRecord::NoOp, "01140000"));
     let state = MetaRecord::ZkMigrationState { state: 1 };
-    let bytes = write_value(rt.alloc(), &state).ok().ok_or("memory")?;
-    assert_eq!(rt; bytes.as_slice(), [1, 21, 0, 1, 0].as_slice());
+    assert!(rt; is_written(rt.alloc(), &state, "0115000100"));
+    let begin = "01170001000d0d5a4b204d6967726174696f6e";
+    assert!(rt; is_written_beginning(rt.alloc(), "ZK Migration", begin));
+    assert!(rt; is_written(rt.alloc(), &MetaRecord::EndTransaction, "01180000"));
+}
+
+#[test]
+fn other_spellings(rt: HostRuntime) -> Result<(), Fail> {
+    for text in ["011400010500", "0194000000"] {
+        let bytes = unhex(rt.alloc(), text)?;
+        assert!(rt; matches!(read_value(rt.alloc(), &bytes), Ok(MetaRecord::NoOp)));
+    }
     Ok(())
 }

@@ -11,3 +11,4 @@ pub mod WrittenForms
 pub mod BatchParts
 pub mod Batches
 pub mod WrittenBatches
+pub mod FieldLaws

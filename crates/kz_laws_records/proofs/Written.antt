@@ -63,6 +63,9 @@ groups_written (suc more) (suc most) n le lt =
 pub uvarint_spells : (n : ℕ) → n < 2 ^ 32 → uvarint.spells n (uvarint.written n)
 uvarint_spells n lt = let g = groups_written 9 4 n (omega arith) (omega (arith, lt)) in (g.groups, g.few, lt)
 
+pub uvarint_writes : Writes uvarint any
+uvarint_writes = record { writes = λ n fits short. uvarint_spells n fits }
+
 counted_spells : (size : ℕ) (value : Option (List ℕ)) → (counted size).fits value → (counted size).spells value ((counted size).written value)
 counted_spells size None fits = ((omega arith, refl), omega arith, omega arith)
 counted_spells size (Some items) fits = (length items / size, uvarint.written (length items / size + 1), fits.0, uvarint_spells (length items / size + 1) fits.1, refl)

@@ -68,7 +68,10 @@ part_writes f wf = record { writes = λ x fits short. wf.writes x fits tt }
 varint_spells : (z : ℤ) → zigzag z < 2 ^ 32 → varint.spells z (varint.written z)
 varint_spells z lt = uvarint_spells (zigzag z) lt
 
-varlong_writes : Writes varlong any
+pub varint_writes : Writes varint any
+varint_writes = record { writes = λ z fits short. varint_spells z fits }
+
+pub varlong_writes : Writes varlong any
 varlong_writes = record {
   writes = λ z fits short.
       let g = groups_written 9 9 (zigzag z) (omega arith) (omega (arith, fits)) in

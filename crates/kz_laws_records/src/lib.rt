@@ -1,19 +1,68 @@
 //! Laws of the definitions of records: a text is read as a record exactly where it spells that record, it spells at most one
 //! record, no spelling is a proper prefix of another, and what is written for a record is read as it. Bytes are read as a batch of
 //! records exactly where they are that batch, they are at most one batch, and what is written for values is read as a batch of them.
+//! The same holds of each field of records and batches.
 //!
 //! Each law is the contract of a function that does nothing.
 #![tactic(auto)]
 
 ghost use Rattle.std.specs.Prelude.{◌≡◌, ◌++◌, ℕ, ℤ, List, [], Ok};
-ghost use Rattle.std.specs.Int.{w32, w64};
+ghost use Rattle.std.specs.Int.{w8, w16, w32, w64};
 ghost use Rattle.std.specs.Int.RustNames.{FitsSigned};
 ghost use Rattle.std.specs.List.{All};
 ghost use Rattle.kz_types.specs.declared.record.MetaRecord.{MetaRecord};
+ghost use Rattle.kz_spec_values.specs.Fields.{front, unsigned, signed, id, uvarint, varint, varlong, counted, nullable_bytes, nullable_text};
+ghost use Rattle.kz_spec_values.specs.Forms.{present, flag, nullable_ints};
 ghost use Rattle.kz_spec_values.specs.Records.{Spells, Fits, LengthsFit, written, record_of};
 ghost use Rattle.kz_spec_values.specs.Batches.{BatchContents, IsBatch, BatchFits, batch_of, batch_written};
 ghost use Rattle.kz_laws_records.specs.Texts.{AreBytes};
+ghost use Rattle.kz_laws_records.specs.FieldLaws.{ReadsSpellings, ReadsWritten};
 ghost use Rattle.kz_laws_records.specs.WrittenContents.{contents_of};
+
+/// Fields: bytes that spell a value are read as it, whatever follows; a value that is read of bytes is spelled by exactly the bytes
+/// that were passed; and bytes spell at most one value.
+pub fn fields_are_spelled()
+    ensures part { (n : ℕ) → ReadsSpellings (front n) }
+    ensures i8 { ReadsSpellings (signed w8) }
+    ensures i16 { ReadsSpellings (signed w16) }
+    ensures u16 { ReadsSpellings (unsigned w16) }
+    ensures i32 { ReadsSpellings (signed w32) }
+    ensures i64 { ReadsSpellings (signed w64) }
+    ensures id { ReadsSpellings id }
+    ensures flag { ReadsSpellings flag }
+    ensures uvarint { ReadsSpellings uvarint }
+    ensures varint { ReadsSpellings varint }
+    ensures varlong { ReadsSpellings varlong }
+    ensures counted { (size : ℕ) → ReadsSpellings (counted size) }
+    ensures nullable_bytes { ReadsSpellings nullable_bytes }
+    ensures byte_field { ReadsSpellings (present nullable_bytes) }
+    ensures nullable_text { ReadsSpellings nullable_text }
+    ensures text { ReadsSpellings (present nullable_text) }
+    ensures nullable_ints { ReadsSpellings nullable_ints }
+    ensures ints { ReadsSpellings (present nullable_ints) }
+{}
+
+/// What is written for a field whose value fits, whatever follows, is read as it, and the reader stands behind it.
+pub fn written_fields_are_read()
+    ensures part { (n : ℕ) → ReadsWritten (front n) }
+    ensures i8 { ReadsWritten (signed w8) }
+    ensures i16 { ReadsWritten (signed w16) }
+    ensures u16 { ReadsWritten (unsigned w16) }
+    ensures i32 { ReadsWritten (signed w32) }
+    ensures i64 { ReadsWritten (signed w64) }
+    ensures id { ReadsWritten id }
+    ensures flag { ReadsWritten flag }
+    ensures uvarint { ReadsWritten uvarint }
+    ensures varint { ReadsWritten varint }
+    ensures varlong { ReadsWritten varlong }
+    ensures counted { (size : ℕ) → ReadsWritten (counted size) }
+    ensures nullable_bytes { ReadsWritten nullable_bytes }
+    ensures byte_field { ReadsWritten (present nullable_bytes) }
+    ensures nullable_text { ReadsWritten nullable_text }
+    ensures text { ReadsWritten (present nullable_text) }
+    ensures nullable_ints { ReadsWritten nullable_ints }
+    ensures ints { ReadsWritten (present nullable_ints) }
+{}
 
 /// What spells a record is read as that record, and bytes that are read as a record spell it.
 pub fn read_is_spelled()
