@@ -1,2 +1,3 @@
+pub mod CredentialLemmas
 pub mod JsonLemmas
 pub mod WrittenLemmas

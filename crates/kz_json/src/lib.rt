@@ -3,6 +3,7 @@
 
 mod acls;
 mod configs;
+mod credentials;
 mod others;
 mod reading;
 mod topics;
