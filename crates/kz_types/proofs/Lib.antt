@@ -4,3 +4,5 @@ pub mod IdLemmas
 pub mod NumberLemmas
 pub mod NameLemmas
 pub mod KeyLemmas
+pub mod QuotaNumerals
+pub mod QuotaScales

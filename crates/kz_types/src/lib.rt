@@ -20,6 +20,7 @@ mod number;
 mod outside;
 mod path;
 mod path_rule;
+mod quota;
 mod record;
 mod row;
 mod sequence;
