@@ -1,3 +1,4 @@
 pub mod CredentialLemmas
+pub mod EntryLemmas
 pub mod JsonLemmas
 pub mod WrittenLemmas
