@@ -6,3 +6,4 @@ pub mod NameLemmas
 pub mod KeyLemmas
 pub mod QuotaNumerals
 pub mod QuotaScales
+pub mod QuotaTexts

@@ -1,5 +1,5 @@
 -- Lemmas on numbers of digits, without the zeros at their end, and on their scales.
-use Rattle.std.proofs.Common.{◌≡◌, ℕ, suc, ◌+◌, ◌-◌, ◌*◌, ◌/◌, ◌%◌, ◌^◌, ◌<◌, ◌≤◌, min, Bool, true, false, ◌==◌, nat_le, List, [], ◌∷◌, ◌++◌, length, take, get_or, append_assoc, ◌∙◌, sym, ap, subst, refl, arith, inl, inr, length-append, Some, None, ℤ, pos, negsuc, neg_ℤ, ◌+ℤ◌, ◌-ℤ◌, Ok, Err}
+use Rattle.std.proofs.Common.{◌≡◌, ℕ, zero, suc, ◌+◌, ◌-◌, ◌*◌, ◌/◌, ◌%◌, ◌^◌, ◌<◌, ◌≤◌, min, Bool, true, false, ◌==◌, nat_le, List, [], ◌∷◌, ◌++◌, length, take, get_or, append_assoc, ◌∙◌, sym, ap, subst, refl, arith, inl, inr, length-append, Some, None, ℤ, pos, negsuc, neg_ℤ, ◌+ℤ◌, ◌-ℤ◌, Ok, Err}
 use Rattle.std.specs.Prelude.{◌⊎◌, Option, option_map, if◌then◌else◌}
 use Rattle.std.specs.List.{list_all}
 use Rattle.std.specs.Char.{digit_value}
@@ -52,10 +52,26 @@ pub end_other : (ds : List ℕ) (d : ℕ) → (d ≡ 48 → ⊥) → without_end
 end_other [] d other = onto_other d other
 end_other (c ∷ cs) d other = ap (onto_digits c) (end_other cs d other) ∙ onto_more c d cs
 
+-- of the first digits, whose last is a zero
+pub one_zero_less : (ds : List ℕ) (count next : ℕ) → next + 1 ≡ count → count ≤ length ds → get_or ds next 0 ≡ 48
+    → without_end_zeros (take count ds) ≡ without_end_zeros (take next ds)
+one_zero_less ds count next e le hit =
+    ap (λ n. without_end_zeros (take n ds)) (sym e) ∙ ap without_end_zeros (take_more ds next 0 (omega arith))
+    ∙ ap (λ d. without_end_zeros (take next ds ++ d ∷ [])) hit ∙ end_zero (take next ds)
+
+-- or whose last is none
+pub no_zero_left : (ds : List ℕ) (count : ℕ) → count ≤ length ds → (0 < count → get_or ds (count - 1) 0 ≡ 48 → ⊥) → without_end_zeros (take count ds) ≡ take count ds
+no_zero_left ds zero le other = refl
+no_zero_left ds (suc next) le other =
+    let one : next + 1 ≡ suc next = omega arith in
+    let more : take (suc next) ds ≡ take next ds ++ get_or ds next 0 ∷ [] = ap (λ n. take n ds) (sym one) ∙ take_more ds next 0 (omega arith) in
+    let last : suc next - 1 ≡ next = omega arith in
+    ap without_end_zeros more ∙ end_other (take next ds) (get_or ds next 0) (λ hit. other (omega arith) (ap (λ n. get_or ds n 0) last ∙ hit)) ∙ sym more
+
 -- ---- the number without them
 
 -- each of them is a power of ten
-value_after : (n : ℕ) (ds : List ℕ) (z : ℕ) → length (without_end_zeros ds) + z ≡ length ds
+pub value_after : (n : ℕ) (ds : List ℕ) (z : ℕ) → length (without_end_zeros ds) + z ≡ length ds
     → digits_value_after 10 n ds ≡ digits_value_after 10 n (without_end_zeros ds) * 10 ^ z
 value_after n [] z e = let nothing : z ≡ 0 = omega arith in let none : n * 10 ^ z ≡ n * 10 ^ 0 = ap (λ k. n * 10 ^ k) nothing in omega (arith, none)
 value_after n (d ∷ ds) z e = by (without_end_zeros ds) e (value_after (n * 10 + digit_value d) ds)

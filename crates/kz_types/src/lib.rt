@@ -13,6 +13,7 @@ mod id;
 mod image;
 mod key;
 mod kind;
+pub mod laws;
 mod log;
 mod machine;
 mod memory;

@@ -1,10 +1,11 @@
 //! Quotas as texts.
-ghost use Rattle.std.specs.Prelude.{◌≡◌, ◌+◌, ◌*◌, ◌-◌, ◌^◌, ◌<◌, ◌≤◌, ℕ, true, List, [], ◌∷◌, ◌++◌, length, min, ℤ, pos, neg_ℤ, ◌-ℤ◌, ◌⊎◌, if◌then◌else◌, Ok, Err, Some, option_map, IfOk, MatchResult};
+ghost use Rattle.std.specs.Prelude.{◌≡◌, ◌+◌, ◌*◌, ◌-◌, ◌^◌, ◌<◌, ◌≤◌, ◌%◌, ℕ, true, List, [], ◌∷◌, ◌++◌, length, min, ℤ, pos, neg_ℤ, ◌-ℤ◌, ◌⊎◌, if◌then◌else◌, Ok, Err, Some, option_map, IfOk, MatchResult};
 ghost use Rattle.std.specs.List.{list_all, prefix_len};
 ghost use Rattle.kz_types.specs.Numbers.{is_digit, number_of};
-ghost use Rattle.kz_types.specs.Quotas.{digits_at, behind_digits, exponent_of, behind_letter, behind_decimals, behind_whole, numeral_of, scaled, quota_of_millionths, quota_of_numeral, quota_of, is_quota, without_end_zeros};
+ghost use Rattle.kz_types.specs.Quotas.{digits_at, behind_digits, exponent_of, behind_letter, behind_decimals, behind_whole, numeral_of, scaled, quota_of_millionths, quota_of_numeral, quota_of, is_quota, without_end_zeros, last_digits, quota_text};
 
-use crate::{QuotaFault, QuotaValue};
+use crate::{NoMemory, QuotaFault, QuotaValue, Text};
+use std::alloc::Global;
 use std::marker::Model;
 
 /// Numbers of millionths are told apart below this one: from here on they are too large for a quota.
@@ -49,6 +50,55 @@ impl<'a> Digits<'a> {
         }
         number
     }
+
+    /// Without the zeros at their end.
+    fn without_end_zeros(&self) -> Digits<'a>
+        ensures { result ≡ without_end_zeros self.now }
+    {
+        let mut count = self.text.len();
+        while 0 < count && self.text[count - 1] == b'0' {
+            count -= 1;
+        }
+        Digits {
+            text: &self.text[..count],
+        }
+    }
+
+    /// Lends them as a text.
+    fn as_str(&self) -> &str
+        ensures { result.now ≡ self.now }
+    {
+        match str::from_utf8(self.text) {
+            Ok(text) => text,
+            Err(_) => unreachable!(),
+        }
+    }
+}
+
+/// The last digit of a number.
+fn last_digit(number: u32) -> u8
+    ensures { result ≡ 48 + number % 10 }
+{
+    b'0' + (number % 10) as u8
+}
+
+/// The last six digits of a number.
+fn six_digits(number: u32) -> [u8; 6]
+    ensures { result ≡ last_digits 6 number }
+{
+    let tens = number / 10;
+    let hundreds = tens / 10;
+    let thousands = hundreds / 10;
+    let ten_thousands = thousands / 10;
+    let hundred_thousands = ten_thousands / 10;
+    [
+        last_digit(hundred_thousands),
+        last_digit(ten_thousands),
+        last_digit(thousands),
+        last_digit(hundreds),
+        last_digit(tens),
+        last_digit(number),
+    ]
 }
 
 /// An exponent of ten, which contracts see as its number.
@@ -345,5 +395,23 @@ impl QuotaValue {
             Ok(numeral) => numeral.value(),
             Err(at) => Err(QuotaFault::NotNumber { at }),
         }
+    }
+
+    /// The text of a quota: its whole part and, where there are millionths, a point and decimals without zeros at their
+    /// end.
+    pub fn text(&self, alloc: Global) -> Result<Text, NoMemory>
+        requires { is_quota self.now ≡ true }
+        ensures text { IfOk result (λ text. text ≡ quota_text self.now) }
+        ensures reads_back { quota_of (quota_text self.now) ≡ Ok self.now }
+    {
+        let whole = self.whole.unsigned_abs();
+        let micros = self.micros.unsigned_abs();
+        if micros == 0 {
+            return Ok(Text::from_string(format!(in alloc; "{whole}")?));
+        }
+        let digits = six_digits(micros);
+        let decimals = Digits { text: &digits }.without_end_zeros();
+        let decimals = decimals.as_str();
+        Ok(Text::from_string(format!(in alloc; "{whole}.{decimals}")?))
     }
 }
