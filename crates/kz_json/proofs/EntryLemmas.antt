@@ -1,11 +1,15 @@
 -- Lemmas on the members of configurations with quotas and credentials.
-use Rattle.std.proofs.Common.{◌≡◌, ℕ, ◌+◌, ◌<◌, ◌≤◌, List, append_assoc, append-nil, length, get_or, drop, Ok, Err, refl, sym, ap, ◌∙◌}
+use Rattle.std.proofs.Common.{◌≡◌, ℕ, ◌+◌, ◌<◌, ◌≤◌, Bool, true, false, List, append_assoc, append-nil, length, get_or, drop, Ok, Err, refl, sym, ap, ◌∙◌}
 use Rattle.std.specs.Prelude.{Result}
 use Rattle.std.proofs.lemmas.List.{drop_more, drop_all}
+use Rattle.std.proofs.lemmas.List.Folds.{list_all_at}
+use Rattle.kz_types.specs.Quotas.{is_quota}
 use Rattle.kz_types.specs.declared.bodies.Pair.{Pair}
+use Rattle.kz_types.specs.declared.bodies.QuotaRow.{QuotaRow}
 use Rattle.kz_types.specs.declared.fault.BodyFault.{BodyFault}
 use Rattle.kz_types.specs.declared.key.EntityKey.{EntityKey}
 use Rattle.kz_spec_values.specs.Credentials.{Entries, entry_of, entries_of, joined, both}
+use Rattle.kz_json.specs.Entries.{are_quotas}
 
 both_onto : (a b : Entries) (r : Result Entries BodyFault) → both (Ok a) (both (Ok b) r) ≡ both (Ok (joined a b)) r
 both_onto a b (Ok c) = λ i. Ok (record { quotas = sym (append_assoc a.quotas b.quotas c.quotas) i; scrams = sym (append_assoc a.scrams b.scrams c.scrams) i })
@@ -38,3 +42,11 @@ unfolding entries_of
 no_more key pairs at so_far le =
     ap (λ ps. both (Ok so_far) (entries_of key ps)) (drop_all at pairs le)
     ∙ (λ i. Ok (record { quotas = append-nil so_far.quotas i; scrams = append-nil so_far.scrams i }))
+
+-- one of quotas that are in their ranges
+pub quota_at : (rows : List QuotaRow) (row : QuotaRow) (at : ℕ) → are_quotas rows ≡ true → at < length rows → row ≡ get_or rows at row → is_quota row.value ≡ true
+quota_at rows row at all lt is = by (is_quota row.value) refl
+  where
+    by : (t : Bool) → is_quota row.value ≡ t → is_quota row.value ≡ true
+    by true t = t
+    by false t = cc (all, list_all_at (λ (r : QuotaRow). is_quota r.value) rows at row lt (ap (λ (r : QuotaRow). is_quota r.value) (sym is) ∙ t))

@@ -1,5 +1,10 @@
 -- Quotas and credentials in configurations.
-use Rattle.std.specs.Prelude.{Bool, true, false, [], ◌∷◌}
+use Rattle.std.specs.Prelude.{Bool, true, false, [], ◌∷◌, List}
+use Rattle.std.specs.List.{list_all}
+use Rattle.kz_types.specs.Quotas.{is_quota}
+use Rattle.kz_types.specs.declared.bodies.QuotaRow.{QuotaRow}
+use Rattle.kz_types.specs.declared.bodies.Body.{Body}
+use Rattle.kz_types.specs.declared.bodies.Body.TheVariants as body
 use Rattle.kz_types.specs.declared.key.EntityKey.{EntityKey}
 use Rattle.kz_types.specs.declared.key.EntityKey.TheVariants.{Topic, Partition, TopicConfig, BrokerConfig, Client, User, UserClient, Ip, Acl, Producer}
 use Rattle.kz_spec_values.specs.Credentials.{Entries}
@@ -23,3 +28,17 @@ has_quotas (UserClient user client) = true
 has_quotas (Ip address) = true
 has_quotas (Acl pattern kind name) = false
 has_quotas Producer = false
+
+-- each quota is in its range
+abbrev pub are_quotas : List QuotaRow → Bool
+are_quotas rows = list_all (λ row. is_quota row.value) rows
+
+-- each quota of a body is in its range
+abbrev pub keeps_quotas : Body → Bool
+keeps_quotas (body.Topic id partitions) = true
+keeps_quotas (body.State leader leader_epoch controller_epoch isr recovery) = true
+keeps_quotas (body.Config pairs) = true
+keeps_quotas (body.Quota quotas scrams) = are_quotas quotas
+keeps_quotas (body.Acls rows) = true
+keeps_quotas (body.Producer broker start end) = true
+keeps_quotas body.Blank = true

@@ -1,11 +1,16 @@
-//! Bodies of every entity.
-ghost use Rattle.std.specs.Prelude.{◌≡◌, ◌≢◌, Err};
+//! Bodies of every entity, read and written.
+ghost use Rattle.std.specs.Prelude.{◌≡◌, ◌≢◌, IfOk, IfErr, Err, string_bytes, true};
 ghost use Rattle.kz_types.specs.declared.fault.BodyFault.{BodyFault};
-ghost use Rattle.kz_spec_values.specs.Bodies.{read_body};
+ghost use Rattle.kz_spec_values.specs.Bodies.{read_body, written, is_of_kind};
+ghost use Rattle.kz_json.specs.Entries.{keeps_quotas};
 
 use crate::acls::Resource;
+use crate::quotas::quotas_text;
 use crate::reading::{read_acls, read_config, read_producer, read_quotas, read_state, read_topic};
-use kz_types::{Body, BodyFault, EntityKey};
+use crate::written::{
+    PartitionState, acls_text, config_text, producer_text, state_text, topic_text,
+};
+use kz_types::{Body, BodyFault, EntityKey, NoMemory};
 use std::alloc::Global;
 
 /// What the body of an entity's znode says. Members that aren't named are passed over, and of equal members the last
@@ -52,5 +57,51 @@ pub fn read_body(alloc: Global, key: &EntityKey, bytes: &[u8]) -> Result<Body, B
             bytes,
         ),
         EntityKey::Producer => read_producer(alloc, bytes),
+    }
+}
+
+/// The text of a body.
+#[tactic(auto, unfolding(kz_spec_values::specs::Bodies::written))]
+fn body_text(alloc: Global, body: &Body) -> Result<String, NoMemory>
+    requires { keeps_quotas body.now ≡ true }
+    ensures { IfOk result (λ text. string_bytes text ≡ written body.now) }
+{
+    match body {
+        Body::Topic { id, partitions } => topic_text(alloc, id, partitions.as_slice()),
+        Body::State {
+            leader,
+            leader_epoch,
+            controller_epoch,
+            isr,
+            recovery,
+        } => state_text(
+            alloc,
+            &PartitionState {
+                leader: *leader,
+                leader_epoch: *leader_epoch,
+                controller_epoch: *controller_epoch,
+                isr: isr.as_slice(),
+                recovery: *recovery,
+            },
+        ),
+        Body::Config { pairs } => config_text(alloc, pairs.as_slice()),
+        Body::Quota { quotas, scrams } => quotas_text(alloc, quotas.as_slice(), scrams.as_slice()),
+        Body::Acls { rows } => acls_text(alloc, rows.as_slice()),
+        Body::Producer { broker, start, end } => producer_text(alloc, *broker, *start, *end),
+        Body::Blank => Ok(String::new(alloc)),
+    }
+}
+
+/// The text of an entity's body: compact JSON with its members in byte order, and no text for a blank block of producer
+/// ids. The only error is `NoMemory`.
+pub fn write_body(alloc: Global, key: &EntityKey, body: &Body) -> Result<Vec<u8>, BodyFault>
+    requires kind { is_of_kind key.now body.now ≡ true }
+    requires quotas { keeps_quotas body.now ≡ true }
+    ensures text { IfOk result (λ text. text.items ≡ written body.now) }
+    ensures memory { IfErr result (λ fault. fault ≡ BodyFault.NoMemory) }
+{
+    match body_text(alloc, body) {
+        Ok(text) => Ok(text.into_bytes()),
+        Err(NoMemory) => Err(BodyFault::NoMemory),
     }
 }
