@@ -1,2 +1,4 @@
+pub mod CredentialLemmas
+pub mod EntryLemmas
 pub mod JsonLemmas
 pub mod WrittenLemmas

@@ -1,17 +1,19 @@
 //! Reading bodies.
-ghost use Rattle.std.specs.Prelude.{◌≡◌, ◌≢◌, ◌==◌, IfOk, Ok, Err, Option, Some, None, List, ℕ, ℤ, length, if◌then◌else◌, MatchOption, is_some, option_map};
+ghost use Rattle.std.specs.Prelude.{◌≡◌, ◌≢◌, ◌==◌, IfOk, Ok, Err, Option, Some, None, true, List, ℕ, ℤ, length, if◌then◌else◌, MatchOption, is_some, option_map};
 ghost use Rattle.serde_json.specs.View.{view};
 ghost use Rattle.serde_json.specs.Find.{as_object};
 ghost use Rattle.kz_types.specs.declared.fault.BodyFault.{BodyFault};
 ghost use Rattle.kz_types.specs.declared.key.EntityKey.TheVariants.{Topic, Partition, TopicConfig, BrokerConfig, Acl, Producer};
 ghost use Rattle.kz_spec_values.specs.Bodies.{json_of, object_of, read_body};
+ghost use Rattle.kz_json.specs.Entries.{has_quotas};
 
 use crate::acls::{Resource, acls_of};
 use crate::configs::config_of;
+use crate::entries::quota_of;
 use crate::fields::read_json;
 use crate::others::{producer_of, state_of};
 use crate::topics::topic_of;
-use kz_types::{Body, BodyFault, NoMemory, Sequence};
+use kz_types::{Body, BodyFault, EntityKey, NoMemory, Sequence};
 use serde_json::Value;
 use std::alloc::Global;
 
@@ -98,6 +100,25 @@ pub fn read_producer(alloc: Global, bytes: &[u8]) -> Result<Body, BodyFault>
     }
     match read_object(alloc, bytes) {
         Ok(Some(value)) => producer_of(alloc, &value),
+        Ok(None) => Err(BodyFault::NotJson),
+        Err(NoMemory) => Err(BodyFault::NoMemory),
+    }
+}
+
+/// What the quotas and credentials of a client, a user or an address say. Empty data is none.
+#[tactic(auto, unfolding(kz_spec_values::specs::Bodies::read_body, kz_spec_values::specs::Bodies::empty_body, kz_spec_values::specs::Bodies::body_of))]
+pub fn read_quotas(alloc: Global, key: &EntityKey, bytes: &[u8]) -> Result<Body, BodyFault>
+    requires { has_quotas key.now ≡ true }
+    ensures { result ≢ Err BodyFault.NoMemory → result ≡ read_body key.now bytes.now }
+{
+    if bytes.len() == 0 {
+        return Ok(Body::Quota {
+            quotas: Sequence::new(alloc),
+            scrams: Sequence::new(alloc),
+        });
+    }
+    match read_object(alloc, bytes) {
+        Ok(Some(value)) => quota_of(alloc, key, &value),
         Ok(None) => Err(BodyFault::NotJson),
         Err(NoMemory) => Err(BodyFault::NoMemory),
     }
