@@ -1,0 +1,11 @@
+//! Tests of the values that all crates share, and of lists in the order of their keys.
+#![tactic(auto)]
+
+#[cfg(test)]
+mod copies;
+#[cfg(test)]
+mod made;
+#[cfg(test)]
+mod sorted;
+#[cfg(test)]
+mod values;
