@@ -2,7 +2,7 @@
 ghost use Rattle.std.specs.Prelude.{◌≡◌, ◌∷◌, [], ◌==◌, MatchOption, true};
 ghost use Rattle.std.specs.List.{slice_split};
 ghost use Rattle.kz_types.specs.PathRule.{parts, is_path};
-ghost use Rattle.kz_path.specs.Cut.{IsCut};
+ghost use Rattle.kz_path.specs.Cut.{IsCut, AreWithin};
 
 /// The parts of a path, up to six.
 #[derive(Clone, Copy)]
@@ -62,7 +62,8 @@ fn cut_rest(rest: &str) -> Parts<'_>
 /// The parts of a path.
 pub fn cut(path: &str) -> Parts<'_>
     requires { is_path path.now ≡ true }
-    ensures { IsCut (parts path.now) result }
+    ensures parts { IsCut (parts path.now) result }
+    ensures within { AreWithin 1024 result }
 {
     let (_, rest) = first_part(path);
     match rest {

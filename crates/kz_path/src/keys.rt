@@ -10,7 +10,7 @@ use kz_types::{EntityKey, NoMemory, Text, ZPath, may_be_part, may_be_topic, numb
 use std::alloc::Global;
 
 /// The part that stands for the default in place of a name.
-const DEFAULT: &str = "<default>";
+pub const DEFAULT: &str = "<default>";
 
 /// Whether two parts are these words.
 pub fn are(a: &str, b: &str, word: &str, next: &str) -> bool

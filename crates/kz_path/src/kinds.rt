@@ -1,5 +1,5 @@
 //! What a path is to the migration.
-ghost use Rattle.std.specs.Prelude.{◌≡◌, ◌||◌, ◌&&◌, IfOk, bytes_eq, is_some, codes, drop, false};
+ghost use Rattle.std.specs.Prelude.{◌≡◌, ◌≤◌, ◌||◌, ◌&&◌, bytes_eq, is_some, codes, drop, length, false};
 ghost use Rattle.std.specs.Bool.{nat_eq};
 ghost use Rattle.std.specs.List.{starts_with, list_any};
 ghost use Rattle.kz_types.specs.Numbers.{canonical};
@@ -7,9 +7,9 @@ ghost use Rattle.kz_types.specs.Paths.{are, is_among, roots, base_paths, control
 ghost use Rattle.kz_types.specs.PathRule.{parts};
 
 use crate::cut::{Parts, cut};
-use crate::keys::{are, key_of, name_of};
-use kz_types::{Kind, NoMemory, ZPath, canonical, may_be_topic};
-use std::alloc::Global;
+use crate::entities::{holds_entity, holds_name};
+use crate::keys::are;
+use kz_types::{Kind, ZPath, canonical, may_be_topic};
 
 /// Whether a path is a root.
 #[tactic(auto, unfolding(kz_types::specs::Paths::roots))]
@@ -161,17 +161,15 @@ pub fn is_migrated(path: &str) -> bool
 }
 
 /// Whether four parts are a parent of entities.
-fn is_scaffold_of_four(alloc: Global, a: &str, b: &str, c: &str, d: &str) -> Result<bool, NoMemory>
-    ensures { IfOk result (λ is. is ≡ (are a.now b.now (codes "brokers") (codes "topics") && is_topic_name c.now && bytes_eq d.now (codes "partitions"))
-        || (are a.now b.now (codes "config") (codes "users") && is_some (default_or restored c.now) && bytes_eq d.now (codes "clients"))) }
+fn is_scaffold_of_four(a: &str, b: &str, c: &str, d: &str) -> bool
+    requires { length c.now ≤ 1024 }
+    ensures { result ≡ (are a.now b.now (codes "brokers") (codes "topics") && is_topic_name c.now && bytes_eq d.now (codes "partitions"))
+        || (are a.now b.now (codes "config") (codes "users") && is_some (default_or restored c.now) && bytes_eq d.now (codes "clients")) }
 {
     if are(a, b, "brokers", "topics") && may_be_topic(c.as_bytes()) && d == "partitions" {
-        return Ok(true);
+        return true;
     }
-    if !are(a, b, "config", "users") || d != "clients" {
-        return Ok(false);
-    }
-    Ok(name_of(alloc, c)?.is_some())
+    are(a, b, "config", "users") && holds_name(c) && d == "clients"
 }
 
 /// Whether five parts are a parent of entities.
@@ -185,52 +183,53 @@ fn is_scaffold_of_five(a: &str, b: &str, c: &str, d: &str, e: &str) -> bool
 }
 
 /// Whether a path is a parent of entities below a root.
-fn is_scaffold(alloc: Global, path: &ZPath) -> Result<bool, NoMemory>
-    ensures { IfOk result (λ is. is ≡ is_scaffold_of_parts (parts path.now)) }
+fn is_scaffold(path: &ZPath) -> bool
+    ensures { result ≡ is_scaffold_of_parts (parts path.now) }
 {
     match cut(path.as_str()) {
-        Parts::One(_) => Ok(false),
-        Parts::Two(_, _) => Ok(false),
-        Parts::Three(_, _, _) => Ok(false),
-        Parts::Four(a, b, c, d) => is_scaffold_of_four(alloc, a, b, c, d),
-        Parts::Five(a, b, c, d, e) => Ok(is_scaffold_of_five(a, b, c, d, e)),
-        Parts::Six(_, _, _, _, _, _) => Ok(false),
-        Parts::More => Ok(false),
+        Parts::One(_) => false,
+        Parts::Two(_, _) => false,
+        Parts::Three(_, _, _) => false,
+        Parts::Four(a, b, c, d) => is_scaffold_of_four(a, b, c, d),
+        Parts::Five(a, b, c, d, e) => is_scaffold_of_five(a, b, c, d, e),
+        Parts::Six(_, _, _, _, _, _) => false,
+        Parts::More => false,
     }
 }
 
 /// What a path that holds no entity is to the migration.
 #[tactic(auto, unfolding(kz_types::specs::Paths::kind_of))]
-fn kind_without_key(alloc: Global, path: &ZPath) -> Result<Kind, NoMemory>
+fn kind_without_key(path: &ZPath) -> Kind
     requires { is_some (key_of path.now) ≡ false }
-    ensures { IfOk result (λ kind. kind ≡ kind_of path.now) }
+    ensures { result ≡ kind_of path.now }
 {
     let text = path.as_str();
-    if is_root(text) || is_scaffold(alloc, path)? {
-        return Ok(Kind::Scaffold);
+    if is_root(text) || is_scaffold(path) {
+        return Kind::Scaffold;
     }
     if is_migrated(text) {
-        return Ok(Kind::Stray);
+        return Kind::Stray;
     }
     if is_base(text) {
-        return Ok(Kind::Base);
+        return Kind::Base;
     }
     if is_control(text) {
-        return Ok(Kind::Control);
+        return Kind::Control;
     }
     if is_reserved(text) {
-        return Ok(Kind::Reserved);
+        return Kind::Reserved;
     }
-    Ok(Kind::Outside)
+    Kind::Outside
 }
 
 /// What a path is to the migration.
 #[tactic(auto, unfolding(kz_types::specs::Paths::kind_of))]
-pub fn kind(alloc: Global, path: &ZPath) -> Result<Kind, NoMemory>
-    ensures { IfOk result (λ kind. kind ≡ kind_of path.now) }
+pub fn kind(path: &ZPath) -> Kind
+    ensures { result ≡ kind_of path.now }
 {
-    match key_of(alloc, path)? {
-        Some(_) => Ok(Kind::Entity),
-        None => kind_without_key(alloc, path),
+    if holds_entity(path) {
+        Kind::Entity
+    } else {
+        kind_without_key(path)
     }
 }

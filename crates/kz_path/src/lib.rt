@@ -9,6 +9,7 @@ pub use kinds::{is_migrated, kind};
 pub use names::{restore, sanitise};
 pub use paths::path_of;
 
+mod entities;
 mod keys;
 mod kinds;
 mod paths;

@@ -1,8 +1,9 @@
 //! Client ids and names of users as parts of a path.
-ghost use Rattle.std.specs.Prelude.{◌≡◌, ◌++◌, IfOk, OnOk, ◌<◌};
+ghost use Rattle.std.specs.Prelude.{◌≡◌, ◌++◌, ◌&&◌, ◌<◌, ◌≤◌, [], true, false, IfOk, OnOk, length, bytes_eq, is_some};
+ghost use Rattle.std.specs.Str.{is_utf8};
 ghost use Rattle.kz_types.specs.Paths.{hex_digit, hex_value, sanitised_byte, sanitised, is_plain, unescaped, restored};
 
-use kz_types::{NoMemory, Text};
+use kz_types::{NoMemory, PathBuffer, Text, is_text};
 use std::alloc::Global;
 
 /// An upper-case hexadecimal digit.
@@ -85,6 +86,55 @@ pub fn sanitise(alloc: Global, name: &Text) -> Result<Vec<u8>, NoMemory>
     ensures { IfOk result (λ part. part.items ≡ sanitised name.now) }
 {
     sanitise_bytes(alloc, name.bytes())
+}
+
+/// Puts the bytes that a part's plain bytes and escapes stand for into an empty buffer. `false`: they are more than a path
+/// has.
+fn unescape_into(buffer: &mut PathBuffer, part: &[u8]) -> bool
+    requires { buffer.old ≡ [] }
+    ensures put { result ≡ true → buffer.new ≡ unescaped part.now }
+    ensures too_long { result ≡ false → 1024 < length (unescaped part.now) }
+{
+    let mut at = 0;
+    while at < part.len() {
+        if part[at] == b'%' && 2 < part.len() - at {
+            if !buffer.push(&[hex_value(part[at + 1]) * 16 + hex_value(part[at + 2])]) {
+                return false;
+            }
+            at += 3;
+        } else {
+            if !buffer.push(&[part[at]]) {
+                return false;
+            }
+            at += 1;
+        }
+    }
+    true
+}
+
+/// Whether the name of these bytes is written as this part.
+fn is_written_as(bytes: &[u8], part: &[u8]) -> bool
+    requires { length part.now ≤ 1024 }
+    ensures { result ≡ bytes_eq (sanitised bytes.now) part.now }
+{
+    let mut again = PathBuffer::new();
+    if !again.push_sanitised(bytes) {
+        return false;
+    }
+    again.bytes() == part
+}
+
+/// Whether a name is written as this part, which is at most as long as a path. It takes no memory.
+#[tactic(auto, unfolding(kz_types::specs::Paths::restored))]
+pub fn may_be_name(part: &[u8]) -> bool
+    requires { length part.now ≤ 1024 }
+    ensures { result ≡ is_some (restored part.now) }
+{
+    let mut bytes = PathBuffer::new();
+    if !unescape_into(&mut bytes, part) {
+        return false;
+    }
+    is_written_as(bytes.bytes(), part) && is_text(bytes.bytes())
 }
 
 /// The name that is written as this part. `None` exactly where no name is: an escape of a plain byte, in lower case or

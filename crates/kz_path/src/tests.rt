@@ -33,7 +33,7 @@ const KINDS: [(&str, Kind); 22] = [
 fn kinds(rt: HostRuntime) -> Result<(), Fail> {
     for (text, wanted) in KINDS {
         let path = ZPath::new(rt.alloc(), text.as_bytes())?;
-        assert_eq!(rt; kind(rt.alloc(), &path)?, wanted, "{text}");
+        assert_eq!(rt; kind(&path), wanted, "{text}");
     }
     assert!(rt; is_migrated("/kafka-acl/topic") == false);
     Ok(())

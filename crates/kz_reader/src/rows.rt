@@ -28,7 +28,7 @@ pub fn row_records(
 ) -> Result<Result<Sequence<MetaRecord>, ReadWhy>, NoMemory>
     ensures { IfOk result (λ records. records ≡ row_records row.now) }
 {
-    match kind(alloc, &row.path)? {
+    match kind(&row.path) {
         Kind::Entity => entity_records(alloc, &key_of(alloc, &row.path)?, row.body.as_slice()),
         Kind::Stray => Ok(Err(ReadWhy::Stray)),
         _ => Ok(Ok(Sequence::new(alloc))),

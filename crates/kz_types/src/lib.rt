@@ -44,7 +44,8 @@ pub use memory::NoMemory;
 pub use number::{canonical, digits_up_to, number_in};
 pub use outside::{Failed, Status};
 pub use path::ZPath;
-pub use path_rule::may_be_part;
+pub use path_buffer::PathBuffer;
+pub use path_rule::{is_text, may_be_part};
 pub use record::{
     AccessControlEntryRecord, BatchFault, ByteFault, ClientQuotaRecord, CodecFault, ConfigRecord,
     Endpoint, Feature, MetaRecord, PartitionChangeRecord, PartitionRecord, ProducerIdsRecord,

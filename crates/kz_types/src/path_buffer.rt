@@ -10,7 +10,7 @@ use std::marker::Model;
 
 /// The first bytes of a path, as far as a path may be long, which contracts see as their list.
 #[derive(Drop)]
-struct PathBuffer {
+pub struct PathBuffer {
     bytes: [u8; MAX_PATH],
     len: usize,
 }
@@ -27,7 +27,7 @@ impl Model for PathBuffer {
 
 impl PathBuffer {
     /// No bytes yet.
-    fn new() -> PathBuffer
+    pub fn new() -> PathBuffer
         ensures { result ≡ [] }
     {
         PathBuffer {
@@ -37,14 +37,14 @@ impl PathBuffer {
     }
 
     /// Lends the bytes.
-    fn bytes(&self) -> &[u8]
+    pub fn bytes(&self) -> &[u8]
         ensures value { result.now ≡ self.now }
     {
         &self.bytes[..self.len]
     }
 
     /// Adds bytes. `false`: they make it longer than a path.
-    fn push(&mut self, part: &[u8]) -> bool
+    pub fn push(&mut self, part: &[u8]) -> bool
         ensures added { result ≡ true → self.new ≡ self.old ++ part.now }
         ensures too_long { result ≡ false → 1024 < length self.old + length part.now }
     {
@@ -89,7 +89,7 @@ impl PathBuffer {
     }
 
     /// Adds the part that a name is written as.
-    fn push_sanitised(&mut self, name: &[u8]) -> bool
+    pub fn push_sanitised(&mut self, name: &[u8]) -> bool
         ensures added { result ≡ true → self.new ≡ self.old ++ sanitised name.now }
         ensures too_long { result ≡ false → 1024 < length self.old + length (sanitised name.now) }
     {

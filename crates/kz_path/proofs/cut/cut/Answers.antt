@@ -2,11 +2,15 @@ use Rattle.std.proofs.Common.{◌∙◌, ◌==◌, length, drop, ap, sym, subst,
 use Rattle.std.proofs.lemmas.List.Splits.{length-slice_split}
 use Rattle.kz_types.proofs.PathRules.{parts_behind}
 use Rattle.kz_path.specs.Cut.{IsCut}
+use Rattle.kz_path.proofs.Lengths.{cut_within, path_length}
 use Rattle.kz_path.proofs.cut.cut.Goals as goal
 
-pub returns : goal.returns
-returns c = let e = rw c.in-Some.is at c.first_part.ensures in
+pub returns-clause-parts : goal.returns-clause-parts
+returns-clause-parts c = let e = rw c.in-Some.is at c.first_part.ensures in
     subst (λ ps. IsCut ps c.cut_rest.result) (sym (ap (drop 1) e)) c.cut_rest.ensures
+
+pub returns-clause-within : goal.returns-clause-within
+returns-clause-within c = cut_within c.args.path.now c.cut_rest.result (path_length c.args.path.now c.requires) (returns-clause-parts c)
 
 pub unreachable-requires : goal.unreachable-requires
 unreachable-requires c = let e = rw c.in-None.is at c.first_part.ensures in
