@@ -8,6 +8,7 @@ use Rattle.serde_json.specs.Data.{Data, string, object, Members, no_members, mem
 use Rattle.serde_json.specs.Written.{compact_text}
 use Rattle.kz_types.specs.Paths.{is_among}
 use Rattle.kz_types.proofs.NumberLemmas.{bytes_eq-true}
+use Rattle.kz_types.proofs.QuotaTexts.{quota_restored, quota_is_text}
 use Rattle.kz_types.specs.declared.bodies.Pair.{Pair}
 use Rattle.kz_types.specs.declared.bodies.QuotaRow.{QuotaRow}
 use Rattle.kz_types.specs.declared.bodies.ScramPair.{ScramPair}
@@ -132,7 +133,7 @@ both_texts (pair ∷ first) second t s = (t.0, t.1, both_texts first second t.2 
 
 quota_texts : (key : EntityKey) (rows : List QuotaRow) → AreQuotas key rows → AreTexts (map quota_pair rows)
 quota_texts key [] h = tt
-quota_texts key (row ∷ rows) h = ((quota_name key row h.0).1, h.0.text_is, quota_texts key rows h.1)
+quota_texts key (row ∷ rows) h = ((quota_name key row h.0).1, quota_is_text row.value h.0.value_is h.0.whole_fits, quota_texts key rows h.1)
 
 credential_texts : (key : EntityKey) (pairs : List ScramPair) → AreCredentials key pairs → AreTexts (map credential_pair pairs)
 credential_texts key [] h = tt
@@ -151,7 +152,7 @@ credentials_under key (pair ∷ pairs) rows h = (name_below key pair rows h, cre
 quota_read : (key : EntityKey) (row : QuotaRow) → IsQuota key row → entry_of key (quota_pair row) ≡ Ok (record { quotas = row ∷ []; scrams = [] })
 quota_read key row h =
     ap (entry_by key (quota_pair row)) (no_mechanism key row.key (quota_name key row h).0)
-    ∙ (λ i. if h.name_is i then quota_entry row.key (result_ok (h.value_is i)) else Err (UnknownKey row.key))
+    ∙ (λ i. if h.name_is i then quota_entry row.key (result_ok (quota_restored row.value h.value_is h.whole_fits i)) else Err (UnknownKey row.key))
 
 quotas_read : (key : EntityKey) (rows : List QuotaRow) → AreQuotas key rows → entries_of key (map quota_pair rows) ≡ Ok (record { quotas = rows; scrams = [] })
 unfolding entries_of

@@ -1,5 +1,5 @@
 -- The bodies that are read as they were written.
-use Rattle.std.specs.Prelude.{◌≡◌, ⊤, ℕ, true, false, ℤ, pos, negsuc, ◌<ℤ◌, List, [], ◌∷◌, length, map, bytes_eq, Some, Ok}
+use Rattle.std.specs.Prelude.{◌≡◌, ⊤, ℕ, true, false, ℤ, pos, negsuc, ◌<ℤ◌, ◌≤ℤ◌, List, [], ◌∷◌, length, map, bytes_eq, Some}
 use Rattle.std.specs.Str.{is_utf8}
 use Rattle.std.specs.declared.cmp.Ordering.TheVariants.{Less}
 use Rattle.kz_ordered.specs.Order.{bytes_cmp}
@@ -8,7 +8,7 @@ use Rattle.kz_types.specs.Ids.{zero_id}
 use Rattle.kz_types.specs.declared.id.Id.{Id}
 use Rattle.kz_types.specs.declared.bodies.AssignmentRow.{AssignmentRow}
 use Rattle.kz_types.specs.Paths.{is_among}
-use Rattle.kz_types.specs.Quotas.{quota_of, quota_text}
+use Rattle.kz_types.specs.Quotas.{is_quota}
 use Rattle.kz_types.specs.declared.bodies.QuotaRow.{QuotaRow}
 use Rattle.kz_types.specs.declared.bodies.ScramPair.{ScramPair}
 use Rattle.kz_types.specs.declared.key.EntityKey.{EntityKey}
@@ -128,11 +128,11 @@ pub record IsAssignment (id : Id) (rows : List AssignmentRow) : Type 0 where
 
 -- ---- quotas and credentials
 
--- A quota that this entity may have, whose text is read as its value.
+-- A quota that this entity may have, whose whole part fits 64 bits.
 pub record IsQuota (key : EntityKey) (row : QuotaRow) : Type 0 where
   pub name_is : is_among (quota_keys key) row.key ≡ true
-  pub text_is : IsText (quota_text row.value)
-  pub value_is : quota_of (quota_text row.value) ≡ Ok row.value
+  pub value_is : is_quota row.value ≡ true
+  pub whole_fits : row.value.whole ≤ℤ pos 9223372036854775807
 
 -- such quotas
 abbrev pub AreQuotas : EntityKey → List QuotaRow → Type 0

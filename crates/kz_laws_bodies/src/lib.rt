@@ -55,7 +55,7 @@ pub fn topic_is_read()
         → read_body (keys.Topic name) (written (Topic id rows)) ≡ Ok (Topic id rows) }
 {}
 
-/// Quotas and credentials are read as they were written, where the text of each quota is read as its value.
+/// Quotas and credentials are read as they were written.
 pub fn quotas_are_read()
     ensures { (key : EntityKey) (quotas : List QuotaRow) (scrams : List ScramPair)
         → is_of_kind key (Quota quotas scrams) ≡ true → IsQuotaBody key quotas scrams
