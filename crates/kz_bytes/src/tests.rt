@@ -97,3 +97,21 @@ fn faults(rt: HostRuntime) {
     assert_eq!(rt; reader.part(3).err(), Some(ByteFault::Short { at: 3 }));
     assert!(rt; matches!(reader.part(2), Ok([0xE2, 0x82])));
 }
+
+// A part that is read by a reader of its own, and a second reader in the same place.
+#[test]
+fn other_readers(rt: HostRuntime) -> Result<(), Fail> {
+    let mut reader = Reader::new(&[9, 0xAC, 0x02, 7]);
+    assert_eq!(rt; reader.i8(), Ok(9));
+    let mut second = reader.again();
+    let mut inside = reader.within(2).ok().ok_or("two bytes")?;
+    assert_eq!(rt; inside.at(), 1);
+    assert_eq!(rt; inside.uvarint(), Ok(300));
+    assert_eq!(rt; inside.i8(), Err(ByteFault::Short { at: 3 }));
+    assert_eq!(rt; reader.i8(), Ok(7));
+    assert_eq!(rt; reader.at(), 4);
+    assert_eq!(rt; second.uvarint(), Ok(300));
+    assert_eq!(rt; uvarint_size(300), 2);
+    assert_eq!(rt; uvarint_size(u64::MAX), 10);
+    Ok(())
+}
