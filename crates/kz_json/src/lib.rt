@@ -18,3 +18,5 @@ pub use reading::{read_acls, read_config, read_producer, read_state, read_topic}
 pub use written::{PartitionState, acls_text, config_text, producer_text, state_text, topic_text};
 
 mod fields;
+#[cfg(test)]
+mod tests;
