@@ -1,0 +1,13 @@
+//! Tests of the znodes of metadata, the records of znodes, the operations between renderings, and drivers.
+#![tactic(auto)]
+
+#[cfg(test)]
+mod drivers;
+#[cfg(test)]
+mod made;
+#[cfg(test)]
+mod reader;
+#[cfg(test)]
+mod render;
+#[cfg(test)]
+mod writer;

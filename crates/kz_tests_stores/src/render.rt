@@ -1,0 +1,118 @@
+//! The znodes of metadata, and their limits.
+use crate::made::{are_znodes, image_of, long_body, made, path_of, put};
+use kz_image::Image;
+use kz_render::{bare_roots, first_excess, render, whole_path};
+use kz_types::{Rendered, Sequence};
+use std::alloc::Global;
+use std::process::Abort;
+
+static ROOTS: [(&str, &str); 17] = [
+    ("/brokers/topics", ""),
+    ("/config/brokers", ""),
+    ("/config/clients", ""),
+    ("/config/ips", ""),
+    ("/config/topics", ""),
+    ("/config/users", ""),
+    ("/kafka-acl-extended/prefixed/Cluster", ""),
+    ("/kafka-acl-extended/prefixed/DelegationToken", ""),
+    ("/kafka-acl-extended/prefixed/Group", ""),
+    ("/kafka-acl-extended/prefixed/Topic", ""),
+    ("/kafka-acl-extended/prefixed/TransactionalId", ""),
+    ("/kafka-acl/Cluster", ""),
+    ("/kafka-acl/DelegationToken", ""),
+    ("/kafka-acl/Group", ""),
+    ("/kafka-acl/Topic", ""),
+    ("/kafka-acl/TransactionalId", ""),
+    ("/latest_producer_id_block", ""),
+];
+
+#[test]
+fn the_empty_metadata_has_the_roots(rt: HostRuntime) {
+    let alloc = rt.alloc();
+    let roots = made(&rt, bare_roots(alloc));
+    assert!(rt; are_znodes(&roots, &ROOTS));
+    let znodes = made(&rt, render(alloc, &Image::new(alloc)));
+    assert!(rt; are_znodes(&znodes, &ROOTS));
+}
+
+static CONFIGS: [(&str, &str, &str); 4] = [
+    ("", "c", "1"),
+    ("10", "a", ""),
+    ("1", "b", "x\"y\\/\u{7}"),
+    ("1", "a", "\u{fc}"),
+];
+
+// The znodes of the configurations, behind the root of topics.
+static CONFIGURED: [(&str, &str); 5] = [
+    ("/brokers/topics", ""),
+    ("/config/brokers", ""),
+    (
+        "/config/brokers/1",
+        "{\"config\":{\"a\":\"\u{fc}\",\"b\":\"x\\\"y\\\\/\\u0007\"},\"version\":1}",
+    ),
+    (
+        "/config/brokers/10",
+        "{\"config\":{\"a\":\"\"},\"version\":1}",
+    ),
+    (
+        "/config/brokers/<default>",
+        "{\"config\":{\"c\":\"1\"},\"version\":1}",
+    ),
+];
+
+#[test]
+fn configurations_have_their_paths_and_texts(rt: HostRuntime) {
+    let alloc = rt.alloc();
+    let znodes = made(&rt, render(alloc, &image_of(&rt, alloc, &CONFIGS)));
+    assert!(rt; znodes.len() == 20);
+    assert!(rt; are_znodes(&znodes[..5], &CONFIGURED));
+}
+
+// So many znodes with bodies of so many bytes, and one more.
+fn many(
+    rt: &impl Abort,
+    alloc: Global,
+    count: usize,
+    length: usize,
+    last: usize,
+) -> Sequence<Rendered> {
+    let mut znodes = Sequence::new(alloc);
+    for _ in 0..count {
+        let path = path_of(rt, alloc, "/a");
+        let body = long_body(rt, alloc, length);
+        put(rt, &mut znodes, Rendered { path, body });
+    }
+    let path = path_of(rt, alloc, "/b");
+    let body = long_body(rt, alloc, last);
+    put(rt, &mut znodes, Rendered { path, body });
+    znodes
+}
+
+// Whether this limit is told at this path; 0 where none is.
+fn is_told(alloc: Global, znodes: &[Rendered], number: u8, path: &str) -> bool {
+    match first_excess(alloc, znodes) {
+        Ok(Some(excess)) => excess.number == number && excess.path.as_str() == path,
+        Ok(None) => number == 0,
+        Err(_) => false,
+    }
+}
+
+static LIMITS: [(usize, usize, usize, u8, &str); 6] = [
+    (0, 0, 1_048_575, 0, ""),
+    (1, 0, 1_048_576, 2, "/b"),
+    (199_999, 0, 0, 0, ""),
+    (200_000, 0, 0, 3, "/brokers/topics"),
+    (64, 1_048_575, 64, 0, ""),
+    (64, 1_048_575, 65, 6, "/brokers/topics"),
+];
+
+#[test]
+fn the_first_limit_that_is_passed_is_told(rt: HostRuntime) {
+    let alloc = rt.alloc();
+    for (count, length, last, number, path) in &LIMITS {
+        let znodes = many(&rt, alloc, *count, *length, *last);
+        assert!(rt; is_told(alloc, znodes.as_slice(), *number, path));
+    }
+    let path = made(&rt, whole_path(alloc));
+    assert!(rt; path.as_str() == "/brokers/topics");
+}
