@@ -2,36 +2,53 @@ use super::*;
 use kz_types::Id;
 use std::test::Fail;
 
-// Each writer's bytes are read back, and nothing is left.
+// The bytes of each writer are read back, and nothing is left.
 #[test]
-fn fields_are_read_back(rt: HostRuntime) -> Result<(), Fail> {
+fn numbers_of_variable_size(rt: HostRuntime) -> Result<(), Fail> {
     let mut out = Vec::new(rt.alloc());
-    let id = Id { bytes: [7; 16] };
     put_uvarint(&mut out, 300).ok().ok_or("memory")?;
     put_varint(&mut out, -300).ok().ok_or("memory")?;
     put_varlong(&mut out, i64::MIN).ok().ok_or("memory")?;
+    assert!(rt; matches!(out.as_slice(), [0xAC, 0x02, ..]));
+    let mut reader = Reader::new(&out);
+    assert_eq!(rt; reader.uvarint(), Ok(300));
+    assert_eq!(rt; reader.varint(), Ok(-300));
+    assert_eq!(rt; reader.varlong(), Ok(i64::MIN));
+    assert_eq!(rt; reader.at(), out.len());
+    assert_eq!(rt; reader.uvarint(), Err(ByteFault::Short { at: out.len() }));
+    Ok(())
+}
+
+#[test]
+fn numbers_of_fixed_size(rt: HostRuntime) -> Result<(), Fail> {
+    let mut out = Vec::new(rt.alloc());
+    let id = Id { bytes: [7; 16] };
     put_i8(&mut out, -2).ok().ok_or("memory")?;
     put_i16(&mut out, -3).ok().ok_or("memory")?;
     put_u16(&mut out, 65535).ok().ok_or("memory")?;
     put_i32(&mut out, i32::MIN).ok().ok_or("memory")?;
     put_i64(&mut out, i64::MAX).ok().ok_or("memory")?;
     put_id(&mut out, &id).ok().ok_or("memory")?;
-    put_text(&mut out, b"text").ok().ok_or("memory")?;
-    put_nullable_text(&mut out, None).ok().ok_or("memory")?;
-    put_byte_field(&mut out, &[0xFF]).ok().ok_or("memory")?;
-    put_ints(&mut out, Some(&[1, -1])).ok().ok_or("memory")?;
-    put_uvarint(&mut out, 2).ok().ok_or("memory")?;
-    assert_eq!(rt; &out[..2], &[0xAC, 0x02][..]);
     let mut reader = Reader::new(&out);
-    assert_eq!(rt; reader.uvarint(), Ok(300));
-    assert_eq!(rt; reader.varint(), Ok(-300));
-    assert_eq!(rt; reader.varlong(), Ok(i64::MIN));
     assert_eq!(rt; reader.i8(), Ok(-2));
     assert_eq!(rt; reader.i16(), Ok(-3));
     assert_eq!(rt; reader.u16(), Ok(65535));
     assert_eq!(rt; reader.i32(), Ok(i32::MIN));
     assert_eq!(rt; reader.i64(), Ok(i64::MAX));
     assert_eq!(rt; reader.id(), Ok(id));
+    assert_eq!(rt; reader.at(), out.len());
+    Ok(())
+}
+
+#[test]
+fn texts_and_lists(rt: HostRuntime) -> Result<(), Fail> {
+    let mut out = Vec::new(rt.alloc());
+    put_text(&mut out, b"text").ok().ok_or("memory")?;
+    put_nullable_text(&mut out, None).ok().ok_or("memory")?;
+    put_byte_field(&mut out, &[0xFF]).ok().ok_or("memory")?;
+    put_ints(&mut out, Some(&[1, -1])).ok().ok_or("memory")?;
+    put_uvarint(&mut out, 2).ok().ok_or("memory")?;
+    let mut reader = Reader::new(&out);
     assert!(rt; !reader.is_null());
     assert!(rt; matches!(reader.text(), Ok(b"text")));
     assert!(rt; reader.is_null());
@@ -46,7 +63,6 @@ fn fields_are_read_back(rt: HostRuntime) -> Result<(), Fail> {
     );
     assert_eq!(rt; reader.tags(), Ok(2));
     assert_eq!(rt; reader.at(), out.len());
-    assert_eq!(rt; reader.uvarint(), Err(ByteFault::Short { at: out.len() }));
     Ok(())
 }
 
