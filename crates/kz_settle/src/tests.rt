@@ -1,4 +1,4 @@
-use super::{Entry, Settled, Settler};
+use super::{Entry, Settled, Settler, closes, is_abort, is_begin, is_end};
 use kz_types::{ConfigRecord, MetaRecord, NoMemory, Text};
 use std::alloc::Global;
 use std::test::Fail;
@@ -65,4 +65,30 @@ fn an_aborted_transaction_is_dropped_and_an_ended_one_released(
     assert_eq!(rt; released.offset, 5);
     assert!(rt; settler.pop().is_none());
     Ok(())
+}
+
+// Whether a record begins a transaction, ends one, aborts one, and closes one.
+static MARKS: [[bool; 4]; 4] = [
+    [false, false, false, false],
+    [true, false, false, false],
+    [false, true, false, true],
+    [false, false, true, true],
+];
+
+fn marks(item: &MetaRecord) -> [bool; 4] {
+    [is_begin(item), is_end(item), is_abort(item), closes(item)]
+}
+
+#[test]
+fn marks_of_transactions_are_told(rt: HostRuntime) {
+    let items = [
+        MetaRecord::NoOp,
+        MetaRecord::BeginTransaction { name: None },
+        MetaRecord::EndTransaction,
+        MetaRecord::AbortTransaction { reason: None },
+    ];
+    for (item, wanted) in items.iter().zip(&MARKS) {
+        assert!(rt; marks(item) == *wanted);
+    }
+    drop(items);
 }
