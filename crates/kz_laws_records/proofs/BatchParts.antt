@@ -31,7 +31,7 @@ uvarlong_given n r next small h =
     let g = groups_given 9 2 r.at n r.left next small (omega arith) (omega arith) h in
     record { bytes = g.bytes; split = g.split; spelled = (g.groups, g.few, omega (arith, g.fits)) }
 
-uvarlong_exact : Exact uvarlong
+pub uvarlong_exact : Exact uvarlong
 uvarlong_exact = record {
   taken = λ n bytes rest at s. groups_takes 9 2 n bytes rest at (omega arith) (omega arith) s.0 s.1 (omega (arith, s.2));
   given = uvarlong_given;
@@ -51,7 +51,7 @@ doubled (negsuc n) =
     let half : (2 * n + 1) / 2 ≡ n = omega arith in
     cond_false ((2 * n + 1) % 2 == 0) _ _ (ne_eqb ((2 * n + 1) % 2) 0 (λ e. omega (arith, odd, e))) ∙ ap negsuc half
 
-turns : Turns unzigzag zigzag
+pub turns : Turns unzigzag zigzag
 turns = record { there = λ n. halves n (n % 2 == 0) refl; again = doubled }
 
 pub varint_exact : Exact varint

@@ -77,7 +77,7 @@ higher_group more last at n b tail high behind next least most g e =
       fits = omega (arith, most, g.fits);
     })
 
-some_limit : (more last : ℕ) → 0 < last → 0 < limit more last
+pub some_limit : (more last : ℕ) → 0 < last → 0 < limit more last
 some_limit zero last some = some
 some_limit (suc more) last some = let h = some_limit more last some in omega arith
 
@@ -120,7 +120,7 @@ uvarint_exact = record {
 
 -- ---- lengths and what they count
 
-abbrev counted_rest : ℕ → ℕ × Reading → Result (Option (List ℕ) × Reading) ByteFault
+abbrev pub counted_rest : ℕ → ℕ × Reading → Result (Option (List ℕ) × Reading) ByteFault
 counted_rest size count = cond (count.0 == 0) (Ok (None, count.1)) ((front (size * (count.0 - 1))).read count.1 >>= λ items. Ok (Some items.0, items.1))
 
 counted_taken : (size : ℕ) (value : Option (List ℕ)) (bytes rest : List ℕ) (at : ℕ) → (counted size).spells value bytes → Takes (counted size).read value bytes rest at

@@ -6,7 +6,7 @@ use Rattle.kz_laws_records.specs.FieldLaws.{AreBetween, ReadsSpellings, ReadsWri
 use Rattle.kz_laws_records.proofs.Exact.{small_from_bytes, result_same, Exact}
 use Rattle.kz_laws_records.proofs.Written.{Writes, any}
 
-between : {E X : Type 0} (f : Format E X) → Exact f → (x : X) (old new : Reading) → AreBytes old.left → f.read old ≡ Ok (x, new) → AreBetween f x old new
+pub between : {E X : Type 0} (f : Format E X) → Exact f → (x : X) (old new : Reading) → AreBytes old.left → f.read old ≡ Ok (x, new) → AreBetween f x old new
 between {X = X} f ef x old new small h =
     let c = ef.given x old new (small_from_bytes old.left small) h in
     let again : f.read old ≡ Ok (x, record { at = old.at + length c.bytes; left = new.left }) =
@@ -18,7 +18,7 @@ between {X = X} f ef x old new small h =
       spelled = c.spelled;
     }
 
-alone : {E X : Type 0} (f : Format E X) → Exact f → (x y : X) (bytes more : List ℕ) → f.spells x bytes → f.spells y (bytes ++ more) → (x ≡ y) × (more ≡ [])
+pub alone : {E X : Type 0} (f : Format E X) → Exact f → (x y : X) (bytes more : List ℕ) → f.spells x bytes → f.spells y (bytes ++ more) → (x ≡ y) × (more ≡ [])
 alone {X = X} f ef x y bytes more s t =
     let whole : f.read (record { at = 0; left = bytes ++ more }) ≡ Ok (y, record { at = 0 + length (bytes ++ more); left = [] }) =
     ap (λ left. f.read (record { at = 0; left = left })) (sym (append-nil (bytes ++ more))) ∙ ef.taken y (bytes ++ more) [] 0 t in

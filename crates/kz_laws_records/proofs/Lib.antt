@@ -12,3 +12,7 @@ pub mod BatchParts
 pub mod Batches
 pub mod WrittenBatches
 pub mod FieldLaws
+pub mod Faults
+pub mod Utf8Faults
+pub mod TextFaults
+pub mod Held

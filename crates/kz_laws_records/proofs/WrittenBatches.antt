@@ -42,7 +42,7 @@ sum_below bytes small = xor_of_32 (after_bytes (2 ^ 32 - 1) bytes) (2 ^ 32 - 1) 
 
 -- ---- what is written is bytes
 
-small_joined : (xs ys : List ℕ) → AreSmall xs → AreSmall ys → AreSmall (xs ++ ys)
+pub small_joined : (xs ys : List ℕ) → AreSmall xs → AreSmall ys → AreSmall (xs ++ ys)
 small_joined [] ys s t = t
 small_joined (x ∷ xs) ys s t = (s.0, small_joined xs ys s.1 t)
 

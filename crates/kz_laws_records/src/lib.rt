@@ -6,18 +6,24 @@
 //! Each law is the contract of a function that does nothing.
 #![tactic(auto)]
 
-ghost use Rattle.std.specs.Prelude.{◌≡◌, ◌++◌, ℕ, ℤ, List, [], Ok};
+ghost use Rattle.std.specs.Prelude.{◌≡◌, ◌++◌, ℕ, ℤ, List, [], Ok, Err};
 ghost use Rattle.std.specs.Int.{w8, w16, w32, w64};
 ghost use Rattle.std.specs.Int.RustNames.{FitsSigned};
 ghost use Rattle.std.specs.List.{All};
+ghost use Rattle.kz_types.specs.declared.record.ByteFault.{ByteFault};
 ghost use Rattle.kz_types.specs.declared.record.MetaRecord.{MetaRecord};
-ghost use Rattle.kz_spec_values.specs.Fields.{front, unsigned, signed, id, uvarint, varint, varlong, counted, nullable_bytes, nullable_text};
+ghost use Rattle.kz_spec_values.specs.Fields.{Reading, front, unsigned, signed, id, uvarint, varint, varlong, counted, nullable_bytes, nullable_text};
 ghost use Rattle.kz_spec_values.specs.Forms.{present, flag, nullable_ints};
 ghost use Rattle.kz_spec_values.specs.Records.{Spells, Fits, LengthsFit, written, record_of};
 ghost use Rattle.kz_spec_values.specs.Batches.{BatchContents, IsBatch, BatchFits, batch_of, batch_written};
 ghost use Rattle.kz_laws_records.specs.Texts.{AreBytes};
 ghost use Rattle.kz_laws_records.specs.FieldLaws.{ReadsSpellings, ReadsWritten};
+ghost use Rattle.kz_laws_records.specs.FaultLaws.{FaultsAreFirst, IsFirstTextFault};
 ghost use Rattle.kz_laws_records.specs.WrittenContents.{contents_of};
+
+mod fits;
+
+pub use fits::held_record_is_spelled;
 
 /// Fields: bytes that spell a value are read as it, whatever follows; a value that is read of bytes is spelled by exactly the bytes
 /// that were passed; and bytes spell at most one value.
@@ -62,6 +68,24 @@ pub fn written_fields_are_read()
     ensures text { ReadsWritten (present nullable_text) }
     ensures nullable_ints { ReadsWritten nullable_ints }
     ensures ints { ReadsWritten (present nullable_ints) }
+{}
+
+/// A fault that reading a field answers stands at the first byte at which no spelling goes on: where the bytes are too few, some
+/// spelling begins with them; else some spelling begins with the bytes before the place, and none with these and the byte there.
+/// A text is judged once its bytes are taken, so a cut one is too short whatever its bytes.
+pub fn fault_is_the_first_byte()
+    ensures part { (n : ℕ) → FaultsAreFirst (front n) }
+    ensures i8 { FaultsAreFirst (signed w8) }
+    ensures i16 { FaultsAreFirst (signed w16) }
+    ensures u16 { FaultsAreFirst (unsigned w16) }
+    ensures i32 { FaultsAreFirst (signed w32) }
+    ensures i64 { FaultsAreFirst (signed w64) }
+    ensures id { FaultsAreFirst id }
+    ensures uvarint { FaultsAreFirst uvarint }
+    ensures varint { FaultsAreFirst varint }
+    ensures varlong { FaultsAreFirst varlong }
+    ensures counted { (size : ℕ) → FaultsAreFirst (counted size) }
+    ensures nullable_text { (r : Reading) (fault : ByteFault) → AreBytes r.left → nullable_text.read r ≡ Err fault → IsFirstTextFault r fault }
 {}
 
 /// What spells a record is read as that record, and bytes that are read as a record spell it.

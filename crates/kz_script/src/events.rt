@@ -173,6 +173,61 @@ fn check_of(value: &Value) -> Option<Event>
     }
 }
 
+fn session_of(value: &Value) -> Option<i64>
+    ensures { result ≡ session_of (view value.now) }
+{
+    session_in(value.get("session")?)
+}
+
+fn open_of(value: &Value) -> Option<Event>
+    ensures { result ≡ open_of (view value.now) }
+{
+    if member_count(value) != 2 {
+        return None;
+    }
+    let session = session_of(value)?;
+    Some(Event::ZkOpen { session })
+}
+
+fn expire_of(value: &Value) -> Option<Event>
+    ensures { result ≡ expire_of (view value.now) }
+{
+    if member_count(value) != 2 {
+        return None;
+    }
+    let session = session_of(value)?;
+    Some(Event::ZkExpire { session })
+}
+
+// The operations of a list, or `None` where one of them is none.
+fn ops_in(alloc: Global, values: &[Value]) -> Result<Option<Sequence<Op>>, NoMemory>
+    ensures { IfOk result (λ ops. ops ≡ ops_in (items_view values.now)) }
+{
+    let mut ops = Sequence::new(alloc);
+    for value in values {
+        match open_op_of(alloc, value)? {
+            Some(op) => ops.push(op)?,
+            None => return Ok(None),
+        }
+    }
+    Ok(Some(ops))
+}
+
+fn zk_of(alloc: Global, value: &Value) -> Result<Option<Event>, NoMemory>
+    ensures { IfOk result (λ event. event ≡ zk_of (view value.now)) }
+{
+    if member_count(value) != 2 {
+        return Ok(None);
+    }
+    let Some(values) = value.get("ops").and_then(Value::as_array) else {
+        return Ok(None);
+    };
+    match ops_in(alloc, values)? {
+        Some(ops) if ops.len() > 0 => Ok(Some(Event::Zk { ops })),
+        _ => Ok(None),
+    }
+}
+
 fn event_of(alloc: Global, value: &Value) -> Result<Option<Event>, NoMemory>
     ensures { IfOk result (λ event. event ≡ event_of (view value.now)) }
 {
@@ -186,6 +241,9 @@ fn event_of(alloc: Global, value: &Value) -> Result<Option<Event>, NoMemory>
         "turn" => Ok(turn_of(value)),
         "change" => change_of(alloc, value),
         "check" => Ok(check_of(value)),
+        "zk-open" => Ok(open_of(value)),
+        "zk-expire" => Ok(expire_of(value)),
+        "zk" => zk_of(alloc, value),
         _ => Ok(None),
     }
 }

@@ -5,6 +5,7 @@ mod decimals;
 mod events;
 mod fault;
 mod members;
+mod ops;
 mod records;
 mod replies;
 mod statuses;

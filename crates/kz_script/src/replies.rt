@@ -129,24 +129,71 @@ fn verdict_text(alloc: Global, verdict: &Verdict) -> Result<String, NoMemory>
     }
 }
 
-// What an event prints, or `None` for a turn, which prints a line for each step.
+// A word and a path as a JSON string.
+fn named(alloc: Global, word: &str, path: &ZPath) -> Result<String, NoMemory>
+    ensures { IfOk result (λ made. string_bytes made ≡ named word.now path.now) }
+{
+    let path = quoted(alloc, path.as_str())?;
+    Ok(format!(in alloc; "{word} {path}")?)
+}
+
+// What the answer of a session or of a ZooKeeper client's multi prints.
+fn client_text(alloc: Global, answer: &Answer) -> Result<Option<String>, NoMemory>
+    requires { is_client_answer answer.now ≡ true }
+    ensures { IfOk result (λ made. option_map string_bytes made ≡ answer_text answer.now) }
+{
+    let text = match answer {
+        Answer::Known => format!(in alloc; "known")?,
+        Answer::Unknown => format!(in alloc; "unknown")?,
+        Answer::Reserved { path } => named(alloc, "reserved", path)?,
+        Answer::KraftHolds { path } => named(alloc, "kraft-holds", path)?,
+        Answer::Refused { index, code } => format!(in alloc; "refused {index} {code}")?,
+        Answer::OverOp { index, number } => format!(in alloc; "over-op {index} {number}")?,
+        _ => return Ok(None),
+    };
+    Ok(Some(text))
+}
+
+// What an event prints, or `None` for a turn, which prints a line for each step, and for what ends the run.
 fn answer_text(alloc: Global, answer: &Answer) -> Result<Option<String>, NoMemory>
     ensures { IfOk result (λ made. option_map string_bytes made ≡ answer_text answer.now) }
 {
     let text = match answer {
         Answer::Done => format!(in alloc; "done")?,
+        Answer::DoneAt { zxid } => format!(in alloc; "done {zxid}")?,
         Answer::Elected { epoch, offset } => format!(in alloc; "elected {epoch} {offset}")?,
-        Answer::Turn { .. } => return Ok(None),
+        Answer::Step(reply) => return reply_text(alloc, reply),
+        Answer::Turn(_) => return Ok(None),
         Answer::Appended { offset } => format!(in alloc; "appended {offset}")?,
-        Answer::Check { verdict } => verdict_text(alloc, verdict)?,
+        Answer::RolledBack => format!(in alloc; "rolled-back")?,
+        Answer::Check(verdict) => verdict_text(alloc, verdict)?,
         Answer::Running { id } => format!(in alloc; "running {id}")?,
         Answer::UnknownController => format!(in alloc; "unknown-controller")?,
         Answer::AlreadyRunning => format!(in alloc; "already-running")?,
         Answer::NotRunning => format!(in alloc; "not-running")?,
         Answer::NotLeader => format!(in alloc; "not-leader")?,
         Answer::Stale { epoch } => format!(in alloc; "stale {epoch}")?,
+        Answer::InTransaction { offset } => format!(in alloc; "in-transaction {offset}")?,
         Answer::NotMigrated => format!(in alloc; "not-migrated")?,
+        Answer::Finalised => format!(in alloc; "finalised")?,
+        Answer::NotDualWrite { state } => {
+            let state = state_name(*state);
+            format!(in alloc; "not-dual-write {state}")?
+        }
+        Answer::Unclosed { path } => named(alloc, "unclosed", path)?,
+        Answer::Behind { recorded, end } => format!(in alloc; "behind {recorded} {end}")?,
+        Answer::TooEarly => format!(in alloc; "too-early")?,
+        Answer::BadRecord { index, why } => format!(in alloc; "bad-record {index} {why}")?,
         Answer::Over { number } => format!(in alloc; "over {number}")?,
+        Answer::Known
+        | Answer::Unknown
+        | Answer::Reserved { .. }
+        | Answer::KraftHolds { .. }
+        | Answer::Refused { .. }
+        | Answer::OverOp { .. } => return client_text(alloc, answer),
+        Answer::TreeFailed(_) => return Ok(None),
+        Answer::LogFailed(_) => return Ok(None),
+        Answer::NoMemory => return Ok(None),
     };
     Ok(Some(text))
 }
@@ -190,7 +237,7 @@ pub fn write_answer(alloc: Global, line: u64, answer: &Answer) -> Result<Vec<u8>
     ensures { IfOk result (λ text. text.items ≡ reply_lines line answer.now) }
 {
     let lines = match answer {
-        Answer::Turn { replies } => turn_lines(alloc, line, replies.as_slice())?,
+        Answer::Turn(replies) => turn_lines(alloc, line, replies.as_slice())?,
         _ => answer_line(alloc, line, answer)?,
     };
     Ok(lines.into_bytes())

@@ -1,14 +1,21 @@
 -- Which event a line of a script is: a JSON object with the event's name as `event`, and exactly its members.
 use Rattle.std.specs.Prelude.{ℕ, Bool, false, not, ◌&&◌, ◌||◌, ◌==◌, ℤ, pos, List, [], ◌∷◌, length, Option, Some, None, option_map, option_and_then, is_some, if◌then◌else◌, codes}
 use Rattle.std.specs.Ordering.{int_eq}
+use Rattle.std.specs.Str.{bytes_eq}
 use Rattle.serde_json.specs.Data.{Data, Items, no_items, item}
 use Rattle.serde_json.specs.Find.{get, as_array}
 use Rattle.kz_types.specs.declared.machine.Event.{Event}
-use Rattle.kz_types.specs.declared.machine.Event.TheVariants.{Quorum, Start, Elect, Turn, Change, Check}
+use Rattle.kz_types.specs.declared.machine.Event.TheVariants.{Quorum, Start, Elect, Turn, Change, Check, ZkOpen, ZkExpire, Zk}
 use Rattle.kz_types.specs.declared.record.ConfigRecord.{ConfigRecord}
 use Rattle.kz_types.specs.declared.record.MetaRecord.{MetaRecord}
 use Rattle.kz_types.specs.declared.record.MetaRecord.TheVariants.{Config}
 use Rattle.kz_types.specs.Numbers.{canonical}
+use Rattle.kz_types.specs.Paths.{roots, is_among, is_migrated, key_of}
+use Rattle.kz_types.specs.declared.key.EntityKey.{EntityKey}
+use Rattle.kz_types.specs.declared.key.EntityKey.TheVariants.{Topic, Partition, TopicConfig, BrokerConfig, Client, User, UserClient, Ip, Acl, Producer}
+use Rattle.kz_types.specs.declared.tree.Op.{Op}
+use Rattle.kz_types.specs.declared.tree.Op.TheVariants as op
+use Rattle.kz_spec_lines.specs.Ops.{session_in, op_of}
 use Rattle.kz_spec_lines.specs.Json.{json_of, member_count, count_with, whole_up_to, text_member, by_name}
 use Rattle.kz_spec_lines.specs.Records.{record_of}
 
@@ -95,6 +102,64 @@ change_of d = if member_count d == timed_count 3 d
 abbrev pub check_of : Data → Option Event
 check_of d = if member_count d == 1 then Some Check else None
 
+-- ---- sessions and multis of ZooKeeper clients
+
+-- a session: a whole number from 1 to the greatest of 64 bits
+abbrev pub session_of : Data → Option ℤ
+session_of d = option_and_then session_in (get (codes "session") d)
+
+abbrev pub open_of : Data → Option Event
+open_of d = if member_count d == 2 then option_map (λ s. ZkOpen s) (session_of d) else None
+
+abbrev pub expire_of : Data → Option Event
+expire_of d = if member_count d == 2 then option_map (λ s. ZkExpire s) (session_of d) else None
+
+-- the key of the configuration of a broker, or of all
+abbrev pub is_broker_key : Option EntityKey → Bool
+is_broker_key None = false
+is_broker_key (Some (BrokerConfig broker)) = true
+is_broker_key (Some (Topic name)) = false
+is_broker_key (Some (Partition topic number)) = false
+is_broker_key (Some (TopicConfig name)) = false
+is_broker_key (Some (Client client)) = false
+is_broker_key (Some (User user)) = false
+is_broker_key (Some (UserClient user client)) = false
+is_broker_key (Some (Ip address)) = false
+is_broker_key (Some (Acl pattern kind name)) = false
+is_broker_key (Some Producer) = false
+
+-- a path outside of the migrated area, a root, or the znode of a broker's configuration: others aren't taken yet
+abbrev pub is_open_path : List ℕ → Bool
+is_open_path path = not (is_migrated path) || is_among roots path || is_broker_key (key_of path)
+
+-- the block of producer ids has no data yet
+abbrev pub is_open_body : List ℕ → List ℕ → Bool
+is_open_body path body = not (bytes_eq path (codes "/latest_producer_id_block")) || (length body == 0)
+
+abbrev pub is_open_op : Op → Bool
+is_open_op (op.Create path body owner) = is_open_path path && is_open_body path body
+is_open_op (op.Set path body version) = is_open_path path && is_open_body path body
+is_open_op (op.Delete path version) = is_open_path path
+is_open_op (op.Check path version) = is_open_path path
+
+abbrev pub open_op_of : Data → Option Op
+open_op_of d = option_and_then (λ o. if is_open_op o then Some o else None) (op_of d)
+
+-- the operations in a list
+abbrev pub ops_in : Items → Option (List Op)
+ops_in no_items = Some []
+ops_in (item d ds) = option_and_then (λ o. option_map (λ os. o ∷ os) (ops_in ds)) (open_op_of d)
+
+-- at least one
+abbrev pub some_ops : List Op → Option Event
+some_ops [] = None
+some_ops (o ∷ os) = Some (Zk (o ∷ os))
+
+abbrev pub zk_of : Data → Option Event
+zk_of d = if member_count d == 2
+    then option_and_then some_ops (option_and_then ops_in (option_and_then as_array (get (codes "ops") d)))
+    else None
+
 -- ---- lines
 
 -- the events by their names
@@ -106,6 +171,9 @@ event_forms =
     ∷ (codes "turn", turn_of)
     ∷ (codes "change", change_of)
     ∷ (codes "check", check_of)
+    ∷ (codes "zk-open", open_of)
+    ∷ (codes "zk-expire", expire_of)
+    ∷ (codes "zk", zk_of)
     ∷ []
 
 -- the event that a JSON value is

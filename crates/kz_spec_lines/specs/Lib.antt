@@ -1,6 +1,7 @@
 pub mod Lines
 pub mod Json
 pub mod Records
+pub mod Ops
 pub mod Events
 pub mod Replies
 pub mod Statuses

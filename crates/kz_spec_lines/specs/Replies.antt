@@ -1,5 +1,5 @@
 -- The lines that are printed: the replies to events, and the summary at the end.
-use Rattle.std.specs.Prelude.{ℕ, ℤ, List, [], ◌++◌, length, Option, Some, None, option_map, codes, decimal}
+use Rattle.std.specs.Prelude.{ℕ, Bool, true, false, ℤ, List, [], ◌++◌, length, Option, Some, None, option_map, codes, decimal}
 use Rattle.std.specs.Fmt.{signed_decimal}
 use Rattle.std.specs.List.{flat_map}
 use Rattle.json.specs.Print.{quoted}
@@ -87,12 +87,34 @@ verdict_text (verdict.Closed offset) = numbered (codes "closed") offset
 verdict_text (verdict.Ahead offset paths) = numbered (codes "ahead") offset ++ (codes " " ++ decimal (length paths))
 verdict_text (verdict.Disagrees path) = named (codes "disagrees") path
 
--- what an event prints, where it prints one line; a turn prints a line for each step
+-- an answer of a session or of a multi of a ZooKeeper client
+abbrev pub is_client_answer : Answer → Bool
+is_client_answer answer.Known = true
+is_client_answer answer.Unknown = true
+is_client_answer (answer.Reserved path) = true
+is_client_answer (answer.KraftHolds path) = true
+is_client_answer (answer.Refused index code) = true
+is_client_answer (answer.OverOp index number) = true
+is_client_answer a = false
+
+-- two numbers behind a word
+abbrev pub numbers : List ℕ → ℤ → ℤ → List ℕ
+numbers word a b = numbered word a ++ (codes " " ++ signed_decimal b)
+
+-- an index and a number behind a word
+abbrev pub placed : List ℕ → ℕ → List ℕ → List ℕ
+placed word index rest = counted word index ++ (codes " " ++ rest)
+
+-- what an event prints, where it prints one line; a turn prints a line for each step, and a store that fails and want of
+-- memory end the run
 abbrev pub answer_text : Answer → Option (List ℕ)
 answer_text answer.Done = Some (codes "done")
-answer_text (answer.Elected epoch offset) = Some (numbered (codes "elected") epoch ++ (codes " " ++ signed_decimal offset))
+answer_text (answer.DoneAt zxid) = Some (numbered (codes "done") zxid)
+answer_text (answer.Elected epoch offset) = Some (numbers (codes "elected") epoch offset)
+answer_text (answer.Step r) = reply_text r
 answer_text (answer.Turn replies) = None
 answer_text (answer.Appended offset) = Some (numbered (codes "appended") offset)
+answer_text answer.RolledBack = Some (codes "rolled-back")
 answer_text (answer.Check v) = Some (verdict_text v)
 answer_text (answer.Running id) = Some (numbered (codes "running") id)
 answer_text answer.UnknownController = Some (codes "unknown-controller")
@@ -100,8 +122,24 @@ answer_text answer.AlreadyRunning = Some (codes "already-running")
 answer_text answer.NotRunning = Some (codes "not-running")
 answer_text answer.NotLeader = Some (codes "not-leader")
 answer_text (answer.Stale epoch) = Some (numbered (codes "stale") epoch)
+answer_text (answer.InTransaction offset) = Some (numbered (codes "in-transaction") offset)
 answer_text answer.NotMigrated = Some (codes "not-migrated")
+answer_text answer.Finalised = Some (codes "finalised")
+answer_text (answer.NotDualWrite s) = Some (codes "not-dual-write " ++ state_name s)
+answer_text (answer.Unclosed path) = Some (named (codes "unclosed") path)
+answer_text (answer.Behind recorded end) = Some (numbers (codes "behind") recorded end)
+answer_text answer.TooEarly = Some (codes "too-early")
+answer_text (answer.BadRecord index why) = Some (placed (codes "bad-record") index (decimal why))
 answer_text (answer.Over number) = Some (counted (codes "over") number)
+answer_text answer.Known = Some (codes "known")
+answer_text answer.Unknown = Some (codes "unknown")
+answer_text (answer.Reserved path) = Some (named (codes "reserved") path)
+answer_text (answer.KraftHolds path) = Some (named (codes "kraft-holds") path)
+answer_text (answer.Refused index code) = Some (placed (codes "refused") index (signed_decimal code))
+answer_text (answer.OverOp index number) = Some (placed (codes "over-op") index (decimal number))
+answer_text (answer.TreeFailed f) = None
+answer_text (answer.LogFailed f) = None
+answer_text answer.NoMemory = None
 
 -- a reply line: the number of the input line, a space, a text, a line feed; or nothing, where there is no text
 abbrev pub reply_line : ℕ → Option (List ℕ) → List ℕ

@@ -1,8 +1,16 @@
 -- The machine: worlds, events, and what each event makes of a world.
-use Rattle.std.specs.Prelude.{ℕ, zero, suc, ◌+◌, ◌*◌, ◌/◌, Bool, true, false, not, ◌&&◌, nat_lt, ℤ, pos, ◌+ℤ◌, int_le, int_lt, List, [], ◌∷◌, ◌++◌, length, map, Option, Some, None, option_map, Result, Ok, Err, if◌then◌else◌}
+use Rattle.std.specs.Prelude.{ℕ, zero, suc, ◌+◌, ◌*◌, ◌/◌, Bool, true, false, not, ◌&&◌, ◌||◌, nat_lt, ℤ, pos, ◌+ℤ◌, int_le, int_lt, List, [], ◌∷◌, ◌++◌, length, map, Option, Some, None, is_some, option_map, Result, Ok, Err, if◌then◌else◌}
+use Rattle.std.specs.Str.{bytes_eq}
 use Rattle.std.specs.Ordering.{int_eq}
 use Rattle.std.specs.List.{find, list_any}
 use Rattle.kz_types.specs.declared.tree.Op.{Op}
+use Rattle.kz_types.specs.declared.tree.Op.TheVariants as op
+use Rattle.kz_types.specs.declared.fault.TreeFault.{TreeFault}
+use Rattle.kz_types.specs.declared.fault.TreeFault.TheVariants as tree_fault
+use Rattle.kz_types.specs.declared.move_fault.MoveFault.{MoveFault}
+use Rattle.kz_types.specs.declared.move_fault.MoveFault.TheVariants as move_fault
+use Rattle.kz_types.specs.Paths.{base_paths, control_paths, is_among, is_below, is_migrated}
+use Rattle.kz_spec_values.specs.Control.{control_path, epoch_path, migration_path, shown_epoch}
 use Rattle.kz_types.specs.declared.driver.Stage.{Stage}
 use Rattle.kz_types.specs.declared.driver.Stage.TheVariants as stage
 use Rattle.kz_types.specs.declared.machine.Recorded.{Recorded}
@@ -14,12 +22,12 @@ use Rattle.kz_types.specs.declared.machine.Answer.{Answer}
 use Rattle.kz_types.specs.declared.machine.Answer.TheVariants as answer
 use Rattle.kz_types.specs.declared.record.MetaRecord.{MetaRecord}
 use Rattle.kz_types.specs.declared.record.MetaRecord.TheVariants as meta
-use Rattle.kz_spec_stores.specs.Tree.{Tree, empty_tree, area, migrated_rows}
+use Rattle.kz_spec_stores.specs.Tree.{Tree, empty_tree, row_at, multi, begin_session, end_session, area, migrated_rows}
 use Rattle.kz_spec_stores.specs.Image.{empty_image, all_applied, is_migrated_state}
 use Rattle.kz_spec_stores.specs.Log.{Log, empty_log, end_of, image_at, image_of, is_migrated_log, is_open_log, batch_ends, with_batch, with_next_epoch, full_log, max_epoch}
 use Rattle.kz_spec_stores.specs.Rendering.{Excess, render, excess}
 use Rattle.kz_spec_stores.specs.Translation.{Unreadable, translate}
-use Rattle.kz_spec_machine.specs.Driver.{Shared, Driver, new_driver, elected_driver, is_one_of, least, Request, nothing, asked, Stepped, step}
+use Rattle.kz_spec_machine.specs.Driver.{Shared, Driver, new_driver, elected_driver, is_one_of, least, shown_by, path_of_op, Request, nothing, asked, Stepped, step}
 use Rattle.kz_spec_machine.specs.Verdicts.{verdict}
 
 -- ---- worlds
@@ -258,6 +266,74 @@ changed_log l records now = with_batch l l.epoch now records
 abbrev pub changed_world : World → List MetaRecord → ℤ → World
 changed_world w records now = record { shared = record w.shared { log = changed_log w.shared.log records now }; drivers = w.drivers }
 
+-- ---- sessions of ZooKeeper clients
+
+abbrev pub with_tree : World → Tree → World
+with_tree w t = record { shared = record w.shared { tree = t }; drivers = w.drivers }
+
+-- why a session doesn't begin or end
+abbrev pub move_refusal : MoveFault → Answer
+move_refusal move_fault.Known = answer.Known
+move_refusal move_fault.Unknown = answer.Unknown
+move_refusal (move_fault.Limit number) = over number
+move_refusal move_fault.NoMemory = answer.NoMemory
+
+-- the world with the tree of a session that began or ended
+abbrev pub moved_world : World → Result Tree MoveFault → World × Answer
+moved_world w (Ok t) = (with_tree w t, answer.DoneAt t.zxid)
+moved_world w (Err f) = (w, move_refusal f)
+
+-- ---- a multi of a ZooKeeper client
+
+-- What no client may do: write `/migration`; delete `/controller_epoch`, or make it end with a session; make a znode below
+-- these or `/controller`; make a migrated or base znode end with a session; and give `/controller` the body of a KRaft
+-- controller.
+abbrev pub is_reserved : Op → Bool
+is_reserved (op.Create path body owner) =
+    bytes_eq path migration_path
+    || (is_some owner && (bytes_eq path epoch_path || is_migrated path || is_among base_paths path))
+    || list_any (λ control. is_below control path) control_paths
+    || (bytes_eq path control_path && is_some (shown_epoch body))
+is_reserved (op.Set path body version) = bytes_eq path migration_path || (bytes_eq path control_path && is_some (shown_epoch body))
+is_reserved (op.Delete path version) = bytes_eq path migration_path || bytes_eq path epoch_path
+is_reserved (op.Check path version) = false
+
+-- the znodes that are kept from clients while a KRaft controller holds the tree
+abbrev pub is_held_path : List ℕ → Bool
+is_held_path path = is_migrated path || is_among base_paths path || bytes_eq path control_path || bytes_eq path epoch_path
+
+abbrev pub is_held : Op → Bool
+is_held (op.Create path body owner) = is_held_path path
+is_held (op.Set path body version) = is_held_path path
+is_held (op.Delete path version) = is_held_path path
+is_held (op.Check path version) = false
+
+-- whether `/controller` has the body of a KRaft controller
+abbrev pub is_held_tree : Tree → Bool
+is_held_tree t = is_some (shown_by (row_at control_path t.rows))
+
+-- the path of the first of these operations that is told by the test
+abbrev pub first_told : (Op → Bool) → List Op → Option (List ℕ)
+first_told test ops = option_map path_of_op (find test ops)
+
+abbrev pub client_refusal : Tree → List Op → Option Answer
+client_refusal t ops = first_of (option_map (λ path. answer.Reserved path) (first_told is_reserved ops))
+    (if is_held_tree t then option_map (λ path. answer.KraftHolds path) (first_told is_held ops) else None)
+
+abbrev pub client_fault : TreeFault → Answer
+client_fault (tree_fault.Refused index code) = answer.Refused index code
+client_fault (tree_fault.Limit index number) = answer.OverOp index number
+client_fault f = answer.TreeFailed f
+
+abbrev pub client_world : World → Result Tree TreeFault → World × Answer
+client_world w (Ok t) = (with_tree w t, answer.DoneAt t.zxid)
+client_world w (Err f) = (w, client_fault f)
+
+-- the tree and the log after a change of the tree, where it was made
+abbrev pub tree_pairs : {E : Type 0} → World → Result Tree E → List Pair
+tree_pairs w (Ok t) = pair_of (with_tree w t).shared ∷ []
+tree_pairs w (Err f) = []
+
 -- ---- the machine
 
 abbrev pub unless_refused : World → Option Answer → World × Answer → World × Answer
@@ -272,6 +348,9 @@ next w (event.Elect id now) = decided w (election_refusal w id) (elected_world w
 next w (event.Turn id now) = unless_refused w (running_refusal w id) (turn_result w now (driver_of id w.drivers))
 next w (event.Change id records now) = decided w (change_refusal w id records) (changed_world w records now) (answer.Appended (end_of (changed_log w.shared.log records now)))
 next w event.Check = (w, answer.Check (verdict w.shared.tree w.shared.log))
+next w (event.ZkOpen session) = moved_world w (begin_session w.shared.tree session)
+next w (event.ZkExpire session) = moved_world w (end_session w.shared.tree session)
+next w (event.Zk ops) = unless_refused w (client_refusal w.shared.tree ops) (client_world w (multi w.shared.tree ops))
 
 abbrev pub pairs_unless : Option Answer → List Pair → List Pair
 pairs_unless (Some refusal) ps = []
@@ -285,6 +364,9 @@ event_pairs w (event.Elect id now) = pairs_unless (election_refusal w id) (pair_
 event_pairs w (event.Turn id now) = pairs_unless (running_refusal w id) (event_turn_pairs w now (driver_of id w.drivers))
 event_pairs w (event.Change id records now) = pairs_unless (change_refusal w id records) (pair_of (changed_world w records now).shared ∷ [])
 event_pairs w event.Check = []
+event_pairs w (event.ZkOpen session) = tree_pairs w (begin_session w.shared.tree session)
+event_pairs w (event.ZkExpire session) = tree_pairs w (end_session w.shared.tree session)
+event_pairs w (event.Zk ops) = pairs_unless (client_refusal w.shared.tree ops) (tree_pairs w (multi w.shared.tree ops))
 
 -- ---- a run
 

@@ -56,11 +56,28 @@ pub record IsStamped (zxid : ℤ) (r : Row) : Type 0 where
 abbrev pub HaveParents : List Row → Type 0
 HaveParents rows = (path : List ℕ) → is_some (row_at path rows) ≡ true → has_parent path rows ≡ true
 
--- The znodes rise by path, their parents are there, and their transactions are those of the tree.
+-- The znodes that last: those of the migrated area, the base znodes, `/controller_epoch`, `/migration`, and a
+-- `/controller` with the body of a KRaft controller.
+abbrev pub is_lasting : Row → Bool
+is_lasting r = is_migrated r.path || is_among base_paths r.path || bytes_eq r.path epoch_path || bytes_eq r.path migration_path
+    || (bytes_eq r.path control_path && is_some (shown_epoch r.body))
+
+-- A znode ends with a session only where it isn't one that lasts.
+abbrev pub Lasts : Row → Type 0
+Lasts r = is_some r.owner ≡ true → is_lasting r ≡ false
+
+-- No znode that ends with a session has a child.
+abbrev pub AreChildless : List Row → Type 0
+AreChildless rows = (path : List ℕ) → is_ephemeral (row_at path rows) ≡ true → has_children path rows ≡ false
+
+-- The znodes rise by path, their parents are there, and their transactions are those of the tree. Those that end with a
+-- session have no child and are none of those that last.
 pub record TreeShape (t : Tree) : Type 0 where
   pub rise : Rises bytes_cmp path_of_row t.rows
   pub parents : HaveParents t.rows
   pub stamped : All (IsStamped t.zxid) t.rows
+  pub last : All Lasts t.rows
+  pub childless : AreChildless t.rows
 
 -- each batch begins behind the one before it
 abbrev pub Follows : ℤ → List BatchRow → Type 0
@@ -86,6 +103,7 @@ pub record IsBatchEnd (l : Log) (offset : ℤ) : Type 0 where
 
 -- What is recorded is a batch end; and where the tree is closed, its migrated area is the rendering of the metadata there.
 pub record Agreement (t : Tree) (l : Log) : Type 0 where
+  pub held : (r : Recorded) → recorded t ≡ Some r → pos 0 ≤ℤ r.offset → is_held_tree t ≡ true
   pub end : (r : Recorded) → recorded t ≡ Some r → pos 0 ≤ℤ r.offset → IsBatchEnd l r.offset
   pub same : (r : Recorded) → recorded t ≡ Some r → unclosed t ≡ None → area t ≡ render (image_at l r.offset)
 
@@ -113,6 +131,7 @@ pub record Claimed (version shown epoch : Option ℤ) (v : ℤ) : Type 0 where
   pub least : pos 0 ≤ℤ v
   pub low : (now : ℤ) → version ≡ Some now → v ≤ℤ now
   pub there : version ≢ None
+  pub held : shown ≢ None
   pub shows : version ≡ Some v → shown ≡ epoch
 
 abbrev pub Claims : Option ℤ → Option ℤ → Option ℤ → Option ℤ → Type 0
@@ -217,6 +236,23 @@ abbrev pub IsChange : MetaRecord → Type 0
 IsChange (meta.Config c) = IsTrue (is_broker_config c)
 IsChange r = ⊥
 
+-- from 1 to the greatest of 64 bits
+pub record IsSession (session : ℤ) : Type 0 where
+  pub least : pos 1 ≤ℤ session
+  pub most : session ≤ℤ max_long
+
+-- an owner that may be absent
+abbrev pub IsOwner : Option ℤ → Type 0
+IsOwner None = ⊤
+IsOwner (Some session) = IsSession session
+
+-- an operation whose owner is a session
+abbrev pub IsLawfulOp : Op → Type 0
+IsLawfulOp (op.Create path body owner) = IsOwner owner
+IsLawfulOp (op.Set path body version) = ⊤
+IsLawfulOp (op.Delete path version) = ⊤
+IsLawfulOp (op.Check path version) = ⊤
+
 -- An event as a line of a script gives it: ids and times are in range, one controller is declared, and a change has one
 -- member of the configuration of a broker.
 abbrev pub IsLawful : Event → Type 0
@@ -226,3 +262,6 @@ IsLawful (event.Elect id now) = IsId id × IsTime now
 IsLawful (event.Turn id now) = IsId id × IsTime now
 IsLawful (event.Change id records now) = IsId id × IsTime now × All IsChange records × (length records ≡ 1)
 IsLawful event.Check = ⊤
+IsLawful (event.ZkOpen session) = IsSession session
+IsLawful (event.ZkExpire session) = IsSession session
+IsLawful (event.Zk ops) = All IsLawfulOp ops × (1 ≤ length ops)

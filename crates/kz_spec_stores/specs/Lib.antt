@@ -5,3 +5,4 @@ pub mod Log
 pub mod Rendering
 pub mod Translation
 pub mod Difference
+pub mod Requests

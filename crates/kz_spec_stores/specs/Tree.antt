@@ -10,6 +10,8 @@ use Rattle.kz_types.specs.declared.tree.Rendered.{Rendered}
 use Rattle.kz_types.specs.declared.machine.Recorded.{Recorded}
 use Rattle.kz_types.specs.declared.fault.TreeFault.{TreeFault}
 use Rattle.kz_types.specs.declared.fault.TreeFault.TheVariants as fault
+use Rattle.kz_types.specs.declared.move_fault.MoveFault.{MoveFault}
+use Rattle.kz_types.specs.declared.move_fault.MoveFault.TheVariants as move_fault
 use Rattle.kz_types.specs.Numbers.{canonical}
 use Rattle.kz_types.specs.Paths.{is_migrated}
 use Rattle.kz_ordered.specs.Order.{bytes_cmp}
@@ -81,10 +83,13 @@ abbrev pub is_ephemeral : Option Row → Bool
 is_ephemeral None = false
 is_ephemeral (Some r) = is_some r.owner
 
+abbrev pub is_live : ℤ → List ℤ → Bool
+is_live session sessions = list_any (λ live. int_eq live session) sessions
+
 -- whether the owner, if there is one, is a live session
 abbrev pub may_own : Option ℤ → List ℤ → Bool
 may_own None sessions = true
-may_own (Some session) sessions = list_any (λ live. int_eq live session) sessions
+may_own (Some session) sessions = is_live session sessions
 
 -- whether an operation's version is any, or that of the znode
 abbrev pub fits_version : ℤ → Row → Bool
@@ -190,6 +195,41 @@ with_zxid t (Ok rows) = if int_le max_long t.zxid then Err (fault.Limit 0 17) el
 unfoldable pub multi : Tree → List Op → Result Tree TreeFault
 multi t ops = with_zxid t (after_ops t.sessions (t.zxid +ℤ pos 1) 0 ops t.rows)
 
+-- ---- sessions
+
+-- the tree with one transaction more, which makes these of its sessions and znodes
+abbrev pub with_sessions : Tree → List ℤ → List Row → Result Tree MoveFault
+with_sessions t sessions rows = if int_le max_long t.zxid then Err (move_fault.Limit 17) else Ok (record { zxid = t.zxid +ℤ pos 1; sessions = sessions; rows = rows })
+
+-- The tree after a session has begun, which isn't live yet.
+unfoldable pub begin_session : Tree → ℤ → Result Tree MoveFault
+begin_session t session = if is_live session t.sessions then Err move_fault.Known else with_sessions t (put int_cmp (λ s. s) session t.sessions) t.rows
+
+-- whether a znode ends with this session
+abbrev pub is_owner : ℤ → Option ℤ → Bool
+is_owner session None = false
+is_owner session (Some owner) = int_eq owner session
+
+abbrev pub is_owned : ℤ → Row → Bool
+is_owned session r = is_owner session r.owner
+
+-- whether a child of this path ends with the session
+abbrev pub loses_child : ℤ → List Row → List ℕ → Bool
+loses_child session rows path = list_any (λ (r : Row). is_owned session r && bytes_eq (parent_of r.path) path) rows
+
+abbrev pub after_loss : ℤ → ℤ → List Row → Row → Row
+after_loss zxid session rows r = if loses_child session rows r.path then record r { pzxid = zxid } else r
+
+-- the znodes without those that end with the session; their parents show it
+abbrev pub without_owned : ℤ → ℤ → List Row → List Row
+without_owned zxid session rows = map (after_loss zxid session rows) (filter (λ r. not (is_owned session r)) rows)
+
+-- The tree after a live session has ended, and its ephemeral znodes with it.
+unfoldable pub end_session : Tree → ℤ → Result Tree MoveFault
+end_session t session = if is_live session t.sessions
+    then with_sessions t (without int_cmp (λ s. s) session t.sessions) (without_owned (t.zxid +ℤ pos 1) session t.rows)
+    else Err move_fault.Unknown
+
 -- ---- what is read
 
 -- the znodes of the migrated area
@@ -210,6 +250,14 @@ is_after (Some path) r = match_ordering (bytes_cmp path r.path) true false false
 -- the first znodes of the migrated area behind a path, at most so many
 abbrev pub scan : Tree → Option (List ℕ) → ℕ → List Row
 scan t after most = take most (filter (is_after after) (migrated_rows t))
+
+abbrev pub first_row : List Row → Option Row
+first_row [] = None
+first_row (r ∷ rs) = Some r
+
+-- the first znode behind a path, of the whole tree
+abbrev pub next_row : Tree → Option (List ℕ) → Option Row
+next_row t after = first_row (filter (is_after after) t.rows)
 
 -- the znodes at these paths
 abbrev pub look : Tree → List (List ℕ) → List (Option Row)

@@ -1,2 +1,4 @@
 pub mod Refusals
 pub mod Kept
+pub mod Requests
+pub mod Wires

@@ -2,12 +2,13 @@
 ghost use Rattle.std.specs.Prelude.{◌≡◌, ◌<ℤ◌, IfOk, OnOk, IfErr, Ok, Some, None, []};
 ghost use Rattle.kz_spec_stores.specs.Tree.{row_at, touched, set_row, created_row, after_set, after_op, after_ops, op_refusal, refused, max_version};
 ghost use Rattle.kz_tree.specs.Kept.{AreRows};
-ghost use Rattle.kz_tree.specs.Refusals.{IsFaultOf, meaning};
+ghost use Rattle.kz_tree.specs.Refusals.{IsMultiFaultOf, meaning};
 
+use crate::faults::MultiFault;
 use crate::names::parent_of;
 use crate::refusals::{Refusal, op_refusal};
 use crate::rows::{put_row, row_at, spot_of, take_out};
-use kz_types::{Duplicate, NoMemory, Op, Row, Sequence, TreeFault, ZPath};
+use kz_types::{Duplicate, NoMemory, Op, Row, Sequence, ZPath};
 use std::alloc::Global;
 
 // A znode got or lost a child.
@@ -90,12 +91,12 @@ fn apply(
     }
 }
 
-fn fault_of(index: usize, refusal: Refusal) -> TreeFault
-    ensures { IsFaultOf (refused index (Some (meaning refusal)) (Ok [])) result }
+fn fault_of(index: usize, refusal: Refusal) -> MultiFault
+    ensures { IsMultiFaultOf (refused index (Some (meaning refusal)) (Ok [])) result }
 {
     match refusal {
-        Refusal::Code(code) => TreeFault::Refused { index, code },
-        Refusal::Limit(number) => TreeFault::Limit { index, number },
+        Refusal::Code(code) => MultiFault::Refused { index, code },
+        Refusal::Limit(number) => MultiFault::Limit { index, number },
     }
 }
 
@@ -106,18 +107,18 @@ pub fn after_ops(
     zxid: i64,
     ops: &[Op],
     mut rows: Vec<Row>,
-) -> Result<Vec<Row>, TreeFault>
+) -> Result<Vec<Row>, MultiFault>
     requires { AreRows rows.items }
     ensures ok { IfOk result (λ made. after_ops sessions.now zxid 0 ops.now rows.items ≡ Ok made.items) }
     ensures rise { IfOk result (λ made. AreRows made.items) }
-    ensures err { IfErr result (IsFaultOf (after_ops sessions.now zxid 0 ops.now rows.items)) }
+    ensures err { IfErr result (IsMultiFaultOf (after_ops sessions.now zxid 0 ops.now rows.items)) }
 {
     for (index, op) in ops.iter().enumerate() {
         if let Some(refusal) = op_refusal(sessions, op, &rows) {
             return Err(fault_of(index, refusal));
         }
         let Ok(()) = apply(alloc, sessions, &mut rows, op, zxid) else {
-            return Err(TreeFault::NoMemory);
+            return Err(MultiFault::NoMemory);
         };
     }
     Ok(rows)

@@ -2,16 +2,25 @@
 #![tactic(auto)]
 
 mod effects;
+mod faults;
 mod migrated;
 mod names;
+mod prepared;
 mod reads;
 mod refusals;
 mod rows;
+mod sessions;
+mod store;
 mod tree;
+mod wire;
 
-pub use kz_types::{Op, Recorded, Rendered, Row, TreeFault};
+pub use faults::{ClosedFault, MultiFault};
+pub use kz_types::{MoveFault, Op, Plan, Recorded, Rendered, Row, TreeFault};
 pub use migrated::is_migrated;
+pub use prepared::Prepared;
+pub use store::ZTree;
 pub use tree::Tree;
+pub use wire::{Wire, WireFault};
 
 #[cfg(test)]
 mod tests;

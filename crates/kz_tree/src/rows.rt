@@ -3,9 +3,10 @@ ghost use Rattle.std.specs.Prelude.{◌≡◌, option_map, OnOk, OnErr, IfOk, ve
 ghost use Rattle.kz_ordered.specs.Order.{bytes_cmp};
 ghost use Rattle.kz_ordered.specs.Ordered.{Rises};
 ghost use Rattle.kz_ordered.specs.Spot.{IsSpot};
-ghost use Rattle.kz_spec_stores.specs.Tree.{path_of_row, row_at, put_row, without_row};
+ghost use Rattle.kz_spec_stores.specs.Tree.{path_of_row, row_at, put_row, without_row, is_after, first_row};
+ghost use Rattle.std.specs.List.{filter};
 
-use kz_types::{NoMemory, Row};
+use kz_types::{NoMemory, Row, ZPath};
 use std::cmp::Ordering;
 
 /// Paths are ordered by bytes.
@@ -62,4 +63,19 @@ pub fn take_out(rows: &mut Vec<Row>, path: &[u8])
     if let Ok(at) = spot_of(rows, path) {
         rows.remove(at);
     }
+}
+
+/// The first znode behind a path, or the first of all.
+pub fn next_row<'a>(rows: &'a [Row], after: Option<&ZPath>) -> Option<&'a Row>
+    requires { Rises bytes_cmp path_of_row rows.now }
+    ensures { option_map (λ row. row.now) result ≡ first_row (filter (is_after (option_map (λ path. path.now) after.entry)) rows.entry.now) }
+{
+    let at = match after {
+        None => 0,
+        Some(path) => match spot_of(rows, path.bytes()) {
+            Ok(at) => at + 1,
+            Err(at) => at,
+        },
+    };
+    rows.get(at)
 }

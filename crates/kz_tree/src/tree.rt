@@ -1,17 +1,20 @@
 //! The tree.
-ghost use Rattle.std.specs.Prelude.{◌≡◌, ◌+ℤ◌, ◌<ℤ◌, ◌≤ℤ◌, pos, length, option_map, map, Ok, IfOk, IfErr, OnErr};
+ghost use Rattle.std.specs.Prelude.{◌≡◌, ◌+ℤ◌, ◌<ℤ◌, ◌≤ℤ◌, pos, length, option_map, map, None, Ok, IfOk, IfErr, OnOk, OnErr};
 ghost use Rattle.kz_spec_stores.specs.Tree as tree;
 ghost use Rattle.kz_spec_stores.specs.Tree.{max_long, path_of_row};
 ghost use Rattle.kz_ordered.specs.Order.{bytes_cmp};
 ghost use Rattle.kz_ordered.specs.Ordered.{Rises};
 ghost use Rattle.kz_spec_stores.specs.Rendering.{path_of_rendered};
 ghost use Rattle.kz_tree.specs.Kept.{IsKept};
-ghost use Rattle.kz_tree.specs.Refusals.{IsFaultOf};
+ghost use Rattle.kz_tree.specs.Refusals.{IsFaultOf, IsMultiFaultOf, IsMoveFaultOf, IsClosedFaultOf};
 
 use crate::effects::after_ops;
+use crate::faults::{ClosedFault, MultiFault, tree_fault};
+use crate::prepared::Prepared;
 use crate::reads;
-use crate::rows::row_at;
-use kz_types::{NoMemory, Op, Recorded, Rendered, Row, TreeFault, ZPath, copy_all};
+use crate::rows::{next_row, row_at};
+use crate::sessions::{is_live, with_session, without_owned, without_session};
+use kz_types::{MoveFault, NoMemory, Op, Recorded, Rendered, Row, TreeFault, ZPath, copy_all};
 use std::alloc::Global;
 use std::marker::Model;
 
@@ -34,7 +37,7 @@ impl Model for Tree {
 
     ghost view = { λ t. record { zxid = t.zxid; sessions = t.sessions.items; rows = t.rows.items } };
 
-    ghost invariant = { λ t. IsKept t.zxid t.rows.items };
+    ghost invariant = { λ t. IsKept t.zxid t.sessions.items t.rows.items };
 }
 
 impl Tree {
@@ -61,17 +64,20 @@ impl Tree {
         }
     }
 
-    /// Makes all operations, with one new zxid, which it answers, or none of them.
+    /// Prepares all operations, with one new zxid. Nothing changes until `commit`.
     ///
     /// `Refused` and `Limit` name the first operation that is refused, each judged after those before it. Limit 17 is
-    /// that there is no further zxid. At every `Err` the tree is as it was.
-    pub fn multi(&mut self, ops: &[Op]) -> Result<i64, TreeFault>
-        ensures ok { IfOk result (λ zxid. (tree.multi self.old ops.now ≡ Ok self.new) × (zxid ≡ self.new.zxid)) }
-        ensures err { IfErr result (IsFaultOf (tree.multi self.old ops.now)) }
-        ensures same { OnErr result (self.new ≡ self.old) }
+    /// that there is no further zxid.
+    pub fn prepare(&mut self, ops: &[Op]) -> Result<Prepared, MultiFault>
+        ensures ok { IfOk result (λ prepared. tree.multi self.old ops.now ≡ Ok prepared) }
+        ensures err { IfErr result (IsMultiFaultOf (tree.multi self.old ops.now)) }
+        ensures same { self.new ≡ self.old }
     {
         let Ok(rows) = copy_all(self.alloc, &self.rows) else {
-            return Err(TreeFault::NoMemory);
+            return Err(MultiFault::NoMemory);
+        };
+        let Ok(sessions) = copy_all(self.alloc, &self.sessions) else {
+            return Err(MultiFault::NoMemory);
         };
         let zxid = self.next_zxid();
         let rows = match after_ops(self.alloc, &self.sessions, zxid, ops, rows) {
@@ -79,14 +85,83 @@ impl Tree {
             Err(fault) => return Err(fault),
         };
         if self.zxid == i64::MAX {
-            return Err(TreeFault::Limit {
+            return Err(MultiFault::Limit {
                 index: 0,
                 number: 17,
             });
         }
-        self.rows = rows;
+        Ok(Prepared::new(zxid, sessions, rows))
+    }
+
+    /// Prepares the begin of a session, which is at least 1: `Known` where it is live already. Nothing changes until
+    /// `commit`.
+    pub fn prepare_begin(&mut self, session: i64) -> Result<Prepared, MoveFault>
+        requires { pos 1 ≤ℤ session }
+        ensures ok { IfOk result (λ prepared. tree.begin_session self.old session ≡ Ok prepared) }
+        ensures err { IfErr result (IsMoveFaultOf (tree.begin_session self.old session)) }
+        ensures same { self.new ≡ self.old }
+    {
+        if is_live(&self.sessions, session) {
+            return Err(MoveFault::Known);
+        }
+        if self.zxid == i64::MAX {
+            return Err(MoveFault::Limit { number: 17 });
+        }
+        let Ok(sessions) = with_session(self.alloc, &self.sessions, session) else {
+            return Err(MoveFault::NoMemory);
+        };
+        let Ok(rows) = copy_all(self.alloc, &self.rows) else {
+            return Err(MoveFault::NoMemory);
+        };
+        Ok(Prepared::new(self.next_zxid(), sessions, rows))
+    }
+
+    /// Prepares the end of a session, and of its ephemeral znodes with it: `Unknown` where it isn't live. Nothing changes
+    /// until `commit`.
+    pub fn prepare_end(&mut self, session: i64) -> Result<Prepared, MoveFault>
+        ensures ok { IfOk result (λ prepared. tree.end_session self.old session ≡ Ok prepared) }
+        ensures err { IfErr result (IsMoveFaultOf (tree.end_session self.old session)) }
+        ensures same { self.new ≡ self.old }
+    {
+        if !is_live(&self.sessions, session) {
+            return Err(MoveFault::Unknown);
+        }
+        if self.zxid == i64::MAX {
+            return Err(MoveFault::Limit { number: 17 });
+        }
+        let Ok(sessions) = without_session(self.alloc, &self.sessions, session) else {
+            return Err(MoveFault::NoMemory);
+        };
+        let zxid = self.next_zxid();
+        let Ok(rows) = without_owned(self.alloc, &self.rows, session, zxid) else {
+            return Err(MoveFault::NoMemory);
+        };
+        Ok(Prepared::new(zxid, sessions, rows))
+    }
+
+    /// Makes a prepared change, and answers its zxid. The tree is to stand as it stood when the change was prepared.
+    pub fn commit(&mut self, prepared: Prepared) -> i64
+        ensures tree { self.new ≡ prepared }
+        ensures zxid { result ≡ self.new.zxid }
+    {
+        let (zxid, sessions, rows) = prepared.into_parts();
         self.zxid = zxid;
-        Ok(zxid)
+        self.sessions = sessions;
+        self.rows = rows;
+        zxid
+    }
+
+    /// Makes all operations, with one new zxid, which it answers, or none of them: `prepare` and `commit`. At every `Err`
+    /// the tree is as it was.
+    pub fn multi(&mut self, ops: &[Op]) -> Result<i64, TreeFault>
+        ensures ok { IfOk result (λ zxid. (tree.multi self.old ops.now ≡ Ok self.new) × (zxid ≡ self.new.zxid)) }
+        ensures err { IfErr result (IsFaultOf (tree.multi self.old ops.now)) }
+        ensures same { OnErr result (self.new ≡ self.old) }
+    {
+        match self.prepare(ops) {
+            Ok(prepared) => Ok(self.commit(prepared)),
+            Err(fault) => Err(tree_fault(fault)),
+        }
     }
 
     /// The znode at a path.
@@ -94,6 +169,13 @@ impl Tree {
         ensures { option_map (λ row. row.now) result ≡ tree.row_at path.now self.now.rows }
     {
         row_at(&self.rows, path)
+    }
+
+    /// The first znode with a greater path than this one, or the first of all.
+    pub fn next_row(&self, after: Option<&ZPath>) -> Option<&Row>
+        ensures { option_map (λ row. row.now) result ≡ tree.next_row self.now (option_map (λ path. path.now) after.entry) }
+    {
+        next_row(&self.rows, after)
     }
 
     /// The znodes but the root, by rising path.
@@ -175,6 +257,19 @@ impl Tree {
         ensures { IfOk result (λ recorded. recorded ≡ tree.recorded self.now) }
     {
         reads::recorded(self.alloc, &self.rows)
+    }
+
+    /// Whether the tree is closed: an offset is recorded, and no znode of the migrated area was written, nor were its
+    /// children, after `/migration`.
+    pub fn closed(&self) -> Result<(), ClosedFault>
+        ensures ok { OnOk result (tree.unclosed self.now ≡ None) }
+        ensures err { IfErr result (IsClosedFaultOf (tree.unclosed self.now)) }
+    {
+        match self.unclosed() {
+            Ok(None) => Ok(()),
+            Ok(Some(path)) => Err(ClosedFault::Unclosed { path }),
+            Err(NoMemory) => Err(ClosedFault::NoMemory),
+        }
     }
 
     /// Where the tree isn't closed: `/migration` where no offset is recorded, else the first znode of the migrated area

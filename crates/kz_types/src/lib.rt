@@ -17,11 +17,13 @@ pub mod laws;
 mod log;
 mod machine;
 mod memory;
+mod move_fault;
 mod number;
 mod outside;
 mod path;
 mod path_buffer;
 mod path_rule;
+mod plan;
 mod quota;
 mod record;
 mod row;
@@ -41,11 +43,13 @@ pub use kind::Kind;
 pub use log::{BatchRow, Entry};
 pub use machine::{AheadPath, Answer, DriverState, Event, Recorded, Reply, Verdict};
 pub use memory::NoMemory;
+pub use move_fault::MoveFault;
 pub use number::{canonical, digits_up_to, number_in};
 pub use outside::{Failed, Status};
 pub use path::ZPath;
 pub use path_buffer::PathBuffer;
 pub use path_rule::{is_text, may_be_part};
+pub use plan::Plan;
 pub use record::{
     AccessControlEntryRecord, BatchFault, ByteFault, ClientQuotaRecord, CodecFault, ConfigRecord,
     Endpoint, Feature, MetaRecord, PartitionChangeRecord, PartitionRecord, ProducerIdsRecord,

@@ -1,5 +1,5 @@
 //! What a script asks of the machine, and what it answers.
-use crate::{LogFault, MetaRecord, ReadWhy, Sequence, TreeFault, ZPath};
+use crate::{LogFault, MetaRecord, Op, ReadWhy, Sequence, TreeFault, ZPath};
 
 /// The states of a migration driver.
 #[derive(Clone, Copy, Debug, PartialEq, Eq)]
@@ -131,6 +131,18 @@ pub enum Event {
     },
     /// Compares the tree with the log.
     Check,
+    /// A ZooKeeper session begins. Sessions are at least 1.
+    ZkOpen {
+        session: i64,
+    },
+    /// A ZooKeeper session ends, and its ephemeral znodes with it.
+    ZkExpire {
+        session: i64,
+    },
+    /// A multi of a ZooKeeper client, of at least one operation.
+    Zk {
+        ops: Sequence<Op>,
+    },
 }
 
 /// What the machine answers an event.
@@ -138,14 +150,20 @@ pub enum Event {
 pub enum Answer {
     /// It is done.
     Done,
+    /// It is done, with this transaction of the tree.
+    DoneAt { zxid: i64 },
     /// The controller leads with this epoch, and the log ends at this offset.
     Elected { epoch: i32, offset: i64 },
+    /// The reply of a step.
+    Step(Reply),
     /// The replies of a turn's steps.
-    Turn { replies: Sequence<Reply> },
+    Turn(Sequence<Reply>),
     /// The records are in the log, up to this offset.
     Appended { offset: i64 },
+    /// The migration is taken back.
+    RolledBack,
     /// How the tree and the log agree.
-    Check { verdict: Verdict },
+    Check(Verdict),
     /// This controller runs, the least one.
     Running { id: i32 },
     /// The controller isn't declared.
@@ -158,8 +176,40 @@ pub enum Answer {
     NotLeader,
     /// The log has this epoch, and the controller another.
     Stale { epoch: i32 },
+    /// A transaction of the log has been open since this offset.
+    InTransaction { offset: i64 },
     /// The migration isn't committed.
     NotMigrated,
+    /// The migration is over.
+    Finalised,
+    /// The controller's driver is in this state, and not in dual write.
+    NotDualWrite { state: DriverState },
+    /// The tree isn't closed: this znode was written, or its children were, after what is recorded.
+    Unclosed { path: ZPath },
+    /// This offset is recorded, and the log ends at another.
+    Behind { recorded: i64, end: i64 },
+    /// The log can't be cut at what is recorded.
+    TooEarly,
+    /// The record at this index breaks the rule of this number.
+    BadRecord { index: usize, why: u8 },
     /// The limit of this number would be passed.
     Over { number: u8 },
+    /// The session is live already.
+    Known,
+    /// The session isn't live.
+    Unknown,
+    /// This znode is kept for controllers.
+    Reserved { path: ZPath },
+    /// This znode is kept from ZooKeeper clients while a KRaft controller holds the tree.
+    KraftHolds { path: ZPath },
+    /// The operation at this index is refused with ZooKeeper's code.
+    Refused { index: usize, code: i32 },
+    /// The operation at this index would pass the limit of this number.
+    OverOp { index: usize, number: u8 },
+    /// The tree's store failed.
+    TreeFailed(TreeFault),
+    /// The log's store failed.
+    LogFailed(LogFault),
+    /// Memory ran out.
+    NoMemory,
 }

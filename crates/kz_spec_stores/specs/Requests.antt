@@ -1,0 +1,10 @@
+-- What a stop may leave of a store: the value that is left, or None where what is left stands for none.
+use Rattle.std.specs.Prelude.{◌≡◌, ◌⊎◌, Option, Some, Result, Ok}
+
+-- a stop leaves this value and nothing else
+abbrev pub Only : {V : Type 0} → V → (Option V → Type 0) → Type 0
+Only value left = (found : Option _) → left found → found ≡ Some value
+
+-- a stop leaves this value, or the one that the request in flight makes of it
+abbrev pub Between : {V E : Type 0} → V → Result V E → (Option V → Type 0) → Type 0
+Between {V} value made left = (found : Option V) → left found → (found ≡ Some value) ⊎ ((new : V) × (made ≡ Ok new) × (found ≡ Some new))
