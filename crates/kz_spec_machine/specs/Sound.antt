@@ -1,8 +1,9 @@
 -- What is true of every world of a run. Each group of facts is a record over the values that it reads, so that what
 -- changes anything else keeps the group as it stands.
-use Rattle.std.specs.Prelude.{◌≡◌, ◌≢◌, ◌≤◌, ℕ, true, ℤ, pos, negsuc, ◌+ℤ◌, ◌≤ℤ◌, List, [], ◌∷◌, ◌++◌, length, Option, Some, None, is_some, option_map, All, IsTrue, ⊤}
+use Rattle.std.specs.Prelude.{◌≡◌, ◌≢◌, ◌≤◌, ℕ, Bool, true, false, ◌&&◌, ◌||◌, ℤ, pos, negsuc, ◌+ℤ◌, ◌≤ℤ◌, List, [], ◌∷◌, ◌++◌, length, Option, Some, None, is_some, option_map, All, IsTrue, ⊤}
 use Rattle.kz_types.specs.declared.tree.Row.{Row}
 use Rattle.kz_types.specs.declared.tree.Op.{Op}
+use Rattle.kz_types.specs.declared.tree.Op.TheVariants as op
 use Rattle.kz_types.specs.declared.log.BatchRow.{BatchRow}
 use Rattle.kz_types.specs.declared.driver.Stage.{Stage}
 use Rattle.kz_types.specs.declared.driver.Stage.TheVariants as stage
@@ -11,15 +12,17 @@ use Rattle.kz_types.specs.declared.machine.Event.{Event}
 use Rattle.kz_types.specs.declared.machine.Event.TheVariants as event
 use Rattle.kz_types.specs.declared.record.MetaRecord.{MetaRecord}
 use Rattle.kz_types.specs.declared.record.MetaRecord.TheVariants as meta
+use Rattle.std.specs.Str.{bytes_eq}
+use Rattle.kz_types.specs.Paths.{base_paths, is_among, is_migrated}
 use Rattle.kz_ordered.specs.Order.{bytes_cmp}
 use Rattle.kz_ordered.specs.Ordered.{Rises}
-use Rattle.kz_spec_values.specs.Control.{control_path, epoch_path}
-use Rattle.kz_spec_stores.specs.Tree.{Tree, row_at, has_parent, path_of_row, migrated_rows, area, recorded, unclosed, max_long}
+use Rattle.kz_spec_values.specs.Control.{control_path, epoch_path, migration_path, shown_epoch}
+use Rattle.kz_spec_stores.specs.Tree.{Tree, row_at, parent_of, has_parent, is_ephemeral, path_of_row, migrated_rows, area, recorded, unclosed, max_long}
 use Rattle.kz_spec_stores.specs.Image.{empty_image, is_broker_config, is_migrated_state}
 use Rattle.kz_spec_stores.specs.Log.{Log, View, last_of, end_of, batch_ends, record_count, image_at, is_migrated_log, max_records, max_epoch}
 use Rattle.kz_spec_stores.specs.Rendering.{render}
 use Rattle.kz_spec_machine.specs.Driver.{Shared, Driver, is_one_of, shown_by, remaining_at}
-use Rattle.kz_spec_machine.specs.Machine.{World, driver_of}
+use Rattle.kz_spec_machine.specs.Machine.{World, driver_of, is_held_tree}
 
 -- ---- numbers
 
@@ -66,18 +69,18 @@ is_lasting r = is_migrated r.path || is_among base_paths r.path || bytes_eq r.pa
 abbrev pub Lasts : Row → Type 0
 Lasts r = is_some r.owner ≡ true → is_lasting r ≡ false
 
--- No znode that ends with a session has a child.
-abbrev pub AreChildless : List Row → Type 0
-AreChildless rows = (path : List ℕ) → is_ephemeral (row_at path rows) ≡ true → has_children path rows ≡ false
+-- no znode's parent ends with a session
+abbrev pub ParentsStay : List Row → Type 0
+ParentsStay rows = (path : List ℕ) → is_some (row_at path rows) ≡ true → is_ephemeral (row_at (parent_of path) rows) ≡ false
 
 -- The znodes rise by path, their parents are there, and their transactions are those of the tree. Those that end with a
--- session have no child and are none of those that last.
+-- session are no parents, and none of those that last.
 pub record TreeShape (t : Tree) : Type 0 where
   pub rise : Rises bytes_cmp path_of_row t.rows
   pub parents : HaveParents t.rows
   pub stamped : All (IsStamped t.zxid) t.rows
   pub last : All Lasts t.rows
-  pub childless : AreChildless t.rows
+  pub stay : ParentsStay t.rows
 
 -- each batch begins behind the one before it
 abbrev pub Follows : ℤ → List BatchRow → Type 0
@@ -101,7 +104,8 @@ pub record IsBatchEnd (l : Log) (offset : ℤ) : Type 0 where
   pub after : List ℤ
   pub among : batch_ends l ≡ before ++ offset ∷ after
 
--- What is recorded is a batch end; and where the tree is closed, its migrated area is the rendering of the metadata there.
+-- What is recorded is a batch end, and a KRaft controller holds the tree then; where the tree is closed, its migrated area
+-- is the rendering of the metadata there.
 pub record Agreement (t : Tree) (l : Log) : Type 0 where
   pub held : (r : Recorded) → recorded t ≡ Some r → pos 0 ≤ℤ r.offset → is_held_tree t ≡ true
   pub end : (r : Recorded) → recorded t ≡ Some r → pos 0 ≤ℤ r.offset → IsBatchEnd l r.offset
@@ -126,7 +130,8 @@ IsCurrent t claim = (claim ≡ claim_version t) × (claim ≢ None)
 abbrev pub shown_in : Tree → Option ℤ
 shown_in t = shown_by (row_at control_path t.rows)
 
--- A claim is never above the data version; while it is current, `/controller` shows the driver's epoch.
+-- A claim is never above the data version, and a KRaft controller holds the tree; while it is current, `/controller` shows
+-- the driver's epoch.
 pub record Claimed (version shown epoch : Option ℤ) (v : ℤ) : Type 0 where
   pub least : pos 0 ≤ℤ v
   pub low : (now : ℤ) → version ≡ Some now → v ≤ℤ now

@@ -5,7 +5,7 @@ mod members;
 mod reading;
 mod writing;
 
-pub use kz_types::{BodyFault, Recorded};
+pub use kz_types::{BodyFault, DriverState, Recorded, Reply};
 pub use reading::{read_control, read_epoch, read_migration};
 pub use writing::{write_control, write_epoch, write_migration};
 
