@@ -8,3 +8,7 @@ Only value left = (found : Option _) → left found → found ≡ Some value
 -- a stop leaves this value, or the one that the request in flight makes of it
 abbrev pub Between : {V E : Type 0} → V → Result V E → (Option V → Type 0) → Type 0
 Between {V} value made left = (found : Option V) → left found → (found ≡ Some value) ⊎ ((new : V) × (made ≡ Ok new) × (found ≡ Some new))
+
+-- a stop leaves the value before a call, or the one that the call would have made
+abbrev pub Either : {V : Type 0} → V → V → (Option V → Type 0) → Type 0
+Either {V} before after left = (found : Option V) → left found → (found ≡ Some before) ⊎ (found ≡ Some after)

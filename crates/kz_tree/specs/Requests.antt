@@ -40,3 +40,13 @@ IsDown (Err fault.NoMemory) = ⊤
 IsDown (Err fault.Device) = ⊥
 IsDown (Err fault.Down) = ⊤
 IsDown (Err (fault.Full length)) = ⊥
+
+-- A fault of the store itself, and no refusal of the tree: its file's limit, an earlier failure of the disk, or one in this
+-- call.
+abbrev pub IsStoreFault : Option ℕ → Bool → TreeFault → Type 0
+IsStoreFault file down (fault.Refused index c) = ⊥
+IsStoreFault file down (fault.Limit index n) = ⊥
+IsStoreFault file down fault.NoMemory = ⊥
+IsStoreFault file down fault.Device = ⊤
+IsStoreFault file down fault.Down = down ≡ true
+IsStoreFault file down (fault.Full length) = IsFull file length
