@@ -1,0 +1,7 @@
+//! Tests of whole scripts: what the program prints for them, and how it ends.
+#![tactic(auto)]
+
+#[cfg(test)]
+mod clients;
+#[cfg(test)]
+mod made;
