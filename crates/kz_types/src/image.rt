@@ -1,5 +1,7 @@
-//! What the metadata holds of a resource's configuration.
-use crate::{Duplicate, NoMemory, Pair, Sequence, Text};
+//! What the metadata holds of its entities.
+use crate::{
+    AclRow, Duplicate, Id, NoMemory, Pair, PartitionRow, QuotaRow, ScramPair, Sequence, Text, ZPath,
+};
 use std::alloc::Global;
 
 /// The configuration of a resource: its name, and its members by rising name, of which there is at least one.
@@ -14,6 +16,90 @@ impl Duplicate for Configuration {
         Ok(Configuration {
             name: self.name.copy(alloc)?,
             pairs: self.pairs.copy(alloc)?,
+        })
+    }
+}
+
+/// A partition of a topic, and its number.
+#[derive(Drop)]
+pub struct PartitionEntry {
+    pub number: i32,
+    pub row: PartitionRow,
+}
+
+impl Duplicate for PartitionEntry {
+    fn copy(&self, alloc: Global) -> Result<Self, NoMemory> {
+        Ok(PartitionEntry {
+            number: self.number,
+            row: self.row.copy(alloc)?,
+        })
+    }
+}
+
+/// A topic: its name and its id, its partitions by rising number, and its configuration by rising name.
+#[derive(Drop)]
+pub struct TopicEntry {
+    pub name: Text,
+    pub id: Id,
+    pub partitions: Sequence<PartitionEntry>,
+    pub pairs: Sequence<Pair>,
+}
+
+impl Duplicate for TopicEntry {
+    fn copy(&self, alloc: Global) -> Result<Self, NoMemory> {
+        Ok(TopicEntry {
+            name: self.name.copy(alloc)?,
+            id: self.id,
+            partitions: self.partitions.copy(alloc)?,
+            pairs: self.pairs.copy(alloc)?,
+        })
+    }
+}
+
+/// The quotas of an entity: the path of its znode, and its quotas by rising key, of which there is at least one.
+#[derive(Drop)]
+pub struct QuotaEntry {
+    pub path: ZPath,
+    pub quotas: Sequence<QuotaRow>,
+}
+
+impl Duplicate for QuotaEntry {
+    fn copy(&self, alloc: Global) -> Result<Self, NoMemory> {
+        Ok(QuotaEntry {
+            path: self.path.copy(alloc)?,
+            quotas: self.quotas.copy(alloc)?,
+        })
+    }
+}
+
+/// The credentials of a user, by rising mechanism, of which there is at least one.
+#[derive(Drop)]
+pub struct ScramEntry {
+    pub name: Text,
+    pub scrams: Sequence<ScramPair>,
+}
+
+impl Duplicate for ScramEntry {
+    fn copy(&self, alloc: Global) -> Result<Self, NoMemory> {
+        Ok(ScramEntry {
+            name: self.name.copy(alloc)?,
+            scrams: self.scrams.copy(alloc)?,
+        })
+    }
+}
+
+/// An access control entry, and its id.
+#[derive(Drop)]
+pub struct AclEntry {
+    pub id: Id,
+    pub row: AclRow,
+}
+
+impl Duplicate for AclEntry {
+    fn copy(&self, alloc: Global) -> Result<Self, NoMemory> {
+        Ok(AclEntry {
+            id: self.id,
+            row: self.row.copy(alloc)?,
         })
     }
 }
