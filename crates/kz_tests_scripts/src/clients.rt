@@ -211,7 +211,7 @@ end events=2 steps=0 zxid=0 offset=-1 recorded=none
 19 kraft-holds \"/config/brokers/1\"
 20 done 8
 21 closed 5
-end events=16 steps=16 zxid=8 offset=5 recorded=5
+end events=15 steps=16 zxid=8 offset=5 recorded=5
 ",
     ),
 ];
