@@ -1,5 +1,5 @@
 -- What a stop may find at each moment of a run: what is written by then, and the tree and the log.
-use Rattle.std.specs.Prelude.{ℕ, ◌+◌, List, [], ◌∷◌, ◌++◌, Option, Some, None, if◌then◌else◌}
+use Rattle.std.specs.Prelude.{ℕ, List, [], ◌∷◌, ◌++◌, Option, Some, None, if◌then◌else◌}
 use Rattle.kz_types.specs.declared.machine.Event.{Event}
 use Rattle.kz_types.specs.declared.outside.Status.{Status}
 use Rattle.kz_spec_lines.specs.Lines.{Item, line, long, much, items, is_passed_over}
