@@ -19,7 +19,7 @@ use Rattle.kz_spec_runs.specs.InStep.{InStep}
 use Rattle.kz_laws_machine.specs.Laws.{IsOfClient}
 use Rattle.kz_laws_trees.specs.TreeLaws.{Unchanged}
 use Rattle.kz_laws_trees.proofs.Later.{closed_is}
-use Rattle.kz_laws_trees.proofs.Ended.{begin_leaves, end_leaves}
+use Rattle.kz_laws_trees.proofs.Sessions.{begin_leaves, end_leaves}
 use Rattle.kz_laws_trees.proofs.Clients.{client_leaves_held}
 use Rattle.kz_laws_machine.proofs.Agreements.{closed_offset}
 use Rattle.kz_laws_machine.proofs.Clients.{unclaimed}

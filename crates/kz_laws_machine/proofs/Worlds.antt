@@ -26,7 +26,7 @@ use Rattle.kz_spec_machine.specs.Driver.{Shared, Driver, new_driver, elected_dri
 use Rattle.kz_spec_machine.specs.Machine.{World, empty_world, running_ids, is_running, driver_of, with_driver, Turned, turn, work, decided, first_of, unless, over, full, running_refusal, leader_refusal, quorum_refusal, declared_world, start_refusal, started_world, election_records, next_epoch, elected_log, election_refusal, elected_world, election_answer, turn_result, change_refusal, changed_log, changed_world, with_tree, moved_world, is_held_tree, client_refusal, client_world, unless_refused, next}
 use Rattle.kz_spec_machine.specs.Sound.{IsId, IsTime, IsEpoch, IsEpochOrNone, TreeShape, LogShape, IsBatchEnd, Agreement, Kept, Aims, AtStage, Fine, IsLawful, IsChange}
 use Rattle.kz_laws_trees.specs.TreeLaws.{Unchanged}
-use Rattle.kz_laws_trees.proofs.Ended.{begin_leaves, end_leaves}
+use Rattle.kz_laws_trees.proofs.Sessions.{begin_leaves, end_leaves}
 use Rattle.kz_laws_trees.proofs.Clients.{client_keeps_shape, client_leaves_recorded, client_leaves_held}
 use Rattle.kz_laws_trees.proofs.Ends.{end_least, base_is_batch_end, image_before}
 use Rattle.kz_laws_trees.proofs.Growth.{Grows, batch_shape, grows_batch, view_within, StaysMigrated, plain_stays}

@@ -11,7 +11,7 @@ pub mod Later
 pub mod Claim
 pub mod Beside
 pub mod Unchanged
-pub mod Ended
+pub mod Sessions
 pub mod Clients
 pub mod Logs
 pub mod Ends

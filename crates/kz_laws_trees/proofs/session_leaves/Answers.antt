@@ -1,4 +1,4 @@
-use Rattle.kz_laws_trees.proofs.Ended.{begin_leaves, end_leaves}
+use Rattle.kz_laws_trees.proofs.Sessions.{begin_leaves, end_leaves}
 use Rattle.kz_laws_trees.proofs.session_leaves.Goals as goal
 
 pub returns-clause-begin : goal.returns-clause-begin
