@@ -1,5 +1,5 @@
 -- How the tree and the log agree after each request.
-use Rattle.std.proofs.Common.{◌≡◌, ℤ, pos, negsuc, ◌≤ℤ◌, int_le, Bool, true, false, Option, Some, None, option_map, refl, sym, ap, ◌∙◌, subst, arith}
+use Rattle.std.proofs.Common.{◌≡◌, ℤ, pos, negsuc, ◌≤ℤ◌, int_le, Bool, true, false, Option, Some, None, option_map, is_some, refl, sym, ap, ◌∙◌, subst, arith}
 use Rattle.std.specs.Prelude.{Result, Ok}
 use Rattle.std.specs.Result.{result_ok}
 use Rattle.std.proofs.lemmas.Int.{ints}
@@ -13,12 +13,14 @@ use Rattle.kz_spec_stores.specs.Log.{Log, View, image_at}
 use Rattle.kz_spec_stores.specs.Rendering.{render}
 use Rattle.kz_spec_stores.specs.Difference.{diff}
 use Rattle.kz_spec_machine.specs.Driver.{Driver, epoch_or_zero, views_migrated, unrecorded, claim_ops, is_last_write, write_ops}
+use Rattle.kz_spec_machine.specs.Machine.{is_held_tree}
 use Rattle.kz_spec_machine.specs.Sound.{IsId, IsEpochOrNone, TreeShape, LogShape, IsBatchEnd, Agreement, Rests}
 use Rattle.kz_laws_values.proofs.Control.{recorded_is_read}
 use Rattle.kz_laws_trees.specs.TreeLaws.{Completed}
 use Rattle.kz_laws_trees.proofs.Ends.{batch_end_within}
 use Rattle.kz_laws_trees.proofs.Growth.{Grows}
 use Rattle.kz_laws_trees.proofs.Later.{closed_is, not_last_unclosed}
+use Rattle.kz_laws_trees.proofs.Claim.{write_keeps_shown}
 use Rattle.kz_laws_trees.proofs.Beside.{claim_leaves, claim_records, write_keeps_recorded}
 
 -- ---- a closed tree records an offset
@@ -38,6 +40,7 @@ closed_offset t r is closed =
 
 pub agreement_grown : (t : Tree) (l more : Log) → LogShape l → Grows l more → Agreement t l → Agreement t more
 agreement_grown t l more shape grows old = record {
+  held = old.held;
   end = λ r is low. grows.batch_end r.offset (old.end r is low);
   same = λ r is closed. old.same r is closed ∙ ap render (sym (grows.image r.offset (batch_end_within l r.offset shape (old.end r is (closed_offset t r is closed)))));
 }
@@ -59,14 +62,16 @@ rest_area t l v offset agreement rests =
 same_recorded : (m n : Option Recorded) (x y : Recorded) → m ≡ n → m ≡ Some x → n ≡ Some y → x ≡ y
 same_recorded m n x y same a b = cc
 
-pub agreement_last : (t : Tree) (l : Log) (target : Recorded) → IsBatchEnd l target.offset → recorded_of (written_recorded target) ≡ Some target → Completed t (image_at l target.offset) (written_recorded target) → Agreement t l
-agreement_last t l target end read all = record {
+pub agreement_last : (t : Tree) (l : Log) (target : Recorded) → is_held_tree t ≡ true → IsBatchEnd l target.offset → recorded_of (written_recorded target) ≡ Some target → Completed t (image_at l target.offset) (written_recorded target) → Agreement t l
+agreement_last t l target held end read all = record {
+  held = λ r is low. held;
   end = λ r is low. subst (λ (x : Recorded). IsBatchEnd l x.offset) (sym (same_recorded (recorded t) (recorded_of (written_recorded target)) r target all.recorded is read)) end;
   same = λ r is closed. all.area ∙ ap (λ (x : Recorded). render (image_at l x.offset)) (sym (same_recorded (recorded t) (recorded_of (written_recorded target)) r target all.recorded is read));
 }
 
 pub agreement_more : (t new : Tree) (l : Log) (i : Image) (claim : ℤ) (target : Recorded) → TreeShape t → TreeShape new → Agreement t l → is_last_write (diff (area t) (render i)) ≡ false → multi t (write_ops claim (diff (area t) (render i)) target) ≡ Ok new → Agreement new l
 agreement_more t new l i claim target shape after old more is = record {
+  held = λ r found low. ap is_some (write_keeps_shown t new i claim target is) ∙ old.held r (sym (write_keeps_recorded t new i claim target more is) ∙ found) low;
   end = λ r found low. old.end r (sym (write_keeps_recorded t new i claim target more is) ∙ found) low;
   same = λ r found closed. absurd (not_last_unclosed t new i claim target shape after more is closed);
 }
@@ -81,8 +86,9 @@ unrecorded_read d id epoch = ap result_ok (recorded_is_read (unrecorded d) (reco
   epoch = (omega (arith, ints), omega (arith, ints));
 }))
 
-agreement_none : (t : Tree) (l : Log) (d : Driver) → recorded t ≡ Some (unrecorded d) → Agreement t l
-agreement_none t l d none = record {
+agreement_none : (t : Tree) (l : Log) (d : Driver) → is_held_tree t ≡ true → recorded t ≡ Some (unrecorded d) → Agreement t l
+agreement_none t l d held none = record {
+  held = λ r is low. held;
   end = λ r is low. let same : r ≡ unrecorded d = same_recorded (recorded t) (recorded t) r (unrecorded d) refl is none in absurd (below r.offset (ap (λ (x : Recorded). x.offset) same) low);
   same = λ r is closed. let same : r ≡ unrecorded d = same_recorded (recorded t) (recorded t) r (unrecorded d) refl is none in absurd (below r.offset (ap (λ (x : Recorded). x.offset) same) (closed_offset t r is closed));
 }
@@ -90,14 +96,15 @@ agreement_none t l d none = record {
     below : (o : ℤ) → o ≡ negsuc 0 → pos 0 ≤ℤ o → ⊥
     below o is low = absurd (omega (arith, ints))
 
-agreement_by : (t new : Tree) (l : Log) (seen : ClaimSeen) (d : Driver) (now : ℤ) (b : Bool) → views_migrated d ≡ b → TreeShape t → IsId d.id → IsEpochOrNone (epoch_or_zero d.epoch) → Agreement t l → multi t (claim_ops seen d now) ≡ Ok new → Agreement new l
-agreement_by t new l seen d now true migrated shape id epoch old is =
+agreement_by : (t new : Tree) (l : Log) (seen : ClaimSeen) (d : Driver) (now : ℤ) (b : Bool) → views_migrated d ≡ b → TreeShape t → IsId d.id → IsEpochOrNone (epoch_or_zero d.epoch) → is_held_tree new ≡ true → Agreement t l → multi t (claim_ops seen d now) ≡ Ok new → Agreement new l
+agreement_by t new l seen d now true migrated shape id epoch held old is =
     let left = claim_leaves t new seen d now shape migrated is in
     record {
+      held = λ r found low. held;
       end = λ r found low. old.end r (sym left.recorded ∙ found) low;
       same = λ r found closed. left.area ∙ old.same r (sym left.recorded ∙ found) (left.closed closed);
     }
-agreement_by t new l seen d now false migrated shape id epoch old is = agreement_none new l d (claim_records t new seen d now migrated is ∙ unrecorded_read d id epoch)
+agreement_by t new l seen d now false migrated shape id epoch held old is = agreement_none new l d held (claim_records t new seen d now migrated is ∙ unrecorded_read d id epoch)
 
-pub agreement_claim : (t new : Tree) (l : Log) (seen : ClaimSeen) (d : Driver) (now : ℤ) → TreeShape t → IsId d.id → IsEpochOrNone (epoch_or_zero d.epoch) → Agreement t l → multi t (claim_ops seen d now) ≡ Ok new → Agreement new l
-agreement_claim t new l seen d now shape id epoch old is = agreement_by t new l seen d now (views_migrated d) refl shape id epoch old is
+pub agreement_claim : (t new : Tree) (l : Log) (seen : ClaimSeen) (d : Driver) (now : ℤ) → TreeShape t → IsId d.id → IsEpochOrNone (epoch_or_zero d.epoch) → is_held_tree new ≡ true → Agreement t l → multi t (claim_ops seen d now) ≡ Ok new → Agreement new l
+agreement_claim t new l seen d now shape id epoch held old is = agreement_by t new l seen d now (views_migrated d) refl shape id epoch held old is

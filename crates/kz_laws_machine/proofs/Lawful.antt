@@ -17,10 +17,14 @@ use Rattle.kz_types.specs.declared.record.MetaRecord.TheVariants as meta
 use Rattle.kz_spec_lines.specs.Json.{json_of, member_count, whole_up_to, text_member, by_name}
 use Rattle.kz_spec_lines.specs.Lines.{Item, line, long, much, items, is_passed_over}
 use Rattle.kz_spec_lines.specs.Records.{record_of}
-use Rattle.kz_spec_lines.specs.Events.{id_of, time_of, controller_of, now_of, timed_count, only_id, quorum_of, start_of, elect_of, turn_of, is_broker_config, is_changeable, changeable_of, only_record, change_of, check_of, event_forms, event_of, line_event}
+use Rattle.kz_spec_lines.specs.Ops.{session_in, path_in, version_in, body_in, owner_by, create_of, set_of, delete_of, op_forms, op_of}
+use Rattle.kz_spec_lines.specs.Ops as ops
+use Rattle.kz_types.specs.declared.tree.Op.{Op}
+use Rattle.kz_types.specs.declared.tree.Op.TheVariants.{Create, Set, Delete, Check}
+use Rattle.kz_spec_lines.specs.Events.{id_of, time_of, controller_of, now_of, timed_count, only_id, quorum_of, start_of, elect_of, turn_of, is_broker_config, is_changeable, changeable_of, only_record, change_of, check_of, session_of, open_of, expire_of, is_open_op, open_op_of, ops_in, some_ops, zk_of, event_forms, event_of, line_event}
 use Rattle.kz_spec_stores.specs.Image.{is_empty, is_broker_name}
 use Rattle.kz_spec_stores.specs.Image as image
-use Rattle.kz_spec_machine.specs.Sound.{IsId, IsTime, IsChange, IsLawful}
+use Rattle.kz_spec_machine.specs.Sound.{IsId, IsTime, IsChange, IsSession, IsOwner, IsLawfulOp, IsLawful}
 use Rattle.kz_spec_runs.specs.InStep.{events_on, events_of, script_events}
 
 -- it is so of what is there
@@ -149,23 +153,87 @@ change_lawful d = where_true IsLawful (member_count d == timed_count 3 d) _ (λ 
 check_lawful : (d : Data) → OfSome IsLawful (check_of d)
 check_lawful d = where_true IsLawful (member_count d == 1) (Some event.Check) (λ one. tt)
 
-named : (b : Bool) (o rest : Option Event) → OfSome IsLawful o → OfSome IsLawful rest → OfSome IsLawful (if b then o else rest)
-named true o rest first second = first
-named false o rest first second = second
+-- ---- what stands under a name
 
-abbrev Form : Type 0
-Form = List ℕ × (Data → Option Event)
+named : {A : Type 0} (P : A → Type 0) (b : Bool) (o rest : Option A) → OfSome P o → OfSome P rest → OfSome P (if b then o else rest)
+named P true o rest first second = first
+named P false o rest first second = second
 
-abbrev AllLawful : List Form → Type 0
-AllLawful [] = ⊤
-AllLawful (f ∷ fs) = ((d : Data) → OfSome IsLawful (f.1 d)) × AllLawful fs
+abbrev AllGive : {A : Type 0} → (A → Type 0) → List (List ℕ × (Data → Option A)) → Type 0
+AllGive P [] = ⊤
+AllGive P (f ∷ fs) = ((d : Data) → OfSome P (f.1 d)) × AllGive P fs
 
-by_name_lawful : (fs : List Form) (name : List ℕ) (d : Data) → AllLawful fs → OfSome IsLawful (by_name fs name d)
-by_name_lawful [] name d all = tt
-by_name_lawful (f ∷ fs) name d all = named (bytes_eq name f.0) (f.1 d) (by_name fs name d) (all.0 d) (by_name_lawful fs name d all.1)
+by_name_gives : {A : Type 0} (P : A → Type 0) (fs : List (List ℕ × (Data → Option A))) (name : List ℕ) (d : Data) → AllGive P fs → OfSome P (by_name fs name d)
+by_name_gives P [] name d all = tt
+by_name_gives P (f ∷ fs) name d all = named P (bytes_eq name f.0) (f.1 d) (by_name fs name d) (all.0 d) (by_name_gives P fs name d all.1)
+
+-- ---- sessions and multis of ZooKeeper clients
+
+both_true : (a b : Bool) → (a && b) ≡ true → (a ≡ true) × (b ≡ true)
+both_true true b is = (refl, is)
+both_true false b is = absurd (cc)
+
+session_is : (d : Data) → OfSome IsSession (session_in d)
+session_is d = after (λ (n : ℕ). ⊤) IsSession (λ n. if nat_le 1 n && nat_le n 9223372036854775807 then Some (pos n) else None) (option_and_then as_u64 (as_number d)) (anything (option_and_then as_u64 (as_number d)))
+    (λ n t. where_true IsSession (nat_le 1 n && nat_le n 9223372036854775807) (Some (pos n)) (λ is. let both = both_true (nat_le 1 n) (nat_le n 9223372036854775807) is in within n (at_most 1 n both.0) (at_most n 9223372036854775807 both.1)))
+  where
+    within : (n : ℕ) → 1 ≤ n → n ≤ 9223372036854775807 → IsSession (pos n)
+    within n least most = record { least = omega (arith, ints); most = omega (arith, ints) }
+
+session_of_is : (d : Data) → OfSome IsSession (session_of d)
+session_of_is d = after (λ (x : Data). ⊤) IsSession session_in (get (codes "session") d) (anything (get (codes "session") d)) (λ x t. session_is x)
+
+open_lawful : (d : Data) → OfSome IsLawful (open_of d)
+open_lawful d = where_true IsLawful (member_count d == 2) _ (λ two. mapped IsSession IsLawful (λ s. event.ZkOpen s) (session_of d) (session_of_is d) (λ s is. is))
+
+expire_lawful : (d : Data) → OfSome IsLawful (expire_of d)
+expire_lawful d = where_true IsLawful (member_count d == 2) _ (λ two. mapped IsSession IsLawful (λ s. event.ZkExpire s) (session_of d) (session_of_is d) (λ s is. is))
+
+owner_is : (o : Option Data) → OfSome IsOwner (owner_by o)
+owner_is None = tt
+owner_is (Some d) = mapped IsSession IsOwner (λ s. Some s) (session_in d) (session_is d) (λ s is. is)
+
+create_lawful : (d : Data) → OfSome IsLawfulOp (create_of d)
+create_lawful d = where_true IsLawfulOp _ _ (λ few. after (λ (p : List ℕ). ⊤) IsLawfulOp _ (path_in d) (anything (path_in d)) (λ path t. after (λ (b : List ℕ). ⊤) IsLawfulOp _ (body_in d) (anything (body_in d))
+    (λ body u. mapped IsOwner IsLawfulOp (λ owner. Create path body owner) (owner_by (get (codes "owner") d)) (owner_is (get (codes "owner") d)) (λ owner is. is))))
+
+set_lawful : (d : Data) → OfSome IsLawfulOp (set_of d)
+set_lawful d = where_true IsLawfulOp _ _ (λ few. after (λ (p : List ℕ). ⊤) IsLawfulOp _ (path_in d) (anything (path_in d)) (λ path t. after (λ (b : List ℕ). ⊤) IsLawfulOp _ (body_in d) (anything (body_in d))
+    (λ body u. mapped (λ (v : ℤ). ⊤) IsLawfulOp (λ version. Set path body version) (version_in d) (anything (version_in d)) (λ version v. tt))))
+
+delete_lawful : (d : Data) → OfSome IsLawfulOp (delete_of d)
+delete_lawful d = where_true IsLawfulOp _ _ (λ few. after (λ (p : List ℕ). ⊤) IsLawfulOp _ (path_in d) (anything (path_in d))
+    (λ path t. mapped (λ (v : ℤ). ⊤) IsLawfulOp (λ version. Delete path version) (version_in d) (anything (version_in d)) (λ version v. tt)))
+
+check_op_lawful : (d : Data) → OfSome IsLawfulOp (ops.check_of d)
+check_op_lawful d = where_true IsLawfulOp _ _ (λ few. after (λ (p : List ℕ). ⊤) IsLawfulOp _ (path_in d) (anything (path_in d))
+    (λ path t. mapped (λ (v : ℤ). ⊤) IsLawfulOp (λ version. Check path version) (version_in d) (anything (version_in d)) (λ version v. tt)))
+
+op_lawful : (d : Data) → OfSome IsLawfulOp (op_of d)
+unfolding op_of
+op_lawful d = after (λ (x : List ℕ). ⊤) IsLawfulOp (λ name. by_name op_forms name d) (text_member (codes "op") d) (anything (text_member (codes "op") d))
+    (λ name t. by_name_gives IsLawfulOp op_forms name d (create_lawful, (set_lawful, (delete_lawful, (check_op_lawful, tt)))))
+
+open_op_lawful : (d : Data) → OfSome IsLawfulOp (open_op_of d)
+open_op_lawful d = after IsLawfulOp IsLawfulOp (λ o. if is_open_op o then Some o else None) (op_of d) (op_lawful d) (λ o is. where_true IsLawfulOp (is_open_op o) (Some o) (λ taken. is))
+
+ops_lawful : (ds : Items) → OfSome (All IsLawfulOp) (ops_in ds)
+ops_lawful no_items = All-nil IsLawfulOp
+ops_lawful (item d ds) = after IsLawfulOp (All IsLawfulOp) (λ o. option_map (λ os. o ∷ os) (ops_in ds)) (open_op_of d) (open_op_lawful d)
+    (λ o is. mapped (All IsLawfulOp) (All IsLawfulOp) (λ os. o ∷ os) (ops_in ds) (ops_lawful ds) (λ os all. All-cons IsLawfulOp o os is all))
+
+some_lawful : (os : List Op) → All IsLawfulOp os → OfSome IsLawful (some_ops os)
+some_lawful [] all = tt
+some_lawful (o ∷ os) all = (all, omega arith)
+
+zk_lawful : (d : Data) → OfSome IsLawful (zk_of d)
+zk_lawful d = where_true IsLawful (member_count d == 2) _ (λ two. after (All IsLawfulOp) IsLawful some_ops (option_and_then ops_in (items_at (codes "ops") d))
+    (after (λ (x : Items). ⊤) (All IsLawfulOp) ops_in (items_at (codes "ops") d) (anything (items_at (codes "ops") d)) (λ ds t. ops_lawful ds)) some_lawful)
+
+-- ---- every event
 
 form_lawful : (name : List ℕ) (d : Data) → OfSome IsLawful (by_name event_forms name d)
-form_lawful name d = by_name_lawful event_forms name d (quorum_lawful, (start_lawful, (elect_lawful, (turn_lawful, (change_lawful, (check_lawful, tt))))))
+form_lawful name d = by_name_gives IsLawful event_forms name d (quorum_lawful, (start_lawful, (elect_lawful, (turn_lawful, (change_lawful, (check_lawful, (open_lawful, (expire_lawful, (zk_lawful, tt)))))))))
 
 event_lawful : (d : Data) → OfSome IsLawful (event_of d)
 event_lawful d = after (λ (x : List ℕ). ⊤) IsLawful (λ name. by_name event_forms name d) (text_member (codes "event") d) (anything (text_member (codes "event") d)) (λ name t. form_lawful name d)

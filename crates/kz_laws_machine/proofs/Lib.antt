@@ -2,8 +2,10 @@ pub mod Agreements
 pub mod Groups
 pub mod Steps
 pub mod Turns
+pub mod Clients
 pub mod Worlds
 pub mod Steady
+pub mod ClientEvents
 pub mod Lawful
 pub mod Driven
 pub mod Told

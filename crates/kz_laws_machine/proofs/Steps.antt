@@ -1,7 +1,7 @@
 -- A step of a driver, by its stage: what is kept of the tree and the log, and what is owed of the driver.
 use Rattle.kz_laws_trees.proofs.Translated.{translated_are_configs}
 use Rattle.kz_laws_trees.specs.LogLaws.{IsPlain}
-use Rattle.std.proofs.Common.{◌≡◌, ◌≢◌, nat_lt, ℤ, pos, ◌≤ℤ◌, int_le, int_lt, Bool, true, false, not, ◌&&◌, if◌then◌else◌, List, [], ◌∷◌, ◌++◌, length, take, drop, map, filter, Option, Some, None, option_map, refl, sym, ap, ◌∙◌, subst, arith, All}
+use Rattle.std.proofs.Common.{◌≡◌, ◌≢◌, nat_lt, ℤ, pos, ◌≤ℤ◌, int_le, int_lt, Bool, true, false, not, ◌&&◌, if◌then◌else◌, List, [], ◌∷◌, ◌++◌, length, take, drop, map, filter, Option, Some, None, option_map, is_some, refl, sym, ap, ◌∙◌, subst, arith, All}
 use Rattle.std.specs.Prelude.{Result, Ok, Err, ⊤}
 use Rattle.std.specs.Ordering.{int_eq}
 use Rattle.std.specs.Result.{result_ok}
@@ -38,13 +38,14 @@ use Rattle.kz_spec_stores.specs.Rendering.{render}
 use Rattle.kz_spec_stores.specs.Translation.{Unreadable, translate}
 use Rattle.kz_spec_stores.specs.Difference.{diff, chunk, max_chunk}
 use Rattle.kz_spec_machine.specs.Driver.{Shared, Driver, state_of, at_stage, resigned, begins_again, epoch_or_zero, views_migrated, seen_in, shown_by, unless_fenced, unless_full_epoch, unless_bad_epoch, unless_full_record, looked, claimed_version, claim_ops, remaining_at, is_last_write, write_ops, target_of, page_size, last_path, Request, nothing, read_log, list_brokers, look_up, read_page, write, add, begin_record, begin_request, next_records, write_request, asked, with_tree, with_log, made, missing_controller, missing_broker, having_read, wait_or_move, after_quorum, after_brokers, path_at, after_claim, after_append, after_translation, after_records, written_driver, is_claim_refused, after_write, writes, is_recorded_at, answered, batch_size}
-use Rattle.kz_spec_machine.specs.Sound.{IsId, IsEpochOrNone, IsStamped, TreeShape, LogShape, IsBatchEnd, Kept, IsTime, claim_version, IsCurrent, shown_in, Claimed, Epochs, Elected, Aims, Reads, Writes, Rests, AtStage, IsConfig}
+use Rattle.kz_spec_machine.specs.Machine.{is_held_tree}
+use Rattle.kz_spec_machine.specs.Sound.{IsId, IsEpochOrNone, IsStamped, TreeShape, LogShape, IsBatchEnd, Kept, IsTime, claim_version, IsCurrent, shown_in, Claimed, Claims, Epochs, Elected, Aims, Reads, Writes, Rests, AtStage, IsConfig}
 use Rattle.kz_laws_values.proofs.Control.{recorded_is_read}
-use Rattle.kz_laws_trees.proofs.Multi.{multi_ran, shape_kept, write_keeps_version, last_write, remaining_after_write}
-use Rattle.kz_laws_trees.specs.TreeLaws.{Completed}
+use Rattle.kz_laws_trees.proofs.Multi.{multi_ran, shape_kept, write_keeps_lasting, write_keeps_version, last_write, remaining_after_write}
+use Rattle.kz_laws_trees.specs.TreeLaws.{KeepsLasting, Completed}
 use Rattle.kz_laws_trees.proofs.Pages.{behind_last, short_page, one_page_more}
 use Rattle.kz_laws_trees.proofs.Ends.{end_most}
-use Rattle.kz_laws_trees.proofs.Claim.{claim_gives_version, claim_shows, write_keeps_shown}
+use Rattle.kz_laws_trees.proofs.Claim.{claim_keeps_lasting, claim_gives_version, claim_shows, write_keeps_shown}
 use Rattle.kz_laws_trees.proofs.Growth.{append_appends, view_within, append_grows, StaysMigrated, plain_stays, commit_is_migrated}
 use Rattle.kz_laws_machine.proofs.Agreements.{rest_area, agreement_last, agreement_more, agreement_claim}
 use Rattle.kz_laws_machine.proofs.Groups.{Base, Current, Owed, moves, stays, resigns, again, chosen, finalised, base_read, zero_or, own_epoch, aims, base_grown, base_written}
@@ -54,22 +55,58 @@ use Rattle.kz_laws_machine.proofs.Groups.{Base, Current, Owed, moves, stays, res
 abbrev Shaped : Shared → Type 0
 Shaped s = TreeShape s.tree × LogShape s.log
 
-with_tree_shaped : (s : Shared) (ops : List Op) (r : Result Tree TreeFault) → multi s.tree ops ≡ r → Kept s → Shaped (with_tree s r)
-with_tree_shaped s ops (Ok t) is kept = (shape_kept s.tree t ops (multi_ran s.tree t ops is) kept.tree, kept.log)
-with_tree_shaped s ops (Err e) is kept = (kept.tree, kept.log)
+with_tree_shaped : (s : Shared) (ops : List Op) (r : Result Tree TreeFault) → multi s.tree ops ≡ r → All KeepsLasting ops → Kept s → Shaped (with_tree s r)
+with_tree_shaped s ops (Ok t) is keeps kept = (shape_kept s.tree t ops (multi_ran s.tree t ops is) keeps kept.tree, kept.log)
+with_tree_shaped s ops (Err e) is keeps kept = (kept.tree, kept.log)
 
 with_log_shaped : (s : Shared) (epoch now : ℤ) (items : List MetaRecord) (r : Result Log LogFault) → append s.log epoch now items ≡ r → Kept s → Shaped (with_log s r)
 with_log_shaped s epoch now items (Ok l) is kept = (kept.tree, (append_appends s.log epoch now items l is kept.log).shape)
 with_log_shaped s epoch now items (Err e) is kept = (kept.tree, kept.log)
 
-pub made_shaped : (s : Shared) (epoch now : ℤ) (request : Request) → Kept s → Shaped (made s epoch now request)
-made_shaped s epoch now nothing kept = (kept.tree, kept.log)
-made_shaped s epoch now read_log kept = (kept.tree, kept.log)
-made_shaped s epoch now list_brokers kept = (kept.tree, kept.log)
-made_shaped s epoch now look_up kept = (kept.tree, kept.log)
-made_shaped s epoch now (read_page after) kept = (kept.tree, kept.log)
-made_shaped s epoch now (write ops) kept = with_tree_shaped s ops (multi s.tree ops) refl kept
-made_shaped s epoch now (add records) kept = with_log_shaped s epoch now records (append s.log epoch now records) refl kept
+-- a write makes no znode that lasts end with a session
+abbrev pub RequestKeeps : Request → Type 0
+RequestKeeps nothing = ⊤
+RequestKeeps read_log = ⊤
+RequestKeeps list_brokers = ⊤
+RequestKeeps look_up = ⊤
+RequestKeeps (read_page after) = ⊤
+RequestKeeps (write ops) = All KeepsLasting ops
+RequestKeeps (add records) = ⊤
+
+write_request_keeps : (s : Shared) (m : Option ℤ) (target : Recorded) → RequestKeeps (write_request m (remaining_at s.tree s.log target.offset) target)
+write_request_keeps s None target = tt
+write_request_keeps s (Some claim) target = write_keeps_lasting s.tree (image_at s.log target.offset) claim target
+
+begin_request_keeps : (r : Result (List MetaRecord) Unreadable) → RequestKeeps (begin_request r)
+begin_request_keeps (Ok records) = tt
+begin_request_keeps (Err e) = tt
+
+pub asked_keeps : (s : Shared) (now : ℤ) (d : Driver) (x : Stage) → RequestKeeps (asked s now d x)
+asked_keeps s now d stage.Uninitialized = tt
+asked_keeps s now d stage.Inactive = tt
+asked_keeps s now d stage.WaitForQuorum = tt
+asked_keeps s now d stage.WaitForBrokers = tt
+asked_keeps s now d stage.CompareBrokers = tt
+asked_keeps s now d stage.Look = tt
+asked_keeps s now d (stage.Claim seen) = claim_keeps_lasting seen d now
+asked_keeps s now d (stage.ReadSource rows) = tt
+asked_keeps s now d (stage.Begin rows) = begin_request_keeps (translate rows)
+asked_keeps s now d (stage.Fill records) = tt
+asked_keeps s now d stage.ReadLog = tt
+asked_keeps s now d (stage.ReadArea target rows) = tt
+asked_keeps s now d (stage.WriteAll target ops) = write_request_keeps s d.claim target
+asked_keeps s now d stage.InformBrokers = tt
+asked_keeps s now d stage.Rest = tt
+asked_keeps s now d (stage.WriteChange target ops) = write_request_keeps s d.claim target
+
+pub made_shaped : (s : Shared) (epoch now : ℤ) (request : Request) → RequestKeeps request → Kept s → Shaped (made s epoch now request)
+made_shaped s epoch now nothing keeps kept = (kept.tree, kept.log)
+made_shaped s epoch now read_log keeps kept = (kept.tree, kept.log)
+made_shaped s epoch now list_brokers keeps kept = (kept.tree, kept.log)
+made_shaped s epoch now look_up keeps kept = (kept.tree, kept.log)
+made_shaped s epoch now (read_page after) keeps kept = (kept.tree, kept.log)
+made_shaped s epoch now (write ops) keeps kept = with_tree_shaped s ops (multi s.tree ops) refl keeps kept
+made_shaped s epoch now (add records) keeps kept = with_log_shaped s epoch now records (append s.log epoch now records) refl kept
 
 tree_declared : (s : Shared) (r : Result Tree TreeFault) → (with_tree s r).declared ≡ s.declared
 tree_declared s (Ok t) = refl
@@ -153,16 +190,23 @@ version_least (Some r) low = let old = low r refl in omega (arith, ints)
 same_some : (a b : ℤ) → Some a ≡ Some b → a ≤ℤ b
 same_some a b is = let same : a ≡ b = cc in omega (arith, ints)
 
+-- `/controller` shows its epoch then
+claim_shown : (s : Shared) (d : Driver) (t : Tree) (seen : ClaimSeen) (now : ℤ) → Base s d → IsTime now → multi s.tree (claim_ops seen d now) ≡ Ok t → shown_in t ≡ Some (epoch_or_zero d.epoch)
+claim_shown s d t seen now base time made-is =
+    let epoch = zero_or s.log d.epoch base.epochs in
+    claim_shows s.tree t seen d now (let a = base.id.least in omega (arith, ints), let a = base.id.most in omega (arith, ints)) (epoch.least, epoch.most) (let a = time.least in omega (arith, ints), time.most) made-is
+
 -- the claim that it has made
 claimed : (s : Shared) (d : Driver) (t : Tree) (seen : ClaimSeen) (now : ℤ) → Base s d → d.epoch ≢ None → IsTime now → ((x : Row) → seen.epoch ≡ Some x → pos 0 ≤ℤ x.version)
     → claim_version t ≡ Some (claimed_version seen.epoch) → multi s.tree (claim_ops seen d now) ≡ Ok t → Claimed (claim_version t) (shown_in t) d.epoch (claimed_version seen.epoch)
 claimed s d t seen now base elected time low version made-is =
-    let epoch = zero_or s.log d.epoch base.epochs in
+    let shown = claim_shown s d t seen now base time made-is in
     record {
       least = version_least seen.epoch low;
       low = λ present is. same_some (claimed_version seen.epoch) present (sym version ∙ is);
       there = λ none. absurd (cc (version, none));
-      shows = λ is. claim_shows s.tree t seen d now (let a = base.id.least in omega (arith, ints), let a = base.id.most in omega (arith, ints)) (epoch.least, epoch.most) (let a = time.least in omega (arith, ints), time.most) made-is ∙ own_epoch d.epoch elected;
+      held = λ none. absurd (cc (shown, none));
+      shows = λ is. shown ∙ own_epoch d.epoch elected;
     }
 
 claims : (s : Shared) (d : Driver) (seen : ClaimSeen) (now : ℤ) (r : Result Tree TreeFault) → multi s.tree (claim_ops seen d now) ≡ r → IsTime now → d.stage ≡ stage.Claim seen → TreeShape s.tree → Base s d → Current s d → d.epoch ≢ None
@@ -172,7 +216,7 @@ claims s d seen now (Ok t) made-is time is shape base current elected low =
     let both = after_claim_stage (views_migrated d) s.log t e base.views.migrated elected in
     let version = claim_gives_version s.tree t seen d now low made-is in
     record {
-      agreement = agreement_claim s.tree t s.log seen d now shape base.id (zero_or s.log d.epoch base.epochs) base.agreement made-is;
+      agreement = agreement_claim s.tree t s.log seen d now shape base.id (zero_or s.log d.epoch base.epochs) (ap is_some (claim_shown s d t seen now base time made-is)) base.agreement made-is;
       own = record { id = base.id; epochs = base.epochs; elected = both.0; claims = claimed s d t seen now base elected time low version made-is; views = base.views; stage = both.1 };
       current = λ some. (sym version, λ none. absurd (cc));
       same = refl;
@@ -312,6 +356,14 @@ rests_there s d t target kept base aim done-all =
       migrated = aim.migrated;
     }
 
+some_shown : (m : Option ℤ) → m ≢ None → is_some m ≡ true
+some_shown None some = absurd (some refl)
+some_shown (Some e) some = refl
+
+-- a KRaft controller holds the tree of a driver that has a claim
+held_by : (s : Shared) (d : Driver) (claim : ℤ) → Base s d → d.claim ≡ Some claim → is_held_tree s.tree ≡ true
+held_by s d claim base is = some_shown (shown_in s.tree) (subst (Claims (claim_version s.tree) (shown_in s.tree) d.epoch) is base.claims).held
+
 written_by : (s : Shared) (d : Driver) (claim : ℤ) (target : Recorded) (x : Stage) (more : List Op → Stage) (last : Stage) (t : Tree) → WritesFrom target x more last
     → Kept s → Base s d → Current s d → d.claim ≡ Some claim → d.epoch ≢ None → Aims target d.id d.epoch d.view → multi s.tree (write_ops claim (remaining_at s.tree s.log target.offset) target) ≡ Ok t
     → Owed (record s { tree = t }) d.id (written_driver (remaining_at s.tree s.log target.offset) target more last d)
@@ -320,13 +372,13 @@ written_by s d claim target x more last t from kept base current claimed elected
     let version = write_keeps_version s.tree t (image_at s.log target.offset) claim target made-is in
     let new : Shared = record s { tree = t } in
     let shown = write_keeps_shown s.tree t (image_at s.log target.offset) claim target made-is in
-    let after = shape_kept s.tree t (write_ops claim ops target) (multi_ran s.tree t (write_ops claim ops target) made-is) kept.tree in
+    let after = shape_kept s.tree t (write_ops claim ops target) (multi_ran s.tree t (write_ops claim ops target) made-is) (write_keeps_lasting s.tree (image_at s.log target.offset) claim target) kept.tree in
     let now_current : Current new d = λ some. (let old = current some in (old.0 ∙ sym version, old.1)) in
     chosen new d.id (is_last_write ops) (record d { stage = last; recorded = Some target.offset }, reply.Recorded target.offset) (at_stage (more (drop max_chunk ops)) d, reply.Wrote (length (chunk ops)))
     (λ is.
     let e : Driver = record d { stage = last; recorded = Some target.offset } in
     let all-done = last_write s.tree t (image_at s.log target.offset) claim target kept.tree is made-is in
-    let agreement = agreement_last t s.log target (subst (IsBatchEnd s.log) (sym aim.offset) base.views.end) (reads s d target kept.log base aim) all-done in
+    let agreement = agreement_last t s.log target (ap is_some shown ∙ held_by s d claim base claimed) (subst (IsBatchEnd s.log) (sym aim.offset) base.views.end) (reads s d target kept.log base aim) all-done in
     let base-now = base_written s t d version shown agreement base in
     record {
       agreement = agreement;

@@ -8,7 +8,7 @@ use Rattle.kz_spec_machine.specs.Machine.{ends, Turned, with_reply, turn}
 use Rattle.kz_spec_machine.specs.Sound.{IsTime, Kept, Fine}
 use Rattle.kz_spec_runs.specs.InStep.{last_reply}
 use Rattle.kz_laws_machine.proofs.Groups.{base_of, Current, Owed, AtRest}
-use Rattle.kz_laws_machine.proofs.Steps.{made_shaped, made_declared, owed}
+use Rattle.kz_laws_machine.proofs.Steps.{asked_keeps, made_shaped, made_declared, owed}
 
 -- what is true after a step
 pub record StepKept (s : Shared) (id : ℤ) (t : Stepped) : Type 0 where
@@ -19,7 +19,7 @@ pub record StepKept (s : Shared) (id : ℤ) (t : Stepped) : Type 0 where
 pub stepped : (s : Shared) (running : List ℤ) (now : ℤ) (d : Driver) → IsTime now → Kept s → Fine s d → Current s d → StepKept s d.id (step s running now d)
 unfolding step
 stepped s running now d time kept fine current =
-    let shaped = made_shaped s (epoch_or_zero d.epoch) now (asked s now d d.stage) kept in
+    let shaped = made_shaped s (epoch_or_zero d.epoch) now (asked s now d d.stage) (asked_keeps s now d d.stage) kept in
     let o = owed s running now d d.stage time refl kept (base_of s d kept.agreement fine) current fine.elected fine.stage in
     record {
       kept = record { tree = shaped.0; log = shaped.1; agreement = o.agreement };

@@ -2,7 +2,7 @@
 use Rattle.kz_spec_stores.specs.Image.{is_migrated_state}
 use Rattle.kz_laws_trees.specs.LogLaws.{IsPlain}
 use Rattle.std.proofs.Common.{◌≡◌, ℕ, ◌≤◌, ℤ, pos, negsuc, ◌+ℤ◌, ◌≤ℤ◌, int_lt, Bool, true, false, not, ◌||◌, if◌then◌else◌, cond, List, [], ◌∷◌, ◌++◌, length, map, Option, Some, None, option_map, refl, sym, ap, ◌∙◌, subst, arith, All}
-use Rattle.std.specs.Prelude.{⊤}
+use Rattle.std.specs.Prelude.{⊤, Result, Ok, Err}
 use Rattle.std.specs.Ordering.{int_eq}
 use Rattle.std.proofs.lemmas.Bool.Decides.{Decides-int_eq}
 use Rattle.std.proofs.lemmas.Int.{ints}
@@ -15,17 +15,24 @@ use Rattle.kz_types.specs.declared.machine.Answer.TheVariants as answer
 use Rattle.kz_types.specs.declared.record.MetaRecord.{MetaRecord}
 use Rattle.kz_types.specs.declared.record.MetaRecord.TheVariants as meta
 use Rattle.kz_types.specs.declared.machine.Recorded.{Recorded}
-use Rattle.kz_spec_stores.specs.Tree.{area}
+use Rattle.kz_types.specs.declared.tree.Op.{Op}
+use Rattle.kz_types.specs.declared.fault.TreeFault.{TreeFault}
+use Rattle.kz_types.specs.declared.move_fault.MoveFault.{MoveFault}
+use Rattle.kz_spec_stores.specs.Tree.{Tree, multi, begin_session, end_session, area}
 use Rattle.kz_spec_stores.specs.Difference.{diff}
 use Rattle.kz_spec_stores.specs.Log.{Log, end_of, image_at, max_epoch, full_log, is_migrated_log, image_of, is_open_log}
 use Rattle.kz_spec_stores.specs.Rendering.{render}
 use Rattle.kz_spec_machine.specs.Driver.{Shared, Driver, new_driver, elected_driver, is_one_of}
-use Rattle.kz_spec_machine.specs.Machine.{World, empty_world, running_ids, is_running, driver_of, with_driver, Turned, turn, work, decided, first_of, unless, over, full, running_refusal, leader_refusal, quorum_refusal, declared_world, start_refusal, started_world, election_records, next_epoch, elected_log, election_refusal, elected_world, election_answer, turn_result, change_refusal, changed_log, changed_world, unless_refused, next}
-use Rattle.kz_spec_machine.specs.Sound.{IsId, IsTime, IsEpoch, IsEpochOrNone, LogShape, IsBatchEnd, Kept, Aims, AtStage, Fine, IsLawful, IsChange}
+use Rattle.kz_spec_machine.specs.Machine.{World, empty_world, running_ids, is_running, driver_of, with_driver, Turned, turn, work, decided, first_of, unless, over, full, running_refusal, leader_refusal, quorum_refusal, declared_world, start_refusal, started_world, election_records, next_epoch, elected_log, election_refusal, elected_world, election_answer, turn_result, change_refusal, changed_log, changed_world, with_tree, moved_world, is_held_tree, client_refusal, client_world, unless_refused, next}
+use Rattle.kz_spec_machine.specs.Sound.{IsId, IsTime, IsEpoch, IsEpochOrNone, TreeShape, LogShape, IsBatchEnd, Agreement, Kept, Aims, AtStage, Fine, IsLawful, IsChange}
+use Rattle.kz_laws_trees.specs.TreeLaws.{Unchanged}
+use Rattle.kz_laws_trees.proofs.Sessions.{begin_leaves, end_leaves}
+use Rattle.kz_laws_trees.proofs.Clients.{client_keeps_shape, client_leaves_recorded, client_leaves_held}
 use Rattle.kz_laws_trees.proofs.Ends.{end_least, base_is_batch_end, image_before}
 use Rattle.kz_laws_trees.proofs.Growth.{Grows, batch_shape, grows_batch, view_within, StaysMigrated, plain_stays}
 use Rattle.kz_laws_machine.proofs.Agreements.{agreement_grown}
 use Rattle.kz_laws_machine.proofs.Groups.{base_of, Current, base_grown}
+use Rattle.kz_laws_machine.proofs.Clients.{agreement_unchanged, fine_unchanged, current_unchanged, agreement_unheld, unclaimed, fine_unheld}
 use Rattle.kz_laws_machine.proofs.Turns.{TurnKept, turned}
 
 -- ---- a world with at most one driver
@@ -326,6 +333,55 @@ unless_kept : (P : World → Type 0) (w : World) (refusal : Option Answer) (rest
 unless_kept P w (Some a) rest old made = old
 unless_kept P w None rest old made = made
 
+-- ---- sessions and multis of ZooKeeper clients
+
+-- another tree, for which each driver is as it was for the first one
+moved_one : (s : Shared) (t : Tree) (ds : List Driver) → ((d : Driver) → Own s d → Own (record s { tree = t }) d) → OneOf s ds → OneOf (record s { tree = t }) ds
+moved_one s t [] own one = tt
+moved_one s t (d ∷ []) own one = own d one
+moved_one s t (d ∷ e ∷ ds) own one = one
+
+tree_moved : (w : World) (t : Tree) → TreeShape t → Agreement t w.shared.log → ((d : Driver) → Own w.shared d → Own (record w.shared { tree = t }) d) → Lone w → Lone (with_tree w t)
+tree_moved w t shape agreement own lone = record {
+  kept = record { tree = shape; log = lone.kept.log; agreement = agreement };
+  declared = lone.declared;
+  one = moved_one w.shared t w.drivers own lone.one;
+}
+
+own_unchanged : (s : Shared) (t : Tree) (d : Driver) → Unchanged s.tree t → Own s d → Own (record s { tree = t }) d
+own_unchanged s t d u own = record { fine = fine_unchanged s t d u own.fine; declared = own.declared; current = current_unchanged s t d u own.current }
+
+own_unheld : (s : Shared) (t : Tree) (d : Driver) → is_held_tree s.tree ≡ false → Own s d → Own (record s { tree = t }) d
+own_unheld s t d free own =
+    let none = unclaimed s d free own.fine in
+    record { fine = fine_unheld s t d none own.fine; declared = own.declared; current = λ some. absurd (some none) }
+
+tree_unchanged : (w : World) (t : Tree) → TreeShape t × Unchanged w.shared.tree t → Lone w → Lone (with_tree w t)
+tree_unchanged w t both lone = tree_moved w t both.0 (agreement_unchanged w.shared.tree t w.shared.log both.1 lone.kept.agreement) (λ d own. own_unchanged w.shared t d both.1 own) lone
+
+moved_kept : (w : World) (r : Result Tree MoveFault) → ((t : Tree) → r ≡ Ok t → Lone (with_tree w t)) → Lone w → Lone (moved_world w r).0
+moved_kept w (Ok t) made lone = made t refl
+moved_kept w (Err f) made lone = lone
+
+open_kept : (w : World) (session : ℤ) → Lone w → Lone (moved_world w (begin_session w.shared.tree session)).0
+open_kept w session lone = moved_kept w (begin_session w.shared.tree session) (λ t is. tree_unchanged w t (begin_leaves w.shared.tree t session is lone.kept.tree) lone) lone
+
+expire_kept : (w : World) (session : ℤ) → Lone w → Lone (moved_world w (end_session w.shared.tree session)).0
+expire_kept w session lone = moved_kept w (end_session w.shared.tree session) (λ t is. tree_unchanged w t (end_leaves w.shared.tree t session is lone.kept.tree) lone) lone
+
+client_by : (w : World) (t : Tree) (ops : List Op) (b : Bool) → is_held_tree w.shared.tree ≡ b → multi w.shared.tree ops ≡ Ok t → client_refusal w.shared.tree ops ≡ None → Lone w → Lone (with_tree w t)
+client_by w t ops true held is none lone = tree_unchanged w t (client_keeps_shape w.shared.tree t ops is none lone.kept.tree, client_leaves_held w.shared.tree t ops is none held lone.kept.tree) lone
+client_by w t ops false free is none lone = tree_moved w t (client_keeps_shape w.shared.tree t ops is none lone.kept.tree)
+    (agreement_unheld w.shared.tree t w.shared.log free (client_leaves_recorded w.shared.tree t ops is none) lone.kept.agreement) (λ d own. own_unheld w.shared t d free own) lone
+
+client_kept : (w : World) (ops : List Op) (r : Result Tree TreeFault) → multi w.shared.tree ops ≡ r → Lone w → client_refusal w.shared.tree ops ≡ None → Lone (client_world w r).0
+client_kept w ops (Ok t) is lone none = client_by w t ops (is_held_tree w.shared.tree) refl is none lone
+client_kept w ops (Err f) is lone none = lone
+
+unless_made : (P : World → Type 0) (w : World) (refusal : Option Answer) (rest : World × Answer) → P w → (refusal ≡ None → P rest.0) → P (unless_refused w refusal rest).0
+unless_made P w (Some a) rest old made = old
+unless_made P w None rest old made = made refl
+
 -- ---- every event
 
 pub next_kept : (w : World) (e : Event) → IsLawful e → Lone w → Lone (next w e).0
@@ -336,12 +392,16 @@ next_kept w (event.Elect id now) lawful lone = decided_kept Lone w (election_ref
 next_kept w (event.Turn id now) lawful lone = unless_kept Lone w (running_refusal w id) (turn_result w now (driver_of id w.drivers)) lone (turn_kept w id now (driver_of id w.drivers) lawful.1 lone refl)
 next_kept w (event.Change id records now) lawful lone = decided_kept Lone w (change_refusal w id records) (changed_world w records now) (answer.Appended (end_of (changed_log w.shared.log records now))) lone (change_kept w id records now lawful.2 lone)
 next_kept w event.Check lawful lone = lone
+next_kept w (event.ZkOpen session) lawful lone = open_kept w session lone
+next_kept w (event.ZkExpire session) lawful lone = expire_kept w session lone
+next_kept w (event.Zk ops) lawful lone =
+    unless_made Lone w (client_refusal w.shared.tree ops) (client_world w (multi w.shared.tree ops)) lone (client_kept w ops (multi w.shared.tree ops) refl lone)
 
 pub empty_lone : Lone empty_world
 empty_lone = record {
   kept = record {
-    tree = record { rise = tt; parents = λ path there. absurd (cc); stamped = All-nil _ };
-    agreement = record { end = λ r is low. absurd (cc); same = λ r is closed. absurd (cc) };
+    tree = record { rise = tt; parents = λ path there. absurd (cc); stamped = All-nil _; last = All-nil _; stay = λ path there up. absurd (cc) };
+    agreement = record { held = λ r is low. absurd (cc); end = λ r is low. absurd (cc); same = λ r is closed. absurd (cc) };
     log = record {
       base = refl;
       empty = refl;

@@ -1,6 +1,6 @@
 -- What is true of every run of the machine.
 use Rattle.kz_types.specs.declared.machine.Reply.{Reply}
-use Rattle.std.specs.Prelude.{◌≡◌, ◌≢◌, ◌⊎◌, ℕ, ℤ, true, List, Some, None, All, ◌∷◌, ◌++◌}
+use Rattle.std.specs.Prelude.{◌≡◌, ◌≢◌, ◌⊎◌, ℕ, ℤ, true, false, List, Some, None, All, ⊤, ◌∷◌, ◌++◌}
 use Rattle.kz_types.specs.declared.tree.Op.{Op}
 use Rattle.kz_types.specs.declared.driver.Stage.TheVariants as stage
 use Rattle.kz_types.specs.declared.machine.Recorded.{Recorded}
@@ -11,10 +11,11 @@ use Rattle.kz_types.specs.declared.machine.Answer.TheVariants as answer
 use Rattle.kz_spec_stores.specs.Tree.{recorded, unclosed}
 use Rattle.kz_spec_stores.specs.Log.{is_migrated_log, end_of}
 use Rattle.kz_spec_machine.specs.Driver.{Shared, Driver, remaining_at, step}
-use Rattle.kz_spec_machine.specs.Machine.{World, empty_world, driver_of, turn, next, after_events}
+use Rattle.kz_spec_machine.specs.Machine.{World, empty_world, driver_of, turn, is_held_tree, next, after_events}
 use Rattle.kz_spec_machine.specs.Verdicts.{verdict}
 use Rattle.kz_spec_machine.specs.Sound.{IsTime, Kept, IsCurrent, Fine, Sound, Alone, IsLawful}
-use Rattle.kz_spec_runs.specs.InStep.{StaysInStep, script_events, ComesToRest}
+use Rattle.kz_laws_trees.specs.TreeLaws.{Unchanged}
+use Rattle.kz_spec_runs.specs.InStep.{InStep, StaysInStep, script_events, ComesToRest}
 
 -- The events of a script are lawful.
 abbrev pub ScriptsAreLawful : Type 0
@@ -67,3 +68,25 @@ RestIsTold = (es : List Event) → All IsLawful es → (before after : List Even
 -- So it is in the run of every script.
 abbrev pub ScriptsStayInStep : Type 0
 ScriptsStayInStep = (bytes : List ℕ) → StaysInStep (script_events bytes)
+
+-- ---- ZooKeeper clients
+
+-- a session of a ZooKeeper client that begins or ends, or a client's multi
+abbrev pub IsOfClient : Event → Type 0
+IsOfClient (event.ZkOpen session) = ⊤
+IsOfClient (event.ZkExpire session) = ⊤
+IsOfClient (event.Zk ops) = ⊤
+IsOfClient e = ⊥
+
+-- While a KRaft controller holds the tree, such an event leaves the log and all that drivers rest on.
+abbrev pub ClientsLeaveHeld : Type 0
+ClientsLeaveHeld = (w : World) (e : Event) → IsOfClient e → Sound w → is_held_tree w.shared.tree ≡ true
+    → Unchanged w.shared.tree (next w e).0.shared.tree × ((next w e).0.shared.log ≡ w.shared.log)
+
+-- A tree that is in step with the log stays so.
+abbrev pub ClientsKeepStep : Type 0
+ClientsKeepStep = (w : World) (e : Event) → IsOfClient e → Sound w → InStep w.shared → InStep (next w e).0.shared
+
+-- While none holds the tree, no driver has a claim.
+abbrev pub UnheldIsUnclaimed : Type 0
+UnheldIsUnclaimed = (w : World) (id : ℤ) (d : Driver) → Sound w → is_held_tree w.shared.tree ≡ false → driver_of id w.drivers ≡ Some d → d.claim ≡ None

@@ -3,7 +3,7 @@
 //! A law is the contract of a function that does nothing.
 #![tactic(auto)]
 
-ghost use Rattle.kz_laws_machine.specs.Laws.{ScriptsAreLawful, StepsKeepDriven, TurnsKeepDriven, OneIsDriven, HeldOperationsRemain, ClosedIsTold, EventsKeepSound, RunsAreSound, RunsStayInStep, RestIsTold, ScriptsStayInStep};
+ghost use Rattle.kz_laws_machine.specs.Laws.{ScriptsAreLawful, StepsKeepDriven, TurnsKeepDriven, OneIsDriven, HeldOperationsRemain, ClosedIsTold, EventsKeepSound, RunsAreSound, RunsStayInStep, RestIsTold, ScriptsStayInStep, ClientsLeaveHeld, ClientsKeepStep, UnheldIsUnclaimed};
 
 /// The events that the lines of a script give are lawful.
 pub fn scripts_are_lawful()
@@ -39,4 +39,12 @@ pub fn stays_in_step()
     ensures events { RunsStayInStep }
     ensures told { RestIsTold }
     ensures scripts { ScriptsStayInStep }
+{}
+
+/// Sessions and multis of ZooKeeper clients: while a KRaft controller holds the tree they leave the log and all that drivers
+/// rest on, and a tree that is in step with the log stays so. While none holds it, no driver has a claim.
+pub fn clients_keep_step()
+    ensures held { ClientsLeaveHeld }
+    ensures step { ClientsKeepStep }
+    ensures unclaimed { UnheldIsUnclaimed }
 {}

@@ -151,3 +151,62 @@ parent_differs p inside is = ⊎_elim (λ (less : length (parent_of p) < length 
 pub not_empty : (q : List ℕ) → is_migrated q ≡ true → is_root q ≡ false
 not_empty [] inside = absurd (cc (empty_outside))
 not_empty (b ∷ bs) inside = refl
+
+-- the parent of a path is another path, unless it is the root
+pub parent_apart : (p : List ℕ) → is_root (parent_of p) ≡ false → parent_of p ≢ p
+parent_apart p up is = ⊎_elim (λ (less : length (parent_of p) < length p). let same_length = ap length is in absurd (omega arith)) (λ (none : p ≡ []). let e = ap (λ q. is_root (parent_of q)) none in cc) (parent_smaller p)
+
+-- ---- what stands below a path of the area is in it
+
+-- a path with a `/` is its parent with a name behind it
+named_by : (b : ℕ) (bs : List ℕ) (c : Bool) → has_slash bs ≡ c → has_slash (b ∷ bs) ≡ true → (has_slash bs ≡ true → (name : List ℕ) × (bs ≡ parent_of bs ++ 47 ∷ name))
+    → (name : List ℕ) × (b ∷ bs ≡ (if c then b ∷ parent_of bs else []) ++ 47 ∷ name)
+named_by b bs true is slash rest = let below = rest is in (below.0, ap (λ l. b ∷ l) below.1)
+named_by b bs false is slash rest = (bs, ap (λ x. x ∷ bs) ((Decides-eqb b 47).0 (here (b == 47) (has_slash bs) slash is)))
+  where
+    here : (p q : Bool) → (p || q) ≡ true → q ≡ false → p ≡ true
+    here true q is none = refl
+    here false q is none = cc
+
+parent_and_name : (p : List ℕ) → has_slash p ≡ true → (name : List ℕ) × (p ≡ parent_of p ++ 47 ∷ name)
+parent_and_name [] slash = absurd (cc)
+parent_and_name (b ∷ bs) slash = named_by b bs (has_slash bs) refl slash (parent_and_name bs)
+
+slash_by : (b : ℕ) (bs : List ℕ) (c : Bool) → has_slash bs ≡ c → is_root (if c then b ∷ parent_of bs else []) ≡ false → has_slash (b ∷ bs) ≡ true
+slash_by b bs true is up = or_right (b == 47) (has_slash bs) is
+slash_by b bs false is up = absurd (cc)
+
+has_name : (p : List ℕ) → is_root (parent_of p) ≡ false → has_slash p ≡ true
+has_name [] up = absurd (cc)
+has_name (b ∷ bs) up = slash_by b bs (has_slash bs) refl up
+
+-- what stands below what is within a root is below it
+name_under : (root q name : List ℕ) → under q root ≡ true → under (q ++ 47 ∷ name) root ≡ true
+name_under root q name is = ⊎_elim
+    (λ (here : bytes_eq q root ≡ true). under_of root (q ++ 47 ∷ name) (record { tail = name; is = inr (ap (λ l. l ++ 47 ∷ name) ((bytes_eq-Decides q root).0 here)) }))
+    (λ (low : is_below root q ≡ true).
+    let split = below_is root q low in
+    under_of root (q ++ 47 ∷ name) (record { tail = split.0 ++ 47 ∷ name; is = inr (ap (λ l. l ++ 47 ∷ name) split.1 ∙ append_assoc root (47 ∷ split.0) (47 ∷ name)) }))
+    (either (bytes_eq q root) (is_below root q) is)
+
+down_by : (rs : List (List ℕ)) (q name : List ℕ) → list_any (under q) rs ≡ true → list_any (under (q ++ 47 ∷ name)) rs ≡ true
+down_by [] q name is = absurd (cc)
+down_by (r ∷ rs) q name is = ⊎_elim
+    (λ (here : under q r ≡ true). or_left (under (q ++ 47 ∷ name) r) (list_any (under (q ++ 47 ∷ name)) rs) (name_under r q name here))
+    (λ (later : list_any (under q) rs ≡ true). or_right (under (q ++ 47 ∷ name) r) (list_any (under (q ++ 47 ∷ name)) rs) (down_by rs q name later))
+    (either (under q r) (list_any (under q) rs) is)
+
+-- a child of a path of the area is in the area
+pub child_migrated : (p : List ℕ) → is_migrated (parent_of p) ≡ true → is_migrated p ≡ true
+unfolding is_migrated
+child_migrated p is =
+    let named = parent_and_name p (has_name p (not_empty (parent_of p) is)) in
+    subst (λ q. list_any (under q) roots ≡ true) (sym named.1) (down_by roots (parent_of p) named.0 is)
+
+-- so the parent of a path outside of the area is outside
+pub parent_outside : (p : List ℕ) → is_migrated p ≡ false → is_migrated (parent_of p) ≡ false
+parent_outside p outside = by_parent (is_migrated (parent_of p)) refl
+  where
+    by_parent : (b : Bool) → is_migrated (parent_of p) ≡ b → b ≡ false
+    by_parent true is = absurd (let inside = child_migrated p is in cc)
+    by_parent false is = refl

@@ -78,7 +78,7 @@ Beside o = (is_migrated (path_of_op o) ≡ false) × (is_migrated (parent_of (pa
 apart : (p q : List ℕ) → is_migrated p ≡ true → is_migrated q ≡ false → p ≢ q
 apart p q inside outside is = let e = ap is_migrated is in cc
 
-rows_left : (zxid : ℤ) (o : Op) (rows : List Row) → Rises bytes_cmp path_of_row rows → Beside o → filter in_area (after_op zxid o rows) ≡ filter in_area rows
+pub rows_left : (zxid : ℤ) (o : Op) (rows : List Row) → Rises bytes_cmp path_of_row rows → Beside o → filter in_area (after_op zxid o rows) ≡ filter in_area rows
 rows_left zxid o rows rise beside = same_items bytes_order path_of_row (filter in_area (after_op zxid o rows)) (filter in_area rows)
     (Rises-filter bytes_order path_of_row in_area (after_op zxid o rows) (op_rises zxid o rows rise)) (Rises-filter bytes_order path_of_row in_area rows rise)
     (λ p. find_migrated p (after_op zxid o rows) (op_rises zxid o rows rise)
@@ -171,7 +171,7 @@ claim_avoids seen d now migrated =
           (avoids_append migration_path recording (base_ops seen.bases base_paths) (nothing_recorded (views_migrated d) seen.migration (written_recorded (unrecorded d)) migrated) (base_avoids migration_path seen.bases base_paths migration_no_base)),
     )
 
-recorded_still : (m : Option Row) → option_and_then (λ (r : Row). recorded_of r.body) (option_map still m) ≡ option_and_then (λ (r : Row). recorded_of r.body) m
+pub recorded_still : (m : Option Row) → option_and_then (λ (r : Row). recorded_of r.body) (option_map still m) ≡ option_and_then (λ (r : Row). recorded_of r.body) m
 recorded_still None = refl
 recorded_still (Some r) = refl
 

@@ -25,30 +25,30 @@ pub all_without : (P : Row → Type 0) (path : List ℕ) (rows : List Row) → A
 all_without P path rows all = all_from_contains P (without_row path rows) (λ x has. All-contains P rows x all (Contains-without bytes_order path_of_row path rows x has))
 
 -- What holds of a new znode, and stays when its body is set and when its children change.
-pub record Lasts (P : Row → Type 0) (zxid : ℤ) : Type 0 where
+pub record Persists (P : Row → Type 0) (zxid : ℤ) : Type 0 where
   pub made : (path body : List ℕ) (owner : Option ℤ) → P (created_row zxid path body owner)
   pub set : (body : List ℕ) (r : Row) → P r → P (set_row zxid body r)
   pub touched : (r : Row) → P r → P (record r { pzxid = zxid })
 
-all_touched : (P : Row → Type 0) (zxid : ℤ) (q : List ℕ) (rows : List Row) (m : Option Row) → row_at q rows ≡ m → Lasts P zxid → All P rows → All P (touched zxid m rows)
-all_touched P zxid q rows None is lasts all = all
-all_touched P zxid q rows (Some r) is lasts all = all_put P (record r { pzxid = zxid }) rows (lasts.touched r (All-contains P rows r all (found_is_contained bytes_order path_of_row q rows r is))) all
+all_touched : (P : Row → Type 0) (zxid : ℤ) (q : List ℕ) (rows : List Row) (m : Option Row) → row_at q rows ≡ m → Persists P zxid → All P rows → All P (touched zxid m rows)
+all_touched P zxid q rows None is persists all = all
+all_touched P zxid q rows (Some r) is persists all = all_put P (record r { pzxid = zxid }) rows (persists.touched r (All-contains P rows r all (found_is_contained bytes_order path_of_row q rows r is))) all
 
-all_set : (P : Row → Type 0) (zxid : ℤ) (q body : List ℕ) (rows : List Row) (m : Option Row) → row_at q rows ≡ m → Lasts P zxid → All P rows → All P (after_set zxid body m rows)
-all_set P zxid q body rows None is lasts all = all
-all_set P zxid q body rows (Some r) is lasts all = all_put P (set_row zxid body r) rows (lasts.set body r (All-contains P rows r all (found_is_contained bytes_order path_of_row q rows r is))) all
+all_set : (P : Row → Type 0) (zxid : ℤ) (q body : List ℕ) (rows : List Row) (m : Option Row) → row_at q rows ≡ m → Persists P zxid → All P rows → All P (after_set zxid body m rows)
+all_set P zxid q body rows None is persists all = all
+all_set P zxid q body rows (Some r) is persists all = all_put P (set_row zxid body r) rows (persists.set body r (All-contains P rows r all (found_is_contained bytes_order path_of_row q rows r is))) all
 
-all_after_op : (P : Row → Type 0) (zxid : ℤ) (o : Op) (rows : List Row) → Lasts P zxid → All P rows → All P (after_op zxid o rows)
-all_after_op P zxid (Create path body owner) rows lasts all =
-    all_put P (created_row zxid path body owner) (touched zxid (row_at (parent_of path) rows) rows) (lasts.made path body owner)
-    (all_touched P zxid (parent_of path) rows (row_at (parent_of path) rows) refl lasts all)
-all_after_op P zxid (Set path body version) rows lasts all = all_set P zxid path body rows (row_at path rows) refl lasts all
-all_after_op P zxid (Delete path version) rows lasts all = all_without P path (touched zxid (row_at (parent_of path) rows) rows) (all_touched P zxid (parent_of path) rows (row_at (parent_of path) rows) refl lasts all)
-all_after_op P zxid (Check path version) rows lasts all = all
+all_after_op : (P : Row → Type 0) (zxid : ℤ) (o : Op) (rows : List Row) → Persists P zxid → All P rows → All P (after_op zxid o rows)
+all_after_op P zxid (Create path body owner) rows persists all =
+    all_put P (created_row zxid path body owner) (touched zxid (row_at (parent_of path) rows) rows) (persists.made path body owner)
+    (all_touched P zxid (parent_of path) rows (row_at (parent_of path) rows) refl persists all)
+all_after_op P zxid (Set path body version) rows persists all = all_set P zxid path body rows (row_at path rows) refl persists all
+all_after_op P zxid (Delete path version) rows persists all = all_without P path (touched zxid (row_at (parent_of path) rows) rows) (all_touched P zxid (parent_of path) rows (row_at (parent_of path) rows) refl persists all)
+all_after_op P zxid (Check path version) rows persists all = all
 
-pub all_ran : (P : Row → Type 0) (zxid : ℤ) (os : List Op) (rows : List Row) → Lasts P zxid → All P rows → All P (ran zxid os rows)
-all_ran P zxid [] rows lasts all = all
-all_ran P zxid (o ∷ os) rows lasts all = all_ran P zxid os (after_op zxid o rows) lasts (all_after_op P zxid o rows lasts all)
+pub all_ran : (P : Row → Type 0) (zxid : ℤ) (os : List Op) (rows : List Row) → Persists P zxid → All P rows → All P (ran zxid os rows)
+all_ran P zxid [] rows persists all = all
+all_ran P zxid (o ∷ os) rows persists all = all_ran P zxid os (after_op zxid o rows) persists (all_after_op P zxid o rows persists all)
 
 -- ---- none is later
 

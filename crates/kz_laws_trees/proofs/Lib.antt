@@ -4,11 +4,15 @@ pub mod Runs
 pub mod Each
 pub mod Parents
 pub mod Below
+pub mod Lasting
 pub mod Render
 pub mod Multi
 pub mod Later
 pub mod Claim
 pub mod Beside
+pub mod Unchanged
+pub mod Sessions
+pub mod Clients
 pub mod Logs
 pub mod Ends
 pub mod Pages

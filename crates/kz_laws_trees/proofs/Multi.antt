@@ -1,15 +1,15 @@
 -- The tree after a multi that isn't refused, after a write, and after a claim.
-use Rattle.std.proofs.Common.{◌≡◌, ◌≢◌, ℕ, zero, suc, ◌≤◌, nat_le, ℤ, pos, negsuc, ◌+ℤ◌, ◌≤ℤ◌, int_le, Bool, true, false, if◌then◌else◌, List, [], ◌∷◌, ◌++◌, length, Option, Some, None, option_map, All, refl, sym, ap, ◌∙◌, subst, map, filter, take, drop, arith}
+use Rattle.std.proofs.Common.{◌≡◌, ◌≢◌, ℕ, zero, suc, ◌≤◌, nat_le, ℤ, pos, negsuc, ◌+ℤ◌, ◌≤ℤ◌, int_le, Bool, true, false, if◌then◌else◌, List, [], ◌∷◌, ◌++◌, length, ◌&&◌, Option, Some, None, option_map, is_some, All, refl, sym, ap, ◌∙◌, subst, map, filter, take, drop, arith}
 use Rattle.std.specs.Prelude.{Result, Ok, Err, option_and_then}
 use Rattle.std.specs.Str.{bytes_eq}
 use Rattle.std.proofs.lemmas.Bool.Decides.{nat_tests}
 use Rattle.std.proofs.lemmas.Int.{ints}
 use Rattle.std.proofs.lemmas.List.{take_all}
-use Rattle.std.proofs.lemmas.List.Elements.{All-head, All-tail, All-weaker, All-filter}
+use Rattle.std.proofs.lemmas.List.Elements.{All-nil, All-cons, All-append, All-head, All-tail, All-weaker, All-filter}
 use Rattle.std.proofs.lemmas.Slice.Eq.{bytes_eq-Decides}
 use Rattle.kz_types.specs.declared.tree.Row.{Row}
 use Rattle.kz_types.specs.declared.tree.Op.{Op}
-use Rattle.kz_types.specs.declared.tree.Op.TheVariants.{Set}
+use Rattle.kz_types.specs.declared.tree.Op.TheVariants.{Set, Check}
 use Rattle.kz_types.specs.declared.tree.Rendered.{Rendered}
 use Rattle.kz_types.specs.declared.machine.Recorded.{Recorded}
 use Rattle.kz_types.specs.declared.fault.TreeFault.{TreeFault}
@@ -17,22 +17,23 @@ use Rattle.kz_types.specs.declared.fault.TreeFault.TheVariants as fault
 use Rattle.kz_types.specs.Paths.{is_migrated, roots}
 use Rattle.kz_ordered.specs.Order.{bytes_cmp}
 use Rattle.kz_ordered.specs.Ordered.{Rises}
-use Rattle.kz_ordered.specs.Difference.{Edit, all_edited, difference}
+use Rattle.kz_ordered.specs.Difference.{Edit, drop_key, make, alter, all_edited, difference}
 use Rattle.kz_ordered.proofs.Order.{bytes_order}
 use Rattle.kz_ordered.proofs.Difference.{difference_leads, prefix_leaves_rest}
-use Rattle.kz_spec_values.specs.Control.{control_path, epoch_path, migration_path, recorded_of, written_recorded}
+use Rattle.kz_spec_values.specs.Control.{control_path, epoch_path, migration_path, shown_epoch, recorded_of, written_recorded}
 use Rattle.kz_spec_stores.specs.Tree.{Tree, path_of_row, row_at, op_refusal, set_refusal, set_row, with_zxid, max_long, after_ops, multi, migrated_rows, area, has_offset, is_later, first_path, unclosed_below, unclosed}
 use Rattle.kz_spec_stores.specs.Image.{Image}
 use Rattle.kz_spec_stores.specs.Rendering.{path_of_rendered, render}
 use Rattle.kz_spec_stores.specs.Difference.{same_body, op_of, diff, max_chunk, chunk}
 use Rattle.kz_spec_machine.specs.Driver.{is_last_write, record_ops, write_ops}
-use Rattle.kz_spec_machine.specs.Sound.{IsStamped, HaveParents, TreeShape, claim_version}
-use Rattle.kz_laws_trees.specs.TreeLaws.{path_of_op, Completed}
+use Rattle.kz_spec_machine.specs.Sound.{IsStamped, HaveParents, Lasts, ParentsStay, TreeShape, claim_version}
+use Rattle.kz_laws_trees.specs.TreeLaws.{path_of_op, KeepsLasting, Completed}
 use Rattle.kz_laws_trees.proofs.Rows.{still, set_found}
 use Rattle.kz_laws_trees.proofs.Area.{area_of, area_rises, area_left}
 use Rattle.kz_laws_trees.proofs.Runs.{ran, Passes, passed, ran_is, ran_append, passes_left, passes_right, ran_rises, Avoids, avoids_append, ran_keeps, Inside, Outside, area_ran, area_ran_left, inside_take, avoids_inside}
-use Rattle.kz_laws_trees.proofs.Each.{Lasts, all_ran, none_later}
+use Rattle.kz_laws_trees.proofs.Each.{Persists, all_ran, none_later}
 use Rattle.kz_laws_trees.proofs.Parents.{ran_parents}
+use Rattle.kz_laws_trees.proofs.Lasting.{ran_lasts, ran_stays}
 use Rattle.kz_laws_trees.proofs.Render.{decides_body, render_rises, render_inside, area_inside, difference_inside}
 
 -- ---- any multi
@@ -66,14 +67,14 @@ pub multi_ran : (t new : Tree) (ops : List Op) → multi t ops ≡ Ok new → Ra
 unfolding multi
 multi_ran t new ops is = made_by t new ops (after_ops t.sessions (t.zxid +ℤ pos 1) 0 ops t.rows) refl is
 
-stamps_last : (zxid : ℤ) → Lasts (IsStamped zxid) zxid
+stamps_last : (zxid : ℤ) → Persists (IsStamped zxid) zxid
 stamps_last zxid = record {
   made = λ path body owner. record { created = omega (arith, ints); modified = omega (arith, ints); children = omega (arith, ints); version = omega (arith, ints) };
   set = λ body r old. record { created = old.created; modified = omega (arith, ints); children = old.children; version = let low = old.version in omega (arith, ints) };
   touched = λ r old. record { created = old.created; modified = old.modified; children = omega (arith, ints); version = old.version };
 }
 
-stamped_later : (zxid : ℤ) (r : Row) → IsStamped zxid r → IsStamped (zxid +ℤ pos 1) r
+pub stamped_later : (zxid : ℤ) (r : Row) → IsStamped zxid r → IsStamped (zxid +ℤ pos 1) r
 stamped_later zxid r old = record {
   created = let a = old.created in omega (arith, ints);
   modified = let a = old.modified in omega (arith, ints);
@@ -81,15 +82,17 @@ stamped_later zxid r old = record {
   version = old.version;
 }
 
--- every multi keeps the shape of a tree
-pub shape_kept : (t new : Tree) (ops : List Op) → Ran t new ops → TreeShape t → TreeShape new
-shape_kept t new ops m shape =
+-- a multi that gives no znode that lasts an owner keeps the shape of a tree
+pub shape_kept : (t new : Tree) (ops : List Op) → Ran t new ops → All KeepsLasting ops → TreeShape t → TreeShape new
+shape_kept t new ops m keeps shape =
     let zxid = t.zxid +ℤ pos 1 in
     record {
       rise = subst (Rises bytes_cmp path_of_row) (sym m.rows) (ran_rises zxid ops t.rows shape.rise);
       parents = subst HaveParents (sym m.rows) (ran_parents t.sessions zxid ops t.rows m.passes shape.rise shape.parents);
       stamped = subst (λ (z : ℤ). All (IsStamped z) new.rows) (sym m.zxid) (subst (All (IsStamped zxid)) (sym m.rows)
           (all_ran (IsStamped zxid) zxid ops t.rows (stamps_last zxid) (All-weaker (IsStamped t.zxid) (IsStamped zxid) (stamped_later t.zxid) t.rows shape.stamped)));
+      last = subst (All Lasts) (sym m.rows) (ran_lasts zxid ops t.rows keeps shape.last);
+      stay = subst ParentsStay (sym m.rows) (ran_stays t.sessions zxid ops t.rows m.passes shape.rise shape.parents shape.stay);
     }
 
 -- ---- paths that differ
@@ -165,6 +168,28 @@ version_by t new i claim target m =
 pub write_keeps_version : (t new : Tree) (i : Image) (claim : ℤ) (target : Recorded) → multi t (write_ops claim (diff (area t) (render i)) target) ≡ Ok new → claim_version new ≡ claim_version t
 write_keeps_version t new i claim target is = version_by t new i claim target (multi_ran t new (write_ops claim (diff (area t) (render i)) target) is)
 
+-- an edit of the area makes nothing that ends with a session
+not_control : (p : List ℕ) (b : Bool) → bytes_eq p control_path ≡ b → is_migrated p ≡ true → b ≡ false
+not_control p true is inside = absurd (let e = ap is_migrated ((bytes_eq-Decides p control_path).0 is) in cc (control_outside))
+not_control p false is inside = refl
+
+edits_keep : (es : List (Edit Rendered (List ℕ))) → Inside es → All KeepsLasting (map op_of es)
+edits_keep [] inside = All-nil KeepsLasting
+edits_keep (drop_key p ∷ es) inside = All-cons KeepsLasting (op_of (drop_key p)) (map op_of es) tt (edits_keep es inside.1)
+edits_keep (make r ∷ es) inside = All-cons KeepsLasting (op_of (make r)) (map op_of es) (λ owned. absurd (cc)) (edits_keep es inside.1)
+edits_keep (alter r ∷ es) inside =
+    All-cons KeepsLasting (op_of (alter r)) (map op_of es) (ap (λ b. b && is_some (shown_epoch r.body)) (not_control r.path (bytes_eq r.path control_path) refl inside.0)) (edits_keep es inside.1)
+
+record_keeps : (b : Bool) (target : Recorded) → All KeepsLasting (record_ops b target)
+record_keeps true target = All-cons KeepsLasting (Set migration_path (written_recorded target) (negsuc 0)) [] refl (All-nil KeepsLasting)
+record_keeps false target = All-nil KeepsLasting
+
+pub write_keeps_lasting : (t : Tree) (i : Image) (claim : ℤ) (target : Recorded) → All KeepsLasting (write_ops claim (diff (area t) (render i)) target)
+write_keeps_lasting t i claim target =
+    All-cons KeepsLasting (Check epoch_path claim) (rest_of_write t i target) tt (All-append KeepsLasting (chunk (diff (area t) (render i))) (record_ops (is_last_write (diff (area t) (render i))) target)
+    (subst (All KeepsLasting) (sym (chunk_is t i)) (edits_keep (take max_chunk (edits_to t (render i))) (inside_take max_chunk (edits_to t (render i)) (edits_inside t i))))
+    (record_keeps (is_last_write (diff (area t) (render i))) target))
+
 -- ---- the last write
 
 -- the znodes before `/migration` is set
@@ -220,7 +245,7 @@ last_write t new i claim target shape last is =
     let edits = map op_of (edits_to t (render i)) in
     let rest : rest_of_write t i target ≡ edits ++ Set migration_path body (negsuc 0) ∷ [] = last_is t i target (is_last_write (diff (area t) (render i))) refl last in
     let passes : Passes t.sessions zxid (edits ++ Set migration_path body (negsuc 0) ∷ []) t.rows = subst (λ os. Passes t.sessions zxid os t.rows) rest m.passes.1 in
-    set_last t new i body shape (shape_kept t new ops m shape) m.zxid
+    set_last t new i body shape (shape_kept t new ops m (write_keeps_lasting t i claim target) shape) m.zxid
     (m.rows ∙ ap (λ os. ran zxid os t.rows) rest ∙ ran_append zxid edits (Set migration_path body (negsuc 0) ∷ []) t.rows)
     (passes_left t.sessions zxid edits (Set migration_path body (negsuc 0) ∷ []) t.rows passes)
     (passes_right t.sessions zxid edits (Set migration_path body (negsuc 0) ∷ []) t.rows passes).0

@@ -29,7 +29,7 @@ some_still (Some r) = refl
 some_alike : (m n : Option Row) → option_map still m ≡ option_map still n → is_some m ≡ is_some n
 some_alike m n e = sym (some_still m) ∙ ap is_some e ∙ some_still n
 
-there_kept : (zxid : ℤ) (o : Op) (p : List ℕ) (rows : List Row) → p ≢ path_of_op o → is_some (row_at p (after_op zxid o rows)) ≡ is_some (row_at p rows)
+pub there_kept : (zxid : ℤ) (o : Op) (p : List ℕ) (rows : List Row) → p ≢ path_of_op o → is_some (row_at p (after_op zxid o rows)) ≡ is_some (row_at p rows)
 there_kept zxid o p rows differ = some_alike (row_at p (after_op zxid o rows)) (row_at p rows) (others_kept zxid o p rows differ)
 
 pub found_some : (p : List ℕ) (rows : List Row) (m : Option Row) → row_at p rows ≡ m → is_some m ≡ true → (r : Row) × (row_at p rows ≡ Some r)
@@ -42,7 +42,7 @@ pub passed_first : (b : Bool) (r : Refusal) (cs : List (Bool × Refusal)) → fi
 passed_first true r cs is = absurd (cc)
 passed_first false r cs is = (refl, is)
 
-not_not : (b : Bool) → not b ≡ false → b ≡ true
+pub not_not : (b : Bool) → not b ≡ false → b ≡ true
 not_not true is = refl
 not_not false is = absurd (cc)
 
@@ -80,7 +80,7 @@ no_parent_deleted path rows p none there is =
 abbrev Parented : List ℕ → List Row → Type 0
 Parented p rows = has_parent p rows ≡ true
 
-parented_by : (root there now : Bool) → (root || there) ≡ true → (there ≡ true → now ≡ true) → (root || now) ≡ true
+pub parented_by : (root there now : Bool) → (root || there) ≡ true → (there ≡ true → now ≡ true) → (root || now) ≡ true
 parented_by true there now is kept = refl
 parented_by false there now is kept = kept is
 
@@ -125,7 +125,7 @@ created_parent sessions zxid path body owner rows pass =
     parented_by (is_root (parent_of path)) (is_some (row_at (parent_of path) rows)) (is_some (row_at (parent_of path) (after_op zxid (Create path body owner) rows))) (create_has_parent sessions path body owner rows pass)
     (λ is. stays_there zxid (Create path body owner) (parent_of path) rows (λ q v same_op. absurd (cc)) is)
 
-set_there : (body path : List ℕ) (version : ℤ) (rows : List Row) (m : Option Row) → row_at path rows ≡ m → set_refusal body version m ≡ None → Is path rows
+pub set_there : (body path : List ℕ) (version : ℤ) (rows : List Row) (m : Option Row) → row_at path rows ≡ m → set_refusal body version m ≡ None → Is path rows
 set_there body path version rows None is pass = absurd (cc)
 set_there body path version rows (Some r) is pass = ap is_some is
 

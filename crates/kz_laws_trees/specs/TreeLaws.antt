@@ -1,5 +1,6 @@
 -- What a multi that isn't refused makes of a tree.
-use Rattle.std.specs.Prelude.{◌≡◌, ◌≢◌, ℕ, ℤ, pos, ◌+ℤ◌, ◌≤ℤ◌, true, false, List, take, drop, Some, None, Ok, All}
+use Rattle.std.specs.Prelude.{◌≡◌, ◌≢◌, ℕ, ℤ, pos, ◌+ℤ◌, ◌≤ℤ◌, true, false, ◌&&◌, List, take, drop, Some, None, is_some, Ok, All, ⊤}
+use Rattle.std.specs.Str.{bytes_eq}
 use Rattle.kz_types.specs.declared.tree.Row.{Row}
 use Rattle.kz_types.specs.declared.tree.Op.{Op}
 use Rattle.kz_types.specs.declared.tree.Op.TheVariants.{Create, Set, Delete, Check}
@@ -8,13 +9,14 @@ use Rattle.kz_types.specs.declared.machine.Recorded.{Recorded}
 use Rattle.kz_types.specs.Paths.{is_migrated}
 use Rattle.kz_ordered.specs.Order.{bytes_cmp}
 use Rattle.kz_ordered.specs.Difference.{all_edited, difference}
-use Rattle.kz_spec_values.specs.Control.{recorded_of, written_recorded}
-use Rattle.kz_spec_stores.specs.Tree.{Tree, multi, area, recorded, has_offset, unclosed}
+use Rattle.kz_spec_values.specs.Control.{control_path, shown_epoch, recorded_of, written_recorded}
+use Rattle.kz_spec_stores.specs.Tree.{Tree, created_row, multi, begin_session, end_session, migrated_rows, area, recorded, has_offset, unclosed}
 use Rattle.kz_spec_stores.specs.Image.{Image}
 use Rattle.kz_spec_stores.specs.Rendering.{path_of_rendered, render}
 use Rattle.kz_spec_stores.specs.Difference.{same_body, diff, max_chunk}
 use Rattle.kz_spec_machine.specs.Driver.{Driver, epoch_or_zero, views_migrated, unrecorded, is_last_write, write_ops, claimed_version, claim_ops}
-use Rattle.kz_spec_machine.specs.Sound.{TreeShape, claim_version, shown_in}
+use Rattle.kz_spec_machine.specs.Machine.{is_held_tree, client_refusal}
+use Rattle.kz_spec_machine.specs.Sound.{Lasts, TreeShape, claim_version, shown_in}
 use Rattle.kz_laws_values.specs.Ranges.{IsLong, IsEpoch}
 
 -- the path of an operation
@@ -26,9 +28,25 @@ path_of_op (Check path version) = path
 
 -- ---- any multi
 
--- A multi gives the tree the next zxid and keeps its shape.
+-- An operation after which no znode that lasts ends with a session: a create with an owner is of another znode, and no set
+-- gives `/controller` the body of a KRaft controller.
+abbrev pub KeepsLasting : Op → Type 0
+KeepsLasting (Create path body owner) = Lasts (created_row (pos 0) path body owner)
+KeepsLasting (Set path body version) = (bytes_eq path control_path && is_some (shown_epoch body)) ≡ false
+KeepsLasting (Delete path version) = ⊤
+KeepsLasting (Check path version) = ⊤
+
+-- A multi gives the tree the next zxid. It keeps the tree's shape where each of its operations is such a one.
 abbrev pub MultiKeepsShape : Type 0
-MultiKeepsShape = (t new : Tree) (ops : List Op) → multi t ops ≡ Ok new → TreeShape t → (new.zxid ≡ t.zxid +ℤ pos 1) × TreeShape new
+MultiKeepsShape = (t new : Tree) (ops : List Op) → multi t ops ≡ Ok new → All KeepsLasting ops → TreeShape t → (new.zxid ≡ t.zxid +ℤ pos 1) × TreeShape new
+
+-- The operations of a claim are such.
+abbrev pub ClaimKeepsLasting : Type 0
+ClaimKeepsLasting = (seen : ClaimSeen) (d : Driver) (now : ℤ) → All KeepsLasting (claim_ops seen d now)
+
+-- So are those of a write.
+abbrev pub WriteKeepsLasting : Type 0
+WriteKeepsLasting = (t : Tree) (i : Image) (claim : ℤ) (target : Recorded) → All KeepsLasting (write_ops claim (diff (area t) (render i)) target)
 
 -- A multi none of whose operations is in the migrated area leaves the area.
 abbrev pub OutsideLeavesArea : Type 0
@@ -99,3 +117,34 @@ ClaimLeavesArea = (t new : Tree) (seen : ClaimSeen) (d : Driver) (now : ℤ) →
 -- Every other claim records that there is no offset yet.
 abbrev pub ClaimRecordsNone : Type 0
 ClaimRecordsNone = (t new : Tree) (seen : ClaimSeen) (d : Driver) (now : ℤ) → views_migrated d ≡ false → multi t (claim_ops seen d now) ≡ Ok new → recorded new ≡ recorded_of (written_recorded (unrecorded d))
+
+-- ---- ZooKeeper clients
+
+-- All that a driver rests on stays: the znodes of the migrated area, what is recorded, whether the tree is closed, the data
+-- version of `/controller_epoch`, and the epoch that `/controller` shows.
+pub record Unchanged (t new : Tree) : Type 0 where
+  pub rows : migrated_rows new ≡ migrated_rows t
+  pub recorded : recorded new ≡ recorded t
+  pub unclosed : unclosed new ≡ unclosed t
+  pub version : claim_version new ≡ claim_version t
+  pub shown : shown_in new ≡ shown_in t
+
+-- A session that begins keeps the tree's shape and leaves all that a driver rests on.
+abbrev pub BeginLeaves : Type 0
+BeginLeaves = (t new : Tree) (session : ℤ) → begin_session t session ≡ Ok new → TreeShape t → TreeShape new × Unchanged t new
+
+-- So does one that ends, whatever znodes end with it.
+abbrev pub EndLeaves : Type 0
+EndLeaves = (t new : Tree) (session : ℤ) → end_session t session ≡ Ok new → TreeShape t → TreeShape new × Unchanged t new
+
+-- A client's multi that isn't refused keeps the tree's shape.
+abbrev pub ClientKeepsShape : Type 0
+ClientKeepsShape = (t new : Tree) (ops : List Op) → multi t ops ≡ Ok new → client_refusal t ops ≡ None → TreeShape t → TreeShape new
+
+-- It leaves what is recorded.
+abbrev pub ClientLeavesRecorded : Type 0
+ClientLeavesRecorded = (t new : Tree) (ops : List Op) → multi t ops ≡ Ok new → client_refusal t ops ≡ None → recorded new ≡ recorded t
+
+-- While a KRaft controller holds the tree, it leaves all that a driver rests on.
+abbrev pub ClientLeavesHeld : Type 0
+ClientLeavesHeld = (t new : Tree) (ops : List Op) → multi t ops ≡ Ok new → client_refusal t ops ≡ None → is_held_tree t ≡ true → TreeShape t → Unchanged t new

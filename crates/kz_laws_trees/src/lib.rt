@@ -3,13 +3,15 @@
 //! A law is the contract of a function that does nothing.
 #![tactic(auto)]
 
-ghost use Rattle.kz_laws_trees.specs.TreeLaws.{MultiKeepsShape, OutsideLeavesArea, WriteAppliesEdits, WriteLeavesRest, WriteKeepsClaim, WriteKeepsShown, LastWriteCompletes, EarlierWriteUnclosed, ClaimGivesVersion, ClaimShowsEpoch, ClaimLeavesArea, ClaimRecordsNone};
+ghost use Rattle.kz_laws_trees.specs.TreeLaws.{MultiKeepsShape, ClaimKeepsLasting, WriteKeepsLasting, OutsideLeavesArea, WriteAppliesEdits, WriteLeavesRest, WriteKeepsClaim, WriteKeepsShown, LastWriteCompletes, EarlierWriteUnclosed, ClaimGivesVersion, ClaimShowsEpoch, ClaimLeavesArea, ClaimRecordsNone, BeginLeaves, EndLeaves, ClientKeepsShape, ClientLeavesRecorded, ClientLeavesHeld};
 ghost use Rattle.kz_laws_trees.specs.LogLaws.{BatchLeavesImages, BatchLeavesEnds, BatchMovesEnd, BatchKeepsShape, AppendKeepsShape, EndIsLastBatchEnd, PlainKeepsState, CommitMigrates};
 
-/// A multi that isn't refused gives the tree the next zxid and keeps its shape; outside of the migrated area it leaves the
-/// area.
+/// A multi that isn't refused gives the tree the next zxid, and where it makes no znode that lasts end with a session it
+/// keeps the tree's shape, as claims and writes do; outside of the migrated area it leaves the area.
 pub fn multi_keeps()
     ensures shape { MultiKeepsShape }
+    ensures claim { ClaimKeepsLasting }
+    ensures write { WriteKeepsLasting }
     ensures area { OutsideLeavesArea }
 {}
 
@@ -31,6 +33,21 @@ pub fn claim_leads()
     ensures shown { ClaimShowsEpoch }
     ensures area { ClaimLeavesArea }
     ensures none { ClaimRecordsNone }
+{}
+
+/// A session of a ZooKeeper client that begins or ends keeps the tree's shape, and leaves all that a driver rests on: the
+/// migrated area, what is recorded, whether the tree is closed, the claim, and the epoch that `/controller` shows.
+pub fn session_leaves()
+    ensures begin { BeginLeaves }
+    ensures end { EndLeaves }
+{}
+
+/// A multi of a ZooKeeper client that isn't refused keeps the tree's shape and what is recorded; while a KRaft controller
+/// holds the tree it leaves all that a driver rests on.
+pub fn client_leaves()
+    ensures shape { ClientKeepsShape }
+    ensures recorded { ClientLeavesRecorded }
+    ensures held { ClientLeavesHeld }
 {}
 
 /// One batch more leaves the images and the batch ends of a log.

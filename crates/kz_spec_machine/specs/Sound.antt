@@ -17,7 +17,7 @@ use Rattle.kz_types.specs.Paths.{base_paths, is_among, is_migrated}
 use Rattle.kz_ordered.specs.Order.{bytes_cmp}
 use Rattle.kz_ordered.specs.Ordered.{Rises}
 use Rattle.kz_spec_values.specs.Control.{control_path, epoch_path, migration_path, shown_epoch}
-use Rattle.kz_spec_stores.specs.Tree.{Tree, row_at, parent_of, has_parent, is_ephemeral, path_of_row, migrated_rows, area, recorded, unclosed, max_long}
+use Rattle.kz_spec_stores.specs.Tree.{Tree, row_at, parent_of, is_root, has_parent, is_ephemeral, path_of_row, migrated_rows, area, recorded, unclosed, max_long}
 use Rattle.kz_spec_stores.specs.Image.{empty_image, is_broker_config, is_migrated_state}
 use Rattle.kz_spec_stores.specs.Log.{Log, View, last_of, end_of, batch_ends, record_count, image_at, is_migrated_log, max_records, max_epoch}
 use Rattle.kz_spec_stores.specs.Rendering.{render}
@@ -69,9 +69,9 @@ is_lasting r = is_migrated r.path || is_among base_paths r.path || bytes_eq r.pa
 abbrev pub Lasts : Row → Type 0
 Lasts r = is_some r.owner ≡ true → is_lasting r ≡ false
 
--- no znode's parent ends with a session
+-- no znode's parent, unless it is the root, ends with a session
 abbrev pub ParentsStay : List Row → Type 0
-ParentsStay rows = (path : List ℕ) → is_some (row_at path rows) ≡ true → is_ephemeral (row_at (parent_of path) rows) ≡ false
+ParentsStay rows = (path : List ℕ) → is_some (row_at path rows) ≡ true → is_root (parent_of path) ≡ false → is_ephemeral (row_at (parent_of path) rows) ≡ false
 
 -- The znodes rise by path, their parents are there, and their transactions are those of the tree. Those that end with a
 -- session are no parents, and none of those that last.

@@ -1,0 +1,283 @@
+-- A tree after a session of a ZooKeeper client has begun or ended.
+use Rattle.std.proofs.Common.{◌≡◌, ℕ, ℤ, pos, ◌+ℤ◌, int_le, Bool, true, false, not, ◌&&◌, ◌||◌, if◌then◌else◌, cond, List, [], ◌∷◌, Option, Some, None, option_map, is_some, All, refl, sym, ap, ◌∙◌, subst, map, filter, arith}
+use Rattle.std.specs.Prelude.{Result, Ok, Err}
+use Rattle.std.specs.Str.{bytes_eq}
+use Rattle.std.specs.Ordering.{int_cmp}
+use Rattle.std.proofs.lemmas.Int.{ints}
+use Rattle.std.proofs.lemmas.List.Elements.{All-head, All-tail, All-map, All-filter, All-weaker, All-contains}
+use Rattle.std.proofs.lemmas.List.Folds.{list_any_none}
+use Rattle.std.proofs.lemmas.Slice.Eq.{bytes_eq-Decides}
+use Rattle.kz_types.specs.declared.tree.Row.{Row}
+use Rattle.kz_types.specs.declared.move_fault.MoveFault.{MoveFault}
+use Rattle.kz_types.specs.declared.move_fault.MoveFault.TheVariants as move_fault
+use Rattle.kz_types.specs.Paths.{base_paths, is_among, is_migrated, roots}
+use Rattle.kz_ordered.specs.Order.{bytes_cmp}
+use Rattle.kz_ordered.specs.Ordered.{Rises, put, without}
+use Rattle.kz_ordered.proofs.Order.{bytes_order}
+use Rattle.kz_ordered.proofs.Lookup.{found_is_contained, key_of_found}
+use Rattle.kz_ordered.proofs.Maps.{find-map, find-filter_absent, find-filter_found, Rises-filter, Rises-map}
+use Rattle.kz_spec_values.specs.Control.{control_path, epoch_path, migration_path, shown_epoch}
+use Rattle.kz_spec_stores.specs.Tree.{Tree, path_of_row, row_at, parent_of, is_root, is_ephemeral, is_live, max_long, begin_session, is_owner, is_owned, loses_child, after_loss, without_owned, end_session}
+use Rattle.kz_spec_machine.specs.Driver.{shown_by}
+use Rattle.kz_spec_machine.specs.Sound.{IsStamped, HaveParents, is_lasting, Lasts, ParentsStay, TreeShape}
+use Rattle.kz_laws_trees.specs.TreeLaws.{Unchanged}
+use Rattle.kz_laws_trees.proofs.Rows.{still}
+use Rattle.kz_laws_trees.proofs.Parents.{Is}
+use Rattle.kz_laws_trees.proofs.Below.{child_migrated}
+use Rattle.kz_laws_trees.proofs.Multi.{stamped_later}
+use Rattle.kz_laws_trees.proofs.Unchanged.{Alike, unchanged_by}
+
+-- ---- one transaction more
+
+-- a tree with the next zxid and these znodes
+pub record Moved (t new : Tree) (made : List Row) : Type 0 where
+  pub zxid : new.zxid ≡ t.zxid +ℤ pos 1
+  pub rows : new.rows ≡ made
+
+moved_by : (t new : Tree) (sessions : List ℤ) (rows : List Row) (full : Bool) → (if full then Err (move_fault.Limit 17) else Ok (record { zxid = t.zxid +ℤ pos 1; sessions = sessions; rows = rows })) ≡ Ok new → Moved t new rows
+moved_by t new sessions rows true is = absurd (cc)
+moved_by t new sessions rows false is =
+    let made : Tree = record { zxid = t.zxid +ℤ pos 1; sessions = sessions; rows = rows } in
+    let same : made ≡ new = cc in
+    record { zxid = sym (ap (λ (x : Tree). x.zxid) same); rows = sym (ap (λ (x : Tree). x.rows) same) }
+
+unless_refused : (t new : Tree) (rows : List Row) (b : Bool) (fault : MoveFault) (rest : Result Tree MoveFault) → (if b then Err fault else rest) ≡ Ok new → (rest ≡ Ok new → Moved t new rows) → Moved t new rows
+unless_refused t new rows true fault rest is made = absurd (cc)
+unless_refused t new rows false fault rest is made = made is
+
+if_live : (t new : Tree) (rows : List Row) (b : Bool) (fault : MoveFault) (rest : Result Tree MoveFault) → (if b then rest else Err fault) ≡ Ok new → (rest ≡ Ok new → Moved t new rows) → Moved t new rows
+if_live t new rows true fault rest is made = made is
+if_live t new rows false fault rest is made = absurd (cc)
+
+begun : (t new : Tree) (session : ℤ) → begin_session t session ≡ Ok new → Moved t new t.rows
+unfolding begin_session
+begun t new session is = unless_refused t new t.rows (is_live session t.sessions) move_fault.Known _ is (moved_by t new (put int_cmp (λ s. s) session t.sessions) t.rows (int_le max_long t.zxid))
+
+ended : (t new : Tree) (session : ℤ) → end_session t session ≡ Ok new → Moved t new (without_owned (t.zxid +ℤ pos 1) session t.rows)
+unfolding end_session
+ended t new session is = if_live t new (without_owned (t.zxid +ℤ pos 1) session t.rows) (is_live session t.sessions) move_fault.Unknown _ is
+    (moved_by t new (without int_cmp (λ s. s) session t.sessions) (without_owned (t.zxid +ℤ pos 1) session t.rows) (int_le max_long t.zxid))
+
+-- ---- a session begins
+
+begun_shape : (t new : Tree) → Moved t new t.rows → TreeShape t → TreeShape new
+begun_shape t new m shape = record {
+  rise = subst (Rises bytes_cmp path_of_row) (sym m.rows) shape.rise;
+  parents = subst HaveParents (sym m.rows) shape.parents;
+  stamped = subst (λ (z : ℤ). All (IsStamped z) new.rows) (sym m.zxid) (subst (All (IsStamped (t.zxid +ℤ pos 1))) (sym m.rows) (All-weaker (IsStamped t.zxid) (IsStamped (t.zxid +ℤ pos 1)) (stamped_later t.zxid) t.rows shape.stamped));
+  last = subst (All Lasts) (sym m.rows) shape.last;
+  stay = subst ParentsStay (sym m.rows) shape.stay;
+}
+
+pub begin_leaves : (t new : Tree) (session : ℤ) → begin_session t session ≡ Ok new → TreeShape t → TreeShape new × Unchanged t new
+begin_leaves t new session is shape =
+    let m = begun t new session is in (
+      begun_shape t new m shape,
+      unchanged_by t new (ap (filter (λ (r : Row). is_migrated r.path)) m.rows) (ap (λ rows. option_map still (row_at migration_path rows)) m.rows) (ap (λ rows. option_map still (row_at epoch_path rows)) m.rows) (ap (λ rows. shown_by (row_at control_path rows)) m.rows),
+    )
+
+-- ---- znodes that last stay where a session ends
+
+-- the test of what lasts, of a path and whether its body is a KRaft controller's
+abbrev lasts_at : List ℕ → Bool → Bool
+lasts_at q held = is_migrated q || is_among base_paths q || bytes_eq q epoch_path || bytes_eq q migration_path || (bytes_eq q control_path && held)
+
+migration_lasts : (held : Bool) → lasts_at migration_path held ≡ true
+unfolding is_migrated roots base_paths
+migration_lasts held = refl
+
+epoch_lasts : (held : Bool) → lasts_at epoch_path held ≡ true
+unfolding is_migrated roots base_paths
+epoch_lasts held = refl
+
+control_lasts : (held : Bool) → lasts_at control_path held ≡ held
+unfolding is_migrated roots base_paths
+control_lasts held = refl
+
+migrated_lasts : (q : List ℕ) (held : Bool) → is_migrated q ≡ true → lasts_at q held ≡ true
+migrated_lasts q held is = ap (λ b. b || is_among base_paths q || bytes_eq q epoch_path || bytes_eq q migration_path || (bytes_eq q control_path && held)) is
+
+ownerless : (session : ℤ) (o : Option ℤ) → is_some o ≡ false → is_owner session o ≡ false
+ownerless session None is = refl
+ownerless session (Some s) is = absurd (cc)
+
+no_owner : (r : Row) (b : Bool) → is_some r.owner ≡ b → Lasts r → is_lasting r ≡ true → b ≡ false
+no_owner r true is lasts stays = absurd (let ends = lasts is in cc)
+no_owner r false is lasts stays = refl
+
+-- a znode that lasts isn't the session's
+not_owned : (session : ℤ) (r : Row) → Lasts r → is_lasting r ≡ true → is_owned session r ≡ false
+not_owned session r lasts stays = ownerless session r.owner (no_owner r (is_some r.owner) refl lasts stays)
+
+-- ---- what is found when a session has ended
+
+loss_by : (b : Bool) (zxid : ℤ) (r : Row) → still (if b then record r { pzxid = zxid } else r) ≡ still r
+loss_by true zxid r = refl
+loss_by false zxid r = refl
+
+loss_still : (zxid session : ℤ) (all : List Row) (r : Row) → still (after_loss zxid session all r) ≡ still r
+loss_still zxid session all r = loss_by (loses_child session all r.path) zxid r
+
+loss_path : (zxid session : ℤ) (all : List Row) (r : Row) → path_of_row (after_loss zxid session all r) ≡ path_of_row r
+loss_path zxid session all r = ap (λ (x : Row). x.path) (loss_still zxid session all r)
+
+abbrev stays_on : ℤ → Row → Bool
+stays_on session r = not (is_owned session r)
+
+-- a znode, unless it ends with the session
+abbrev unless_owned : ℤ → Option Row → Option Row
+unless_owned session None = None
+unless_owned session (Some r) = cond (stays_on session r) (Some r) None
+
+found_by : (session : ℤ) (p : List ℕ) (rows : List Row) (m : Option Row) → Rises bytes_cmp path_of_row rows → row_at p rows ≡ m → row_at p (filter (stays_on session) rows) ≡ unless_owned session m
+found_by session p rows None rise is = find-filter_absent bytes_order path_of_row (stays_on session) p rows is
+found_by session p rows (Some r) rise is = find-filter_found bytes_order path_of_row (stays_on session) p rows r rise is
+
+found_after : (zxid session : ℤ) (p : List ℕ) (rows : List Row) → Rises bytes_cmp path_of_row rows → row_at p (without_owned zxid session rows) ≡ option_map (after_loss zxid session rows) (unless_owned session (row_at p rows))
+found_after zxid session p rows rise =
+    find-map bytes_cmp path_of_row path_of_row (after_loss zxid session rows) (loss_path zxid session rows) p (filter (stays_on session) rows)
+    ∙ ap (option_map (after_loss zxid session rows)) (found_by session p rows (row_at p rows) rise refl)
+
+still_one : (zxid session : ℤ) (all : List Row) (m : Option Row) → ((r : Row) → m ≡ Some r → is_owned session r ≡ false) → option_map still (option_map (after_loss zxid session all) (unless_owned session m)) ≡ option_map still m
+still_one zxid session all None free = refl
+still_one zxid session all (Some r) free =
+    ap (λ b. option_map still (option_map (after_loss zxid session all) (cond (not b) (Some r) None))) (free r refl) ∙ ap (λ (x : Row). Some x) (loss_still zxid session all r)
+
+-- a path at which a znode lasts, whatever its body is
+lasting_alike : (zxid session : ℤ) (p : List ℕ) (rows : List Row) → Rises bytes_cmp path_of_row rows → All Lasts rows → ((held : Bool) → lasts_at p held ≡ true) → Alike rows (without_owned zxid session rows) p
+lasting_alike zxid session p rows rise last stays =
+    ap (option_map still) (found_after zxid session p rows rise) ∙ still_one zxid session rows (row_at p rows) (λ r is.
+    not_owned session r (All-contains Lasts rows r last (found_is_contained bytes_order path_of_row p rows r is))
+    (ap (λ q. lasts_at q (is_some (shown_epoch r.body))) (key_of_found bytes_order path_of_row p rows r is) ∙ stays (is_some (shown_epoch r.body))))
+
+-- ---- what `/controller` shows
+
+shows_nothing : (session : ℤ) (r : Row) (m : Option ℤ) → shown_epoch r.body ≡ m → r.path ≡ control_path → Lasts r → is_owned session r ≡ true → None ≡ m
+shows_nothing session r None is path lasts owned = refl
+shows_nothing session r (Some e) is path lasts owned =
+    let stays : is_lasting r ≡ true = ap (λ q. lasts_at q (is_some (shown_epoch r.body))) path ∙ control_lasts (is_some (shown_epoch r.body)) ∙ ap is_some is in
+    absurd (let free = not_owned session r lasts stays in cc)
+
+shown_one : (zxid session : ℤ) (all : List Row) (r : Row) (b : Bool) → is_owned session r ≡ b → r.path ≡ control_path → Lasts r → shown_by (option_map (after_loss zxid session all) (cond (not b) (Some r) None)) ≡ shown_epoch r.body
+shown_one zxid session all r true is path lasts = shows_nothing session r (shown_epoch r.body) refl path lasts is
+shown_one zxid session all r false is path lasts = ap (λ (x : Row). shown_epoch x.body) (loss_still zxid session all r)
+
+shown_after : (zxid session : ℤ) (rows : List Row) (m : Option Row) → row_at control_path rows ≡ m → All Lasts rows → shown_by (option_map (after_loss zxid session rows) (unless_owned session m)) ≡ shown_by m
+shown_after zxid session rows None is last = refl
+shown_after zxid session rows (Some r) is last =
+    shown_one zxid session rows r (is_owned session r) refl (key_of_found bytes_order path_of_row control_path rows r is) (All-contains Lasts rows r last (found_is_contained bytes_order path_of_row control_path rows r is))
+
+-- ---- the migrated area
+
+abbrev in_area : Row → Bool
+in_area r = is_migrated r.path
+
+-- a znode of the area stays whole
+abbrev Whole : ℤ → List Row → Row → Type 0
+Whole session all r = is_migrated r.path ≡ true → (is_owned session r ≡ false) × (loses_child session all r.path ≡ false)
+
+kept_row : (new r : Row) (m n : Bool) (xs ys : List Row) → n ≡ m → (m ≡ true → new ≡ r) → xs ≡ ys → cond n (new ∷ xs) xs ≡ cond m (r ∷ ys) ys
+kept_row new r true n xs ys same whole rest = ap (λ b. cond b (new ∷ xs) xs) same ∙ ap (λ x. x ∷ xs) (whole refl) ∙ ap (λ l. r ∷ l) rest
+kept_row new r false n xs ys same whole rest = ap (λ b. cond b (new ∷ xs) xs) same ∙ rest
+
+lost_row : (r : Row) (m : Bool) (xs ys : List Row) → (m ≡ true → false ≡ true) → xs ≡ ys → xs ≡ cond m (r ∷ ys) ys
+lost_row r true xs ys none rest = absurd (let no = none refl in cc)
+lost_row r false xs ys none rest = rest
+
+by_owner : (zxid session : ℤ) (all : List Row) (r : Row) (b : Bool) (left rest : List Row) → is_owned session r ≡ b → Whole session all r → filter in_area (map (after_loss zxid session all) left) ≡ filter in_area rest
+    → filter in_area (map (after_loss zxid session all) (cond (not b) (r ∷ left) left)) ≡ filter in_area (r ∷ rest)
+by_owner zxid session all r true left rest is whole same = lost_row r (is_migrated r.path) (filter in_area (map (after_loss zxid session all) left)) (filter in_area rest) (λ inside. sym (whole inside).0 ∙ is) same
+by_owner zxid session all r false left rest is whole same =
+    kept_row (after_loss zxid session all r) r (is_migrated r.path) (is_migrated (after_loss zxid session all r).path) (filter in_area (map (after_loss zxid session all) left)) (filter in_area rest)
+    (ap is_migrated (loss_path zxid session all r)) (λ inside. ap (λ c. if c then record r { pzxid = zxid } else r) (whole inside).1) same
+
+area_rows : (zxid session : ℤ) (all rows : List Row) → All (Whole session all) rows → filter in_area (map (after_loss zxid session all) (filter (stays_on session) rows)) ≡ filter in_area rows
+area_rows zxid session all [] whole = refl
+area_rows zxid session all (r ∷ rows) whole =
+    by_owner zxid session all r (is_owned session r) (filter (stays_on session) rows) rows refl (All-head (Whole session all) r rows whole) (area_rows zxid session all rows (All-tail (Whole session all) r rows whole))
+
+-- a child of a znode of the area isn't the session's
+no_child : (session : ℤ) (p : List ℕ) (c : Row) (b : Bool) → is_migrated p ≡ true → Lasts c → bytes_eq (parent_of c.path) p ≡ b → (is_owned session c && b) ≡ false
+no_child session p c true inside lasts is =
+    let within = child_migrated c.path (ap is_migrated ((bytes_eq-Decides (parent_of c.path) p).0 is) ∙ inside) in
+    ap (λ b. b && true) (not_owned session c lasts (migrated_lasts c.path (is_some (shown_epoch c.body)) within))
+no_child session p c false inside lasts is = and_false (is_owned session c)
+  where
+    and_false : (b : Bool) → (b && false) ≡ false
+    and_false true = refl
+    and_false false = refl
+
+all_whole : (session : ℤ) (rows : List Row) → All Lasts rows → All (Whole session rows) rows
+all_whole session rows last = All-weaker Lasts (Whole session rows) (λ r lasts inside. (
+  not_owned session r lasts (migrated_lasts r.path (is_some (shown_epoch r.body)) inside),
+  list_any_none (λ (c : Row). is_owned session c && bytes_eq (parent_of c.path) r.path) rows
+      (All-weaker Lasts (λ (c : Row). (is_owned session c && bytes_eq (parent_of c.path) r.path) ≡ false) (λ c child. no_child session r.path c (bytes_eq (parent_of c.path) r.path) inside child refl) rows last),
+)) rows last
+
+-- ---- the shape
+
+was_there : (zxid session : ℤ) (all : List Row) (m : Option Row) → is_some (option_map (after_loss zxid session all) (unless_owned session m)) ≡ true → is_some m ≡ true
+was_there zxid session all None there = absurd (cc)
+was_there zxid session all (Some r) there = refl
+
+there_after : (zxid session : ℤ) (all : List Row) (m : Option Row) → is_ephemeral m ≡ false → is_some m ≡ true → is_some (option_map (after_loss zxid session all) (unless_owned session m)) ≡ true
+there_after zxid session all None free there = absurd (cc)
+there_after zxid session all (Some r) free there = ap (λ b. is_some (option_map (after_loss zxid session all) (cond (not b) (Some r) None))) (ownerless session r.owner free)
+
+free_after : (zxid session : ℤ) (all : List Row) (m : Option Row) → is_ephemeral m ≡ false → is_ephemeral (option_map (after_loss zxid session all) (unless_owned session m)) ≡ false
+free_after zxid session all None free = refl
+free_after zxid session all (Some r) free =
+    ap (λ b. is_ephemeral (option_map (after_loss zxid session all) (cond (not b) (Some r) None))) (ownerless session r.owner free) ∙ ap (λ (x : Row). is_some x.owner) (loss_still zxid session all r) ∙ free
+
+parent_by : (root there now : Bool) → (root || there) ≡ true → (root ≡ false → there ≡ true → now ≡ true) → (root || now) ≡ true
+parent_by true there now is kept = refl
+parent_by false there now is kept = kept refl is
+
+loss_stamped : (b : Bool) (zxid : ℤ) (r : Row) → IsStamped zxid r → IsStamped (zxid +ℤ pos 1) (if b then record r { pzxid = zxid +ℤ pos 1 } else r)
+loss_stamped true zxid r old = let later = stamped_later zxid r old in record { created = later.created; modified = later.modified; children = omega (arith, ints); version = later.version }
+loss_stamped false zxid r old = stamped_later zxid r old
+
+loss_lasts : (b : Bool) (zxid : ℤ) (r : Row) → Lasts r → Lasts (if b then record r { pzxid = zxid } else r)
+loss_lasts true zxid r lasts = lasts
+loss_lasts false zxid r lasts = lasts
+
+there_before : (zxid session : ℤ) (p : List ℕ) (rows : List Row) → Rises bytes_cmp path_of_row rows → Is p (without_owned zxid session rows) → Is p rows
+there_before zxid session p rows rise there = was_there zxid session rows (row_at p rows) (sym (ap is_some (found_after zxid session p rows rise)) ∙ there)
+
+ended_parents : (zxid session : ℤ) (rows : List Row) → Rises bytes_cmp path_of_row rows → HaveParents rows → ParentsStay rows → HaveParents (without_owned zxid session rows)
+ended_parents zxid session rows rise have stay p there =
+    let was = there_before zxid session p rows rise there in
+    let q = parent_of p in
+    parent_by (is_root q) (is_some (row_at q rows)) (is_some (row_at q (without_owned zxid session rows))) (have p was)
+    (λ up parent. ap is_some (found_after zxid session q rows rise) ∙ there_after zxid session rows (row_at q rows) (stay p was up) parent)
+
+ended_stay : (zxid session : ℤ) (rows : List Row) → Rises bytes_cmp path_of_row rows → ParentsStay rows → ParentsStay (without_owned zxid session rows)
+ended_stay zxid session rows rise stay p there up =
+    ap is_ephemeral (found_after zxid session (parent_of p) rows rise) ∙ free_after zxid session rows (row_at (parent_of p) rows) (stay p (there_before zxid session p rows rise there) up)
+
+ended_shape : (t new : Tree) (session : ℤ) → Moved t new (without_owned (t.zxid +ℤ pos 1) session t.rows) → TreeShape t → TreeShape new
+ended_shape t new session m shape =
+    let zxid = t.zxid +ℤ pos 1 in
+    let loss = after_loss zxid session t.rows in
+    let left = filter (stays_on session) t.rows in
+    record {
+      rise = subst (Rises bytes_cmp path_of_row) (sym m.rows) (Rises-map bytes_cmp path_of_row path_of_row loss (loss_path zxid session t.rows) left (Rises-filter bytes_order path_of_row (stays_on session) t.rows shape.rise));
+      parents = subst HaveParents (sym m.rows) (ended_parents zxid session t.rows shape.rise shape.parents shape.stay);
+      stamped = subst (λ (z : ℤ). All (IsStamped z) new.rows) (sym m.zxid) (subst (All (IsStamped zxid)) (sym m.rows)
+          (All-map (IsStamped zxid) loss left (All-filter (stays_on session) (λ r. IsStamped zxid (loss r)) t.rows
+          (All-weaker (IsStamped t.zxid) (λ r. IsStamped zxid (loss r)) (λ r old. loss_stamped (loses_child session t.rows r.path) t.zxid r old) t.rows shape.stamped))));
+      last = subst (All Lasts) (sym m.rows) (All-map Lasts loss left (All-filter (stays_on session) (λ r. Lasts (loss r)) t.rows
+          (All-weaker Lasts (λ r. Lasts (loss r)) (λ r old. loss_lasts (loses_child session t.rows r.path) zxid r old) t.rows shape.last)));
+      stay = subst ParentsStay (sym m.rows) (ended_stay zxid session t.rows shape.rise shape.stay);
+    }
+
+pub end_leaves : (t new : Tree) (session : ℤ) → end_session t session ≡ Ok new → TreeShape t → TreeShape new × Unchanged t new
+end_leaves t new session is shape =
+    let m = ended t new session is in
+    let zxid = t.zxid +ℤ pos 1 in (
+      ended_shape t new session m shape,
+      unchanged_by t new (ap (filter in_area) m.rows ∙ area_rows zxid session t.rows t.rows (all_whole session t.rows shape.last))
+          (ap (λ rows. option_map still (row_at migration_path rows)) m.rows ∙ lasting_alike zxid session migration_path t.rows shape.rise shape.last migration_lasts)
+          (ap (λ rows. option_map still (row_at epoch_path rows)) m.rows ∙ lasting_alike zxid session epoch_path t.rows shape.rise shape.last epoch_lasts)
+          (ap (λ rows. shown_by (row_at control_path rows)) m.rows ∙ ap shown_by (found_after zxid session control_path t.rows shape.rise) ∙ shown_after zxid session t.rows (row_at control_path t.rows) refl shape.last),
+    )
