@@ -215,8 +215,8 @@ impl Tree {
     }
 
     /// Copies of the znodes at these paths, in their order.
-    pub fn look(&self, paths: &[&[u8]]) -> Result<Vec<Option<Row>>, NoMemory>
-        ensures { IfOk result (λ made. made.items ≡ tree.look self.now (map (λ path. path.now) paths.now)) }
+    pub fn look_up(&self, paths: &[ZPath]) -> Result<Vec<Option<Row>>, NoMemory>
+        ensures { IfOk result (λ made. made.items ≡ tree.look self.now paths.now) }
     {
         reads::look(self.alloc, &self.rows, paths)
     }
