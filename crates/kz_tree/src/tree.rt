@@ -283,17 +283,24 @@ impl Tree {
 
 #[cfg(test)]
 impl Tree {
-    /// The tree without a znode, with one session, after so many transactions.
-    pub fn with_session(alloc: Global, session: i64, zxid: i64) -> Result<Tree, NoMemory>
+    /// The tree of one znode, with one session, after so many transactions.
+    pub fn with_parts(
+        alloc: Global,
+        zxid: i64,
+        session: i64,
+        row: Row,
+    ) -> Result<Tree, NoMemory>
         requires { pos 0 ≤ℤ zxid }
     {
         let mut sessions = Vec::new(alloc);
         sessions.push(session)?;
+        let mut rows = Vec::new(alloc);
+        rows.push(row)?;
         Ok(Tree {
             alloc,
             zxid,
             sessions,
-            rows: Vec::new(alloc),
+            rows,
         })
     }
 }
