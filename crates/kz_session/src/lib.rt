@@ -6,3 +6,6 @@ mod sessions;
 
 pub use memory::MemoryTree;
 pub use sessions::{SessionFault, ZSessions};
+
+#[cfg(test)]
+mod tests;

@@ -1,6 +1,7 @@
 //! A tree in memory.
 ghost use Rattle.std.specs.Prelude.{◌≡◌, Ok, IfOk, IfErr, false, None};
 ghost use Rattle.kz_spec_stores.specs.Tree as znodes;
+ghost use Rattle.kz_session.specs.Memory.{session_fault};
 
 use crate::{SessionFault, ZSessions};
 use kz_tree::{MoveFault, Op, Row, Tree, TreeFault, ZTree};
@@ -25,7 +26,7 @@ impl MemoryTree {
 }
 
 fn session_fault(fault: MoveFault) -> SessionFault
-    ensures { result ≡ Rattle.kz_session.specs.Memory.session_fault fault }
+    ensures { result ≡ session_fault fault }
 {
     match fault {
         MoveFault::Known => SessionFault::Known,

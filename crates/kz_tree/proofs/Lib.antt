@@ -3,7 +3,10 @@ pub mod Ids
 pub mod Kept
 pub mod LastSlash
 pub mod Looks
+pub mod Moves
 pub mod Multis
+pub mod Nexts
+pub mod Owned
 pub mod Pages
 pub mod Prefixes
 pub mod Steps

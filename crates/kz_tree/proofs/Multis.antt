@@ -7,7 +7,9 @@ use Rattle.kz_types.specs.declared.tree.Op.{Op}
 use Rattle.kz_types.specs.declared.fault.TreeFault.{TreeFault}
 use Rattle.kz_types.specs.declared.fault.TreeFault.TheVariants as fault
 use Rattle.kz_spec_stores.specs.Tree.{Tree, after_ops, multi, with_zxid, max_long}
-use Rattle.kz_tree.specs.Refusals.{IsFaultOf}
+use Rattle.kz_tree.specs.Refusals.{IsMultiFaultOf}
+use Rattle.kz_tree.specs.declared.faults.MultiFault.{MultiFault}
+use Rattle.kz_tree.specs.declared.faults.MultiFault.TheVariants as multi_fault
 use Rattle.kz_tree.proofs.Zxids.{refused_whatever, accepted_whatever}
 
 not_full : (z : ℤ) → z <ℤ max_long → int_le max_long z ≡ false
@@ -26,13 +28,10 @@ pub multi_refused : (t : Tree) (ops : List Op) (z : ℤ) (e : TreeFault) → aft
 unfolding multi
 multi_refused t ops z e is = ap (with_zxid t) (refused_whatever t.sessions z (t.zxid +ℤ pos 1) ops t.rows e is)
 
-pub multi_fault : (t : Tree) (ops : List Op) (z : ℤ) (e : TreeFault) → IsFaultOf (after_ops t.sessions z 0 ops t.rows) e → IsFaultOf (multi t ops) e
-multi_fault t ops z (fault.Refused index c) h = multi_refused t ops z (fault.Refused index c) h
-multi_fault t ops z (fault.Limit index n) h = multi_refused t ops z (fault.Limit index n) h
-multi_fault t ops z fault.NoMemory h = h
-multi_fault t ops z fault.Device h = h
-multi_fault t ops z fault.Down h = h
-multi_fault t ops z (fault.Full n) h = h
+pub multi_fault_of : (t : Tree) (ops : List Op) (z : ℤ) (e : MultiFault) → IsMultiFaultOf (after_ops t.sessions z 0 ops t.rows) e → IsMultiFaultOf (multi t ops) e
+multi_fault_of t ops z (multi_fault.Refused index c) h = multi_refused t ops z (fault.Refused index c) h
+multi_fault_of t ops z (multi_fault.Limit index n) h = multi_refused t ops z (fault.Limit index n) h
+multi_fault_of t ops z multi_fault.NoMemory h = h
 
 pub multi_full : (t : Tree) (ops : List Op) (rows : List Row) (z : ℤ) → max_long ≤ℤ t.zxid → after_ops t.sessions z 0 ops t.rows ≡ Ok rows → multi t ops ≡ Err (fault.Limit 0 17)
 unfolding multi

@@ -2,3 +2,4 @@ pub mod Refusals
 pub mod Kept
 pub mod Requests
 pub mod Wires
+pub mod Lending

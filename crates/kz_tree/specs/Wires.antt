@@ -1,12 +1,11 @@
 -- A connection to a store, and what arrives of the store's answers.
-use Rattle.std.specs.Prelude.{◌≡◌, ℕ, Bool, true, false, Result, Ok, Err, IfErr, ⊤}
+use Rattle.std.specs.Prelude.{◌≡◌, ℕ, Bool, true, false, Result, Ok, Err, ⊤}
 use Rattle.kz_types.specs.declared.fault.TreeFault.{TreeFault}
 use Rattle.kz_types.specs.declared.fault.TreeFault.TheVariants as fault
 use Rattle.kz_types.specs.declared.plan.Plan.{Plan}
 use Rattle.kz_spec_stores.specs.Tree.{Tree}
 use Rattle.kz_tree.specs.declared.wire.WireFault.{WireFault}
 use Rattle.kz_tree.specs.declared.wire.WireFault.TheVariants as wire_fault
-use Rattle.kz_tree.specs.Requests.{IsChangeFault, IsReadFault}
 
 -- The store, the plan for the next request, and how often a request wasn't answered.
 pub record Wired (T : Type 0) : Type 0 where
@@ -28,6 +27,12 @@ abbrev pub OfStore : (TreeFault → Type 0) → WireFault → Type 0
 OfStore P wire_fault.Lost = ⊥
 OfStore P wire_fault.Expired = ⊥
 OfStore P (wire_fault.Tree f) = P f
+
+-- where it is a fault of the store, this holds
+abbrev pub IfStore : Type 0 → WireFault → Type 0
+IfStore P wire_fault.Lost = ⊤
+IfStore P wire_fault.Expired = ⊤
+IfStore P (wire_fault.Tree f) = P
 
 -- lost, or a fault of the store that passes and of which this holds
 abbrev pub LostOr : (TreeFault → Type 0) → WireFault → Type 0

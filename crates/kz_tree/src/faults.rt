@@ -1,4 +1,5 @@
 //! Why a tree doesn't answer.
+ghost use Rattle.std.specs.Prelude.{◌≡◌};
 ghost use Rattle.kz_tree.specs.Refusals.{tree_fault};
 
 use kz_types::{TreeFault, ZPath};

@@ -1,11 +1,11 @@
 //! What the begin and the end of a session make of a tree.
-ghost use Rattle.std.specs.Prelude.{◌≡◌, IfOk, map, if◌then◌else◌};
+ghost use Rattle.std.specs.Prelude.{◌≡◌, ℕ, List, IfOk, OnOk, if◌then◌else◌};
 ghost use Rattle.std.specs.Ordering.{int_cmp};
-ghost use Rattle.std.specs.List.{filter, list_any};
+ghost use Rattle.std.specs.List.{list_any};
 ghost use Rattle.std.specs.Str.{bytes_eq};
 ghost use Rattle.kz_ordered.specs.Ordered.{put, without};
-ghost use Rattle.kz_spec_stores.specs.Tree.{is_live, is_owned, parent_of, after_loss, without_owned};
-ghost use Rattle.kz_tree.specs.Kept.{AreSessions};
+ghost use Rattle.kz_spec_stores.specs.Tree.{is_live, is_owned, loses_child, without_owned};
+ghost use Rattle.kz_tree.specs.Kept.{AreRows, AreSessions};
 
 use crate::names::parent_of;
 use kz_types::{Duplicate, NoMemory, Row, copy_all};
@@ -18,6 +18,30 @@ pub fn is_live(sessions: &[i64], session: i64) -> bool
     sessions.contains(&session)
 }
 
+// Puts a session at its place.
+fn put_session(sessions: &mut Vec<i64>, session: i64) -> Result<(), NoMemory>
+    requires { AreSessions sessions.old.items }
+    ensures ok { OnOk result (sessions.new.items ≡ put int_cmp (λ s. s) session sessions.old.items) }
+    ensures rise { OnOk result (AreSessions sessions.new.items) }
+{
+    match sessions.as_slice().binary_search(&session) {
+        Ok(at) => sessions[at] = session,
+        Err(at) => sessions.insert(at, session)?,
+    }
+    Ok(())
+}
+
+// Takes a session out.
+fn take_session(sessions: &mut Vec<i64>, session: i64)
+    requires { AreSessions sessions.old.items }
+    ensures value { sessions.new.items ≡ without int_cmp (λ s. s) session sessions.old.items }
+    ensures rise { AreSessions sessions.new.items }
+{
+    if let Ok(at) = sessions.as_slice().binary_search(&session) {
+        sessions.remove(at);
+    }
+}
+
 /// The sessions with one more.
 pub fn with_session(alloc: Global, sessions: &[i64], session: i64) -> Result<Vec<i64>, NoMemory>
     requires { AreSessions sessions.now }
@@ -25,10 +49,7 @@ pub fn with_session(alloc: Global, sessions: &[i64], session: i64) -> Result<Vec
     ensures rise { IfOk result (λ made. AreSessions made.items) }
 {
     let mut made = copy_all(alloc, sessions)?;
-    match made.as_slice().binary_search(&session) {
-        Ok(_) => {}
-        Err(at) => made.insert(at, session)?,
-    }
+    put_session(&mut made, session)?;
     Ok(made)
 }
 
@@ -39,9 +60,7 @@ pub fn without_session(alloc: Global, sessions: &[i64], session: i64) -> Result<
     ensures rise { IfOk result (λ made. AreSessions made.items) }
 {
     let mut made = copy_all(alloc, sessions)?;
-    if let Ok(at) = made.as_slice().binary_search(&session) {
-        made.remove(at);
-    }
+    take_session(&mut made, session);
     Ok(made)
 }
 
@@ -60,7 +79,7 @@ fn parents_of_owned<'a>(
     rows: &'a [Row],
     session: i64,
 ) -> Result<Vec<&'a [u8]>, NoMemory>
-    ensures { IfOk result (λ parents. map (λ path. path.now) parents.items ≡ map (λ row. parent_of row.path) (filter (is_owned session) rows.entry.now)) }
+    ensures { IfOk result (λ parents. (path : List ℕ) → list_any (λ other. bytes_eq other.now path) parents.items ≡ loses_child session rows.entry.now path) }
 {
     let mut parents = Vec::new(alloc);
     for row in rows {
@@ -71,19 +90,8 @@ fn parents_of_owned<'a>(
     Ok(parents)
 }
 
-// A znode that stays, after the loss of children of these paths.
-fn after_loss(alloc: Global, row: &Row, parents: &[&[u8]], zxid: i64) -> Result<Row, NoMemory>
-    ensures { IfOk result (λ made. made ≡ (if list_any (λ other. bytes_eq other row.now.path) (map (λ p. p.now) parents.now) then record row.now { pzxid = zxid } else row.now)) }
-{
-    let mut made = row.copy(alloc)?;
-    if is_among(parents, row.path.bytes()) {
-        made.pzxid = zxid;
-    }
-    Ok(made)
-}
-
 fn is_among(paths: &[&[u8]], path: &[u8]) -> bool
-    ensures { result ≡ list_any (λ other. bytes_eq other path.now) (map (λ p. p.now) paths.now) }
+    ensures { result ≡ list_any (λ other. bytes_eq other.now path.now) paths.now }
 {
     for other in paths {
         if *other == path {
@@ -93,6 +101,17 @@ fn is_among(paths: &[&[u8]], path: &[u8]) -> bool
     false
 }
 
+// A znode that stays, where it loses children or not.
+fn after_loss(alloc: Global, row: &Row, loses: bool, zxid: i64) -> Result<Row, NoMemory>
+    ensures { IfOk result (λ made. made ≡ (if loses then record row.now { pzxid = zxid } else row.now)) }
+{
+    let mut made = row.copy(alloc)?;
+    if loses {
+        made.pzxid = zxid;
+    }
+    Ok(made)
+}
+
 /// The znodes without those that end with a session; their parents show it.
 pub fn without_owned(
     alloc: Global,
@@ -100,13 +119,16 @@ pub fn without_owned(
     session: i64,
     zxid: i64,
 ) -> Result<Vec<Row>, NoMemory>
-    ensures { IfOk result (λ made. made.items ≡ without_owned zxid session rows.now) }
+    requires { AreRows rows.now }
+    ensures value { IfOk result (λ made. made.items ≡ without_owned zxid session rows.now) }
+    ensures rise { IfOk result (λ made. AreRows made.items) }
 {
     let parents = parents_of_owned(alloc, rows, session)?;
     let mut made = Vec::new(alloc);
     for row in rows {
         if !is_owned(session, row) {
-            made.push(after_loss(alloc, row, &parents, zxid)?)?;
+            let loses = is_among(&parents, row.path.bytes());
+            made.push(after_loss(alloc, row, loses, zxid)?)?;
         }
     }
     Ok(made)

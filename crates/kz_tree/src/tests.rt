@@ -1,8 +1,34 @@
-use super::{Op, Row, Tree, TreeFault, is_migrated};
-use kz_types::{NoMemory, PathFault, Sequence, ZPath};
-use std::alloc::{AllocError, Global};
+ghost use Rattle.std.specs.Prelude.{pos, ◌≤ℤ◌};
+
+use super::{ClosedFault, Op, Row, Tree, TreeFault, is_migrated};
+use kz_types::{Sequence, ZPath};
+use std::alloc::Global;
 use std::process::Abort;
-use std::test::Fail;
+
+// What a call gave, which must not have failed.
+fn made<T: Drop, E: Drop>(rt: &impl Abort, outcome: Result<T, E>) -> T {
+    match outcome {
+        Ok(value) => value,
+        Err(_) => panic!(rt; "a call failed"),
+    }
+}
+
+fn put<T: Drop>(rt: &impl Abort, items: &mut Sequence<T>, item: T) {
+    made(rt, items.push(item));
+}
+
+fn path_of(rt: &impl Abort, alloc: Global, text: &str) -> ZPath {
+    made(rt, ZPath::new(alloc, text.as_bytes()))
+}
+
+fn body_of(rt: &impl Abort, alloc: Global, body: &[u8]) -> Sequence<u8> {
+    Sequence::from_vec(made(rt, body.to_vec(alloc)))
+}
+
+// A body of a byte more than there may be.
+fn long_body(rt: &impl Abort, alloc: Global) -> Sequence<u8> {
+    Sequence::from_vec(made(rt, vec![in alloc; b'x'; 1_048_576]))
+}
 
 // An operation of a table: creates have an owner, or 0 for none; the others have a version.
 #[derive(Clone, Copy)]
@@ -15,125 +41,113 @@ enum Ask {
     Check(&'static str, i32),
 }
 
-fn path_of(alloc: Global, text: &str) -> Result<ZPath, NoMemory> {
-    match ZPath::new(alloc, text.as_bytes()) {
-        Ok(path) => Ok(path),
-        Err(PathFault::NoMemory) => Err(NoMemory),
-        Err(PathFault::BadName { .. }) => Err(NoMemory),
+fn create(rt: &impl Abort, alloc: Global, path: &str, body: Sequence<u8>, owner: i64) -> Op {
+    Op::Create {
+        path: path_of(rt, alloc, path),
+        body,
+        owner: if owner == 0 { None } else { Some(owner) },
     }
 }
 
-fn body_of(alloc: Global, text: &[u8]) -> Result<Sequence<u8>, NoMemory> {
-    Ok(Sequence::from_vec(text.to_vec(alloc)?))
-}
-
-// A body of a byte more than there may be.
-fn long_body(alloc: Global) -> Result<Sequence<u8>, NoMemory> {
-    let mut body = Vec::new(alloc);
-    for _ in 0..1_048_576 {
-        body.push(b'x')?;
+fn set(rt: &impl Abort, alloc: Global, path: &str, body: Sequence<u8>, version: i32) -> Op {
+    Op::Set {
+        path: path_of(rt, alloc, path),
+        body,
+        version,
     }
-    Ok(Sequence::from_vec(body))
 }
 
-fn op_of(alloc: Global, ask: Ask) -> Result<Op, NoMemory> {
+fn op_of(rt: &impl Abort, alloc: Global, ask: Ask) -> Op {
     match ask {
-        Ask::Create(path, owner) => Ok(Op::Create {
-            path: path_of(alloc, path)?,
-            body: body_of(alloc, b"{}")?,
-            owner: if owner == 0 { None } else { Some(owner) },
-        }),
-        Ask::Long(path) => Ok(Op::Create {
-            path: path_of(alloc, path)?,
-            body: long_body(alloc)?,
-            owner: None,
-        }),
-        Ask::Set(path, version) => Ok(Op::Set {
-            path: path_of(alloc, path)?,
-            body: body_of(alloc, b"set")?,
+        Ask::Create(path, owner) => create(rt, alloc, path, body_of(rt, alloc, b"{}"), owner),
+        Ask::Long(path) => create(rt, alloc, path, long_body(rt, alloc), 0),
+        Ask::Set(path, version) => set(rt, alloc, path, body_of(rt, alloc, b"set"), version),
+        Ask::SetLong(path, version) => set(rt, alloc, path, long_body(rt, alloc), version),
+        Ask::Delete(path, version) => Op::Delete {
+            path: path_of(rt, alloc, path),
             version,
-        }),
-        Ask::SetLong(path, version) => Ok(Op::Set {
-            path: path_of(alloc, path)?,
-            body: long_body(alloc)?,
+        },
+        Ask::Check(path, version) => Op::Check {
+            path: path_of(rt, alloc, path),
             version,
-        }),
-        Ask::Delete(path, version) => Ok(Op::Delete {
-            path: path_of(alloc, path)?,
-            version,
-        }),
-        Ask::Check(path, version) => Ok(Op::Check {
-            path: path_of(alloc, path)?,
-            version,
-        }),
+        },
     }
 }
 
-// What a tree answers a multi, in one text.
-fn answered(alloc: Global, tree: &mut Tree, asks: &[Ask]) -> Result<String, AllocError> {
-    let mut ops = Vec::new(alloc);
+fn ops_of(rt: &impl Abort, alloc: Global, asks: &[Ask]) -> Sequence<Op> {
+    let mut ops = Sequence::new(alloc);
     for ask in asks {
-        let Ok(op) = op_of(alloc, *ask) else {
-            return Err(AllocError);
-        };
-        let Ok(()) = ops.push(op) else {
-            return Err(AllocError);
-        };
+        put(rt, &mut ops, op_of(rt, alloc, *ask));
     }
-    match tree.multi(&ops) {
-        Ok(zxid) => format!(in alloc; "done {zxid}"),
-        Err(TreeFault::Refused { index, code }) => format!(in alloc; "refused {index} {code}"),
-        Err(TreeFault::Limit { index, number }) => format!(in alloc; "limit {index} {number}"),
-        Err(_) => Err(AllocError),
+    ops
+}
+
+// An answer of a table: the zxid; or the place of the operation that is refused, with its code or the limit's number.
+#[derive(Clone, Copy)]
+enum Told {
+    Done(i64),
+    Refused(usize, i32),
+    Limit(usize, u8),
+}
+
+fn answer_of(told: Told) -> Result<i64, TreeFault> {
+    match told {
+        Told::Done(zxid) => Ok(zxid),
+        Told::Refused(index, code) => Err(TreeFault::Refused { index, code }),
+        Told::Limit(index, number) => Err(TreeFault::Limit { index, number }),
     }
 }
 
-// The multis of a tree after six transactions with the session 1, and what it answers.
-static MULTIS: [(&[Ask], &str); 29] = [
+// The multis of a tree after six transactions with the session 1 and the znode /v, which was set as often as it may be,
+// and what it answers.
+static MULTIS: [(&[Ask], Told); 34] = [
     (
         &[
             Ask::Create("/a", 0),
             Ask::Create("/a/b", 0),
             Ask::Create("/e", 1),
         ],
-        "done 7",
+        Told::Done(7),
     ),
-    (&[], "done 8"),
+    (&[], Told::Done(8)),
     // each cause at the first place
-    (&[Ask::Create("/x", 2)], "refused 0 -112"),
-    (&[Ask::Create("/x/y", 0)], "refused 0 -101"),
-    (&[Ask::Create("/a", 0)], "refused 0 -110"),
-    (&[Ask::Create("/e/f", 0)], "refused 0 -108"),
-    (&[Ask::Long("/x")], "limit 0 2"),
-    (&[Ask::Set("/x", -1)], "refused 0 -101"),
-    (&[Ask::Set("/a", 1)], "refused 0 -103"),
-    (&[Ask::SetLong("/a", 0)], "limit 0 2"),
-    (&[Ask::Delete("/x", -1)], "refused 0 -101"),
-    (&[Ask::Delete("/a/b", 1)], "refused 0 -103"),
-    (&[Ask::Delete("/a", -1)], "refused 0 -111"),
-    (&[Ask::Check("/x", -1)], "refused 0 -101"),
-    (&[Ask::Check("/a", 1)], "refused 0 -103"),
+    (&[Ask::Create("/x", 2)], Told::Refused(0, -112)),
+    (&[Ask::Create("/x/y", 0)], Told::Refused(0, -101)),
+    (&[Ask::Create("/a", 0)], Told::Refused(0, -110)),
+    (&[Ask::Create("/e/f", 0)], Told::Refused(0, -108)),
+    (&[Ask::Long("/x")], Told::Limit(0, 2)),
+    (&[Ask::Set("/x", -1)], Told::Refused(0, -101)),
+    (&[Ask::Set("/a", 1)], Told::Refused(0, -103)),
+    (&[Ask::SetLong("/a", 0)], Told::Limit(0, 2)),
+    (&[Ask::Set("/v", -1)], Told::Limit(0, 5)),
+    (&[Ask::Delete("/x", -1)], Told::Refused(0, -101)),
+    (&[Ask::Delete("/a/b", 1)], Told::Refused(0, -103)),
+    (&[Ask::Delete("/a", -1)], Told::Refused(0, -111)),
+    (&[Ask::Check("/x", -1)], Told::Refused(0, -101)),
+    (&[Ask::Check("/a", 1)], Told::Refused(0, -103)),
     // several causes at once
-    (&[Ask::Create("/a", 2)], "refused 0 -112"),
-    (&[Ask::Create("/e/f/g", 0)], "refused 0 -101"),
-    (&[Ask::Long("/x/y")], "refused 0 -101"),
-    (&[Ask::Long("/a")], "refused 0 -110"),
-    (&[Ask::Long("/e/f")], "refused 0 -108"),
-    (&[Ask::SetLong("/a", 1)], "refused 0 -103"),
-    (&[Ask::Delete("/a", 1)], "refused 0 -103"),
+    (&[Ask::Create("/a", 2)], Told::Refused(0, -112)),
+    (&[Ask::Create("/e/f/g", 0)], Told::Refused(0, -101)),
+    (&[Ask::Long("/x/y")], Told::Refused(0, -101)),
+    (&[Ask::Long("/a")], Told::Refused(0, -110)),
+    (&[Ask::Long("/e/f")], Told::Refused(0, -108)),
+    (&[Ask::SetLong("/a", 1)], Told::Refused(0, -103)),
+    (&[Ask::SetLong("/v", 2_147_483_647)], Told::Limit(0, 2)),
+    (&[Ask::Set("/v", 0)], Told::Refused(0, -103)),
+    (&[Ask::Delete("/a", 1)], Told::Refused(0, -103)),
     // at a later place, where the operations before it count
     (
         &[Ask::Create("/x", 0), Ask::Create("/x", 0)],
-        "refused 1 -110",
+        Told::Refused(1, -110),
     ),
-    (&[Ask::Set("/a", 0), Ask::Set("/a", 0)], "refused 1 -103"),
+    (&[Ask::Set("/a", 0), Ask::Set("/a", 0)], Told::Refused(1, -103)),
     (
         &[
             Ask::Delete("/a/b", 0),
             Ask::Delete("/a", 0),
             Ask::Check("/a", -1),
         ],
-        "refused 2 -101",
+        Told::Refused(2, -101),
     ),
     (
         &[
@@ -141,83 +155,90 @@ static MULTIS: [(&[Ask], &str); 29] = [
             Ask::Create("/a/c", 0),
             Ask::Check("/a", 1),
         ],
-        "refused 2 -103",
+        Told::Refused(2, -103),
     ),
     (
         &[Ask::Set("/x", -1), Ask::Create("/x", 2)],
-        "refused 0 -101",
+        Told::Refused(0, -101),
+    ),
+    (
+        &[Ask::Check("/a/b", -1), Ask::Create("/e/f", 1)],
+        Told::Refused(1, -108),
+    ),
+    (
+        &[Ask::Set("/a", -1), Ask::Set("/v", -1)],
+        Told::Limit(1, 5),
     ),
     // nothing of what was refused stands, and no zxid was taken
-    (&[Ask::Set("/a", 0), Ask::Set("/a", 1)], "done 9"),
+    (&[Ask::Set("/a", 0), Ask::Set("/a", 1)], Told::Done(9)),
     (
         &[
             Ask::Check("/a", 2),
             Ask::Delete("/a/b", 0),
             Ask::Delete("/a", 2),
         ],
-        "done 10",
+        Told::Done(10),
     ),
 ];
 
 // The multis of a tree one transaction before the last, and what it answers.
-static LAST: [(&[Ask], &str); 4] = [
-    (&[Ask::Create("/a", 0)], "done 9223372036854775807"),
-    (&[Ask::Create("/b", 0)], "limit 0 17"),
-    (&[], "limit 0 17"),
+static LAST: [(&[Ask], Told); 4] = [
+    (&[Ask::Create("/a", 0)], Told::Done(9223372036854775807)),
+    (&[Ask::Create("/b", 0)], Told::Limit(0, 17)),
+    (&[], Told::Limit(0, 17)),
     (
         &[Ask::Create("/b", 0), Ask::Create("/a", 0)],
-        "refused 1 -110",
+        Told::Refused(1, -110),
     ),
 ];
 
+// The tree with the session 1 and the znode /v after so many transactions.
+fn aged(rt: &impl Abort, alloc: Global, zxid: i64) -> Tree
+    requires { pos 0 ≤ℤ zxid }
+{
+    let row = Row {
+        path: path_of(rt, alloc, "/v"),
+        body: Sequence::new(alloc),
+        version: i32::MAX,
+        owner: None,
+        czxid: 1,
+        mzxid: 1,
+        pzxid: 1,
+    };
+    made(rt, Tree::with_parts(alloc, zxid, 1, row))
+}
+
+// Makes the multis, and compares the answers.
 fn answers_all(
     rt: &impl Abort,
     alloc: Global,
     tree: &mut Tree,
-    rows: &[(&[Ask], &str)],
-) -> Result<(), Fail> {
-    for row in rows {
-        let text = answered(alloc, tree, row.0)?;
-        assert_eq!(rt; text.as_str(), row.1);
+    multis: &[(&[Ask], Told)],
+) {
+    for (asks, told) in multis {
+        let ops = ops_of(rt, alloc, asks);
+        assert!(rt; tree.multi(ops.as_slice()) == answer_of(*told));
     }
-    Ok(())
 }
 
 #[test]
-fn multis_are_made_or_refused_at_their_first_cause(rt: HostRuntime) -> Result<(), Fail> {
+fn multis_are_made_or_refused_at_their_first_cause(rt: HostRuntime) {
     let alloc = rt.alloc();
-    let mut tree = Tree::with_session(alloc, 1, 6)?;
-    answers_all(&rt, alloc, &mut tree, &MULTIS)?;
-    assert_eq!(rt; tree.count(), 1);
-    assert_eq!(rt; tree.last_zxid(), 10);
-    assert_eq!(rt; tree.sessions(), [1].as_slice());
-    Ok(())
+    let mut tree = aged(&rt, alloc, 6);
+    answers_all(&rt, alloc, &mut tree, &MULTIS);
+    assert!(rt; tree.count() == 2);
+    assert!(rt; tree.last_zxid() == 10);
+    assert!(rt; tree.sessions() == [1].as_slice());
+    drop(tree);
 }
 
 #[test]
-fn the_last_zxid_is_a_limit(rt: HostRuntime) -> Result<(), Fail> {
+fn the_last_zxid_is_a_limit(rt: HostRuntime) {
     let alloc = rt.alloc();
-    let mut tree = Tree::with_session(alloc, 1, 9_223_372_036_854_775_806)?;
-    answers_all(&rt, alloc, &mut tree, &LAST)?;
-    assert_eq!(rt; tree.count(), 1);
-    Ok(())
-}
-
-fn shown_row(alloc: Global, row: &Row) -> Result<String, AllocError> {
-    let path = row.path.as_str();
-    let version = row.version;
-    let czxid = row.czxid;
-    let mzxid = row.mzxid;
-    let pzxid = row.pzxid;
-    format!(in alloc; "{path} {version} {czxid} {mzxid} {pzxid}")
-}
-
-fn create(alloc: Global, path: &str, body: &[u8]) -> Result<Op, NoMemory> {
-    Ok(Op::Create {
-        path: path_of(alloc, path)?,
-        body: body_of(alloc, body)?,
-        owner: None,
-    })
+    let mut tree = aged(&rt, alloc, 9_223_372_036_854_775_806);
+    answers_all(&rt, alloc, &mut tree, &LAST);
+    assert!(rt; tree.count() == 2);
+    drop(tree);
 }
 
 static PATHS: [&str; 10] = [
@@ -233,84 +254,112 @@ static PATHS: [&str; 10] = [
     "/config/brokers-2",
 ];
 
-fn creates(alloc: Global, paths: &[&str]) -> Result<Vec<Op>, NoMemory> {
-    let mut ops = Vec::new(alloc);
-    for path in paths {
-        ops.push(create(alloc, path, b"")?)?;
-    }
-    Ok(ops)
-}
-
 // The tree of these paths.
-fn filled(rt: &impl Abort, alloc: Global) -> Result<Tree, Fail> {
+fn filled(rt: &impl Abort, alloc: Global) -> Tree {
+    let mut ops = Sequence::new(alloc);
+    for path in PATHS {
+        put(rt, &mut ops, create(rt, alloc, path, Sequence::new(alloc), 0));
+    }
     let mut tree = Tree::new(alloc);
-    let ops = creates(alloc, &PATHS)?;
-    assert_eq!(rt; tree.multi(&ops).ok(), Some(1));
-    Ok(tree)
+    assert!(rt; tree.multi(ops.as_slice()) == Ok(1));
+    tree
 }
 
 #[test]
-fn the_migrated_area_is_read(rt: HostRuntime) -> Result<(), Fail> {
-    let alloc = rt.alloc();
-    let tree = filled(&rt, alloc)?;
-    assert_eq!(rt; tree.rows().len(), 10);
-    assert_eq!(rt; tree.broker_ids()?.as_slice(), [2, 10].as_slice());
-    assert_eq!(rt; tree.area_len(), 3);
-    assert_eq!(rt; tree.area()?.len(), 3);
-    assert_eq!(rt; tree.migrated_rows()?.len(), 3);
-    Ok(())
+fn the_migrated_area_is_read(rt: HostRuntime) {
+    let tree = filled(&rt, rt.alloc());
+    assert!(rt; tree.rows().len() == 10);
+    assert!(rt; made(&rt, tree.broker_ids()).as_slice() == [2, 10].as_slice());
+    assert!(rt; tree.area_len() == 3);
+    let area = made(&rt, tree.area());
+    assert!(rt; area.len() == 3);
+    let rows = made(&rt, tree.migrated_rows());
+    assert!(rt; rows.len() == 3);
+    drop(area);
+    drop(rows);
+    drop(tree);
 }
 
-// The number of znodes of a page, and the path of the first.
-fn shown_page(alloc: Global, page: &[Row]) -> Result<String, AllocError> {
-    let count = page.len();
-    match page {
-        [] => format!(in alloc; "0"),
-        [first, ..] => {
-            let path = first.path.as_str();
-            format!(in alloc; "{count} {path}")
-        }
+// Whether a page has so many znodes, and the first has this path.
+fn is_page(page: Vec<Row>, count: usize, path: &str) -> bool {
+    let is_first = match page.first() {
+        Some(first) => first.path.as_str() == path,
+        None => false,
+    };
+    page.len() == count && is_first
+}
+
+#[test]
+fn pages_begin_behind_a_path(rt: HostRuntime) {
+    let alloc = rt.alloc();
+    let tree = filled(&rt, alloc);
+    assert!(rt; is_page(made(&rt, tree.scan(None, 2)), 2, "/brokers/topics"));
+    let after = path_of(&rt, alloc, "/brokers/topics");
+    let page = made(&rt, tree.scan(Some(&after), 256));
+    assert!(rt; is_page(page, 2, "/brokers/topics/t"));
+    drop(tree);
+}
+
+// Whether the znodes behind a path begin with this one.
+fn is_next(tree: &Tree, after: Option<&ZPath>, path: &str) -> bool {
+    match tree.next_row(after) {
+        Some(row) => row.path.as_str() == path,
+        None => path.is_empty(),
     }
 }
 
 #[test]
-fn pages_begin_behind_a_path(rt: HostRuntime) -> Result<(), Fail> {
+fn znodes_follow_one_another(rt: HostRuntime) {
     let alloc = rt.alloc();
-    let tree = filled(&rt, alloc)?;
-    let page = tree.scan(None, 2)?;
-    let text = shown_page(alloc, &page)?;
-    assert_eq!(rt; text.as_str(), "2 /brokers/topics");
-    let after = path_of(alloc, "/brokers/topics")?;
-    let page = tree.scan(Some(&after), 256)?;
-    let text = shown_page(alloc, &page)?;
-    assert_eq!(rt; text.as_str(), "2 /brokers/topics/t");
-    Ok(())
+    let tree = filled(&rt, alloc);
+    assert!(rt; is_next(&tree, None, "/brokers"));
+    for (after, next) in [
+        ("/brokers", "/brokers/ids"),
+        ("/brokers/ids/1", "/brokers/ids/10"),
+        ("/brokers/ids/2", "/brokers/topics"),
+        ("/config/brokers-2", ""),
+        ("/zookeeper", ""),
+    ] {
+        let after = path_of(&rt, alloc, after);
+        assert!(rt; is_next(&tree, Some(&after), next));
+    }
+    drop(tree);
 }
 
-// Which znodes were found.
-fn shown_found(alloc: Global, found: &[Option<Row>]) -> Result<String, AllocError> {
+// Whether the first znode was found, and the second wasn't.
+fn is_first_found(found: &[Option<Row>]) -> bool {
     match found {
-        [Some(row), None] => shown_row(alloc, row),
-        _ => format!(in alloc; "others"),
+        [Some(row), None] => {
+            row.path.as_str() == "/config"
+                && row.version == 0
+                && row.czxid == 1
+                && row.mzxid == 1
+                && row.pzxid == 1
+        }
+        _ => false,
     }
 }
 
 #[test]
-fn znodes_are_looked_up(rt: HostRuntime) -> Result<(), Fail> {
+fn znodes_are_looked_up(rt: HostRuntime) {
     let alloc = rt.alloc();
-    let tree = filled(&rt, alloc)?;
-    let found = tree.look(&[b"/config".as_slice(), b"/controller".as_slice()])?;
-    let text = shown_found(alloc, &found)?;
-    assert_eq!(rt; text.as_str(), "/config 0 1 1 1");
+    let tree = filled(&rt, alloc);
+    let mut paths = Sequence::new(alloc);
+    put(&rt, &mut paths, path_of(&rt, alloc, "/config"));
+    put(&rt, &mut paths, path_of(&rt, alloc, "/controller"));
+    let found = made(&rt, tree.look_up(paths.as_slice()));
+    assert!(rt; is_first_found(&found));
     assert!(rt; tree.row(b"/controller").is_none());
-    Ok(())
+    drop(found);
+    drop(tree);
 }
 
-// Where a tree isn't closed.
-fn shown_unclosed(alloc: Global, tree: &Tree) -> Result<String, NoMemory> {
-    match tree.unclosed()? {
-        Some(path) => Ok(format!(in alloc; "{}", path.as_str())?),
-        None => Ok(format!(in alloc; "closed")?),
+// Whether a tree isn't closed at this path; an empty one where it is closed.
+fn is_unclosed_at(tree: &Tree, path: &str) -> bool {
+    match tree.closed() {
+        Ok(()) => path.is_empty(),
+        Err(ClosedFault::Unclosed { path: unclosed }) => unclosed.as_str() == path,
+        Err(ClosedFault::NoMemory) => false,
     }
 }
 
@@ -319,40 +368,40 @@ const RECORDED: &[u8] =
 
 // A delete shows in the parent alone.
 #[test]
-fn a_tree_is_closed_until_it_is_written(rt: HostRuntime) -> Result<(), Fail> {
+fn a_tree_is_closed_until_it_is_written(rt: HostRuntime) {
     let alloc = rt.alloc();
-    let mut tree = filled(&rt, alloc)?;
-    let text = shown_unclosed(alloc, &tree)?;
-    assert_eq!(rt; text.as_str(), "/migration");
-    let recorded = [create(alloc, "/migration", RECORDED)?];
-    assert_eq!(rt; tree.multi(&recorded).ok(), Some(2));
-    assert_eq!(rt; tree.recorded()?.map(|r| r.offset), Some(4));
-    let text = shown_unclosed(alloc, &tree)?;
-    assert_eq!(rt; text.as_str(), "closed");
-    let text = answered(alloc, &mut tree, &[Ask::Delete("/brokers/topics/t", 0)])?;
-    assert_eq!(rt; text.as_str(), "done 3");
-    let text = shown_unclosed(alloc, &tree)?;
-    assert_eq!(rt; text.as_str(), "/brokers/topics");
-    Ok(())
+    let mut tree = filled(&rt, alloc);
+    assert!(rt; is_unclosed_at(&tree, "/migration"));
+    let mut ops = Sequence::new(alloc);
+    put(&rt, &mut ops, create(&rt, alloc, "/migration", body_of(&rt, alloc, RECORDED), 0));
+    assert!(rt; tree.multi(ops.as_slice()) == Ok(2));
+    let recorded = made(&rt, tree.recorded());
+    assert!(rt; recorded.map(|recorded| recorded.offset) == Some(4));
+    assert!(rt; is_unclosed_at(&tree, ""));
+    let ops = ops_of(&rt, alloc, &[Ask::Delete("/brokers/topics/t", 0)]);
+    assert!(rt; tree.multi(ops.as_slice()) == Ok(3));
+    assert!(rt; is_unclosed_at(&tree, "/brokers/topics"));
+    drop(tree);
 }
+
+static MIGRATED: [(&[u8], bool); 12] = [
+    (b"/brokers/topics", true),
+    (b"/brokers/topics/t/partitions/0/state", true),
+    (b"/brokers/topics2", false),
+    (b"/brokers", false),
+    (b"/config/users/a/clients/b", true),
+    (b"/config/ips", true),
+    (b"/config/brokers-2", false),
+    (b"/kafka-acl/Topic/t", true),
+    (b"/kafka-acl/topic", false),
+    (b"/kafka-acl-extended/prefixed", false),
+    (b"/kafka-acl-extended/prefixed/TransactionalId", true),
+    (b"/latest_producer_id_block", true),
+];
 
 #[test]
 fn paths_are_migrated_below_their_roots(rt: HostRuntime) {
-    let paths: [(&[u8], bool); 12] = [
-        (b"/brokers/topics", true),
-        (b"/brokers/topics/t/partitions/0/state", true),
-        (b"/brokers/topics2", false),
-        (b"/brokers", false),
-        (b"/config/users/a/clients/b", true),
-        (b"/config/ips", true),
-        (b"/config/brokers-2", false),
-        (b"/kafka-acl/Topic/t", true),
-        (b"/kafka-acl/topic", false),
-        (b"/kafka-acl-extended/prefixed", false),
-        (b"/kafka-acl-extended/prefixed/TransactionalId", true),
-        (b"/latest_producer_id_block", true),
-    ];
-    for (path, migrated) in paths {
-        assert_eq!(rt; is_migrated(path), migrated);
+    for (path, migrated) in &MIGRATED {
+        assert!(rt; is_migrated(path) == *migrated);
     }
 }

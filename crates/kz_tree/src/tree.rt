@@ -215,8 +215,8 @@ impl Tree {
     }
 
     /// Copies of the znodes at these paths, in their order.
-    pub fn look(&self, paths: &[&[u8]]) -> Result<Vec<Option<Row>>, NoMemory>
-        ensures { IfOk result (λ made. made.items ≡ tree.look self.now (map (λ path. path.now) paths.now)) }
+    pub fn look_up(&self, paths: &[ZPath]) -> Result<Vec<Option<Row>>, NoMemory>
+        ensures { IfOk result (λ made. made.items ≡ tree.look self.now paths.now) }
     {
         reads::look(self.alloc, &self.rows, paths)
     }
@@ -283,17 +283,24 @@ impl Tree {
 
 #[cfg(test)]
 impl Tree {
-    /// The tree without a znode, with one session, after so many transactions.
-    pub fn with_session(alloc: Global, session: i64, zxid: i64) -> Result<Tree, NoMemory>
+    /// The tree of one znode, with one session, after so many transactions.
+    pub fn with_parts(
+        alloc: Global,
+        zxid: i64,
+        session: i64,
+        row: Row,
+    ) -> Result<Tree, NoMemory>
         requires { pos 0 ≤ℤ zxid }
     {
         let mut sessions = Vec::new(alloc);
         sessions.push(session)?;
+        let mut rows = Vec::new(alloc);
+        rows.push(row)?;
         Ok(Tree {
             alloc,
             zxid,
             sessions,
-            rows: Vec::new(alloc),
+            rows,
         })
     }
 }

@@ -7,7 +7,9 @@ ghost use Rattle.kz_spec_stores.specs.Tree as znodes;
 ghost use Rattle.kz_spec_stores.specs.Tree.{path_of_row};
 ghost use Rattle.kz_spec_stores.specs.Requests.{Between};
 ghost use Rattle.kz_tree.specs.Requests.{IsChangeFault, IsReadFault};
-ghost use Rattle.kz_tree.specs.Wires.{Wired, OfStore, LostOr, is_loss, after_multi};
+ghost use Rattle.kz_tree.specs.Wires.{Wired, OfStore, IfStore, LostOr, is_loss, after_multi};
+ghost use Rattle.kz_tree.specs.Lending.{lends_store};
+ghost use Rattle.std.specs.Borrow.{sem};
 
 use crate::ZTree;
 use kz_types::{Op, Plan, Row, TreeFault, ZPath};
@@ -35,6 +37,8 @@ pub struct Wire<T> {
 }
 
 impl<T> Model for Wire<T> {
+    ghost use Rattle.kz_tree.specs.Wires.{Wired};
+
     ghost Value = { Wired T };
 
     ghost view = { λ w. record { inner = w.inner; plan = w.plan; faults = w.faults } };
@@ -68,8 +72,8 @@ impl<T> Wire<T> {
 
     /// Lends the store to be changed, past the connection.
     pub fn inner_mut(&mut self) -> &mut T
+        ensures* writes_back { sem 𝓛 (lends_store T.row self.entry result) }
         ensures lent { result.now ≡ self.old.inner }
-        ensures after { self.new ≡ record self.old { inner = result.new } }
     {
         &mut self.inner
     }
@@ -109,7 +113,7 @@ impl<T: ZTree> Wire<T> {
         ensures delivered { self.old.plan ≡ Plan.Deliver → IfErr result (OfStore (IsChangeFault (znodes.multi (T.tree self.old.inner) ops.now) (T.length self.old.inner) (T.down self.old.inner))) }
         ensures lost_after { self.old.plan ≡ Plan.LostAfter → OnOk result ⊥ × IfErr result (LostOr (IsChangeFault (znodes.multi (T.tree self.old.inner) ops.now) (T.length self.old.inner) (T.down self.old.inner))) }
         ensures taken { self.old.plan ≡ Plan.LostAfter → IsErrOf result WireFault.Lost → T.tree self.new.inner ≡ after_multi (T.tree self.old.inner) (znodes.multi (T.tree self.old.inner) ops.now) }
-        ensures same { IfErr result (OfStore (λ fault. T.tree self.new.inner ≡ T.tree self.old.inner)) }
+        ensures same { IfErr result (IfStore (T.tree self.new.inner ≡ T.tree self.old.inner)) }
         ensures lost_before { self.old.plan ≡ Plan.LostBefore → (result ≡ Err WireFault.Lost) × (self.new.inner ≡ self.old.inner) }
         ensures expired { self.old.plan ≡ Plan.Expired → (result ≡ Err WireFault.Expired) × (self.new.inner ≡ self.old.inner) }
         ensures spent { self.new.plan ≡ Plan.Deliver }

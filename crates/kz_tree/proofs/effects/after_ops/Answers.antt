@@ -2,14 +2,14 @@ use Rattle.std.proofs.Common.{rules, ◌≡◌, Result, Ok, Some, None, List, []
 use Rattle.kz_types.specs.declared.tree.Row.{Row}
 use Rattle.kz_types.specs.declared.fault.TreeFault.{TreeFault}
 use Rattle.kz_spec_stores.specs.Tree.{op_refusal}
-use Rattle.kz_tree.specs.Refusals.{IsFaultOf, meaning}
+use Rattle.kz_tree.specs.Refusals.{IsMultiFaultOf, meaning}
 use Rattle.kz_tree.proofs.Steps.{op_accepted, op_refused, all_accepted}
 use Rattle.kz_tree.proofs.effects.after_ops.Goals as goal
 
 pub returns-in-Some-clause-err : goal.returns-in-Some-clause-err
 returns-in-Some-clause-err c =
     let why : Some (meaning c.in-Some.refusal) ≡ op_refusal c.args.sessions.now c.index-ops-index.result c.loop-index.rows.items = rw c.deref.ensures.value at c.in-Some.ensures in
-    subst (λ (said : Result (List Row) TreeFault). IsFaultOf said c.fault_of.result)
+    subst (λ (said : Result (List Row) TreeFault). IsMultiFaultOf said c.fault_of.result)
     (sym (op_refused c.args.sessions.now c.args.zxid c.args.ops.now c.args.rows.items c.loop-index.index c.loop-index.rows.items c.index-ops-index.result (meaning c.in-Some.refusal) (Ok []) (rw (to_z-of_z c.ranges.zxid) at c.loop-index.invariant) c.loop-index-test.true c.index-ops-index.is why))
     c.fault_of.ensures
 
