@@ -1,5 +1,5 @@
 -- What a store of a tree answers a request, and what stands after it.
-use Rattle.std.specs.Prelude.{◌≡◌, ◌<◌, ℕ, Bool, true, Option, Some, None, Result, Ok, Err, ⊤}
+use Rattle.std.specs.Prelude.{◌≡◌, ◌<◌, ◌≤◌, ℕ, Bool, true, Option, Some, None, Result, Ok, Err, ⊤}
 use Rattle.kz_types.specs.declared.fault.TreeFault.{TreeFault}
 use Rattle.kz_types.specs.declared.fault.TreeFault.TheVariants as fault
 
@@ -7,20 +7,25 @@ use Rattle.kz_types.specs.declared.fault.TreeFault.TheVariants as fault
 abbrev pub max_file : ℕ
 max_file = 2147483647
 
--- A file would pass its limit. A store without a file has none.
+-- A file would have this length, above its limit. A store without a file has none.
 abbrev pub IsFull : Option ℕ → ℕ → Type 0
 IsFull None length = ⊥
-IsFull (Some before) length = (max_file < length) × (before < length)
+IsFull (Some before) length = (max_file < length) × (before ≤ length)
 
--- Why a change wasn't made: a refusal as the definition says, the file's limit, an earlier failure of the disk, or one
--- in this call. Want of memory is free.
+-- nothing refuses the request
+abbrev pub IsTaken : {A E : Type 0} → Result A E → Type 0
+IsTaken (Ok a) = ⊤
+IsTaken (Err e) = ⊥
+
+-- Why a change wasn't made: a refusal as the definition says; or, where nothing refuses it, the file's limit or a failure
+-- of the disk in this call; or an earlier failure of the disk. Want of memory is free.
 abbrev pub IsChangeFault : {A : Type 0} → Result A TreeFault → Option ℕ → Bool → TreeFault → Type 0
 IsChangeFault said file down (fault.Refused index c) = said ≡ Err (fault.Refused index c)
 IsChangeFault said file down (fault.Limit index n) = said ≡ Err (fault.Limit index n)
 IsChangeFault said file down fault.NoMemory = ⊤
-IsChangeFault said file down fault.Device = ⊤
+IsChangeFault said file down fault.Device = IsTaken said
 IsChangeFault said file down fault.Down = down ≡ true
-IsChangeFault said file down (fault.Full length) = IsFull file length
+IsChangeFault said file down (fault.Full length) = IsTaken said × IsFull file length
 
 -- Why nothing was read: want of memory, or an earlier failure of the disk.
 abbrev pub IsReadFault : Bool → TreeFault → Type 0

@@ -3,6 +3,7 @@ use Rattle.std.specs.Prelude.{◌≡◌, ℕ, Bool, true, false, Result, Ok, Err
 use Rattle.kz_types.specs.declared.fault.TreeFault.{TreeFault}
 use Rattle.kz_types.specs.declared.fault.TreeFault.TheVariants as fault
 use Rattle.kz_types.specs.declared.plan.Plan.{Plan}
+use Rattle.kz_types.specs.declared.plan.Plan.TheVariants as plan
 use Rattle.kz_spec_stores.specs.Tree.{Tree}
 use Rattle.kz_tree.specs.declared.wire.WireFault.{WireFault}
 use Rattle.kz_tree.specs.declared.wire.WireFault.TheVariants as wire_fault
@@ -51,3 +52,22 @@ is_loss (Err (wire_fault.Tree f)) = false
 abbrev pub after_multi : Tree → Result Tree TreeFault → Tree
 after_multi t (Ok made) = made
 after_multi t (Err f) = t
+
+-- the store gets the request by these plans
+abbrev pub arrives : Plan → Bool
+arrives plan.Deliver = true
+arrives plan.LostBefore = false
+arrives plan.LostAfter = true
+arrives plan.Expired = false
+
+-- what comes of a store that is down: that it is, or want of memory
+abbrev pub IsWireDown : {A : Type 0} → Result A WireFault → Type 0
+IsWireDown (Ok a) = ⊥
+IsWireDown (Err wire_fault.Lost) = ⊥
+IsWireDown (Err wire_fault.Expired) = ⊥
+IsWireDown (Err (wire_fault.Tree (fault.Refused index c))) = ⊥
+IsWireDown (Err (wire_fault.Tree (fault.Limit index n))) = ⊥
+IsWireDown (Err (wire_fault.Tree fault.NoMemory)) = ⊤
+IsWireDown (Err (wire_fault.Tree fault.Device)) = ⊥
+IsWireDown (Err (wire_fault.Tree fault.Down)) = ⊤
+IsWireDown (Err (wire_fault.Tree (fault.Full length))) = ⊥

@@ -70,6 +70,7 @@ impl Tree {
     /// that there is no further zxid.
     pub fn prepare(&mut self, ops: &[Op]) -> Result<Prepared, MultiFault>
         ensures ok { IfOk result (λ prepared. tree.multi self.old ops.now ≡ Ok prepared) }
+        ensures next { IfOk result (λ prepared. prepared.zxid ≡ self.old.zxid +ℤ pos 1) }
         ensures err { IfErr result (IsMultiFaultOf (tree.multi self.old ops.now)) }
         ensures same { self.new ≡ self.old }
     {
@@ -98,6 +99,7 @@ impl Tree {
     pub fn prepare_begin(&mut self, session: i64) -> Result<Prepared, MoveFault>
         requires { pos 1 ≤ℤ session }
         ensures ok { IfOk result (λ prepared. tree.begin_session self.old session ≡ Ok prepared) }
+        ensures next { IfOk result (λ prepared. prepared.zxid ≡ self.old.zxid +ℤ pos 1) }
         ensures err { IfErr result (IsMoveFaultOf (tree.begin_session self.old session)) }
         ensures same { self.new ≡ self.old }
     {
@@ -120,6 +122,7 @@ impl Tree {
     /// until `commit`.
     pub fn prepare_end(&mut self, session: i64) -> Result<Prepared, MoveFault>
         ensures ok { IfOk result (λ prepared. tree.end_session self.old session ≡ Ok prepared) }
+        ensures next { IfOk result (λ prepared. prepared.zxid ≡ self.old.zxid +ℤ pos 1) }
         ensures err { IfErr result (IsMoveFaultOf (tree.end_session self.old session)) }
         ensures same { self.new ≡ self.old }
     {
@@ -139,8 +142,10 @@ impl Tree {
         Ok(Prepared::new(zxid, sessions, rows))
     }
 
-    /// Makes a prepared change, and answers its zxid. The tree is to stand as it stood when the change was prepared.
+    /// Makes a prepared change, and answers its zxid. The tree is to stand as it stood when the change was prepared: the
+    /// change has the next zxid.
     pub fn commit(&mut self, prepared: Prepared) -> i64
+        requires { prepared.zxid ≡ self.old.zxid +ℤ pos 1 }
         ensures tree { self.new ≡ prepared }
         ensures zxid { result ≡ self.new.zxid }
     {

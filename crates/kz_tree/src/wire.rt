@@ -7,7 +7,7 @@ ghost use Rattle.kz_spec_stores.specs.Tree as znodes;
 ghost use Rattle.kz_spec_stores.specs.Tree.{path_of_row};
 ghost use Rattle.kz_spec_stores.specs.Requests.{Between};
 ghost use Rattle.kz_tree.specs.Requests.{IsChangeFault, IsReadFault};
-ghost use Rattle.kz_tree.specs.Wires.{Wired, OfStore, IfStore, LostOr, is_loss, after_multi};
+ghost use Rattle.kz_tree.specs.Wires.{Wired, OfStore, IfStore, LostOr, is_loss, after_multi, arrives, IsWireDown};
 ghost use Rattle.kz_tree.specs.Lending.{lends_store};
 ghost use Rattle.std.specs.Borrow.{sem};
 
@@ -116,6 +116,7 @@ impl<T: ZTree> Wire<T> {
         ensures same { IfErr result (IfStore (T.tree self.new.inner ≡ T.tree self.old.inner)) }
         ensures lost_before { self.old.plan ≡ Plan.LostBefore → (result ≡ Err WireFault.Lost) × (self.new.inner ≡ self.old.inner) }
         ensures expired { self.old.plan ≡ Plan.Expired → (result ≡ Err WireFault.Expired) × (self.new.inner ≡ self.old.inner) }
+        ensures was_down { T.down self.old.inner ≡ true → arrives self.old.plan ≡ true → IsWireDown result }
         ensures spent { self.new.plan ≡ Plan.Deliver }
         ensures counted { is_loss result ≡ true → Rose self.old.faults self.new.faults }
         ensures uncounted { is_loss result ≡ false → self.new.faults ≡ self.old.faults }
@@ -163,9 +164,10 @@ impl<T: ZTree> Wire<T> {
         ensures rising { IfOk result (λ rows. Rises bytes_cmp path_of_row rows.items) }
         ensures delivered { self.old.plan ≡ Plan.Deliver → IfErr result (OfStore (IsReadFault (T.down self.old.inner))) }
         ensures lost_after { self.old.plan ≡ Plan.LostAfter → OnOk result ⊥ × IfErr result (LostOr (IsReadFault (T.down self.old.inner))) }
-        ensures lost_before { self.old.plan ≡ Plan.LostBefore → result ≡ Err WireFault.Lost }
-        ensures expired { self.old.plan ≡ Plan.Expired → result ≡ Err WireFault.Expired }
+        ensures lost_before { self.old.plan ≡ Plan.LostBefore → (result ≡ Err WireFault.Lost) × (self.new.inner ≡ self.old.inner) }
+        ensures expired { self.old.plan ≡ Plan.Expired → (result ≡ Err WireFault.Expired) × (self.new.inner ≡ self.old.inner) }
         ensures same { T.tree self.new.inner ≡ T.tree self.old.inner }
+        ensures was_down { T.down self.old.inner ≡ true → arrives self.old.plan ≡ true → IsWireDown result }
         ensures spent { self.new.plan ≡ Plan.Deliver }
         ensures counted { is_loss result ≡ true → Rose self.old.faults self.new.faults }
         ensures uncounted { is_loss result ≡ false → self.new.faults ≡ self.old.faults }
@@ -200,9 +202,10 @@ impl<T: ZTree> Wire<T> {
         ensures ok { IfOk result (λ rows. rows.items ≡ znodes.look (T.tree self.old.inner) paths.now) }
         ensures delivered { self.old.plan ≡ Plan.Deliver → IfErr result (OfStore (IsReadFault (T.down self.old.inner))) }
         ensures lost_after { self.old.plan ≡ Plan.LostAfter → OnOk result ⊥ × IfErr result (LostOr (IsReadFault (T.down self.old.inner))) }
-        ensures lost_before { self.old.plan ≡ Plan.LostBefore → result ≡ Err WireFault.Lost }
-        ensures expired { self.old.plan ≡ Plan.Expired → result ≡ Err WireFault.Expired }
+        ensures lost_before { self.old.plan ≡ Plan.LostBefore → (result ≡ Err WireFault.Lost) × (self.new.inner ≡ self.old.inner) }
+        ensures expired { self.old.plan ≡ Plan.Expired → (result ≡ Err WireFault.Expired) × (self.new.inner ≡ self.old.inner) }
         ensures same { T.tree self.new.inner ≡ T.tree self.old.inner }
+        ensures was_down { T.down self.old.inner ≡ true → arrives self.old.plan ≡ true → IsWireDown result }
         ensures spent { self.new.plan ≡ Plan.Deliver }
         ensures counted { is_loss result ≡ true → Rose self.old.faults self.new.faults }
         ensures uncounted { is_loss result ≡ false → self.new.faults ≡ self.old.faults }
@@ -237,9 +240,10 @@ impl<T: ZTree> Wire<T> {
         ensures ok { IfOk result (λ ids. ids.items ≡ znodes.broker_ids (T.tree self.old.inner)) }
         ensures delivered { self.old.plan ≡ Plan.Deliver → IfErr result (OfStore (IsReadFault (T.down self.old.inner))) }
         ensures lost_after { self.old.plan ≡ Plan.LostAfter → OnOk result ⊥ × IfErr result (LostOr (IsReadFault (T.down self.old.inner))) }
-        ensures lost_before { self.old.plan ≡ Plan.LostBefore → result ≡ Err WireFault.Lost }
-        ensures expired { self.old.plan ≡ Plan.Expired → result ≡ Err WireFault.Expired }
+        ensures lost_before { self.old.plan ≡ Plan.LostBefore → (result ≡ Err WireFault.Lost) × (self.new.inner ≡ self.old.inner) }
+        ensures expired { self.old.plan ≡ Plan.Expired → (result ≡ Err WireFault.Expired) × (self.new.inner ≡ self.old.inner) }
         ensures same { T.tree self.new.inner ≡ T.tree self.old.inner }
+        ensures was_down { T.down self.old.inner ≡ true → arrives self.old.plan ≡ true → IsWireDown result }
         ensures spent { self.new.plan ≡ Plan.Deliver }
         ensures counted { is_loss result ≡ true → Rose self.old.faults self.new.faults }
         ensures uncounted { is_loss result ≡ false → self.new.faults ≡ self.old.faults }
