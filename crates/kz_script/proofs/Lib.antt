@@ -1,1 +1,2 @@
+mod Base64
 mod Json

@@ -5,6 +5,7 @@ mod decimals;
 mod events;
 mod fault;
 mod members;
+mod open;
 mod ops;
 mod records;
 mod replies;
