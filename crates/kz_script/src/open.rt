@@ -69,10 +69,12 @@ fn is_open_op(alloc: Global, op: &Op) -> Result<bool, NoMemory>
     ensures { IfOk result (λ taken. taken ≡ is_open_op op.now) }
 {
     match op {
-        Op::Create { path, body, .. } => Ok(is_open_path(alloc, path)?
-            && is_open_body(path, body.as_slice())),
-        Op::Set { path, body, .. } => Ok(is_open_path(alloc, path)?
-            && is_open_body(path, body.as_slice())),
+        Op::Create { path, body, .. } => Ok(
+            is_open_path(alloc, path)? && is_open_body(path, body.as_slice()),
+        ),
+        Op::Set { path, body, .. } => Ok(
+            is_open_path(alloc, path)? && is_open_body(path, body.as_slice()),
+        ),
         Op::Delete { path, .. } => is_open_path(alloc, path),
         Op::Check { path, .. } => is_open_path(alloc, path),
     }
