@@ -1,1 +1,3 @@
+mod Base64
 mod Json
+mod Plain

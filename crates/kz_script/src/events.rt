@@ -1,13 +1,15 @@
 //! The events that lines are.
-ghost use Rattle.std.specs.Prelude.{◌≡◌, IfOk, None, Some, Err};
+ghost use Rattle.std.specs.Prelude.{◌≡◌, ◌∷◌, [], IfOk, None, Some, Err};
 ghost use Rattle.serde_json.specs.View.{view, items_view};
-ghost use Rattle.kz_spec_lines.specs.Events.{controller_of, now_of, timed_count, only_id, quorum_of, start_of, elect_of, turn_of, is_broker_config, is_changeable, changeable_of, only_record, change_of, check_of, event_of, line_event};
+ghost use Rattle.kz_spec_lines.specs.Events.{controller_of, now_of, timed_count, only_id, quorum_of, start_of, elect_of, turn_of, is_broker_config, is_changeable, changeable_of, only_record, change_of, check_of, session_of, open_of, expire_of, ops_in, zk_of, event_of, line_event};
 
 use crate::decimals::is_canonical;
 use crate::fault::LineFault;
 use crate::members::{id_of, member_count, read_json, text_member, time_of};
+use crate::open::open_op_of;
+use crate::ops::session_in;
 use crate::records::record_of;
-use kz_types::{ConfigRecord, Event, MetaRecord, NoMemory, Sequence};
+use kz_types::{ConfigRecord, Event, MetaRecord, NoMemory, Op, Sequence};
 use serde_json::Value;
 use std::alloc::Global;
 

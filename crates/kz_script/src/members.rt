@@ -1,12 +1,13 @@
 //! JSON values and their members.
-ghost use Rattle.std.specs.Prelude.{◌≡◌, IfOk, ℤ, option_and_then, option_map, pos, negsuc};
-ghost use Rattle.serde_json.specs.View.{view};
+ghost use Rattle.std.specs.Prelude.{◌≡◌, IfOk, OnOk, ℤ, option_and_then, option_map, pos, negsuc};
+ghost use Rattle.serde_json.specs.View.{view, members_view};
+ghost use Rattle.kz_spec_lines.specs.Written.{with_text, with_whole};
 ghost use Rattle.kz_spec_lines.specs.Json.{json_of, member_count, whole_up_to, text_or_null, text_member};
 ghost use Rattle.kz_spec_lines.specs.Records.{signed_byte};
 ghost use Rattle.kz_spec_lines.specs.Events.{id_of, time_of};
 
 use kz_types::NoMemory;
-use serde_json::Value;
+use serde_json::{Map, Value};
 use std::alloc::Global;
 
 /// The JSON value of a line, or `None` where it is none.
@@ -92,4 +93,31 @@ pub fn text_member<'a>(value: &'a Value, name: &str) -> Option<&'a str>
     ensures { option_map (λ t. t.now) result ≡ text_member name.now (view value.now) }
 {
     value.get(name).and_then(Value::as_str)
+}
+
+/// Puts a member that is a text.
+pub fn put_text(
+    members: &mut Map<String, Value>,
+    alloc: Global,
+    name: &str,
+    text: &str,
+) -> Result<(), NoMemory>
+    ensures { OnOk result (members_view members.new.entries ≡ with_text name.now text.now (members_view members.old.entries)) }
+{
+    let value = Value::String(String::from_str(alloc, text)?);
+    serde_json::put(members, alloc, name, value)?;
+    Ok(())
+}
+
+/// Puts a member that is a whole number.
+pub fn put_whole(
+    members: &mut Map<String, Value>,
+    alloc: Global,
+    name: &str,
+    number: i64,
+) -> Result<(), NoMemory>
+    ensures { OnOk result (members_view members.new.entries ≡ with_whole name.now number (members_view members.old.entries)) }
+{
+    serde_json::put(members, alloc, name, Value::from(number))?;
+    Ok(())
 }

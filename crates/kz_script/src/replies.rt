@@ -1,8 +1,8 @@
 //! The lines that are printed.
-ghost use Rattle.std.specs.Prelude.{◌≡◌, ◌++◌, IfOk, OnOk, option_map, string_bytes};
+ghost use Rattle.std.specs.Prelude.{◌≡◌, ◌++◌, IfOk, OnOk, option_map, string_bytes, true};
 ghost use Rattle.std.specs.List.{flat_map};
 ghost use Rattle.json.specs.Print.{quoted};
-ghost use Rattle.kz_spec_lines.specs.Replies.{state_name, body_text, why_text, reply_text, verdict_text, answer_text, reply_line, reply_lines, offset_or_none, summary_line};
+ghost use Rattle.kz_spec_lines.specs.Replies.{named, state_name, body_text, why_text, reply_text, verdict_text, is_client_answer, answer_text, reply_line, reply_lines, offset_or_none, summary_line};
 
 use kz_types::{Answer, BodyFault, DriverState, NoMemory, ReadWhy, Reply, Verdict, ZPath};
 use serde_json::Value;

@@ -5,8 +5,9 @@ use Rattle.kz_types.proofs.OnLiterals.{values_on_literals}
 use Rattle.kz_spec_lines.specs.Ops.{op_of}
 use Rattle.kz_spec_lines.specs.Records.{record_of}
 use Rattle.kz_spec_lines.specs.Events.{line_event}
+use Rattle.kz_spec_lines.specs.Written.{record_data, written_event}
 use Rattle.kz_spec_lines.specs.Replies.{reply_lines, summary_line}
 
 unfoldable pub lines_on_literals : ⊤
-unfolding serde_json_on_literals values_on_literals op_of record_of line_event reply_lines summary_line
+unfolding serde_json_on_literals values_on_literals op_of record_of line_event record_data written_event reply_lines summary_line
 lines_on_literals = tt

@@ -3,6 +3,8 @@
 //! The definitions stand in specs/. A law is the contract of a function that does nothing.
 #![tactic(auto)]
 
+mod client_laws;
 mod event_laws;
 mod line_laws;
 mod reply_laws;
+mod written_laws;

@@ -35,6 +35,20 @@ pub fn other_lines()
     ensures disagrees { reply_lines 6 (answer.Check (verdict.Disagrees (codes "/a\"b"))) ≡ codes "6 disagrees \"/a\\\"b\"\n" }
 {}
 
+/// The lines of ZooKeeper clients' answers, and of other answers.
+#[tactic(auto, unfolding(crate::proofs::OnLiterals::lines_on_literals))]
+pub fn client_lines()
+    ensures done { reply_lines 9 (answer.DoneAt (pos 12)) ≡ codes "9 done 12\n" }
+    ensures known { reply_lines 9 answer.Known ≡ codes "9 known\n" }
+    ensures unknown { reply_lines 9 answer.Unknown ≡ codes "9 unknown\n" }
+    ensures reserved { reply_lines 9 (answer.Reserved (codes "/controller/a")) ≡ codes "9 reserved \"/controller/a\"\n" }
+    ensures holds { reply_lines 9 (answer.KraftHolds (codes "/controller")) ≡ codes "9 kraft-holds \"/controller\"\n" }
+    ensures refused { reply_lines 9 (answer.Refused 0 (negsuc 109)) ≡ codes "9 refused 0 -110\n" }
+    ensures over { reply_lines 9 (answer.OverOp 1 2) ≡ codes "9 over-op 1 2\n" }
+    ensures bad { reply_lines 9 (answer.BadRecord 1 3) ≡ codes "9 bad-record 1 3\n" }
+    ensures behind { reply_lines 9 (answer.Behind (pos 4) (pos 5)) ≡ codes "9 behind 4 5\n" }
+{}
+
 /// The lines of a turn that can't translate a znode. A step without a line prints none.
 #[tactic(auto, unfolding(crate::proofs::OnLiterals::lines_on_literals))]
 pub fn untranslatable_lines()

@@ -1,0 +1,104 @@
+-- Events as lines: compact JSON, with the members of an object in the order of their names' bytes.
+use Rattle.std.specs.Prelude.{ℕ, ◌==◌, ℤ, pos, List, [], length, map, Option, Some, None, if◌then◌else◌, codes}
+use Rattle.std.specs.Ordering.{int_eq}
+use Rattle.std.specs.Str.{is_utf8}
+use Rattle.serde_json.specs.Data.{Data, null, number, string, array, object, Members, no_members, put}
+use Rattle.serde_json.specs.Find.{of_integer}
+use Rattle.serde_json.specs.View.{items_of}
+use Rattle.serde_json.specs.Written.{compact_text}
+use Rattle.base64.specs.Engines.{standard}
+use Rattle.base64.specs.GeneralPurpose.{encode_of}
+use Rattle.kz_types.specs.declared.machine.Event.{Event}
+use Rattle.kz_types.specs.declared.machine.Event.TheVariants.{Quorum, Start, Elect, Turn, Change, Check, ZkOpen, ZkExpire, Zk}
+use Rattle.kz_types.specs.declared.record.ConfigRecord.{ConfigRecord}
+use Rattle.kz_types.specs.declared.record.MetaRecord.{MetaRecord}
+use Rattle.kz_types.specs.declared.record.MetaRecord.TheVariants.{Config}
+use Rattle.kz_types.specs.declared.tree.Op.{Op}
+use Rattle.kz_types.specs.declared.tree.Op.TheVariants as op
+
+-- ---- members
+
+-- a whole number
+abbrev pub whole_data : ℤ → Data
+whole_data n = number (of_integer n)
+
+-- members and one more, a text
+abbrev pub with_text : List ℕ → List ℕ → Members → Members
+with_text name text ms = put name (string text) ms
+
+-- members and one more, a whole number
+abbrev pub with_whole : List ℕ → ℤ → Members → Members
+with_whole name n ms = put name (whole_data n) ms
+
+-- the members of an event of this name, before others are put
+abbrev pub event_members : List ℕ → Members
+event_members name = with_text (codes "event") name no_members
+
+-- those of an event of a controller
+abbrev pub controller_members : List ℕ → ℤ → Members
+controller_members name controller = with_whole (codes "controller") controller (event_members name)
+
+-- members and `now`, which is left out where it is 0
+abbrev pub with_now : ℤ → Members → Members
+with_now now ms = if int_eq now (pos 0) then ms else with_whole (codes "now") now ms
+
+-- ---- records
+
+-- a text, or null
+abbrev pub text_or_null_data : Option (List ℕ) → Data
+text_or_null_data None = null
+text_or_null_data (Some text) = string text
+
+abbrev pub config_members : ConfigRecord → Members
+config_members c =
+    put (codes "value") (text_or_null_data c.value) (with_whole (codes "resourceType") c.resource_type
+    (with_text (codes "resourceName") c.resource_name (with_text (codes "name") c.name (with_text (codes "kind") (codes "Config") no_members))))
+
+-- A record as a JSON value. One that lines can't hold yet is null.
+unfoldable pub record_data : MetaRecord → Data
+record_data (Config c) = object (config_members c)
+record_data r = null
+
+-- ---- operations
+
+-- members and a body: as `text` where it is UTF-8, else in base64 as `bytes`; an empty one is left out
+abbrev pub with_body : List ℕ → Members → Members
+with_body body ms =
+    if length body == 0 then ms
+    else if is_utf8 body then with_text (codes "text") body ms
+    else with_text (codes "bytes") (encode_of standard body) ms
+
+-- members and an owner, if there is one
+abbrev pub with_owner : Option ℤ → Members → Members
+with_owner None ms = ms
+with_owner (Some session) ms = with_whole (codes "owner") session ms
+
+-- the members of an operation of this name at this path, before others are put
+abbrev pub op_members : List ℕ → List ℕ → Members
+op_members name path = with_text (codes "path") path (with_text (codes "op") name no_members)
+
+-- an operation as a JSON value
+abbrev pub op_data : Op → Data
+op_data (op.Create path body owner) = object (with_owner owner (with_body body (op_members (codes "create") path)))
+op_data (op.Set path body version) = object (with_whole (codes "version") version (with_body body (op_members (codes "set") path)))
+op_data (op.Delete path version) = object (with_whole (codes "version") version (op_members (codes "delete") path))
+op_data (op.Check path version) = object (with_whole (codes "version") version (op_members (codes "check") path))
+
+-- ---- events
+
+-- an event's members
+abbrev pub members_of_event : Event → Members
+members_of_event (Quorum ids) = put (codes "ids") (array (items_of (map whole_data ids))) (event_members (codes "quorum"))
+members_of_event (Start controller) = controller_members (codes "start") controller
+members_of_event (Elect controller now) = with_now now (controller_members (codes "elect") controller)
+members_of_event (Turn controller now) = with_now now (controller_members (codes "turn") controller)
+members_of_event (Change controller records now) =
+    put (codes "records") (array (items_of (map record_data records))) (with_now now (controller_members (codes "change") controller))
+members_of_event Check = event_members (codes "check")
+members_of_event (ZkOpen session) = with_whole (codes "session") session (event_members (codes "zk-open"))
+members_of_event (ZkExpire session) = with_whole (codes "session") session (event_members (codes "zk-expire"))
+members_of_event (Zk ops) = put (codes "ops") (array (items_of (map op_data ops))) (event_members (codes "zk"))
+
+-- the line of an event, without its end
+unfoldable pub written_event : Event → List ℕ
+written_event e = compact_text (object (members_of_event e))
