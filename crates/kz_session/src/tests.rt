@@ -198,10 +198,22 @@ fn a_multi_is_made_whole_or_not_at_all(rt: HostRuntime) {
     ];
     assert!(rt; multi(&rt, alloc, &mut store, &first) == Ok(1));
     let second = [Ask::Create("/c", 0), Ask::Delete("/a", 1)];
-    assert!(rt; multi(&rt, alloc, &mut store, &second) == Err(TreeFault::Refused { index: 1, code: -111 }));
+    assert!(rt;
+        multi(&rt, alloc, &mut store, &second)
+            == Err(TreeFault::Refused {
+                index: 1,
+                code: -111
+            })
+    );
     assert!(rt; store.tree().row(b"/c").is_none());
     let third = [Ask::Create("/x/y", 0)];
-    assert!(rt; multi(&rt, alloc, &mut store, &third) == Err(TreeFault::Refused { index: 0, code: -101 }));
+    assert!(rt;
+        multi(&rt, alloc, &mut store, &third)
+            == Err(TreeFault::Refused {
+                index: 0,
+                code: -101
+            })
+    );
     assert!(rt; store.tree().last_zxid() == 1);
     assert!(rt; made(&rt, store.scan(None, 10)).len() == 0);
     assert!(rt; made(&rt, store.broker_ids()).len() == 0);

@@ -42,8 +42,8 @@ pub from_place : (path : List ℕ) (rows : List Row) (i : ℕ) → AreRows rows 
 from_place path rows i h s =
     filter_from (is_after (Some path)) rows (i + 1) (λ k d a b. until k d (omega arith))
     (λ k d a b. above path (get_or rows k d) (subst (λ q. bytes_cmp q (get_or rows k d).path ≡ Less) (s.1 d) (less_by_place bytes_order path_of_row rows i k d h (omega arith) b))) where
-  until : (k : ℕ) (d : Row) → k ≤ i → is_after (Some path) (get_or rows k d) ≡ false
-  until k d le = elim (eq-or-lt_of_le le) [
-    | inl is ↦ not_same path (get_or rows k d) (subst (λ j. (get_or rows j d).path ≡ path) (sym is) (s.1 d))
-    | inr lt ↦ not_below path (get_or rows k d) (subst (λ q. bytes_cmp (get_or rows k d).path q ≡ Less) (s.1 d) (less_by_place bytes_order path_of_row rows k i d h lt s.0))
-  ]
+      until : (k : ℕ) (d : Row) → k ≤ i → is_after (Some path) (get_or rows k d) ≡ false
+      until k d le = elim (eq-or-lt_of_le le) [
+        | inl is ↦ not_same path (get_or rows k d) (subst (λ j. (get_or rows j d).path ≡ path) (sym is) (s.1 d))
+        | inr lt ↦ not_below path (get_or rows k d) (subst (λ q. bytes_cmp (get_or rows k d).path q ≡ Less) (s.1 d) (less_by_place bytes_order path_of_row rows k i d h lt s.0))
+      ]

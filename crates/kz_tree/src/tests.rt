@@ -140,7 +140,10 @@ static MULTIS: [(&[Ask], Told); 34] = [
         &[Ask::Create("/x", 0), Ask::Create("/x", 0)],
         Told::Refused(1, -110),
     ),
-    (&[Ask::Set("/a", 0), Ask::Set("/a", 0)], Told::Refused(1, -103)),
+    (
+        &[Ask::Set("/a", 0), Ask::Set("/a", 0)],
+        Told::Refused(1, -103),
+    ),
     (
         &[
             Ask::Delete("/a/b", 0),
@@ -165,10 +168,7 @@ static MULTIS: [(&[Ask], Told); 34] = [
         &[Ask::Check("/a/b", -1), Ask::Create("/e/f", 1)],
         Told::Refused(1, -108),
     ),
-    (
-        &[Ask::Set("/a", -1), Ask::Set("/v", -1)],
-        Told::Limit(1, 5),
-    ),
+    (&[Ask::Set("/a", -1), Ask::Set("/v", -1)], Told::Limit(1, 5)),
     // nothing of what was refused stands, and no zxid was taken
     (&[Ask::Set("/a", 0), Ask::Set("/a", 1)], Told::Done(9)),
     (
@@ -209,12 +209,7 @@ fn aged(rt: &impl Abort, alloc: Global, zxid: i64) -> Tree
 }
 
 // Makes the multis, and compares the answers.
-fn answers_all(
-    rt: &impl Abort,
-    alloc: Global,
-    tree: &mut Tree,
-    multis: &[(&[Ask], Told)],
-) {
+fn answers_all(rt: &impl Abort, alloc: Global, tree: &mut Tree, multis: &[(&[Ask], Told)]) {
     for (asks, told) in multis {
         let ops = ops_of(rt, alloc, asks);
         assert!(rt; tree.multi(ops.as_slice()) == answer_of(*told));
@@ -258,7 +253,11 @@ static PATHS: [&str; 10] = [
 fn filled(rt: &impl Abort, alloc: Global) -> Tree {
     let mut ops = Sequence::new(alloc);
     for path in PATHS {
-        put(rt, &mut ops, create(rt, alloc, path, Sequence::new(alloc), 0));
+        put(
+            rt,
+            &mut ops,
+            create(rt, alloc, path, Sequence::new(alloc), 0),
+        );
     }
     let mut tree = Tree::new(alloc);
     assert!(rt; tree.multi(ops.as_slice()) == Ok(1));
@@ -373,7 +372,11 @@ fn a_tree_is_closed_until_it_is_written(rt: HostRuntime) {
     let mut tree = filled(&rt, alloc);
     assert!(rt; is_unclosed_at(&tree, "/migration"));
     let mut ops = Sequence::new(alloc);
-    put(&rt, &mut ops, create(&rt, alloc, "/migration", body_of(&rt, alloc, RECORDED), 0));
+    put(
+        &rt,
+        &mut ops,
+        create(&rt, alloc, "/migration", body_of(&rt, alloc, RECORDED), 0),
+    );
     assert!(rt; tree.multi(ops.as_slice()) == Ok(2));
     let recorded = made(&rt, tree.recorded());
     assert!(rt; recorded.map(|recorded| recorded.offset) == Some(4));

@@ -289,12 +289,7 @@ impl Tree {
 #[cfg(test)]
 impl Tree {
     /// The tree of one znode, with one session, after so many transactions.
-    pub fn with_parts(
-        alloc: Global,
-        zxid: i64,
-        session: i64,
-        row: Row,
-    ) -> Result<Tree, NoMemory>
+    pub fn with_parts(alloc: Global, zxid: i64, session: i64, row: Row) -> Result<Tree, NoMemory>
         requires { pos 0 ≤ℤ zxid }
     {
         let mut sessions = Vec::new(alloc);

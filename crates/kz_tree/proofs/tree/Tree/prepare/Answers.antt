@@ -31,5 +31,5 @@ returns-clause-ok c =
     let next : to_z w64 (of_z w64 c.next_zxid-zxid.result) ≡ c.args.self.now.zxid +ℤ pos 1 = to_z-of_z next_fits ∙ c.next_zxid-zxid.ensures small in
     let copied : c.in-Ok-copy_all.sessions.items ≡ c.args.self.now.sessions = c.in-Ok-copy_all.ensures ∙ c.deref-2.ensures.value ∙ sessions in
     multi_done c.args.self.now c.args.ops.now c.in-Ok-after_ops.rows.items (to_z w64 (of_z w64 c.next_zxid-zxid.result)) small next
-        (rw (c.deref-3.ensures.value, sessions, c.in-Ok.ensures, c.deref.ensures.value, rows) at c.in-Ok-after_ops.ensures.ok)
+    (rw (c.deref-3.ensures.value, sessions, c.in-Ok.ensures, c.deref.ensures.value, rows) at c.in-Ok-after_ops.ensures.ok)
     ∙ ap (λ (t : Tree). Ok t) (ap (λ s. record { zxid = to_z w64 (of_z w64 c.next_zxid-zxid.result); sessions = s; rows = c.in-Ok-after_ops.rows.items }) (sym copied) ∙ sym c.new.ensures)
