@@ -1,5 +1,5 @@
 -- A driver as the code holds it.
-use Rattle.std.specs.Prelude.{ℤ, pos, ◌≤ℤ◌, ⊤, List, Option, Some, None}
+use Rattle.std.specs.Prelude.{Bool, true, false, ℤ, pos, ◌≤ℤ◌, ⊤, List, Option, Some, None}
 use Rattle.kz_types.specs.declared.driver.Stage.{Stage}
 use Rattle.kz_types.specs.declared.driver.Stage.TheVariants as stage
 use Rattle.kz_ordered.specs.Order.{bytes_cmp}
@@ -36,6 +36,17 @@ HasEpoch epoch s = IsElected epoch
 abbrev pub HasRisen : Stage → Type 0
 HasRisen (stage.ReadArea target rows) = Rises bytes_cmp path_of_row rows
 HasRisen s = ⊤
+
+-- whether a driver at this stage asks the tree
+abbrev pub asks_tree : Stage → Bool
+asks_tree stage.CompareBrokers = true
+asks_tree stage.Look = true
+asks_tree (stage.Claim seen) = true
+asks_tree (stage.ReadSource rows) = true
+asks_tree (stage.ReadArea target rows) = true
+asks_tree (stage.WriteAll target ops) = true
+asks_tree (stage.WriteChange target ops) = true
+asks_tree s = false
 
 -- what a driver holds at a stage
 pub record IsKept (epoch : Option ℤ) (s : Stage) : Type 0 where

@@ -1,6 +1,7 @@
 pub mod Appends
 pub mod Claims
 pub mod Drivers
+pub mod Faults
 pub mod Fence
 pub mod Rows
 pub mod Stops

@@ -1,5 +1,5 @@
 //! SYNC_KRAFT_TO_ZK: the migrated area is read page by page, and compared with the rendering of the metadata.
-ghost use Rattle.std.specs.Prelude.{◌≡◌, ◌++◌, List, IfOk, OnOk, OnErr, map, length};
+ghost use Rattle.std.specs.Prelude.{◌≡◌, ◌++◌, List, IfOk, OnOk, IfErr, OnErr, map, length};
 ghost use Rattle.kz_types.specs.declared.tree.Row.{Row as RowValue};
 ghost use Rattle.kz_types.specs.declared.machine.Recorded.{Recorded as RecordedValue};
 ghost use Rattle.kz_types.specs.declared.driver.Stage.TheVariants as stage;
@@ -11,12 +11,15 @@ ghost use Rattle.kz_spec_stores.specs.Difference.{diff};
 ghost use Rattle.kz_spec_machine.specs.Driver.{last_path, page_size, after_page};
 ghost use Rattle.kz_driver.specs.Rows.{driver_of};
 ghost use Rattle.kz_driver.specs.Drivers.{HasRisen};
+ghost use Rattle.kz_driver.specs.Faults.{IsReadStop};
 
+use crate::asking::page;
+use crate::fault::StepFault;
 use crate::row::DriverRow;
 use crate::source::{PAGE_SIZE, last_path};
 use kz_image::Image;
 use kz_render::render;
-use kz_tree::Tree;
+use kz_tree::ZTree;
 use kz_types::{Duplicate, NoMemory, Op, Rendered, Reply, Row, Sequence, Stage};
 use kz_writer::diff_renderings;
 use std::alloc::Global;
@@ -65,13 +68,16 @@ fn ops_to(alloc: Global, rows: &[Row], page: &[Row], image: &Image) -> Result<Ve
 
 // The next page behind these znodes.
 #[tactic(auto, using(crate::proofs::Pages::joined_rise))]
-fn next_page(tree: &Tree, rows: &[Row]) -> Result<Vec<Row>, NoMemory>
+fn next_page<T: ZTree>(tree: &mut T, rows: &[Row]) -> Result<Vec<Row>, StepFault>
     requires { Rises bytes_cmp path_of_row rows.now }
-    ensures page { IfOk result (λ page. page.items ≡ scan tree.now (last_path rows.now) page_size) }
+    ensures page { IfOk result (λ page. page.items ≡ scan (T.tree tree.old) (last_path rows.now) page_size) }
     ensures rising { IfOk result (λ page. Rises bytes_cmp path_of_row (rows.now ++ page.items)) }
+    ensures stop { IfErr result (IsReadStop (T.down tree.old)) }
+    ensures same { T.tree tree.new ≡ T.tree tree.old }
+    ensures calm { T.faults tree.new ≡ T.faults tree.old }
+    ensures up { T.down tree.new ≡ T.down tree.old }
 {
-    let page = tree.scan(last_path(rows), PAGE_SIZE)?;
-    Ok(page)
+    page(tree, last_path(rows), PAGE_SIZE)
 }
 
 // The driver that goes on with a page more. At `Err` nothing has changed.
@@ -96,12 +102,20 @@ fn keep_page(row: &mut DriverRow, mut page: Vec<Row>) -> Result<(), NoMemory>
 }
 
 /// SYNC_KRAFT_TO_ZK, reading. At `Err` nothing has changed.
-pub fn read_area(alloc: Global, row: &mut DriverRow, tree: &Tree) -> Result<Reply, NoMemory>
+pub fn read_area<T: ZTree>(
+    alloc: Global,
+    row: &mut DriverRow,
+    tree: &mut T,
+) -> Result<Reply, StepFault>
     requires { (target : RecordedValue) (rows : List RowValue) → row.old.stage ≡ stage.ReadArea target rows → Rises bytes_cmp path_of_row rows }
     ensures ok { (target : RecordedValue) (rows : List RowValue) → row.old.stage ≡ stage.ReadArea target rows → IfOk result (λ told.
-        after_page rows (scan tree.now (last_path rows) page_size) (λ all. stage.ReadArea target all) (λ all. stage.WriteAll target (diff (map rendered_row all) (render row.old.view.image))) (driver_of row.old) ≡ (driver_of row.new, told)) }
+        after_page rows (scan (T.tree tree.old) (last_path rows) page_size) (λ all. stage.ReadArea target all) (λ all. stage.WriteAll target (diff (map rendered_row all) (render row.old.view.image))) (driver_of row.old) ≡ (driver_of row.new, told)) }
     ensures rising { (target : RecordedValue) (rows : List RowValue) → row.old.stage ≡ stage.ReadArea target rows → HasRisen row.new.stage }
     ensures err { OnErr result (row.new ≡ row.old) }
+    ensures stop { IfErr result (IsReadStop (T.down tree.old)) }
+    ensures same { T.tree tree.new ≡ T.tree tree.old }
+    ensures calm { T.faults tree.new ≡ T.faults tree.old }
+    ensures up { T.down tree.new ≡ T.down tree.old }
 {
     let Stage::ReadArea { target, rows } = &row.stage else {
         return Ok(Reply::Idle);

@@ -1,29 +1,98 @@
 //! Requests of the tree.
-ghost use Rattle.std.specs.Prelude.{◌≡◌, ◌<◌, ℕ, IfOk, IfSome, OnErr, MatchOption, Ok, Err, length};
+ghost use Rattle.std.specs.Prelude.{◌≡◌, ◌<◌, ℕ, Bool, IfOk, OnOk, IfErr, IfSome, OnErr, MatchOption, Ok, Err, Option, option_map, length};
 ghost use Rattle.kz_types.specs.declared.fault.TreeFault.TheVariants.{Limit};
-ghost use Rattle.kz_spec_stores.specs.Tree.{multi};
+ghost use Rattle.kz_ordered.specs.Order.{bytes_cmp};
+ghost use Rattle.kz_ordered.specs.Ordered.{Rises};
+ghost use Rattle.kz_spec_stores.specs.Requests.{Either};
+ghost use Rattle.kz_spec_stores.specs.Tree.{multi, scan, look, broker_ids, path_of_row};
 ghost use Rattle.kz_spec_machine.specs.Driver.{path_of_op, path_at};
+ghost use Rattle.kz_tree.specs.Requests.{IsReadFault};
+ghost use Rattle.kz_driver.specs.Claims.{tree_after};
+ghost use Rattle.kz_driver.specs.Faults.{IsCalm, IsReadStop, IsChangeStop};
 
-use kz_tree::Tree;
-use kz_types::{Duplicate, NoMemory, Op, TreeFault, ZPath};
+use crate::fault::StepFault;
+use kz_tree::ZTree;
+use kz_types::{Duplicate, NoMemory, Op, Row, TreeFault, ZPath};
 use std::alloc::Global;
 
-/// Asks the tree for a multi, and answers its fault where it has one. The operation that a limit names is one of them.
+/// Asks the tree for a multi, and answers its refusal where it has one. The operation that a limit names is one of them.
 #[tactic(auto, using(crate::proofs::Faults::limit_told))]
-pub fn ask(tree: &mut Tree, ops: &[Op]) -> Result<Option<TreeFault>, NoMemory>
+pub fn ask<T: ZTree>(tree: &mut T, ops: &[Op]) -> Result<Option<TreeFault>, StepFault>
     requires { 0 < length ops.now }
     ensures within { IfOk result (λ fault. IfSome fault (λ f. (index number : ℕ) → f ≡ Limit index number → index < length ops.now)) }
     ensures ok { IfOk result (λ fault. MatchOption fault
-        (multi tree.old ops.now ≡ Ok tree.new)
-        (λ f. (multi tree.old ops.now ≡ Err f) × (tree.new ≡ tree.old))) }
-    ensures err { OnErr result (tree.new ≡ tree.old) }
+        (multi (T.tree tree.old) ops.now ≡ Ok (T.tree tree.new))
+        (λ f. (multi (T.tree tree.old) ops.now ≡ Err f) × (T.tree tree.new ≡ T.tree tree.old))) }
+    ensures same { OnErr result (T.tree tree.new ≡ T.tree tree.old) }
+    ensures calm { OnOk result (IsCalm (T.faults tree.old) (T.faults tree.new) (T.down tree.old) (T.down tree.new)) }
+    ensures stop { IfErr result (IsChangeStop (T.length tree.old) (T.faults tree.old) (T.faults tree.new) (T.down tree.old) (T.down tree.new)
+        (Either (T.tree tree.old) (tree_after (multi (T.tree tree.old) ops.now) (T.tree tree.old)) (T.left tree.new))) }
 {
     match tree.multi(ops) {
         Ok(_) => Ok(None),
         Err(TreeFault::Refused { index, code }) => Ok(Some(TreeFault::Refused { index, code })),
         Err(TreeFault::Limit { index, number }) => Ok(Some(TreeFault::Limit { index, number })),
-        Err(TreeFault::NoMemory) => Err(NoMemory),
-        Err(_) => unreachable!(),
+        Err(TreeFault::NoMemory) => Err(StepFault::NoMemory),
+        Err(TreeFault::Device) => Err(StepFault::Tree(TreeFault::Device)),
+        Err(TreeFault::Down) => Err(StepFault::Tree(TreeFault::Down)),
+        Err(TreeFault::Full { length }) => Err(StepFault::Tree(TreeFault::Full { length })),
+    }
+}
+
+// Why a read has no answer.
+fn read_stop(fault: TreeFault) -> StepFault
+    ensures { (down : Bool) → IsReadFault down fault → IsReadStop down result }
+{
+    match fault {
+        TreeFault::NoMemory => StepFault::NoMemory,
+        other => StepFault::Tree(other),
+    }
+}
+
+/// The first `limit` znodes of the migrated area behind a path, or its first ones.
+pub fn page<T: ZTree>(
+    tree: &mut T,
+    after: Option<&ZPath>,
+    limit: usize,
+) -> Result<Vec<Row>, StepFault>
+    ensures ok { IfOk result (λ rows. rows.items ≡ scan (T.tree tree.old) (option_map (λ path. path.now) after.entry) limit) }
+    ensures rising { IfOk result (λ rows. Rises bytes_cmp path_of_row rows.items) }
+    ensures stop { IfErr result (IsReadStop (T.down tree.old)) }
+    ensures same { T.tree tree.new ≡ T.tree tree.old }
+    ensures calm { T.faults tree.new ≡ T.faults tree.old }
+    ensures up { T.down tree.new ≡ T.down tree.old }
+{
+    match tree.scan(after, limit) {
+        Ok(rows) => Ok(rows),
+        Err(fault) => Err(read_stop(fault)),
+    }
+}
+
+/// The znodes at these paths, in their order.
+pub fn rows_at<T: ZTree>(tree: &mut T, paths: &[ZPath]) -> Result<Vec<Option<Row>>, StepFault>
+    ensures ok { IfOk result (λ rows. rows.items ≡ look (T.tree tree.old) paths.now) }
+    ensures stop { IfErr result (IsReadStop (T.down tree.old)) }
+    ensures same { T.tree tree.new ≡ T.tree tree.old }
+    ensures calm { T.faults tree.new ≡ T.faults tree.old }
+    ensures up { T.down tree.new ≡ T.down tree.old }
+{
+    match tree.look(paths) {
+        Ok(rows) => Ok(rows),
+        Err(fault) => Err(read_stop(fault)),
+    }
+}
+
+/// The ids of the brokers that are there, rising.
+pub fn broker_ids<T: ZTree>(tree: &mut T) -> Result<Vec<i32>, StepFault>
+    ensures ok { IfOk result (λ ids. ids.items ≡ broker_ids (T.tree tree.old)) }
+    ensures stop { IfErr result (IsReadStop (T.down tree.old)) }
+    ensures same { T.tree tree.new ≡ T.tree tree.old }
+    ensures calm { T.faults tree.new ≡ T.faults tree.old }
+    ensures up { T.down tree.new ≡ T.down tree.old }
+{
+    match tree.broker_ids() {
+        Ok(ids) => Ok(ids),
+        Err(fault) => Err(read_stop(fault)),
     }
 }
 

@@ -1,20 +1,23 @@
 //! BECOME_CONTROLLER: the claim.
-ghost use Rattle.std.specs.Prelude.{◌≡◌, ◌<◌, ℕ, length, Err, ◌≤ℤ◌, IfOk, OnErr, option_map};
+ghost use Rattle.std.specs.Prelude.{◌≡◌, ◌<◌, ℕ, length, Err, ◌≤ℤ◌, IfOk, OnOk, IfErr, OnErr, option_map};
 ghost use Rattle.kz_types.specs.declared.driver.ClaimSeen.{ClaimSeen as ClaimSeenValue};
 ghost use Rattle.kz_types.specs.declared.fault.TreeFault.TheVariants.{Limit};
 ghost use Rattle.kz_types.specs.declared.driver.Stage.TheVariants as stage;
+ghost use Rattle.kz_spec_stores.specs.Requests.{Either};
 ghost use Rattle.kz_spec_stores.specs.Tree.{multi, max_version};
 ghost use Rattle.kz_spec_machine.specs.Driver.{claimed_number, claimed_version, claim_ops, after_claim};
+ghost use Rattle.kz_driver.specs.Faults.{IsCalm, IsChangeStop};
 ghost use Rattle.kz_driver.specs.Rows.{driver_of};
 ghost use Rattle.kz_driver.specs.Stops.{CanClaim};
 ghost use Rattle.kz_driver.specs.Claims.{claimer_of, claimed_by, after_claimed, tree_after};
 
 use crate::asking::{ask, path_at};
 use crate::claiming::views_migrated;
+use crate::fault::StepFault;
 use crate::fence::{Claimer, claim_ops};
 use crate::row::DriverRow;
 use kz_state::read_epoch;
-use kz_tree::Tree;
+use kz_tree::ZTree;
 use kz_types::{
     BodyFault, ClaimSeen, DriverState, NoMemory, Op, Reply, Row, Sequence, Stage, TreeFault,
 };
@@ -101,23 +104,26 @@ fn ops_of_claim(
 }
 
 // Asks the tree for a claim with these operations. At `Err` the tree is as it was.
-fn ask_claim(
+fn ask_claim<T: ZTree>(
     alloc: Global,
     seen: &ClaimSeen,
     ops: &[Op],
-    tree: &mut Tree,
-) -> Result<Claimed, NoMemory>
+    tree: &mut T,
+) -> Result<Claimed, StepFault>
     requires can { CanClaim seen.now.epoch }
     requires some { 0 < length ops.now }
-    ensures said { IfOk result (λ claimed. claimed ≡ claimed_by seen.now ops.now (multi tree.old ops.now)) }
-    ensures tree { IfOk result (λ claimed. tree.new ≡ tree_after (multi tree.old ops.now) tree.old) }
-    ensures err { OnErr result (tree.new ≡ tree.old) }
+    ensures said { IfOk result (λ claimed. claimed ≡ claimed_by seen.now ops.now (multi (T.tree tree.old) ops.now)) }
+    ensures tree { IfOk result (λ claimed. T.tree tree.new ≡ tree_after (multi (T.tree tree.old) ops.now) (T.tree tree.old)) }
+    ensures err { OnErr result (T.tree tree.new ≡ T.tree tree.old) }
+    ensures calm { OnOk result (IsCalm (T.faults tree.old) (T.faults tree.new) (T.down tree.old) (T.down tree.new)) }
+    ensures stop { IfErr result (IsChangeStop (T.length tree.old) (T.faults tree.old) (T.faults tree.new) (T.down tree.old) (T.down tree.new)
+        (Either (T.tree tree.old) (tree_after (multi (T.tree tree.old) ops.now) (T.tree tree.old)) (T.left tree.new))) }
 {
     let number = claimed_number(alloc, seen.epoch.as_ref())?;
     let version = claimed_version(seen.epoch.as_ref());
     match ask(tree, ops)? {
         None => Ok(Claimed::Done { number, version }),
-        Some(fault) => stopped_by(alloc, ops, fault),
+        Some(fault) => Ok(stopped_by(alloc, ops, fault)?),
     }
 }
 
@@ -147,35 +153,41 @@ fn after_claimed(alloc: Global, row: &mut DriverRow, claimed: Claimed) -> Reply
 }
 
 // Makes the claim of what was seen. At `Err` the tree is as it was.
-fn try_claim(
+fn try_claim<T: ZTree>(
     alloc: Global,
     driver: &DriverRow,
     seen: &ClaimSeen,
-    tree: &mut Tree,
+    tree: &mut T,
     now: i64,
-) -> Result<Claimed, NoMemory>
+) -> Result<Claimed, StepFault>
     requires { CanClaim seen.now.epoch }
-    ensures said { IfOk result (λ claimed. claimed ≡ claimed_by seen.now (claim_ops seen.now (driver_of driver.now) now) (multi tree.old (claim_ops seen.now (driver_of driver.now) now))) }
-    ensures tree { IfOk result (λ claimed. tree.new ≡ tree_after (multi tree.old (claim_ops seen.now (driver_of driver.now) now)) tree.old) }
-    ensures err { OnErr result (tree.new ≡ tree.old) }
+    ensures said { IfOk result (λ claimed. claimed ≡ claimed_by seen.now (claim_ops seen.now (driver_of driver.now) now) (multi (T.tree tree.old) (claim_ops seen.now (driver_of driver.now) now))) }
+    ensures tree { IfOk result (λ claimed. T.tree tree.new ≡ tree_after (multi (T.tree tree.old) (claim_ops seen.now (driver_of driver.now) now)) (T.tree tree.old)) }
+    ensures err { OnErr result (T.tree tree.new ≡ T.tree tree.old) }
+    ensures calm { OnOk result (IsCalm (T.faults tree.old) (T.faults tree.new) (T.down tree.old) (T.down tree.new)) }
+    ensures stop { IfErr result (IsChangeStop (T.length tree.old) (T.faults tree.old) (T.faults tree.new) (T.down tree.old) (T.down tree.new)
+        (Either (T.tree tree.old) (tree_after (multi (T.tree tree.old) (claim_ops seen.now (driver_of driver.now) now)) (T.tree tree.old)) (T.left tree.new))) }
 {
     let ops = ops_of_claim(alloc, driver, seen, now)?;
     ask_claim(alloc, seen, &ops, tree)
 }
 
 /// BECOME_CONTROLLER, before the claim. At `Err` nothing has changed.
-pub fn claim(
+pub fn claim<T: ZTree>(
     alloc: Global,
     row: &mut DriverRow,
-    tree: &mut Tree,
+    tree: &mut T,
     now: i64,
-) -> Result<Reply, NoMemory>
+) -> Result<Reply, StepFault>
     requires { (seen : ClaimSeenValue) → row.old.stage ≡ stage.Claim seen → CanClaim seen.epoch }
     ensures driver { (seen : ClaimSeenValue) → row.old.stage ≡ stage.Claim seen → IfOk result (λ told.
-        after_claimed (claimed_by seen (claim_ops seen (driver_of row.old) now) (multi tree.old (claim_ops seen (driver_of row.old) now))) (driver_of row.old) ≡ (driver_of row.new, told)) }
+        after_claimed (claimed_by seen (claim_ops seen (driver_of row.old) now) (multi (T.tree tree.old) (claim_ops seen (driver_of row.old) now))) (driver_of row.old) ≡ (driver_of row.new, told)) }
     ensures tree { (seen : ClaimSeenValue) → row.old.stage ≡ stage.Claim seen → IfOk result (λ told.
-        tree.new ≡ tree_after (multi tree.old (claim_ops seen (driver_of row.old) now)) tree.old) }
-    ensures err { OnErr result ((row.new ≡ row.old) × (tree.new ≡ tree.old)) }
+        T.tree tree.new ≡ tree_after (multi (T.tree tree.old) (claim_ops seen (driver_of row.old) now)) (T.tree tree.old)) }
+    ensures err { OnErr result ((row.new ≡ row.old) × (T.tree tree.new ≡ T.tree tree.old)) }
+    ensures calm { OnOk result (IsCalm (T.faults tree.old) (T.faults tree.new) (T.down tree.old) (T.down tree.new)) }
+    ensures stop { (seen : ClaimSeenValue) → row.old.stage ≡ stage.Claim seen → IfErr result (IsChangeStop (T.length tree.old) (T.faults tree.old) (T.faults tree.new) (T.down tree.old) (T.down tree.new)
+        (Either (T.tree tree.old) (tree_after (multi (T.tree tree.old) (claim_ops seen (driver_of row.old) now)) (T.tree tree.old)) (T.left tree.new))) }
 {
     let Stage::Claim { seen } = &row.stage else {
         return Ok(Reply::Idle);

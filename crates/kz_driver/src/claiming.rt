@@ -1,22 +1,26 @@
 //! BECOME_CONTROLLER: the look at the control and base znodes, and the claim.
-ghost use Rattle.std.specs.Prelude.{◌≡◌, ⊤, IfOk, OnErr, MatchOption, option_map, is_some, map, length, pos, Ok, Err, ℤ};
+ghost use Rattle.std.specs.Prelude.{◌≡◌, ◌∷◌, ⊤, IfOk, IfErr, OnErr, MatchOption, option_map, is_some, map, length, pos, Ok, Err, ℤ};
 ghost use Rattle.std.specs.Ordering.{int_eq};
 ghost use Rattle.kz_types.specs.declared.tree.Row.{Row as RowValue};
 ghost use Rattle.kz_types.specs.declared.driver.ClaimSeen.{ClaimSeen as ClaimSeenValue};
 ghost use Rattle.kz_types.specs.declared.driver.Stage.TheVariants as stage;
 ghost use Rattle.kz_types.specs.declared.machine.Reply.{Reply as ReplyValue};
 ghost use Rattle.kz_spec_values.specs.Control.{control_path, epoch_path, migration_path};
-ghost use Rattle.kz_spec_stores.specs.Tree.{row_at, look, max_version};
+ghost use Rattle.kz_types.specs.Paths.{base_paths};
+ghost use Rattle.kz_spec_stores.specs.Tree.{Tree as TreeValue, row_at, look, max_version};
 ghost use Rattle.kz_spec_machine.specs.Driver.{Driver as DriverValue, seen_in, shown_by, looked, unless_fenced, unless_bad_epoch, unless_full_record, views_migrated, claimed_number, claimed_version};
+ghost use Rattle.kz_driver.specs.Faults.{IsReadStop};
 ghost use Rattle.kz_driver.specs.Rows.{driver_of};
 ghost use Rattle.kz_driver.specs.Stops.{stopped, fenced_by, CanClaim, StageCanClaim};
 
-use crate::paths::{base_paths, epoch_path, migration_path};
+use crate::asking::rows_at;
+use crate::fault::StepFault;
+use crate::paths::{epoch_path, migration_path, seen_paths};
 use crate::row::DriverRow;
 use crate::waiting::resign;
 use kz_state::{read_control, read_epoch};
-use kz_tree::Tree;
-use kz_types::{BodyFault, ClaimSeen, Duplicate, NoMemory, ReadWhy, Reply, Row, Stage, ZPath};
+use kz_tree::ZTree;
+use kz_types::{BodyFault, ClaimSeen, NoMemory, ReadWhy, Reply, Row, Stage};
 use std::alloc::Global;
 
 /// Whether the driver has read that the migration is committed.
@@ -26,66 +30,47 @@ pub fn views_migrated(row: &DriverRow) -> bool
     row.view.image().state() >= 2
 }
 
-// A copy of the znode at a path.
-fn copy_row(alloc: Global, tree: &Tree, path: &str) -> Result<Option<Row>, NoMemory>
-    ensures { IfOk result (λ row. row ≡ row_at path.now tree.now.rows) }
-{
-    match tree.row(path.as_bytes()) {
-        Some(row) => Ok(Some(row.copy(alloc)?)),
-        None => Ok(None),
-    }
-}
-
-fn control_row(alloc: Global, tree: &Tree) -> Result<Option<Row>, NoMemory>
-    ensures { IfOk result (λ row. row ≡ row_at control_path tree.now.rows) }
-{
-    copy_row(alloc, tree, "/controller")
-}
-
-fn epoch_row(alloc: Global, tree: &Tree) -> Result<Option<Row>, NoMemory>
-    ensures { IfOk result (λ row. row ≡ row_at epoch_path tree.now.rows) }
-{
-    copy_row(alloc, tree, "/controller_epoch")
-}
-
-fn migration_row(alloc: Global, tree: &Tree) -> Result<Option<Row>, NoMemory>
-    ensures { IfOk result (λ row. row ≡ row_at migration_path tree.now.rows) }
-{
-    copy_row(alloc, tree, "/migration")
-}
-
-// Whether there is a znode at a path.
-fn is_there(tree: &Tree, path: &ZPath) -> bool
-    ensures { result ≡ is_some (row_at path.now tree.now.rows) }
-{
-    tree.row(path.bytes()).is_some()
-}
-
-// Which base znodes are there, of these paths.
-fn bases_at(tree: &Tree, paths: &[ZPath]) -> [bool; 5]
-    requires { length paths.now ≡ 5 }
-    ensures { result ≡ map is_some (look tree.now paths.now) }
+// Which of these znodes are there.
+fn are_there(rows: &[Option<Row>]) -> [bool; 5]
+    requires { length rows.now ≡ 5 }
+    ensures { result ≡ map is_some rows.now }
 {
     [
-        is_there(tree, &paths[0]),
-        is_there(tree, &paths[1]),
-        is_there(tree, &paths[2]),
-        is_there(tree, &paths[3]),
-        is_there(tree, &paths[4]),
+        rows[0].is_some(),
+        rows[1].is_some(),
+        rows[2].is_some(),
+        rows[3].is_some(),
+        rows[4].is_some(),
     ]
 }
 
-/// What a look at the control and base znodes sees.
-pub fn seen_in(alloc: Global, tree: &Tree) -> Result<ClaimSeen, NoMemory>
-    ensures { IfOk result (λ seen. seen ≡ seen_in tree.now) }
+// What is seen where these are the control and base znodes.
+fn seen_of(mut rows: Vec<Option<Row>>) -> ClaimSeen
+    requires { length rows.items ≡ 8 }
+    ensures { (t : TreeValue) → rows.items ≡ look t (control_path ∷ epoch_path ∷ migration_path ∷ base_paths) → result ≡ seen_in t }
 {
-    let paths = base_paths(alloc)?;
-    Ok(ClaimSeen {
-        control: control_row(alloc, tree)?,
-        epoch: epoch_row(alloc, tree)?,
-        migration: migration_row(alloc, tree)?,
-        bases: bases_at(tree, &paths),
-    })
+    let control = rows.remove(0);
+    let epoch = rows.remove(0);
+    let migration = rows.remove(0);
+    ClaimSeen {
+        control,
+        epoch,
+        migration,
+        bases: are_there(&rows),
+    }
+}
+
+/// What a look at the control and base znodes sees.
+pub fn seen_in<T: ZTree>(alloc: Global, tree: &mut T) -> Result<ClaimSeen, StepFault>
+    ensures ok { IfOk result (λ seen. seen ≡ seen_in (T.tree tree.old)) }
+    ensures stop { IfErr result (IsReadStop (T.down tree.old)) }
+    ensures same { T.tree tree.new ≡ T.tree tree.old }
+    ensures calm { T.faults tree.new ≡ T.faults tree.old }
+    ensures up { T.down tree.new ≡ T.down tree.old }
+{
+    let paths = seen_paths(alloc)?;
+    let rows = rows_at(tree, &paths)?;
+    Ok(seen_of(rows))
 }
 
 // The epoch that `/controller` shows.
@@ -170,11 +155,19 @@ fn after_look(alloc: Global, row: &mut DriverRow, seen: ClaimSeen) -> Result<Rep
 }
 
 /// BECOME_CONTROLLER, before the look. At `Err` nothing has changed.
-pub fn look(alloc: Global, row: &mut DriverRow, tree: &Tree) -> Result<Reply, NoMemory>
-    ensures ok { IfOk result (λ told. looked (seen_in tree.now) (driver_of row.old) ≡ (driver_of row.new, told)) }
+pub fn look<T: ZTree>(
+    alloc: Global,
+    row: &mut DriverRow,
+    tree: &mut T,
+) -> Result<Reply, StepFault>
+    ensures ok { IfOk result (λ told. looked (seen_in (T.tree tree.old)) (driver_of row.old) ≡ (driver_of row.new, told)) }
     ensures can { row.old.stage ≡ stage.Look → IfOk result (λ told. StageCanClaim row.new.stage) }
     ensures err { OnErr result (row.new ≡ row.old) }
+    ensures stop { IfErr result (IsReadStop (T.down tree.old)) }
+    ensures same { T.tree tree.new ≡ T.tree tree.old }
+    ensures calm { T.faults tree.new ≡ T.faults tree.old }
+    ensures up { T.down tree.new ≡ T.down tree.old }
 {
     let seen = seen_in(alloc, tree)?;
-    after_look(alloc, row, seen)
+    Ok(after_look(alloc, row, seen)?)
 }

@@ -1,12 +1,17 @@
 //! The driver of a controller.
-ghost use Rattle.std.specs.Prelude.{◌≡◌, ◌≤ℤ◌, pos, IfOk, IfSome, OnErr};
+ghost use Rattle.std.specs.Prelude.{◌≡◌, ◌≤ℤ◌, pos, true, false, IfOk, IfErr, IfSome, OnErr, IsErrOf};
+ghost use Rattle.kz_types.specs.Causes.{Rose};
+ghost use Rattle.kz_spec_stores.specs.Requests.{Either};
+ghost use Rattle.kz_spec_stores.specs.Tree.{Tree};
 ghost use Rattle.kz_spec_machine.specs.Driver.{Driver as DriverValue, new_driver, elected_driver, step};
-ghost use Rattle.kz_driver.specs.Drivers.{IsKept, shared_of, started, informed};
+ghost use Rattle.kz_driver.specs.Drivers.{IsKept, asks_tree, shared_of, started, informed};
+ghost use Rattle.kz_driver.specs.Faults.{IsStepFault, Ends};
 ghost use Rattle.kz_driver.specs.Rows.{driver_of};
 
 use crate::area::read_area;
 use crate::claim::claim;
 use crate::claiming::look;
+use crate::fault::StepFault;
 use crate::migrating::{begin, fill};
 use crate::peers::Peers;
 use crate::resting::rest;
@@ -16,8 +21,8 @@ use crate::targets::begin_sync;
 use crate::waiting::{compare_brokers, wait_for_brokers, wait_for_quorum};
 use crate::writing::{write_all, write_change};
 use kz_log::{MemoryLog, View};
-use kz_tree::Tree;
-use kz_types::{DriverState, NoMemory, Reply, Stage};
+use kz_tree::ZTree;
+use kz_types::{DriverState, NoMemory, Reply, Stage, TreeFault};
 use std::alloc::Global;
 use std::marker::Model;
 
@@ -86,17 +91,25 @@ impl Driver {
         self.row.stage = Stage::WaitForQuorum;
     }
 
-    /// One step: at most one request of the tree or the log, and what follows its answer. At `Err` nothing has changed.
-    pub fn step(
+    /// One step: at most one request of the tree or the log, and what follows its answer. At `Err` nothing has changed; where
+    /// the disk failed in this call, a stop leaves the tree from before or the one that the step would have made.
+    pub fn step<T: ZTree>(
         &mut self,
-        tree: &mut Tree,
+        tree: &mut T,
         log: &mut MemoryLog,
         peers: &Peers,
         now: i64,
-    ) -> Result<Reply, NoMemory>
-        ensures ok { IfOk result (λ told. step (shared_of tree.old log.old peers.now.declared) peers.now.running now self.old
-            ≡ record { shared = shared_of tree.new log.new peers.now.declared; driver = self.new; reply = told }) }
-        ensures err { OnErr result ((self.new ≡ self.old) × (tree.new ≡ tree.old) × (log.new ≡ log.old)) }
+    ) -> Result<Reply, StepFault>
+        ensures ok { IfOk result (λ told. step (shared_of (T.tree tree.old) log.old peers.now.declared) peers.now.running now self.old
+            ≡ record { shared = shared_of (T.tree tree.new) log.new peers.now.declared; driver = self.new; reply = told }) }
+        ensures err { OnErr result ((self.new ≡ self.old) × (T.tree tree.new ≡ T.tree tree.old) × (log.new ≡ log.old)) }
+        ensures cause { IfErr result (IsStepFault (T.length tree.old) (T.down tree.old)) }
+        ensures device { IsErrOf result (StepFault.Tree TreeFault.Device) → Rose (T.faults tree.old) (T.faults tree.new) }
+        ensures falls { IsErrOf result (StepFault.Tree TreeFault.Device) → T.down tree.new ≡ true }
+        ensures calm { (IsErrOf result (StepFault.Tree TreeFault.Device) → ⊥) → T.faults tree.new ≡ T.faults tree.old }
+        ensures up { (IsErrOf result (StepFault.Tree TreeFault.Device) → ⊥) → T.down tree.new ≡ T.down tree.old }
+        ensures stop { IsErrOf result (StepFault.Tree TreeFault.Device) → T.down tree.old ≡ false
+            → Either (T.tree tree.old) (step (shared_of (T.tree tree.old) log.old peers.now.declared) peers.now.running now self.old).shared.tree (T.left tree.new) }
     {
         step_row(self.alloc, &mut self.row, tree, log, peers, now)
     }
@@ -118,37 +131,63 @@ fn inform_brokers(row: &mut DriverRow) -> Reply
     Reply::Moved(DriverState::DualWrite)
 }
 
-// One step of the driver with these parts. At `Err` nothing has changed.
-fn step_row(
+// One step of a driver that doesn't ask the tree, whatever that is. At `Err` nothing has changed.
+fn step_aside(
     alloc: Global,
     row: &mut DriverRow,
-    tree: &mut Tree,
     log: &mut MemoryLog,
     peers: &Peers,
     now: i64,
 ) -> Result<Reply, NoMemory>
-    requires { IsKept row.old.epoch row.old.stage }
-    ensures ok { IfOk result (λ told. step (shared_of tree.old log.old peers.now.declared) peers.now.running now (driver_of row.old)
-        ≡ record { shared = shared_of tree.new log.new peers.now.declared; driver = driver_of row.new; reply = told }) }
+    requires kept { IsKept row.old.epoch row.old.stage }
+    requires aside { asks_tree row.old.stage ≡ false }
+    ensures ok { (t : Tree) → IfOk result (λ told. step (shared_of t log.old peers.now.declared) peers.now.running now (driver_of row.old)
+        ≡ record { shared = shared_of t log.new peers.now.declared; driver = driver_of row.new; reply = told }) }
     ensures kept { IsKept row.new.epoch row.new.stage }
-    ensures err { OnErr result ((row.new ≡ row.old) × (tree.new ≡ tree.old) × (log.new ≡ log.old)) }
+    ensures err { OnErr result ((row.new ≡ row.old) × (log.new ≡ log.old)) }
 {
     match &row.stage {
         Stage::Uninitialized => Ok(start(row)),
         Stage::Inactive => Ok(Reply::Idle),
         Stage::WaitForQuorum => wait_for_quorum(alloc, row, log, peers),
         Stage::WaitForBrokers => wait_for_brokers(alloc, row, log),
-        Stage::CompareBrokers => compare_brokers(row, tree),
-        Stage::Look => look(alloc, row, tree),
-        Stage::Claim { .. } => claim(alloc, row, tree, now),
-        Stage::ReadSource { .. } => read_source(alloc, row, tree),
         Stage::Begin { .. } => begin(alloc, row, log, now),
         Stage::Fill { .. } => fill(alloc, row, log, now),
         Stage::ReadLog => begin_sync(alloc, row, log),
-        Stage::ReadArea { .. } => read_area(alloc, row, tree),
-        Stage::WriteAll { .. } => write_all(alloc, row, tree, log),
         Stage::InformBrokers => Ok(inform_brokers(row)),
         Stage::Rest => rest(alloc, row, log),
+        _ => unreachable!(),
+    }
+}
+
+// One step of the driver with these parts. At `Err` nothing has changed.
+fn step_row<T: ZTree>(
+    alloc: Global,
+    row: &mut DriverRow,
+    tree: &mut T,
+    log: &mut MemoryLog,
+    peers: &Peers,
+    now: i64,
+) -> Result<Reply, StepFault>
+    requires { IsKept row.old.epoch row.old.stage }
+    ensures ok { IfOk result (λ told. step (shared_of (T.tree tree.old) log.old peers.now.declared) peers.now.running now (driver_of row.old)
+        ≡ record { shared = shared_of (T.tree tree.new) log.new peers.now.declared; driver = driver_of row.new; reply = told }) }
+    ensures kept { IsKept row.new.epoch row.new.stage }
+    ensures err { OnErr result ((row.new ≡ row.old) × (T.tree tree.new ≡ T.tree tree.old) × (log.new ≡ log.old)) }
+    ensures ends { Ends result (T.length tree.old) (T.faults tree.old) (T.faults tree.new) (T.down tree.old) (T.down tree.new)
+        (Either (T.tree tree.old) (step (shared_of (T.tree tree.old) log.old peers.now.declared) peers.now.running now (driver_of row.old)).shared.tree (T.left tree.new)) }
+{
+    match &row.stage {
+        Stage::CompareBrokers => compare_brokers(row, tree),
+        Stage::Look => look(alloc, row, tree),
+        Stage::Claim { .. } => claim(alloc, row, tree, now),
+        Stage::ReadSource { .. } => read_source(row, tree),
+        Stage::ReadArea { .. } => read_area(alloc, row, tree),
+        Stage::WriteAll { .. } => write_all(alloc, row, tree, log),
         Stage::WriteChange { .. } => write_change(alloc, row, tree, log),
+        _ => match step_aside(alloc, row, log, peers, now) {
+            Ok(told) => Ok(told),
+            Err(NoMemory) => Err(StepFault::NoMemory),
+        },
     }
 }

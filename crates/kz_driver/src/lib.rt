@@ -10,6 +10,7 @@ mod asking;
 mod claim;
 mod claiming;
 mod drive;
+mod fault;
 mod fence;
 mod migrating;
 mod paths;
@@ -22,5 +23,6 @@ mod waiting;
 mod writing;
 
 pub use drive::Driver;
+pub use fault::StepFault;
 pub use fence::{Claimer, claim_ops, is_last_write, write_ops};
 pub use peers::{Peers, missing_broker, missing_controller};

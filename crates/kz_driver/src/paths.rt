@@ -1,5 +1,5 @@
 //! The paths of the control and base znodes.
-ghost use Rattle.std.specs.Prelude.{◌≡◌, true, IfOk, vec_len};
+ghost use Rattle.std.specs.Prelude.{◌≡◌, ◌∷◌, true, IfOk, vec_len};
 ghost use Rattle.kz_types.specs.PathRule.{is_path};
 ghost use Rattle.kz_types.specs.Paths.{base_paths};
 ghost use Rattle.kz_spec_values.specs.Control.{control_path, epoch_path, migration_path};
@@ -50,5 +50,18 @@ pub fn base_paths(alloc: Global) -> Result<Vec<ZPath>, NoMemory>
     paths.push(path(alloc, "/kafka-acl")?)?;
     paths.push(path(alloc, "/kafka-acl-extended")?)?;
     paths.push(path(alloc, "/kafka-acl-extended/prefixed")?)?;
+    Ok(paths)
+}
+
+/// The control and base znodes that a claim looks at.
+pub fn seen_paths(alloc: Global) -> Result<Vec<ZPath>, NoMemory>
+    ensures { IfOk result (λ paths. paths.items ≡ control_path ∷ epoch_path ∷ migration_path ∷ base_paths) }
+{
+    let mut bases = base_paths(alloc)?;
+    let mut paths = Vec::new(alloc);
+    paths.push(control_path(alloc)?)?;
+    paths.push(epoch_path(alloc)?)?;
+    paths.push(migration_path(alloc)?)?;
+    paths.append(&mut bases)?;
     Ok(paths)
 }

@@ -1,15 +1,17 @@
 //! ZK_MIGRATION: the znodes are read page by page, translated, and appended in a transaction.
-ghost use Rattle.std.specs.Prelude.{◌≡◌, ◌++◌, ◌<◌, ℕ, List, option_map, IfOk, OnErr, length, map};
+ghost use Rattle.std.specs.Prelude.{◌≡◌, ◌++◌, ◌<◌, ℕ, List, option_map, IfOk, OnOk, IfErr, OnErr, length, map};
 ghost use Rattle.kz_types.specs.declared.tree.Row.{Row as RowValue};
 ghost use Rattle.kz_types.specs.declared.driver.Stage.TheVariants as stage;
 ghost use Rattle.kz_spec_stores.specs.Tree.{scan};
 ghost use Rattle.kz_spec_machine.specs.Driver.{last_path, page_size, after_page};
+ghost use Rattle.kz_driver.specs.Faults.{IsReadStop};
 ghost use Rattle.kz_driver.specs.Rows.{driver_of};
 
+use crate::asking::page;
+use crate::fault::StepFault;
 use crate::row::DriverRow;
-use kz_tree::Tree;
+use kz_tree::ZTree;
 use kz_types::{NoMemory, Reply, Row, Sequence, Stage, ZPath};
-use std::alloc::Global;
 use std::mem;
 
 /// The znodes of a page.
@@ -27,23 +29,40 @@ pub fn last_path(rows: &[Row]) -> Option<&ZPath>
     Some(&rows[len - 1].path)
 }
 
-/// Reads the next page behind these znodes, and answers how many znodes it has. At `Err` they are as they were.
-pub fn add_page(rows: &mut Vec<Row>, tree: &Tree) -> Result<usize, NoMemory>
-    ensures rows { IfOk result (λ count. rows.new.items ≡ rows.old.items ++ scan tree.now (last_path rows.old.items) page_size) }
-    ensures count { IfOk result (λ count. count ≡ length (scan tree.now (last_path rows.old.items) page_size)) }
+// Puts further znodes behind these. At `Err` they are as they were.
+fn keep(rows: &mut Vec<Row>, more: &mut Vec<Row>) -> Result<(), NoMemory>
+    ensures ok { OnOk result (rows.new.items ≡ rows.old.items ++ more.old.items) }
     ensures err { OnErr result (rows.new.items ≡ rows.old.items) }
 {
-    let mut page = tree.scan(last_path(rows), PAGE_SIZE)?;
-    let count = page.len();
-    rows.append(&mut page)?;
+    rows.append(more)?;
+    Ok(())
+}
+
+/// Reads the next page behind these znodes, and answers how many znodes it has. At `Err` they are as they were.
+pub fn add_page<T: ZTree>(rows: &mut Vec<Row>, tree: &mut T) -> Result<usize, StepFault>
+    ensures rows { IfOk result (λ count. rows.new.items ≡ rows.old.items ++ scan (T.tree tree.old) (last_path rows.old.items) page_size) }
+    ensures count { IfOk result (λ count. count ≡ length (scan (T.tree tree.old) (last_path rows.old.items) page_size)) }
+    ensures err { OnErr result (rows.new.items ≡ rows.old.items) }
+    ensures stop { IfErr result (IsReadStop (T.down tree.old)) }
+    ensures same { T.tree tree.new ≡ T.tree tree.old }
+    ensures calm { T.faults tree.new ≡ T.faults tree.old }
+    ensures up { T.down tree.new ≡ T.down tree.old }
+{
+    let mut more = page(tree, last_path(rows), PAGE_SIZE)?;
+    let count = more.len();
+    keep(rows, &mut more)?;
     Ok(count)
 }
 
 /// ZK_MIGRATION, reading. At `Err` nothing has changed.
-pub fn read_source(alloc: Global, row: &mut DriverRow, tree: &Tree) -> Result<Reply, NoMemory>
+pub fn read_source<T: ZTree>(row: &mut DriverRow, tree: &mut T) -> Result<Reply, StepFault>
     ensures ok { (rows : List RowValue) → row.old.stage ≡ stage.ReadSource rows → IfOk result (λ told.
-        after_page rows (scan tree.now (last_path rows) page_size) (λ all. stage.ReadSource all) (λ all. stage.Begin all) (driver_of row.old) ≡ (driver_of row.new, told)) }
+        after_page rows (scan (T.tree tree.old) (last_path rows) page_size) (λ all. stage.ReadSource all) (λ all. stage.Begin all) (driver_of row.old) ≡ (driver_of row.new, told)) }
     ensures err { OnErr result (row.new ≡ row.old) }
+    ensures stop { IfErr result (IsReadStop (T.down tree.old)) }
+    ensures same { T.tree tree.new ≡ T.tree tree.old }
+    ensures calm { T.faults tree.new ≡ T.faults tree.old }
+    ensures up { T.down tree.new ≡ T.down tree.old }
 {
     match mem::replace(&mut row.stage, Stage::Look) {
         Stage::ReadSource { rows } => {
@@ -59,9 +78,9 @@ pub fn read_source(alloc: Global, row: &mut DriverRow, tree: &Tree) -> Result<Re
                     row.stage = Stage::ReadSource { rows };
                     Ok(Reply::Read { rows: count })
                 }
-                Err(NoMemory) => {
+                Err(fault) => {
                     row.stage = Stage::ReadSource { rows };
-                    Err(NoMemory)
+                    Err(fault)
                 }
             }
         }

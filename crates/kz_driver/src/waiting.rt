@@ -1,16 +1,19 @@
 //! The states in which a driver waits: for the controllers, and for the brokers.
-ghost use Rattle.std.specs.Prelude.{◌≡◌, IfOk, OnOk, OnErr, pos};
+ghost use Rattle.std.specs.Prelude.{◌≡◌, IfOk, OnOk, IfErr, OnErr, pos};
 ghost use Rattle.std.specs.Ordering.{int_eq};
 ghost use Rattle.kz_types.specs.declared.driver.Stage.TheVariants as stage;
 ghost use Rattle.kz_types.specs.declared.machine.Reply.TheVariants as reply;
 ghost use Rattle.kz_spec_stores.specs.Tree.{broker_ids};
 ghost use Rattle.kz_spec_machine.specs.Driver.{having_read, after_quorum, after_brokers, missing_broker, unless_finalised, at_stage, resigned};
+ghost use Rattle.kz_driver.specs.Faults.{IsReadStop};
 ghost use Rattle.kz_driver.specs.Rows.{driver_of};
 
+use crate::asking::broker_ids;
+use crate::fault::StepFault;
 use crate::peers::{Peers, missing_broker, missing_controller};
 use crate::row::DriverRow;
 use kz_log::MemoryLog;
-use kz_tree::Tree;
+use kz_tree::ZTree;
 use kz_types::{DriverState, NoMemory, Reply, Stage};
 use std::alloc::Global;
 
@@ -97,12 +100,16 @@ pub fn wait_for_brokers(
     Ok(after_read(row))
 }
 
-/// WAIT_FOR_BROKERS, before the brokers are listed
-pub fn compare_brokers(row: &mut DriverRow, tree: &Tree) -> Result<Reply, NoMemory>
-    ensures ok { IfOk result (λ told. after_brokers (missing_broker (broker_ids tree.now) row.old.view.image) (driver_of row.old) ≡ (driver_of row.new, told)) }
+/// WAIT_FOR_BROKERS, before the brokers are listed. At `Err` nothing has changed.
+pub fn compare_brokers<T: ZTree>(row: &mut DriverRow, tree: &mut T) -> Result<Reply, StepFault>
+    ensures ok { IfOk result (λ told. after_brokers (missing_broker (broker_ids (T.tree tree.old)) row.old.view.image) (driver_of row.old) ≡ (driver_of row.new, told)) }
     ensures err { OnErr result (row.new ≡ row.old) }
+    ensures stop { IfErr result (IsReadStop (T.down tree.old)) }
+    ensures same { T.tree tree.new ≡ T.tree tree.old }
+    ensures calm { T.faults tree.new ≡ T.faults tree.old }
+    ensures up { T.down tree.new ≡ T.down tree.old }
 {
-    let ids = tree.broker_ids()?;
+    let ids = broker_ids(tree)?;
     match missing_broker(&ids, row.view.image()) {
         Some(id) => {
             row.stage = Stage::WaitForBrokers;

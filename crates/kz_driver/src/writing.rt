@@ -1,24 +1,27 @@
 //! The writes of SYNC_KRAFT_TO_ZK and DUAL_WRITE.
-ghost use Rattle.std.specs.Prelude.{◌≡◌, ◌<◌, ℕ, ℤ, List, length, Ok, Err, Option, IfOk, OnErr};
+ghost use Rattle.std.specs.Prelude.{◌≡◌, ◌<◌, ℕ, ℤ, List, length, Ok, Err, Option, IfOk, OnOk, IfErr, OnErr};
 ghost use Rattle.kz_types.specs.declared.tree.Op.{Op as OpValue};
 ghost use Rattle.kz_types.specs.declared.driver.Stage.TheVariants as stage;
 ghost use Rattle.kz_types.specs.declared.fault.TreeFault.TheVariants.{Limit};
 ghost use Rattle.kz_types.specs.declared.machine.Recorded.{Recorded as RecordedValue};
-ghost use Rattle.kz_spec_stores.specs.Tree.{Tree as TreeValue, multi};
+ghost use Rattle.kz_spec_stores.specs.Requests.{Either};
+ghost use Rattle.kz_spec_stores.specs.Tree.{multi};
 ghost use Rattle.kz_spec_machine.specs.Driver.{begins_again, remaining_at, write_ops, writes};
 ghost use Rattle.kz_driver.specs.Claims.{tree_after};
 ghost use Rattle.kz_driver.specs.Drivers.{IsElected, IsKept};
+ghost use Rattle.kz_driver.specs.Faults.{IsCalm, IsChangeStop};
 ghost use Rattle.kz_driver.specs.Rows.{driver_of};
 ghost use Rattle.kz_driver.specs.Writes.{more_of, last_of, taken_of, refused_of, written_by, after_written, tree_written};
 
 use crate::appending::drop_first;
 use crate::asking::{ask, path_at};
+use crate::fault::StepFault;
 use crate::fence::{is_last_write, write_ops};
 use crate::row::DriverRow;
 use crate::waiting::resign;
 use kz_log::MemoryLog;
 use kz_render::render;
-use kz_tree::Tree;
+use kz_tree::{Tree, ZTree};
 use kz_types::{DriverState, NoMemory, Op, Recorded, Reply, Sequence, Stage, TreeFault};
 use kz_writer::{MAX_CHUNK, chunk, diff_renderings};
 use std::alloc::Global;
@@ -108,21 +111,24 @@ fn stopped_by(alloc: Global, claim: i32, made: &[Op], fault: TreeFault) -> Resul
 }
 
 // Asks the tree for a write of these operations under a claim. At `Err` the tree is as it was.
-fn ask_write(
+fn ask_write<T: ZTree>(
     alloc: Global,
     claim: i32,
     ops: Vec<Op>,
     target: &Recorded,
-    tree: &mut Tree,
-) -> Result<Written, NoMemory>
-    ensures said { IfOk result (λ written. written ≡ written_by claim ops.items target.now (multi tree.old (write_ops claim ops.items target.now))) }
-    ensures tree { IfOk result (λ written. tree.new ≡ tree_after (multi tree.old (write_ops claim ops.items target.now)) tree.old) }
-    ensures err { OnErr result (tree.new ≡ tree.old) }
+    tree: &mut T,
+) -> Result<Written, StepFault>
+    ensures said { IfOk result (λ written. written ≡ written_by claim ops.items target.now (multi (T.tree tree.old) (write_ops claim ops.items target.now))) }
+    ensures tree { IfOk result (λ written. T.tree tree.new ≡ tree_after (multi (T.tree tree.old) (write_ops claim ops.items target.now)) (T.tree tree.old)) }
+    ensures err { OnErr result (T.tree tree.new ≡ T.tree tree.old) }
+    ensures calm { OnOk result (IsCalm (T.faults tree.old) (T.faults tree.new) (T.down tree.old) (T.down tree.new)) }
+    ensures stop { IfErr result (IsChangeStop (T.length tree.old) (T.faults tree.old) (T.faults tree.new) (T.down tree.old) (T.down tree.new)
+        (Either (T.tree tree.old) (tree_after (multi (T.tree tree.old) (write_ops claim ops.items target.now)) (T.tree tree.old)) (T.left tree.new))) }
 {
     let made = write_ops(alloc, claim, &ops, target)?;
     match ask(tree, &made)? {
         None => Ok(taken(ops)),
-        Some(fault) => stopped_by(alloc, claim, &made, fault),
+        Some(fault) => Ok(stopped_by(alloc, claim, &made, fault)?),
     }
 }
 
@@ -186,41 +192,47 @@ fn after_written(row: &mut DriverRow, scope: Scope, target: Recorded, written: W
 }
 
 // Writes what remains. At `Err` nothing has changed.
-fn write_next(
+fn write_next<T: ZTree>(
     alloc: Global,
     row: &mut DriverRow,
     scope: Scope,
     target: Recorded,
-    tree: &mut Tree,
+    tree: &mut T,
     log: &MemoryLog,
-) -> Result<Reply, NoMemory>
-    ensures driver { IfOk result (λ told. writes tree.old row.old.claim (remaining_at tree.old log.now target.offset) target (λ rest. more_of scope target rest) (last_of scope) (driver_of row.old) ≡ (driver_of row.new, told)) }
-    ensures tree { IfOk result (λ told. tree.new ≡ tree_written tree.old row.old.claim (remaining_at tree.old log.now target.offset) target) }
+) -> Result<Reply, StepFault>
+    ensures driver { IfOk result (λ told. writes (T.tree tree.old) row.old.claim (remaining_at (T.tree tree.old) log.now target.offset) target (λ rest. more_of scope target rest) (last_of scope) (driver_of row.old) ≡ (driver_of row.new, told)) }
+    ensures tree { IfOk result (λ told. T.tree tree.new ≡ tree_written (T.tree tree.old) row.old.claim (remaining_at (T.tree tree.old) log.now target.offset) target) }
     ensures kept { IsKept row.old.epoch row.old.stage → IsElected row.old.epoch → IsKept row.new.epoch row.new.stage }
-    ensures err { OnErr result ((row.new ≡ row.old) × (tree.new ≡ tree.old)) }
+    ensures err { OnErr result ((row.new ≡ row.old) × (T.tree tree.new ≡ T.tree tree.old)) }
+    ensures calm { OnOk result (IsCalm (T.faults tree.old) (T.faults tree.new) (T.down tree.old) (T.down tree.new)) }
+    ensures stop { IfErr result (IsChangeStop (T.length tree.old) (T.faults tree.old) (T.faults tree.new) (T.down tree.old) (T.down tree.new)
+        (Either (T.tree tree.old) (tree_written (T.tree tree.old) row.old.claim (remaining_at (T.tree tree.old) log.now target.offset) target) (T.left tree.new))) }
 {
     let Some(claim) = row.claim else {
         begin_again(row);
         return Ok(Reply::Moved(DriverState::BecomeController));
     };
-    let ops = remaining_at(alloc, tree, log, target.offset)?;
+    let ops = remaining_at(alloc, tree.tree(), log, target.offset)?;
     let written = ask_write(alloc, claim, ops, &target, tree)?;
     Ok(after_written(row, scope, target, written))
 }
 
 /// SYNC_KRAFT_TO_ZK, writing. At `Err` nothing has changed.
-pub fn write_all(
+pub fn write_all<T: ZTree>(
     alloc: Global,
     row: &mut DriverRow,
-    tree: &mut Tree,
+    tree: &mut T,
     log: &MemoryLog,
-) -> Result<Reply, NoMemory>
+) -> Result<Reply, StepFault>
     ensures driver { (target : RecordedValue) (ops : List OpValue) → row.old.stage ≡ stage.WriteAll target ops → IfOk result (λ told.
-        writes tree.old row.old.claim (remaining_at tree.old log.now target.offset) target (λ rest. stage.WriteAll target rest) stage.InformBrokers (driver_of row.old) ≡ (driver_of row.new, told)) }
+        writes (T.tree tree.old) row.old.claim (remaining_at (T.tree tree.old) log.now target.offset) target (λ rest. stage.WriteAll target rest) stage.InformBrokers (driver_of row.old) ≡ (driver_of row.new, told)) }
     ensures tree { (target : RecordedValue) (ops : List OpValue) → row.old.stage ≡ stage.WriteAll target ops → IfOk result (λ told.
-        tree.new ≡ tree_written tree.old row.old.claim (remaining_at tree.old log.now target.offset) target) }
+        T.tree tree.new ≡ tree_written (T.tree tree.old) row.old.claim (remaining_at (T.tree tree.old) log.now target.offset) target) }
     ensures kept { IsKept row.old.epoch row.old.stage → IsKept row.new.epoch row.new.stage }
-    ensures err { OnErr result ((row.new ≡ row.old) × (tree.new ≡ tree.old)) }
+    ensures err { OnErr result ((row.new ≡ row.old) × (T.tree tree.new ≡ T.tree tree.old)) }
+    ensures calm { OnOk result (IsCalm (T.faults tree.old) (T.faults tree.new) (T.down tree.old) (T.down tree.new)) }
+    ensures stop { (target : RecordedValue) (ops : List OpValue) → row.old.stage ≡ stage.WriteAll target ops → IfErr result (IsChangeStop (T.length tree.old) (T.faults tree.old) (T.faults tree.new) (T.down tree.old) (T.down tree.new)
+        (Either (T.tree tree.old) (tree_written (T.tree tree.old) row.old.claim (remaining_at (T.tree tree.old) log.now target.offset) target) (T.left tree.new))) }
 {
     let Stage::WriteAll { target, .. } = &row.stage else {
         return Ok(Reply::Idle);
@@ -230,18 +242,21 @@ pub fn write_all(
 }
 
 /// DUAL_WRITE, writing. At `Err` nothing has changed.
-pub fn write_change(
+pub fn write_change<T: ZTree>(
     alloc: Global,
     row: &mut DriverRow,
-    tree: &mut Tree,
+    tree: &mut T,
     log: &MemoryLog,
-) -> Result<Reply, NoMemory>
+) -> Result<Reply, StepFault>
     ensures driver { (target : RecordedValue) (ops : List OpValue) → row.old.stage ≡ stage.WriteChange target ops → IfOk result (λ told.
-        writes tree.old row.old.claim (remaining_at tree.old log.now target.offset) target (λ rest. stage.WriteChange target rest) stage.Rest (driver_of row.old) ≡ (driver_of row.new, told)) }
+        writes (T.tree tree.old) row.old.claim (remaining_at (T.tree tree.old) log.now target.offset) target (λ rest. stage.WriteChange target rest) stage.Rest (driver_of row.old) ≡ (driver_of row.new, told)) }
     ensures tree { (target : RecordedValue) (ops : List OpValue) → row.old.stage ≡ stage.WriteChange target ops → IfOk result (λ told.
-        tree.new ≡ tree_written tree.old row.old.claim (remaining_at tree.old log.now target.offset) target) }
+        T.tree tree.new ≡ tree_written (T.tree tree.old) row.old.claim (remaining_at (T.tree tree.old) log.now target.offset) target) }
     ensures kept { IsKept row.old.epoch row.old.stage → IsKept row.new.epoch row.new.stage }
-    ensures err { OnErr result ((row.new ≡ row.old) × (tree.new ≡ tree.old)) }
+    ensures err { OnErr result ((row.new ≡ row.old) × (T.tree tree.new ≡ T.tree tree.old)) }
+    ensures calm { OnOk result (IsCalm (T.faults tree.old) (T.faults tree.new) (T.down tree.old) (T.down tree.new)) }
+    ensures stop { (target : RecordedValue) (ops : List OpValue) → row.old.stage ≡ stage.WriteChange target ops → IfErr result (IsChangeStop (T.length tree.old) (T.faults tree.old) (T.faults tree.new) (T.down tree.old) (T.down tree.new)
+        (Either (T.tree tree.old) (tree_written (T.tree tree.old) row.old.claim (remaining_at (T.tree tree.old) log.now target.offset) target) (T.left tree.new))) }
 {
     let Stage::WriteChange { target, .. } = &row.stage else {
         return Ok(Reply::Idle);

@@ -7,8 +7,8 @@ use Rattle.kz_driver.proofs.Writings.{writes_is}
 use Rattle.kz_driver.proofs.writing.write_next.Goals as goal
 
 pub returns-clause-driver : goal.returns-clause-driver
-returns-clause-driver c =
-    let tree = c.args.tree.now in
+returns-clause-driver g c =
+    let tree = g.T.ZTree.tree c.args.tree.now in
     let row = c.args.row.now in
     let target = c.args.target in
     let claim = c.in-Some.claim in

@@ -1,0 +1,50 @@
+-- Why a step of a driver has no reply, and what stands then.
+use Rattle.std.specs.Prelude.{◌≡◌, ℕ, Bool, true, false, ⊤, Option, Result, IfErr, IsErrOf}
+use Rattle.kz_types.specs.Causes.{Rose}
+use Rattle.kz_types.specs.declared.fault.TreeFault.{TreeFault}
+use Rattle.kz_types.specs.declared.fault.TreeFault.TheVariants as fault
+use Rattle.kz_tree.specs.Requests.{IsFull, IsStoreFault}
+use Rattle.kz_driver.specs.declared.fault.StepFault.{StepFault}
+use Rattle.kz_driver.specs.declared.fault.StepFault.TheVariants.{Tree, NoMemory}
+
+-- a fault of the store itself, and no refusal of the tree, or want of memory
+abbrev pub IsStepFault : Option ℕ → Bool → StepFault → Type 0
+IsStepFault file down (Tree f) = IsStoreFault file down f
+IsStepFault file down NoMemory = ⊤
+
+-- why nothing was read: an earlier failure of the disk, or want of memory
+abbrev pub IsReadStop : Bool → StepFault → Type 0
+IsReadStop down (Tree (fault.Refused index code)) = ⊥
+IsReadStop down (Tree (fault.Limit index number)) = ⊥
+IsReadStop down (Tree fault.NoMemory) = ⊥
+IsReadStop down (Tree fault.Device) = ⊥
+IsReadStop down (Tree fault.Down) = down ≡ true
+IsReadStop down (Tree (fault.Full length)) = ⊥
+IsReadStop down NoMemory = ⊤
+
+-- the disk has not failed in this call
+abbrev pub IsCalm : ℕ → ℕ → Bool → Bool → Type 0
+IsCalm faults now_faults down now_down = (now_faults ≡ faults) × (now_down ≡ down)
+
+-- the disk has failed in this call, and what a stop may leave is told where the store wasn't down before
+abbrev pub HasFailed : ℕ → ℕ → Bool → Bool → Type 0 → Type 0
+HasFailed faults now_faults down now_down left = (Rose faults now_faults × (now_down ≡ true)) × (down ≡ false → left)
+
+-- why no change was asked for, or none was made, and what a stop may leave
+abbrev pub IsChangeStop : Option ℕ → ℕ → ℕ → Bool → Bool → Type 0 → StepFault → Type 0
+IsChangeStop file faults now_faults down now_down left (Tree (fault.Refused index code)) = ⊥
+IsChangeStop file faults now_faults down now_down left (Tree (fault.Limit index number)) = ⊥
+IsChangeStop file faults now_faults down now_down left (Tree fault.NoMemory) = ⊥
+IsChangeStop file faults now_faults down now_down left (Tree fault.Device) = HasFailed faults now_faults down now_down left
+IsChangeStop file faults now_faults down now_down left (Tree fault.Down) = IsCalm faults now_faults down now_down × (down ≡ true)
+IsChangeStop file faults now_faults down now_down left (Tree (fault.Full length)) = IsCalm faults now_faults down now_down × IsFull file length
+IsChangeStop file faults now_faults down now_down left NoMemory = IsCalm faults now_faults down now_down
+
+-- what a step says of the store: its faults, and what a stop may leave
+pub record Ends {A : Type 0} (result : Result A StepFault) (file : Option ℕ) (faults now_faults : ℕ) (down now_down : Bool) (left : Type 0) : Type 0 where
+  pub cause : IfErr result (IsStepFault file down)
+  pub device : IsErrOf result (Tree fault.Device) → Rose faults now_faults
+  pub falls : IsErrOf result (Tree fault.Device) → now_down ≡ true
+  pub calm : (IsErrOf result (Tree fault.Device) → ⊥) → now_faults ≡ faults
+  pub up : (IsErrOf result (Tree fault.Device) → ⊥) → now_down ≡ down
+  pub stop : IsErrOf result (Tree fault.Device) → down ≡ false → left
