@@ -96,6 +96,19 @@ change_full w id records leads taken =
     ∙ ap (λ a. first_of a (first_of (over_excess (excess (all_applied l.epoch records (image_of l)))) (full l records))) none.0
     ∙ ap (λ a. first_of a (full l records)) none.1
 
+first_some : (a b rest : Option Answer) (r : Answer) → first_of a b ≡ Some r → first_of a (first_of b rest) ≡ Some r
+first_some None b rest r h = ap (λ x. first_of x rest) h
+first_some (Some x) b rest r h = h
+
+pub change_refused : (w : World) (id now : ℤ) (records : List MetaRecord) (r : Answer) → leader_refusal w id ≡ None → records_refusal w.shared.log records ≡ Some r → next w (event.Change id records now) ≡ (w, r)
+unfolding next
+change_refused w id now records r leads refused =
+    let l = w.shared.log in
+    let unmigrated = unless (is_migrated_log l) answer.NotMigrated in
+    let much = over_excess (excess (all_applied l.epoch records (image_of l))) in
+    by_refusal w (change_refusal w id records) r (changed_world w records now) (answer.Appended (end_of (changed_log l records now)))
+    (ap (λ a. first_of a (first_of unmigrated (first_of much (full l records)))) leads ∙ first_some unmigrated much (full l records) r refused)
+
 pub change_done : (w : World) (id now : ℤ) (records : List MetaRecord) (l : Log) (end : ℤ) → leader_refusal w id ≡ None → records_refusal w.shared.log records ≡ None
     → append w.shared.log w.shared.log.epoch now records ≡ Ok l → end ≡ end_of l
     → next w (event.Change id records now) ≡ (record { shared = record { tree = w.shared.tree; log = l; declared = w.shared.declared }; drivers = w.drivers }, answer.Appended end)

@@ -6,24 +6,26 @@ ghost use Rattle.kz_world.specs.Worlds.{world_of, ids_of, records_refusal};
 
 use crate::parts::Parts;
 use crate::refusals::{leader_refusal, records_refusal};
+use kz_tree::ZTree;
 use kz_types::{Answer, LogFault, MetaRecord, NoMemory};
 use std::alloc::Global;
 
 // The leader appends these records, where the log has room for them.
-fn append(
+fn append<T: ZTree>(
     alloc: Global,
-    parts: &mut Parts,
+    parts: &mut Parts<T>,
     id: i32,
     records: &[MetaRecord],
     now: i64,
 ) -> Result<Answer, NoMemory>
-    requires leads { leader_refusal (world_of parts.old) id ≡ None }
+    requires leads { leader_refusal (world_of T.tree parts.old) id ≡ None }
     requires taken { records_refusal parts.old.log records.now ≡ None }
     requires elected { pos 1 ≤ℤ parts.old.log.epoch }
     requires some { 0 < length records.now }
-    ensures ok { IfOk result (λ answer. next (world_of parts.old) (event.Change id records.now now) ≡ (world_of parts.new, answer)) }
+    ensures ok { IfOk result (λ answer. next (world_of T.tree parts.old) (event.Change id records.now now) ≡ (world_of T.tree parts.new, answer)) }
     ensures ids { ids_of parts.new ≡ ids_of parts.old }
-    ensures err { OnErr result (world_of parts.new ≡ world_of parts.old) }
+    ensures store { parts.new.tree ≡ parts.old.tree }
+    ensures err { OnErr result (world_of T.tree parts.new ≡ world_of T.tree parts.old) }
 {
     let epoch = parts.log.epoch();
     match parts.log.append(alloc, epoch, now, records) {
@@ -36,17 +38,18 @@ fn append(
 
 /// Asks a controller to append these records. Refused, and where memory runs out, it changes nothing.
 #[tactic(auto, unfolding(kz_spec_machine::specs::Machine::next))]
-pub fn change(
+pub fn change<T: ZTree>(
     alloc: Global,
-    parts: &mut Parts,
+    parts: &mut Parts<T>,
     id: i32,
     records: &[MetaRecord],
     now: i64,
 ) -> Result<Answer, NoMemory>
     requires { 0 < length records.now }
-    ensures ok { IfOk result (λ answer. next (world_of parts.old) (event.Change id records.now now) ≡ (world_of parts.new, answer)) }
+    ensures ok { IfOk result (λ answer. next (world_of T.tree parts.old) (event.Change id records.now now) ≡ (world_of T.tree parts.new, answer)) }
     ensures ids { ids_of parts.new ≡ ids_of parts.old }
-    ensures err { OnErr result (world_of parts.new ≡ world_of parts.old) }
+    ensures store { parts.new.tree ≡ parts.old.tree }
+    ensures err { OnErr result (world_of T.tree parts.new ≡ world_of T.tree parts.old) }
 {
     if let Some(refusal) = leader_refusal(parts, id) {
         return Ok(refusal);

@@ -9,6 +9,7 @@ use crate::drivers::elect_driver;
 use crate::parts::Parts;
 use crate::refusals::running_refusal;
 use kz_log::MemoryLog;
+use kz_tree::ZTree;
 use kz_types::{Answer, LogFault, MetaRecord, NoMemory};
 use std::alloc::Global;
 
@@ -44,19 +45,20 @@ fn election_records(alloc: Global, log: &MemoryLog) -> Result<Vec<MetaRecord>, N
 }
 
 // A controller that runs is elected, where the log has room for these records.
-fn elect_running(
+fn elect_running<T: ZTree>(
     alloc: Global,
-    parts: &mut Parts,
+    parts: &mut Parts<T>,
     id: i32,
     now: i64,
     items: &[MetaRecord],
 ) -> Result<Answer, NoMemory>
-    requires running { running_refusal (world_of parts.old) id ≡ None }
+    requires running { running_refusal (world_of T.tree parts.old) id ≡ None }
     requires items { items.now ≡ election_records parts.old.log }
     requires some { 0 < length items.now }
-    ensures ok { IfOk result (λ answer. next (world_of parts.old) (event.Elect id now) ≡ (world_of parts.new, answer)) }
+    ensures ok { IfOk result (λ answer. next (world_of T.tree parts.old) (event.Elect id now) ≡ (world_of T.tree parts.new, answer)) }
     ensures ids { ids_of parts.new ≡ ids_of parts.old }
-    ensures err { OnErr result (world_of parts.new ≡ world_of parts.old) }
+    ensures store { parts.new.tree ≡ parts.old.tree }
+    ensures err { OnErr result (world_of T.tree parts.new ≡ world_of T.tree parts.old) }
 {
     let _epoch = parts.log.epoch();
     match parts.log.elect(alloc, now, items) {
@@ -75,10 +77,16 @@ fn elect_running(
 
 /// Elects a controller as the leader of the log. Refused, and where memory runs out, it changes nothing.
 #[tactic(auto, unfolding(kz_spec_machine::specs::Machine::next))]
-pub fn elect(alloc: Global, parts: &mut Parts, id: i32, now: i64) -> Result<Answer, NoMemory>
-    ensures ok { IfOk result (λ answer. next (world_of parts.old) (event.Elect id now) ≡ (world_of parts.new, answer)) }
+pub fn elect<T: ZTree>(
+    alloc: Global,
+    parts: &mut Parts<T>,
+    id: i32,
+    now: i64,
+) -> Result<Answer, NoMemory>
+    ensures ok { IfOk result (λ answer. next (world_of T.tree parts.old) (event.Elect id now) ≡ (world_of T.tree parts.new, answer)) }
     ensures ids { ids_of parts.new ≡ ids_of parts.old }
-    ensures err { OnErr result (world_of parts.new ≡ world_of parts.old) }
+    ensures store { parts.new.tree ≡ parts.old.tree }
+    ensures err { OnErr result (world_of T.tree parts.new ≡ world_of T.tree parts.old) }
 {
     if let Some(refusal) = running_refusal(parts, id) {
         return Ok(refusal);

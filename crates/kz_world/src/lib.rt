@@ -1,7 +1,8 @@
-//! The machine that a script drives: the tree, the log, and the controllers with their drivers.
+//! The machine that a script drives: the store of the tree, the log, and the controllers with their drivers.
 #![tactic(auto)]
 
 mod change;
+mod client;
 mod comparison;
 mod drivers;
 mod election;
@@ -9,6 +10,7 @@ mod machine;
 mod members;
 mod parts;
 mod refusals;
+mod sessions;
 mod steps;
 mod turns;
 mod work;

@@ -7,14 +7,16 @@ ghost use Rattle.kz_world.specs.Worlds.{world_of, ids_of, AreDistinct};
 use crate::parts::Parts;
 use crate::refusals::{quorum_refusal, start_refusal};
 use kz_driver::Driver;
+use kz_tree::ZTree;
 use kz_types::{Answer, NoMemory, Sequence};
 use std::alloc::Global;
 
 /// Declares the controllers. Refused, it changes nothing.
 #[tactic(auto, unfolding(kz_spec_machine::specs::Machine::next))]
-pub fn declare(parts: &mut Parts, ids: Sequence<i32>) -> Answer
-    ensures next { next (world_of parts.old) (event.Quorum ids) ≡ (world_of parts.new, result) }
+pub fn declare<T: ZTree>(parts: &mut Parts<T>, ids: Sequence<i32>) -> Answer
+    ensures next { next (world_of T.tree parts.old) (event.Quorum ids) ≡ (world_of T.tree parts.new, result) }
     ensures ids { ids_of parts.new ≡ ids_of parts.old }
+    ensures store { parts.new.tree ≡ parts.old.tree }
 {
     if let Some(refusal) = quorum_refusal(parts) {
         return refusal;
@@ -25,11 +27,12 @@ pub fn declare(parts: &mut Parts, ids: Sequence<i32>) -> Answer
 
 /// Starts a controller. Refused, and where memory runs out, it changes nothing.
 #[tactic(auto, unfolding(kz_spec_machine::specs::Machine::next))]
-pub fn start(alloc: Global, parts: &mut Parts, id: i32) -> Result<Answer, NoMemory>
+pub fn start<T: ZTree>(alloc: Global, parts: &mut Parts<T>, id: i32) -> Result<Answer, NoMemory>
     requires { AreDistinct (ids_of parts.old) }
-    ensures ok { IfOk result (λ answer. next (world_of parts.old) (event.Start id) ≡ (world_of parts.new, answer)) }
+    ensures ok { IfOk result (λ answer. next (world_of T.tree parts.old) (event.Start id) ≡ (world_of T.tree parts.new, answer)) }
     ensures distinct { AreDistinct (ids_of parts.new) }
-    ensures err { OnErr result (world_of parts.new ≡ world_of parts.old) }
+    ensures store { parts.new.tree ≡ parts.old.tree }
+    ensures err { OnErr result (world_of T.tree parts.new ≡ world_of T.tree parts.old) }
 {
     match start_refusal(parts, id) {
         Some(refusal) => Ok(refusal),

@@ -10,12 +10,13 @@ use crate::parts::Parts;
 use kz_image::Image;
 use kz_log::MemoryLog;
 use kz_render::{first_excess, render};
+use kz_tree::ZTree;
 use kz_types::{Answer, MetaRecord, NoMemory};
 use std::alloc::Global;
 
 /// A controller runs.
-pub fn quorum_refusal(parts: &Parts) -> Option<Answer>
-    ensures { result ≡ quorum_refusal (world_of parts.now) }
+pub fn quorum_refusal<T: ZTree>(parts: &Parts<T>) -> Option<Answer>
+    ensures { result ≡ quorum_refusal (world_of T.tree parts.now) }
 {
     match least_running(&parts.drivers) {
         Some(id) => Some(Answer::Running { id }),
@@ -24,8 +25,8 @@ pub fn quorum_refusal(parts: &Parts) -> Option<Answer>
 }
 
 /// The controller isn't declared, or runs already.
-pub fn start_refusal(parts: &Parts, id: i32) -> Option<Answer>
-    ensures { result ≡ start_refusal (world_of parts.now) id }
+pub fn start_refusal<T: ZTree>(parts: &Parts<T>, id: i32) -> Option<Answer>
+    ensures { result ≡ start_refusal (world_of T.tree parts.now) id }
 {
     if !is_one_of(parts.declared.as_slice(), id) {
         Some(Answer::UnknownController)
@@ -37,8 +38,8 @@ pub fn start_refusal(parts: &Parts, id: i32) -> Option<Answer>
 }
 
 /// The controller isn't declared, or doesn't run.
-pub fn running_refusal(parts: &Parts, id: i32) -> Option<Answer>
-    ensures { result ≡ running_refusal (world_of parts.now) id }
+pub fn running_refusal<T: ZTree>(parts: &Parts<T>, id: i32) -> Option<Answer>
+    ensures { result ≡ running_refusal (world_of T.tree parts.now) id }
 {
     if !is_one_of(parts.declared.as_slice(), id) {
         Some(Answer::UnknownController)
@@ -63,7 +64,7 @@ fn epoch_refusal(epoch: i32, driver: Option<i32>) -> Option<Answer>
 }
 
 // The driver of a controller doesn't lead the log.
-fn driver_refusal(parts: &Parts, id: i32) -> Option<Answer>
+fn driver_refusal<T: ZTree>(parts: &Parts<T>, id: i32) -> Option<Answer>
     ensures refusal { result ≡ driver_refusal parts.now.log.epoch (driver_of id parts.now.drivers.items) }
     ensures elected { IfNone result (pos 1 ≤ℤ parts.now.log.epoch) }
 {
@@ -74,8 +75,8 @@ fn driver_refusal(parts: &Parts, id: i32) -> Option<Answer>
 }
 
 /// The controller isn't declared, doesn't run, or doesn't lead the log.
-pub fn leader_refusal(parts: &Parts, id: i32) -> Option<Answer>
-    ensures refusal { result ≡ leader_refusal (world_of parts.now) id }
+pub fn leader_refusal<T: ZTree>(parts: &Parts<T>, id: i32) -> Option<Answer>
+    ensures refusal { result ≡ leader_refusal (world_of T.tree parts.now) id }
     ensures elected { IfNone result (pos 1 ≤ℤ parts.now.log.epoch) }
 {
     match running_refusal(parts, id) {

@@ -8,8 +8,8 @@ use Rattle.kz_world.proofs.Outcomes.{starts}
 use Rattle.kz_world.proofs.members.start.Goals as goal
 
 pub returns-in_ok-push-in-None-clause-distinct : goal.returns-in_ok-push-in-None-clause-distinct
-returns-in_ok-push-in-None-clause-distinct c =
-    let w = world_of c.args.parts.now in
+returns-in_ok-push-in-None-clause-distinct g c =
+    let w = world_of g.T.ZTree.tree c.args.parts.now in
     let ds = c.args.parts.now.drivers.items in
     let id_is = to_z-of_z w32 c.args.id c.ranges.id in
     let none = starts w c.args.id (ap (start_refusal w) (sym id_is) ∙ sym c.start_refusal.ensures ∙ c.in-None.is) in

@@ -7,7 +7,7 @@ use Rattle.kz_world.proofs.Listings.{get_here}
 use Rattle.kz_world.proofs.refusals.driver_refusal.Goals as goal
 
 pub returns-in-Some-clause-refusal : goal.returns-in-Some-clause-refusal
-returns-in-Some-clause-refusal c =
+returns-in-Some-clause-refusal g c =
     let ds = c.args.parts.now.drivers.items in
     let d = c.index.result.now in
     let at = c.in-Some.at in

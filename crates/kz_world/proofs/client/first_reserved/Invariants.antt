@@ -1,0 +1,6 @@
+use Rattle.std.proofs.Common.{◌≡◌, drop}
+use Rattle.kz_spec_machine.specs.Machine.{first_told, is_reserved}
+use Rattle.kz_world.proofs.client.first_reserved.Given as goal
+
+abbrev pub invariant-loop-op : goal.invariant-loop-op
+invariant-loop-op l = first_told is_reserved (drop l.op-index l.ops) ≡ first_told is_reserved l.ops

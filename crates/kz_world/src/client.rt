@@ -1,0 +1,216 @@
+//! Multis of ZooKeeper clients.
+ghost use Rattle.std.specs.Prelude.{◌≡◌, ◌&&◌, ◌||◌, is_some, None, IfOk, IfErr, OnErr, IsErrOf};
+ghost use Rattle.std.specs.List.{list_any};
+ghost use Rattle.std.specs.Str.{bytes_eq};
+ghost use Rattle.kz_types.specs.Causes.{Rose};
+ghost use Rattle.kz_types.specs.Paths.{base_paths, control_paths, is_among, is_below, is_migrated};
+ghost use Rattle.kz_types.specs.declared.machine.Event.TheVariants as event;
+ghost use Rattle.kz_spec_values.specs.Control.{control_path, epoch_path, shown_epoch};
+ghost use Rattle.kz_spec_machine.specs.Driver.{path_of_op};
+ghost use Rattle.kz_spec_machine.specs.Machine.{is_reserved, is_held, is_held_path, is_held_tree, first_told, client_refusal, next};
+ghost use Rattle.kz_world.specs.Worlds.{world_of, ids_of, IsEventFault};
+
+use crate::parts::Parts;
+use kz_driver::StepFault;
+use kz_state::read_control;
+use kz_tree::{Tree, ZTree, is_migrated};
+use kz_types::{Answer, Duplicate, NoMemory, Op, TreeFault, ZPath};
+use std::alloc::Global;
+
+// Whether this is the path of a base znode.
+#[tactic(auto, unfolding(kz_types::specs::Paths::base_paths))]
+fn is_base(path: &[u8]) -> bool
+    ensures { result ≡ is_among base_paths path.now }
+{
+    path == b"/brokers".as_slice()
+        || path == b"/config".as_slice()
+        || path == b"/kafka-acl".as_slice()
+        || path == b"/kafka-acl-extended".as_slice()
+        || path == b"/kafka-acl-extended/prefixed".as_slice()
+}
+
+// Whether the path is below a control znode.
+#[tactic(auto, unfolding(kz_types::specs::Paths::control_paths))]
+fn is_below_control(path: &[u8]) -> bool
+    ensures { result ≡ list_any (λ control. is_below control path.now) control_paths }
+{
+    path.starts_with(b"/controller/")
+        || path.starts_with(b"/controller_epoch/")
+        || path.starts_with(b"/migration/")
+}
+
+// Whether a KRaft controller's body is given to `/controller`.
+fn takes_control(alloc: Global, path: &[u8], body: &[u8]) -> Result<bool, NoMemory>
+    ensures { IfOk result (λ takes. takes ≡ (bytes_eq path.now control_path && is_some (shown_epoch body.now))) }
+{
+    if path == b"/controller".as_slice() {
+        Ok(read_control(alloc, body)?.is_some())
+    } else {
+        Ok(false)
+    }
+}
+
+// Whether a znode that ends with a session may not have this path.
+fn must_last(path: &[u8]) -> bool
+    ensures { result ≡ (bytes_eq path.now epoch_path || is_migrated path.now || is_among base_paths path.now) }
+{
+    path == b"/controller_epoch".as_slice() || is_migrated(path) || is_base(path)
+}
+
+// Whether no client may do this.
+fn is_reserved(alloc: Global, op: &Op) -> Result<bool, NoMemory>
+    ensures { IfOk result (λ reserved. reserved ≡ is_reserved op.now) }
+{
+    match op {
+        Op::Create { path, body, owner } => {
+            if path.bytes() == b"/migration".as_slice() {
+                return Ok(true);
+            }
+            if owner.is_some() && must_last(path.bytes()) {
+                return Ok(true);
+            }
+            if is_below_control(path.bytes()) {
+                return Ok(true);
+            }
+            takes_control(alloc, path.bytes(), body.as_slice())
+        }
+        Op::Set { path, body, .. } => {
+            if path.bytes() == b"/migration".as_slice() {
+                return Ok(true);
+            }
+            takes_control(alloc, path.bytes(), body.as_slice())
+        }
+        Op::Delete { path, .. } => {
+            Ok(
+                path.bytes() == b"/migration".as_slice()
+                    || path.bytes() == b"/controller_epoch".as_slice(),
+            )
+        }
+        Op::Check { .. } => Ok(false),
+    }
+}
+
+// Whether the path is kept from clients while a KRaft controller holds the tree.
+fn is_held_path(path: &[u8]) -> bool
+    ensures { result ≡ is_held_path path.now }
+{
+    is_migrated(path)
+        || is_base(path)
+        || path == b"/controller".as_slice()
+        || path == b"/controller_epoch".as_slice()
+}
+
+// Whether no client may do this while a KRaft controller holds the tree.
+fn is_held(op: &Op) -> bool
+    ensures { result ≡ is_held op.now }
+{
+    match op {
+        Op::Create { path, .. } => is_held_path(path.bytes()),
+        Op::Set { path, .. } => is_held_path(path.bytes()),
+        Op::Delete { path, .. } => is_held_path(path.bytes()),
+        Op::Check { .. } => false,
+    }
+}
+
+fn path_of(op: &Op) -> &ZPath
+    ensures { result.now ≡ path_of_op op.entry.now }
+{
+    match op {
+        Op::Create { path, .. } => path,
+        Op::Set { path, .. } => path,
+        Op::Delete { path, .. } => path,
+        Op::Check { path, .. } => path,
+    }
+}
+
+// The path of the first operation that no client may do.
+fn first_reserved(alloc: Global, ops: &[Op]) -> Result<Option<ZPath>, NoMemory>
+    ensures { IfOk result (λ path. path ≡ first_told is_reserved ops.now) }
+{
+    for op in ops {
+        if is_reserved(alloc, op)? {
+            return Ok(Some(path_of(op).copy(alloc)?));
+        }
+    }
+    Ok(None)
+}
+
+// The path of the first operation that no client may do while a KRaft controller holds the tree.
+fn first_held(alloc: Global, ops: &[Op]) -> Result<Option<ZPath>, NoMemory>
+    ensures { IfOk result (λ path. path ≡ first_told is_held ops.now) }
+{
+    for op in ops {
+        if is_held(op) {
+            return Ok(Some(path_of(op).copy(alloc)?));
+        }
+    }
+    Ok(None)
+}
+
+// Whether a KRaft controller holds the tree.
+fn is_held_tree(alloc: Global, tree: &Tree) -> Result<bool, NoMemory>
+    ensures { IfOk result (λ held. held ≡ is_held_tree tree.now) }
+{
+    match tree.row(b"/controller") {
+        Some(row) => Ok(read_control(alloc, row.body.as_slice())?.is_some()),
+        None => Ok(false),
+    }
+}
+
+// An operation is reserved, or held while a KRaft controller holds the tree.
+fn client_refusal(alloc: Global, tree: &Tree, ops: &[Op]) -> Result<Option<Answer>, NoMemory>
+    ensures { IfOk result (λ refusal. refusal ≡ client_refusal tree.now ops.now) }
+{
+    if let Some(path) = first_reserved(alloc, ops)? {
+        return Ok(Some(Answer::Reserved { path }));
+    }
+    if !is_held_tree(alloc, tree)? {
+        return Ok(None);
+    }
+    match first_held(alloc, ops)? {
+        Some(path) => Ok(Some(Answer::KraftHolds { path })),
+        None => Ok(None),
+    }
+}
+
+// The tree's store is asked for a multi that no rule of clients refuses.
+#[tactic(auto, unfolding(kz_spec_machine::specs::Machine::next))]
+fn ask_tree<T: ZTree>(parts: &mut Parts<T>, ops: &[Op]) -> Result<Answer, StepFault>
+    requires { client_refusal (T.tree parts.old.tree) ops.now ≡ None }
+    ensures ok { IfOk result (λ answer. next (world_of T.tree parts.old) (event.Zk ops.now) ≡ (world_of T.tree parts.new, answer)) }
+    ensures ids { ids_of parts.new ≡ ids_of parts.old }
+    ensures err { OnErr result (world_of T.tree parts.new ≡ world_of T.tree parts.old) }
+    ensures cause { IfErr result (IsEventFault T.tree T.length (T.tree parts.new.tree) (T.down parts.old.tree)) }
+    ensures device { IsErrOf result (StepFault.Tree TreeFault.Device) → Rose (T.faults parts.old.tree) (T.faults parts.new.tree) }
+    ensures calm { (IsErrOf result (StepFault.Tree TreeFault.Device) → ⊥) → T.faults parts.new.tree ≡ T.faults parts.old.tree }
+    ensures up { (IsErrOf result (StepFault.Tree TreeFault.Device) → ⊥) → T.down parts.new.tree ≡ T.down parts.old.tree }
+{
+    match parts.tree.multi(ops) {
+        Ok(zxid) => Ok(Answer::DoneAt { zxid }),
+        Err(TreeFault::Refused { index, code }) => Ok(Answer::Refused { index, code }),
+        Err(TreeFault::Limit { index, number }) => Ok(Answer::OverOp { index, number }),
+        Err(TreeFault::NoMemory) => Err(StepFault::NoMemory),
+        Err(TreeFault::Device) => Err(StepFault::Tree(TreeFault::Device)),
+        Err(TreeFault::Down) => Err(StepFault::Tree(TreeFault::Down)),
+        Err(TreeFault::Full { length }) => Err(StepFault::Tree(TreeFault::Full { length })),
+    }
+}
+
+/// A client's multi. What is kept for controllers is refused before the tree is asked. Refused, and where memory runs out
+/// or the store fails, the world is as it was.
+#[tactic(auto, unfolding(kz_spec_machine::specs::Machine::next))]
+pub fn ask<T: ZTree>(alloc: Global, parts: &mut Parts<T>, ops: &[Op]) -> Result<Answer, StepFault>
+    ensures ok { IfOk result (λ answer. next (world_of T.tree parts.old) (event.Zk ops.now) ≡ (world_of T.tree parts.new, answer)) }
+    ensures ids { ids_of parts.new ≡ ids_of parts.old }
+    ensures err { OnErr result (world_of T.tree parts.new ≡ world_of T.tree parts.old) }
+    ensures cause { IfErr result (IsEventFault T.tree T.length (T.tree parts.new.tree) (T.down parts.old.tree)) }
+    ensures device { IsErrOf result (StepFault.Tree TreeFault.Device) → Rose (T.faults parts.old.tree) (T.faults parts.new.tree) }
+    ensures calm { (IsErrOf result (StepFault.Tree TreeFault.Device) → ⊥) → T.faults parts.new.tree ≡ T.faults parts.old.tree }
+    ensures up { (IsErrOf result (StepFault.Tree TreeFault.Device) → ⊥) → T.down parts.new.tree ≡ T.down parts.old.tree }
+{
+    match client_refusal(alloc, parts.tree.tree(), ops) {
+        Ok(Some(refusal)) => Ok(refusal),
+        Ok(None) => ask_tree(parts, ops),
+        Err(NoMemory) => Err(StepFault::NoMemory),
+    }
+}
