@@ -4,7 +4,11 @@ ghost use Rattle.kz_spec_stores.specs.Log.{end_of};
 ghost use Rattle.kz_spec_machine.specs.Machine.{World as WorldValue, empty_world, next};
 ghost use Rattle.kz_spec_machine.specs.Sound.{IsLawful};
 ghost use Rattle.kz_spec_runs.specs.Output.{recorded_offset};
+ghost use Rattle.kz_world.specs.Worlds.{seen};
 
+use kz_driver::StepFault;
+use kz_session::MemoryTree;
+use kz_tree::ZTree;
 use kz_types::{Answer, Event, NoMemory};
 use kz_world::World;
 use std::alloc::Global;
@@ -36,16 +40,20 @@ pub trait Machine: Drop + Sized {
         ensures { IfOk result (λ offset. offset ≡ recorded_offset (world self.now).shared.tree) };
 }
 
-impl Machine for World {
-    ghost world = { λ w. w };
+impl Machine for World<MemoryTree> {
+    ghost world = { λ w. seen ⟦<MemoryTree as ZTree>⟧.tree w };
 
     fn new(alloc: Global) -> Result<Self, NoMemory> {
-        World::new(alloc)
+        World::new(alloc, MemoryTree::new(alloc))
     }
 
-    #[tactic(auto, using(crate::proofs::Records::has_records))]
+    #[tactic(auto, using(crate::proofs::Records::is_asked))]
     fn event(&mut self, event: Event) -> Result<Answer, NoMemory> {
-        World::event(self, event)
+        match World::event(self, event) {
+            Ok(answer) => Ok(answer),
+            Err(StepFault::NoMemory) => Err(NoMemory),
+            Err(StepFault::Tree(_)) => unreachable!(),
+        }
     }
 
     fn zxid(&self) -> i64 {

@@ -45,7 +45,7 @@ fn steps_of(answer: &Answer) -> usize
     ensures { result ≡ steps_of answer.now }
 {
     match answer {
-        Answer::Turn { replies } => replies.len(),
+        Answer::Turn(replies) => replies.len(),
         _ => 0,
     }
 }
@@ -62,7 +62,7 @@ fn ending_of_reply(reply: &Reply) -> Option<Ending>
 fn ending_of(answer: &Answer) -> Option<Ending>
     ensures { option_map status_of result ≡ ending answer.now }
 {
-    let Answer::Turn { replies } = answer else {
+    let Answer::Turn(replies) = answer else {
         return None;
     };
     for reply in replies.as_slice() {
