@@ -1,175 +1,247 @@
-use super::{LineFault, read_event, status_code, status_text, summary, write_answer};
-use kz_types::{
-    AheadPath, Answer, BodyFault, ConfigRecord, DriverState, Event, MetaRecord, NoMemory, ReadWhy,
-    Reply, Sequence, Status, Text, TreeFault, Verdict, ZPath,
+use super::{
+    LineFault, read_event, read_item, status_code, status_text, summary, write_answer, write_event,
+    write_item,
 };
+use kz_types::{
+    AheadPath, Answer, BodyFault, DriverState, ReadWhy, Reply, Sequence, Status, Text, TreeFault,
+    Verdict, ZPath,
+};
+use serde_json::Value;
 use std::alloc::{AllocError, Global};
-use std::test::Fail;
+use std::process::Abort;
 
-// The fields of a record, in one text.
-fn shown_record(alloc: Global, record: &MetaRecord) -> Result<String, AllocError> {
-    match record {
-        MetaRecord::Config(config) => {
-            let kind = config.resource_type;
-            let resource = config.resource_name.as_str();
-            let name = config.name.as_str();
-            match &config.value {
-                Some(value) => {
-                    let value = value.as_str();
-                    format!(in alloc; "{kind} '{resource}' '{name}' '{value}'")
-                }
-                None => format!(in alloc; "{kind} '{resource}' '{name}' null"),
-            }
-        }
-        _ => format!(in alloc; "other"),
+// What a call gave, which must not have failed.
+fn made<T: Drop, E: Drop>(rt: &impl Abort, outcome: Result<T, E>) -> T {
+    match outcome {
+        Ok(value) => value,
+        Err(_) => panic!(rt; "a call failed"),
     }
 }
 
-// The fields of an event, in one text.
-fn shown(alloc: Global, event: &Event) -> Result<String, AllocError> {
-    match event {
-        Event::Quorum { ids } => {
-            let ids = ids.as_slice();
-            format!(in alloc; "quorum {ids:?}")
-        }
-        Event::Start { controller } => format!(in alloc; "start {controller}"),
-        Event::Elect { controller, now } => format!(in alloc; "elect {controller} {now}"),
-        Event::Turn { controller, now } => format!(in alloc; "turn {controller} {now}"),
-        Event::Change {
-            controller,
-            records,
-            now,
-        } => match records.as_slice() {
-            [record] => {
-                let record = shown_record(alloc, record)?;
-                format!(in alloc; "change {controller} {record} {now}")
-            }
-            _ => format!(in alloc; "change {controller} of several"),
-        },
-        Event::Check => format!(in alloc; "check"),
-    }
+fn put<T: Drop>(rt: &impl Abort, items: &mut Sequence<T>, item: T) {
+    made(rt, items.push(item));
 }
 
-// What a line is read as.
-fn read_as(alloc: Global, line: &[u8]) -> Result<String, AllocError> {
+fn text_of(rt: &impl Abort, alloc: Global, text: &str) -> Text {
+    made(rt, Text::from_str(alloc, text))
+}
+
+fn path_of(rt: &impl Abort, alloc: Global, text: &str) -> ZPath {
+    made(rt, ZPath::new(alloc, text.as_bytes()))
+}
+
+// Whether a line is read as the event that is written so; or as none, where that is `bad`.
+fn is_read_as(rt: &impl Abort, alloc: Global, line: &[u8], wanted: &str) -> bool {
     match read_event(alloc, line) {
-        Ok(event) => shown(alloc, &event),
-        Err(LineFault::BadLine) => format!(in alloc; "bad"),
-        Err(LineFault::NoMemory) => Err(AllocError),
+        Ok(event) => {
+            let text = made(rt, write_event(alloc, &event));
+            drop(event);
+            text.as_slice() == wanted.as_bytes()
+        }
+        Err(LineFault::BadLine) => wanted == "bad",
+        Err(LineFault::NoMemory) => panic!(rt; "no memory"),
     }
 }
 
+static LINES: [(&[u8], &str); 16] = [
+    (
+        b"{\"event\":\"quorum\",\"ids\":[3000]}",
+        r#"{"event":"quorum","ids":[3000]}"#,
+    ),
+    (
+        b"{\"event\":\"start\",\"controller\":3000}",
+        r#"{"controller":3000,"event":"start"}"#,
+    ),
+    (
+        b"{\"event\":\"elect\",\"controller\":3000,\"now\":0}",
+        r#"{"controller":3000,"event":"elect"}"#,
+    ),
+    (
+        b"{\"event\":\"elect\",\"controller\":2147483647,\"now\":9223372036854775807}",
+        r#"{"controller":2147483647,"event":"elect","now":9223372036854775807}"#,
+    ),
+    (
+        b"{\"event\":\"turn\",\"controller\":3000}",
+        r#"{"controller":3000,"event":"turn"}"#,
+    ),
+    (
+        b"{\"\\u0065vent\":\"turn\",\"now\":1,\"controller\":0}",
+        r#"{"controller":0,"event":"turn","now":1}"#,
+    ),
+    (b"{\"event\":\"check\"}", r#"{"event":"check"}"#),
+    (
+        b"{\"event\":[[]],\"event\":\"check\"}",
+        r#"{"event":"check"}"#,
+    ),
+    (
+        b" {\"controller\" : 1, \"controller\" : 2, \"event\" : \"start\"}\r",
+        r#"{"controller":2,"event":"start"}"#,
+    ),
+    (
+        b"{\"event\":\"change\",\"controller\":3000,\"records\":[{\"kind\":\"Config\",\"resourceType\":4,\"resourceName\":\"2147483647\",\"name\":\"a\",\"value\":\"1\"}]}",
+        r#"{"controller":3000,"event":"change","records":[{"kind":"Config","name":"a","resourceName":"2147483647","resourceType":4,"value":"1"}]}"#,
+    ),
+    (
+        b"{\"event\":\"change\",\"controller\":0,\"now\":3,\"records\":[{\"kind\":\"Config\",\"resourceType\":4,\"resourceName\":\"\",\"name\":\"\\u00e4\",\"value\":null}]}",
+        "{\"controller\":0,\"event\":\"change\",\"now\":3,\"records\":[{\"kind\":\"Config\",\"name\":\"\u{e4}\",\"resourceName\":\"\",\"resourceType\":4,\"value\":null}]}",
+    ),
+    (
+        b"{\"event\":\"zk-open\",\"session\":1}",
+        r#"{"event":"zk-open","session":1}"#,
+    ),
+    (
+        b"{\"session\":9223372036854775807,\"event\":\"zk-expire\"}",
+        r#"{"event":"zk-expire","session":9223372036854775807}"#,
+    ),
+    (
+        b"{\"event\":\"zk\",\"ops\":[{\"op\":\"create\",\"path\":\"/a\",\"owner\":7},{\"op\":\"create\",\"path\":\"/a/b\",\"text\":\"c\"},{\"op\":\"set\",\"path\":\"/a\",\"version\":-1},{\"op\":\"set\",\"path\":\"/a/b\",\"bytes\":\"/wA=\",\"version\":2147483647}]}",
+        r#"{"event":"zk","ops":[{"op":"create","owner":7,"path":"/a"},{"op":"create","path":"/a/b","text":"c"},{"op":"set","path":"/a","version":-1},{"bytes":"/wA=","op":"set","path":"/a/b","version":2147483647}]}"#,
+    ),
+    (
+        b"{\"event\":\"zk\",\"ops\":[{\"op\":\"delete\",\"path\":\"/controller\",\"version\":0},{\"op\":\"check\",\"path\":\"/migration\",\"version\":1},{\"op\":\"set\",\"path\":\"/a\",\"bytes\":\"Yg==\",\"version\":0}]}",
+        r#"{"event":"zk","ops":[{"op":"delete","path":"/controller","version":0},{"op":"check","path":"/migration","version":1},{"op":"set","path":"/a","text":"b","version":0}]}"#,
+    ),
+    (
+        b"{\"event\":\"zk\",\"ops\":[{\"op\":\"create\",\"path\":\"/config/brokers/<default>\",\"text\":\"\"},{\"op\":\"create\",\"path\":\"/config/brokers/0\"},{\"op\":\"create\",\"path\":\"/kafka-acl/Group\"},{\"op\":\"create\",\"path\":\"/latest_producer_id_block\",\"bytes\":\"\"}]}",
+        r#"{"event":"zk","ops":[{"op":"create","path":"/config/brokers/<default>"},{"op":"create","path":"/config/brokers/0"},{"op":"create","path":"/kafka-acl/Group"},{"op":"create","path":"/latest_producer_id_block"}]}"#,
+    ),
+];
+
 #[test]
-fn lines_are_read_as_their_events(rt: HostRuntime) -> Result<(), Fail> {
-    let alloc = rt.alloc();
-    let lines: [(&[u8], &str); 12] = [
-        (b"{\"event\":\"quorum\",\"ids\":[3000]}", "quorum [3000]"),
-        (b"{\"event\":\"start\",\"controller\":3000}", "start 3000"),
-        (b"{\"event\":\"elect\",\"controller\":3000}", "elect 3000 0"),
-        (b"{\"event\":\"turn\",\"controller\":3000}", "turn 3000 0"),
-        (b"{\"event\":\"check\"}", "check"),
-        (
-            b"{\"event\":\"change\",\"controller\":3000,\"records\":[{\"kind\":\"Config\",\"resourceType\":4,\"resourceName\":\"1\",\"name\":\"a\",\"value\":\"1\"}]}",
-            "change 3000 4 '1' 'a' '1' 0",
-        ),
-        (
-            b"{\"event\":\"change\",\"controller\":0,\"now\":3,\"records\":[{\"kind\":\"Config\",\"resourceType\":4,\"resourceName\":\"2147483647\",\"name\":\"\\u00e4\",\"value\":null}]}",
-            "change 0 4 '2147483647' '\u{e4}' null 3",
-        ),
-        (
-            b"{\"event\":\"change\",\"controller\":0,\"records\":[{\"kind\":\"Config\",\"resourceType\":4,\"resourceName\":\"\",\"name\":\"a\",\"value\":\"\"}]}",
-            "change 0 4 '' 'a' '' 0",
-        ),
-        (
-            b"{\"event\":\"elect\",\"controller\":2147483647,\"now\":9223372036854775807}",
-            "elect 2147483647 9223372036854775807",
-        ),
-        (
-            b" {\"controller\" : 1, \"controller\" : 2, \"event\" : \"start\"}\r",
-            "start 2",
-        ),
-        (b"{\"event\":[[]],\"event\":\"check\"}", "check"),
-        (
-            b"{\"\\u0065vent\":\"turn\",\"now\":1,\"controller\":0}",
-            "turn 0 1",
-        ),
-    ];
-    for (line, event) in lines {
-        let text = read_as(alloc, line)?;
-        assert_eq!(rt; text.as_str(), event);
+fn lines_are_read_as_their_events(rt: HostRuntime) {
+    for (line, event) in &LINES {
+        assert!(rt; is_read_as(&rt, rt.alloc(), line, event));
     }
-    Ok(())
+}
+
+static BAD_LINES: [&[u8]; 44] = [
+    b"",
+    b"# a comment",
+    b" ",
+    b"null",
+    b"[]",
+    b"{}",
+    b"\"check\"",
+    b"{\"event\":\"check\"}x",
+    b"\xef\xbb\xbf{\"event\":\"check\"}",
+    b"{\"event\":\"check\xff\"}",
+    b"{\"event\":\"Check\"}",
+    b"{\"event\":\"stop\"}",
+    b"{\"event\":null}",
+    b"{\"event\":\"check\",\"now\":0}",
+    b"{\"event\":\"start\"}",
+    b"{\"event\":\"start\",\"controller\":1,\"now\":0}",
+    b"{\"event\":\"start\",\"controller\":1.0}",
+    b"{\"event\":\"start\",\"controller\":1e0}",
+    b"{\"event\":\"start\",\"controller\":-0}",
+    b"{\"event\":\"start\",\"controller\":-1}",
+    b"{\"event\":\"start\",\"controller\":\"1\"}",
+    b"{\"event\":\"start\",\"controller\":2147483648}",
+    b"{\"event\":\"elect\",\"controller\":1,\"now\":null}",
+    b"{\"event\":\"elect\",\"controller\":1,\"now\":9223372036854775808}",
+    b"{\"event\":\"turn\",\"controller\":1,\"plan\":\"deliver\"}",
+    b"{\"event\":\"quorum\",\"ids\":[]}",
+    b"{\"event\":\"quorum\",\"ids\":[1,2]}",
+    b"{\"event\":\"quorum\",\"ids\":1}",
+    b"{\"event\":\"quorum\",\"ids\":[2147483648]}",
+    b"{\"event\":\"change\",\"controller\":1,\"records\":[]}",
+    b"{\"event\":\"change\",\"controller\":1,\"records\":{}}",
+    b"{\"event\":\"change\",\"controller\":1,\"records\":[{\"kind\":\"NoOp\"}]}",
+    b"{\"event\":\"zk-open\"}",
+    b"{\"event\":\"zk-open\",\"session\":0}",
+    b"{\"event\":\"zk-open\",\"session\":-1}",
+    b"{\"event\":\"zk-open\",\"session\":1.0}",
+    b"{\"event\":\"zk-expire\",\"session\":\"1\"}",
+    b"{\"event\":\"zk-expire\",\"session\":9223372036854775808}",
+    b"{\"event\":\"zk-expire\",\"session\":1,\"now\":0}",
+    b"{\"event\":\"zk\"}",
+    b"{\"event\":\"zk\",\"ops\":[]}",
+    b"{\"event\":\"zk\",\"ops\":{}}",
+    b"{\"event\":\"zk\",\"ops\":[1]}",
+    b"{\"event\":\"zk\",\"ops\":[{\"op\":\"check\",\"path\":\"/a\",\"version\":0}],\"session\":1}",
+];
+
+#[test]
+fn other_lines_are_bad(rt: HostRuntime) {
+    for line in &BAD_LINES {
+        assert!(rt; is_read_as(&rt, rt.alloc(), line, "bad"));
+    }
+}
+
+static BAD_CONFIGS: [&str; 12] = [
+    "\"resourceType\":4,\"resourceName\":\"1\",\"name\":\"a\"",
+    "\"resourceType\":4,\"resourceName\":\"1\",\"name\":\"a\",\"value\":1",
+    "\"resourceType\":4,\"resourceName\":\"1\",\"name\":\"a\",\"value\":\"1\",\"x\":0",
+    "\"resourceType\":4,\"resourceName\":\"1\",\"name\":\"\",\"value\":\"1\"",
+    "\"resourceType\":4,\"resourceName\":\"01\",\"name\":\"a\",\"value\":\"1\"",
+    "\"resourceType\":4,\"resourceName\":\"+1\",\"name\":\"a\",\"value\":\"1\"",
+    "\"resourceType\":4,\"resourceName\":\"-1\",\"name\":\"a\",\"value\":\"1\"",
+    "\"resourceType\":4,\"resourceName\":\"1x\",\"name\":\"a\",\"value\":\"1\"",
+    "\"resourceType\":4,\"resourceName\":\"2147483648\",\"name\":\"a\",\"value\":\"1\"",
+    "\"resourceType\":2,\"resourceName\":\"1\",\"name\":\"a\",\"value\":\"1\"",
+    "\"resourceType\":260,\"resourceName\":\"1\",\"name\":\"a\",\"value\":\"1\"",
+    "\"resourceType\":4,\"resourceName\":1,\"name\":\"a\",\"value\":\"1\"",
+];
+
+// A `change` with a configuration of these members.
+fn change_line(alloc: Global, members: &str) -> Result<String, AllocError> {
+    format!(in alloc;
+        "{{\"event\":\"change\",\"controller\":1,\"records\":[{{\"kind\":\"Config\",{members}}}]}}"
+    )
 }
 
 #[test]
-fn other_lines_are_bad(rt: HostRuntime) -> Result<(), Fail> {
+fn other_configurations_are_bad(rt: HostRuntime) {
     let alloc = rt.alloc();
-    let lines: [&[u8]; 32] = [
-        b"",
-        b"# a comment",
-        b" ",
-        b"null",
-        b"[]",
-        b"{}",
-        b"\"check\"",
-        b"{\"event\":\"check\"}x",
-        b"\xef\xbb\xbf{\"event\":\"check\"}",
-        b"{\"event\":\"check\xff\"}",
-        b"{\"event\":\"Check\"}",
-        b"{\"event\":\"stop\"}",
-        b"{\"event\":null}",
-        b"{\"event\":\"check\",\"now\":0}",
-        b"{\"event\":\"start\"}",
-        b"{\"event\":\"start\",\"controller\":1,\"now\":0}",
-        b"{\"event\":\"start\",\"controller\":1.0}",
-        b"{\"event\":\"start\",\"controller\":1e0}",
-        b"{\"event\":\"start\",\"controller\":-0}",
-        b"{\"event\":\"start\",\"controller\":-1}",
-        b"{\"event\":\"start\",\"controller\":\"1\"}",
-        b"{\"event\":\"start\",\"controller\":2147483648}",
-        b"{\"event\":\"elect\",\"controller\":1,\"now\":null}",
-        b"{\"event\":\"elect\",\"controller\":1,\"now\":9223372036854775808}",
-        b"{\"event\":\"turn\",\"controller\":1,\"plan\":\"deliver\"}",
-        b"{\"event\":\"quorum\",\"ids\":[]}",
-        b"{\"event\":\"quorum\",\"ids\":[1,2]}",
-        b"{\"event\":\"quorum\",\"ids\":1}",
-        b"{\"event\":\"quorum\",\"ids\":[2147483648]}",
-        b"{\"event\":\"change\",\"controller\":1,\"records\":[]}",
-        b"{\"event\":\"change\",\"controller\":1,\"records\":{}}",
-        b"{\"event\":\"change\",\"controller\":1,\"records\":[{\"kind\":\"NoOp\"}]}",
-    ];
-    for line in lines {
-        let text = read_as(alloc, line)?;
-        assert_eq!(rt; text.as_str(), "bad");
+    for members in &BAD_CONFIGS {
+        let line = made(&rt, change_line(alloc, members));
+        assert!(rt; is_read_as(&rt, alloc, line.as_bytes(), "bad"));
     }
-    Ok(())
+}
+
+static BAD_OPS: [&str; 28] = [
+    "\"op\":\"get\",\"path\":\"/a\"",
+    "\"op\":\"create\"",
+    "\"op\":\"create\",\"path\":\"a\"",
+    "\"op\":\"create\",\"path\":\"/a/\"",
+    "\"op\":\"create\",\"path\":\"/a\",\"version\":0",
+    "\"op\":\"create\",\"path\":\"/a\",\"text\":\"\",\"bytes\":\"\"",
+    "\"op\":\"create\",\"path\":\"/a\",\"text\":null",
+    "\"op\":\"create\",\"path\":\"/a\",\"bytes\":\"/w\"",
+    "\"op\":\"create\",\"path\":\"/a\",\"bytes\":\"/x==\"",
+    "\"op\":\"create\",\"path\":\"/a\",\"bytes\":\"_w==\"",
+    "\"op\":\"create\",\"path\":\"/a\",\"owner\":0",
+    "\"op\":\"create\",\"path\":\"/a\",\"owner\":null",
+    "\"op\":\"create\",\"path\":\"/a\",\"owner\":9223372036854775808",
+    "\"op\":\"set\",\"path\":\"/a\",\"text\":\"\"",
+    "\"op\":\"set\",\"path\":\"/a\",\"text\":\"\",\"bytes\":\"\",\"version\":0",
+    "\"op\":\"set\",\"path\":\"/a\",\"version\":-2",
+    "\"op\":\"delete\",\"path\":\"/a\",\"version\":2147483648",
+    "\"op\":\"delete\",\"path\":\"/a\",\"version\":-0",
+    "\"op\":\"delete\",\"path\":\"/a\",\"version\":0,\"text\":\"\"",
+    "\"op\":\"check\",\"path\":\"/a\"",
+    "\"op\":\"check\",\"path\":\"/a\",\"version\":1e0",
+    "\"op\":\"create\",\"path\":\"/config/brokers/01\"",
+    "\"op\":\"create\",\"path\":\"/config/brokers/2147483648\"",
+    "\"op\":\"create\",\"path\":\"/config/topics/t\"",
+    "\"op\":\"delete\",\"path\":\"/config/users/u\",\"version\":0",
+    "\"op\":\"check\",\"path\":\"/kafka-acl/Topic/t\",\"version\":0",
+    "\"op\":\"create\",\"path\":\"/latest_producer_id_block\",\"text\":\"a\"",
+    "\"op\":\"set\",\"path\":\"/latest_producer_id_block\",\"bytes\":\"/w==\",\"version\":0",
+];
+
+// A multi of one operation of these members.
+fn zk_line(alloc: Global, members: &str) -> Result<String, AllocError> {
+    format!(in alloc; "{{\"event\":\"zk\",\"ops\":[{{{members}}}]}}")
 }
 
 #[test]
-fn other_configurations_are_bad(rt: HostRuntime) -> Result<(), Fail> {
+fn other_operations_are_bad(rt: HostRuntime) {
     let alloc = rt.alloc();
-    let members: [&str; 12] = [
-        "\"resourceType\":4,\"resourceName\":\"1\",\"name\":\"a\"",
-        "\"resourceType\":4,\"resourceName\":\"1\",\"name\":\"a\",\"value\":1",
-        "\"resourceType\":4,\"resourceName\":\"1\",\"name\":\"a\",\"value\":\"1\",\"x\":0",
-        "\"resourceType\":4,\"resourceName\":\"1\",\"name\":\"\",\"value\":\"1\"",
-        "\"resourceType\":4,\"resourceName\":\"01\",\"name\":\"a\",\"value\":\"1\"",
-        "\"resourceType\":4,\"resourceName\":\"+1\",\"name\":\"a\",\"value\":\"1\"",
-        "\"resourceType\":4,\"resourceName\":\"-1\",\"name\":\"a\",\"value\":\"1\"",
-        "\"resourceType\":4,\"resourceName\":\"1x\",\"name\":\"a\",\"value\":\"1\"",
-        "\"resourceType\":4,\"resourceName\":\"2147483648\",\"name\":\"a\",\"value\":\"1\"",
-        "\"resourceType\":2,\"resourceName\":\"1\",\"name\":\"a\",\"value\":\"1\"",
-        "\"resourceType\":260,\"resourceName\":\"1\",\"name\":\"a\",\"value\":\"1\"",
-        "\"resourceType\":4,\"resourceName\":1,\"name\":\"a\",\"value\":\"1\"",
-    ];
-    for record in members {
-        let line = format!(in alloc;
-            "{{\"event\":\"change\",\"controller\":1,\"records\":[{{\"kind\":\"Config\",{record}}}]}}"
-        )?;
-        let text = read_as(alloc, line.as_bytes())?;
-        assert_eq!(rt; text.as_str(), "bad");
+    for members in &BAD_OPS {
+        let line = made(&rt, zk_line(alloc, members));
+        assert!(rt; is_read_as(&rt, alloc, line.as_bytes(), "bad"));
     }
-    Ok(())
 }
 
 // A `check` with an earlier member `event` of lists, so many deep.
@@ -186,206 +258,341 @@ fn nested_line(alloc: Global, depth: usize) -> Result<String, AllocError> {
 }
 
 #[test]
-fn a_line_nests_at_most_127_deep(rt: HostRuntime) -> Result<(), Fail> {
+fn a_line_nests_at_most_127_deep(rt: HostRuntime) {
     let alloc = rt.alloc();
-    for (depth, event) in [(126, "check"), (127, "bad"), (1000, "bad")] {
-        let line = nested_line(alloc, depth)?;
-        let text = read_as(alloc, line.as_bytes())?;
-        assert_eq!(rt; text.as_str(), event);
-    }
-    Ok(())
-}
-
-fn text_of(alloc: Global, text: &str) -> Result<Text, NoMemory> {
-    Text::from_str(alloc, text)
-}
-
-fn path_of(alloc: Global, text: &str) -> Result<ZPath, NoMemory> {
-    match ZPath::new(alloc, text.as_bytes()) {
-        Ok(path) => Ok(path),
-        Err(_) => Err(NoMemory),
+    for (depth, event) in [(126, r#"{"event":"check"}"#), (127, "bad"), (1000, "bad")] {
+        let line = made(&rt, nested_line(alloc, depth));
+        assert!(rt; is_read_as(&rt, alloc, line.as_bytes(), event));
     }
 }
 
-// The steps of a turn, and what they print.
-fn steps(alloc: Global) -> Result<Vec<(Reply, &'static str)>, NoMemory> {
-    let mut steps: Vec<(Reply, &'static str)> = Vec::new(alloc);
-    steps.push((Reply::Idle, "idle"))?;
-    steps.push((Reply::WaitQuorum { id: 3001 }, "wait-quorum 3001"))?;
-    steps.push((Reply::WaitBroker { id: 1 }, "wait-broker 1"))?;
-    steps.push((Reply::Moved(DriverState::Inactive), "moved INACTIVE"))?;
-    steps.push((
-        Reply::Moved(DriverState::WaitForBrokers),
-        "moved WAIT_FOR_BROKERS",
-    ))?;
-    steps.push((
-        Reply::Moved(DriverState::SyncKraftToZk),
-        "moved SYNC_KRAFT_TO_ZK",
-    ))?;
-    steps.push((Reply::Looked, "looked"))?;
-    steps.push((Reply::Claimed { zk_epoch: 1 }, "claimed 1"))?;
-    steps.push((Reply::Read { rows: 256 }, "read 256"))?;
-    steps.push((Reply::Appended { offset: 4 }, "appended 4"))?;
-    steps.push((Reply::Wrote { ops: 64 }, "wrote 64"))?;
-    steps.push((Reply::Recorded { offset: 4 }, "recorded 4"))?;
-    steps.push((Reply::FencedEpoch { epoch: 2 }, "fenced-epoch 2"))?;
-    steps.push((Reply::FencedWrite { claim: 0 }, "fenced-write 0"))?;
-    steps.push((Reply::Stale { epoch: 2 }, "stale 2"))?;
-    steps.push((Reply::Lost, "lost"))?;
-    steps.push((Reply::Expired, "expired"))?;
-    steps.push((Reply::TreeFailed(TreeFault::Device), ""))?;
-    steps.push((Reply::NoMemory, ""))?;
-    Ok(steps)
+const ITEM: &str =
+    r#"{"kind":"Config","name":"a","resourceName":"t","resourceType":2,"value":"\""}"#;
+
+#[test]
+fn a_record_is_read_and_written(rt: HostRuntime) {
+    let alloc = rt.alloc();
+    let value = made(&rt, Value::from_slice(alloc, ITEM.as_bytes()));
+    let item = made(&rt, read_item(alloc, &value));
+    let written = made(&rt, write_item(alloc, &item));
+    let text = made(&rt, written.to_vec(alloc));
+    assert!(rt; text.as_slice() == ITEM.as_bytes());
 }
 
-// The steps that name a path, and what they print.
-fn path_steps(alloc: Global) -> Result<Vec<(Reply, &'static str)>, NoMemory> {
-    let mut whys: Vec<(ReadWhy, &'static str)> = Vec::new(alloc);
-    whys.push((ReadWhy::Stray, "untranslatable \"/a\\\"\" stray"))?;
-    whys.push((ReadWhy::SameId, "untranslatable \"/a\\\"\" same-id"))?;
-    whys.push((
-        ReadWhy::Over { number: 2 },
-        "untranslatable \"/a\\\"\" over 2",
-    ))?;
-    whys.push((
-        ReadWhy::Body(BodyFault::NotJson),
-        "untranslatable \"/a\\\"\" not-json",
-    ))?;
-    whys.push((
-        ReadWhy::Body(BodyFault::NoTopicId),
-        "untranslatable \"/a\\\"\" no-topic-id",
-    ))?;
-    let field = text_of(alloc, "config")?;
-    whys.push((
+// A step of each kind; the last two print nothing.
+fn steps(rt: &impl Abort, alloc: Global) -> Sequence<Reply> {
+    let mut steps = Sequence::new(alloc);
+    put(rt, &mut steps, Reply::Idle);
+    put(rt, &mut steps, Reply::WaitQuorum { id: 3001 });
+    put(rt, &mut steps, Reply::WaitBroker { id: 1 });
+    put(rt, &mut steps, Reply::Moved(DriverState::Inactive));
+    put(rt, &mut steps, Reply::Moved(DriverState::WaitForBrokers));
+    put(rt, &mut steps, Reply::Moved(DriverState::SyncKraftToZk));
+    put(rt, &mut steps, Reply::Looked);
+    put(rt, &mut steps, Reply::Claimed { zk_epoch: 1 });
+    put(rt, &mut steps, Reply::Read { rows: 256 });
+    put(rt, &mut steps, Reply::Appended { offset: 4 });
+    put(rt, &mut steps, Reply::Wrote { ops: 64 });
+    put(rt, &mut steps, Reply::Recorded { offset: 4 });
+    put(rt, &mut steps, Reply::FencedEpoch { epoch: 2 });
+    put(rt, &mut steps, Reply::FencedWrite { claim: 0 });
+    put(rt, &mut steps, Reply::Stale { epoch: 2 });
+    put(rt, &mut steps, Reply::Lost);
+    put(rt, &mut steps, Reply::Expired);
+    put(rt, &mut steps, Reply::TreeFailed(TreeFault::Device));
+    put(rt, &mut steps, Reply::NoMemory);
+    steps
+}
+
+const STEPS: &str = "12 idle
+12 wait-quorum 3001
+12 wait-broker 1
+12 moved INACTIVE
+12 moved WAIT_FOR_BROKERS
+12 moved SYNC_KRAFT_TO_ZK
+12 looked
+12 claimed 1
+12 read 256
+12 appended 4
+12 wrote 64
+12 recorded 4
+12 fenced-epoch 2
+12 fenced-write 0
+12 stale 2
+12 lost
+12 expired
+";
+
+fn put_stop(rt: &impl Abort, alloc: Global, steps: &mut Sequence<Reply>, why: ReadWhy) {
+    let path = path_of(rt, alloc, "/a\"");
+    put(rt, steps, Reply::Untranslatable { path, why });
+}
+
+// The steps that name a path; the last but one prints nothing.
+fn path_steps(rt: &impl Abort, alloc: Global) -> Sequence<Reply> {
+    let mut steps = Sequence::new(alloc);
+    put_stop(rt, alloc, &mut steps, ReadWhy::Stray);
+    put_stop(rt, alloc, &mut steps, ReadWhy::SameId);
+    put_stop(rt, alloc, &mut steps, ReadWhy::Over { number: 2 });
+    put_stop(rt, alloc, &mut steps, ReadWhy::Body(BodyFault::NotJson));
+    put_stop(rt, alloc, &mut steps, ReadWhy::Body(BodyFault::NoTopicId));
+    let field = text_of(rt, alloc, "config");
+    put_stop(
+        rt,
+        alloc,
+        &mut steps,
         ReadWhy::Body(BodyFault::Missing { field }),
-        "untranslatable \"/a\\\"\" missing \"config\"",
-    ))?;
-    let field = text_of(alloc, "config")?;
-    whys.push((
+    );
+    let field = text_of(rt, alloc, "config");
+    put_stop(
+        rt,
+        alloc,
+        &mut steps,
         ReadWhy::Body(BodyFault::BadField { field }),
-        "untranslatable \"/a\\\"\" bad-field \"config\"",
-    ))?;
-    let name = text_of(alloc, "k")?;
-    whys.push((
+    );
+    let name = text_of(rt, alloc, "k");
+    put_stop(
+        rt,
+        alloc,
+        &mut steps,
         ReadWhy::Body(BodyFault::UnknownKey { name }),
-        "untranslatable \"/a\\\"\" unknown-key \"k\"",
-    ))?;
-    whys.push((ReadWhy::Body(BodyFault::NoMemory), ""))?;
-    let mut steps: Vec<(Reply, &'static str)> = Vec::new(alloc);
-    for (why, text) in whys {
-        let path = path_of(alloc, "/a\"")?;
-        steps.push((Reply::Untranslatable { path, why }, text))?;
-    }
-    let path = path_of(alloc, "/migration")?;
-    steps.push((Reply::Limit { path }, "limit \"/migration\""))?;
-    Ok(steps)
+    );
+    put_stop(rt, alloc, &mut steps, ReadWhy::Body(BodyFault::NoMemory));
+    let path = path_of(rt, alloc, "/migration");
+    put(rt, &mut steps, Reply::Limit { path });
+    steps
+}
+
+const PATH_STEPS: &str = r#"12 untranslatable "/a\"" stray
+12 untranslatable "/a\"" same-id
+12 untranslatable "/a\"" over 2
+12 untranslatable "/a\"" not-json
+12 untranslatable "/a\"" no-topic-id
+12 untranslatable "/a\"" missing "config"
+12 untranslatable "/a\"" bad-field "config"
+12 untranslatable "/a\"" unknown-key "k"
+12 limit "/migration"
+"#;
+
+// Whether an answer to a line prints this text.
+fn prints(rt: &impl Abort, alloc: Global, line: u64, answer: Answer, text: &str) -> bool {
+    let printed = made(rt, write_answer(alloc, line, &answer));
+    drop(answer);
+    printed.as_slice() == text.as_bytes()
 }
 
 #[test]
-fn a_turn_prints_a_line_for_each_step(rt: HostRuntime) -> Result<(), Fail> {
+fn a_turn_prints_a_line_for_each_step(rt: HostRuntime) {
     let alloc = rt.alloc();
-    for table in [steps(alloc)?, path_steps(alloc)?] {
-        let mut replies = Sequence::new(alloc);
-        let mut lines = String::new(alloc);
-        for (reply, text) in table {
-            replies.push(reply)?;
-            if !text.is_empty() {
-                lines.push_str(&format!(in alloc; "12 {text}\n")?)?;
-            }
-        }
-        let printed = write_answer(alloc, 12, &Answer::Turn { replies })?;
-        assert_eq!(rt; printed.as_slice(), lines.as_bytes());
-    }
-    Ok(())
+    let replies = steps(&rt, alloc);
+    assert!(rt; prints(&rt, alloc, 12, Answer::Turn(replies), STEPS));
+    let replies = path_steps(&rt, alloc);
+    assert!(rt; prints(&rt, alloc, 12, Answer::Turn(replies), PATH_STEPS));
 }
 
-// Answers, and what they print.
-fn answers(alloc: Global) -> Result<Vec<(Answer, &'static str)>, NoMemory> {
-    let mut answers: Vec<(Answer, &'static str)> = Vec::new(alloc);
-    answers.push((Answer::Done, "7 done\n"))?;
-    answers.push((
-        Answer::Elected {
-            epoch: 1,
-            offset: 1,
-        },
-        "7 elected 1 1\n",
-    ))?;
-    answers.push((Answer::Appended { offset: 5 }, "7 appended 5\n"))?;
-    answers.push((Answer::Running { id: 3000 }, "7 running 3000\n"))?;
-    answers.push((Answer::UnknownController, "7 unknown-controller\n"))?;
-    answers.push((Answer::AlreadyRunning, "7 already-running\n"))?;
-    answers.push((Answer::NotRunning, "7 not-running\n"))?;
-    answers.push((Answer::NotLeader, "7 not-leader\n"))?;
-    answers.push((Answer::Stale { epoch: 2 }, "7 stale 2\n"))?;
-    answers.push((Answer::NotMigrated, "7 not-migrated\n"))?;
-    answers.push((Answer::Over { number: 15 }, "7 over 15\n"))?;
+const ELECTED: Answer = Answer::Elected {
+    epoch: 1,
+    offset: 1,
+};
+
+const BEHIND: Answer = Answer::Behind {
+    recorded: 4,
+    end: 5,
+};
+
+const BAD_RECORD: Answer = Answer::BadRecord { index: 1, why: 3 };
+
+const REFUSED: Answer = Answer::Refused {
+    index: 0,
+    code: -110,
+};
+
+const OVER_OP: Answer = Answer::OverOp {
+    index: 1,
+    number: 2,
+};
+
+const STATE: DriverState = DriverState::ZkMigration;
+
+#[test]
+fn an_answer_prints_its_line(rt: HostRuntime) {
+    let alloc = rt.alloc();
+    assert!(rt; prints(&rt, alloc, 7, Answer::Done, "7 done\n"));
+    assert!(rt; prints(&rt, alloc, 7, Answer::DoneAt { zxid: 3 }, "7 done 3\n"));
+    assert!(rt; prints(&rt, alloc, 7, ELECTED, "7 elected 1 1\n"));
+    assert!(rt; prints(&rt, alloc, 7, Answer::Step(Reply::Lost), "7 lost\n"));
+    assert!(rt;
+        prints(
+            &rt,
+            alloc,
+            7,
+            Answer::Appended { offset: 5 },
+            "7 appended 5\n"
+        )
+    );
+    assert!(rt; prints(&rt, alloc, 7, Answer::RolledBack, "7 rolled-back\n"));
+    assert!(rt;
+        prints(
+            &rt,
+            alloc,
+            7,
+            Answer::Running { id: 3000 },
+            "7 running 3000\n"
+        )
+    );
+    assert!(rt;
+        prints(
+            &rt,
+            alloc,
+            7,
+            Answer::UnknownController,
+            "7 unknown-controller\n"
+        )
+    );
+    assert!(rt; prints(&rt, alloc, 7, Answer::AlreadyRunning, "7 already-running\n"));
+    assert!(rt; prints(&rt, alloc, 7, Answer::NotRunning, "7 not-running\n"));
+    assert!(rt; prints(&rt, alloc, 7, Answer::NotLeader, "7 not-leader\n"));
+    assert!(rt; prints(&rt, alloc, 7, Answer::Stale { epoch: 2 }, "7 stale 2\n"));
+    assert!(rt; prints(&rt, alloc, 7, Answer::NotMigrated, "7 not-migrated\n"));
+    assert!(rt; prints(&rt, alloc, 7, Answer::Over { number: 15 }, "7 over 15\n"));
+}
+
+#[test]
+fn a_later_answer_prints_its_line(rt: HostRuntime) {
+    let alloc = rt.alloc();
+    assert!(rt;
+        prints(
+            &rt,
+            alloc,
+            7,
+            Answer::InTransaction { offset: 4 },
+            "7 in-transaction 4\n"
+        )
+    );
+    assert!(rt; prints(&rt, alloc, 7, Answer::Finalised, "7 finalised\n"));
+    assert!(rt;
+        prints(
+            &rt,
+            alloc,
+            7,
+            Answer::NotDualWrite { state: STATE },
+            "7 not-dual-write ZK_MIGRATION\n"
+        )
+    );
+    let path = path_of(&rt, alloc, "/a");
+    assert!(rt;
+        prints(
+            &rt,
+            alloc,
+            7,
+            Answer::Unclosed { path },
+            "7 unclosed \"/a\"\n"
+        )
+    );
+    assert!(rt; prints(&rt, alloc, 7, BEHIND, "7 behind 4 5\n"));
+    assert!(rt; prints(&rt, alloc, 7, Answer::TooEarly, "7 too-early\n"));
+    assert!(rt; prints(&rt, alloc, 7, BAD_RECORD, "7 bad-record 1 3\n"));
+    assert!(rt; prints(&rt, alloc, 7, Answer::TreeFailed(TreeFault::Device), ""));
+    assert!(rt; prints(&rt, alloc, 7, Answer::NoMemory, ""));
+}
+
+#[test]
+fn an_answer_to_a_client_prints_its_line(rt: HostRuntime) {
+    let alloc = rt.alloc();
+    assert!(rt; prints(&rt, alloc, 9, Answer::Known, "9 known\n"));
+    assert!(rt; prints(&rt, alloc, 9, Answer::Unknown, "9 unknown\n"));
+    let path = path_of(&rt, alloc, "/controller/a");
+    assert!(rt;
+        prints(
+            &rt,
+            alloc,
+            9,
+            Answer::Reserved { path },
+            "9 reserved \"/controller/a\"\n"
+        )
+    );
+    let path = path_of(&rt, alloc, "/controller");
+    assert!(rt;
+        prints(
+            &rt,
+            alloc,
+            9,
+            Answer::KraftHolds { path },
+            "9 kraft-holds \"/controller\"\n"
+        )
+    );
+    assert!(rt; prints(&rt, alloc, 9, REFUSED, "9 refused 0 -110\n"));
+    assert!(rt; prints(&rt, alloc, 9, OVER_OP, "9 over-op 1 2\n"));
+}
+
+// Whether a verdict prints this text.
+fn shows(rt: &impl Abort, alloc: Global, verdict: Verdict, text: &str) -> bool {
+    prints(rt, alloc, 7, Answer::Check(verdict), text)
+}
+
+#[test]
+fn a_verdict_prints_its_line(rt: HostRuntime) {
+    let alloc = rt.alloc();
+    assert!(rt; shows(&rt, alloc, Verdict::Unmigrated, "7 unmigrated\n"));
+    assert!(rt; shows(&rt, alloc, Verdict::Unrecorded, "7 unrecorded\n"));
+    assert!(rt; shows(&rt, alloc, Verdict::Closed { offset: 4 }, "7 closed 4\n"));
     let mut paths = Sequence::new(alloc);
-    paths.push(AheadPath {
-        path: path_of(alloc, "/a")?,
-        offset: 5,
-    })?;
-    let path = path_of(alloc, "/a\\")?;
-    let mut verdicts: Vec<(Verdict, &'static str)> = Vec::new(alloc);
-    verdicts.push((Verdict::Unmigrated, "7 unmigrated\n"))?;
-    verdicts.push((Verdict::Unrecorded, "7 unrecorded\n"))?;
-    verdicts.push((Verdict::Closed { offset: 4 }, "7 closed 4\n"))?;
-    verdicts.push((Verdict::Ahead { offset: 4, paths }, "7 ahead 4 1\n"))?;
-    verdicts.push((Verdict::Disagrees { path }, "7 disagrees \"/a\\\\\"\n"))?;
-    for (verdict, text) in verdicts {
-        answers.push((Answer::Check { verdict }, text))?;
-    }
-    Ok(answers)
-}
-
-#[test]
-fn an_answer_prints_its_line(rt: HostRuntime) -> Result<(), Fail> {
-    let alloc = rt.alloc();
-    for (answer, text) in answers(alloc)? {
-        let printed = write_answer(alloc, 7, &answer)?;
-        assert_eq!(rt; printed.as_slice(), text.as_bytes());
-    }
-    Ok(())
-}
-
-#[test]
-fn a_run_ends_with_its_numbers(rt: HostRuntime) -> Result<(), Fail> {
-    let alloc = rt.alloc();
-    let none = summary(alloc, 0, 0, 0, -1, None)?;
-    assert_eq!(rt;
-        none.as_slice(),
-        b"end events=0 steps=0 zxid=0 offset=-1 recorded=none\n".as_slice()
+    let path = path_of(&rt, alloc, "/a");
+    put(&rt, &mut paths, AheadPath { path, offset: 5 });
+    assert!(rt;
+        shows(
+            &rt,
+            alloc,
+            Verdict::Ahead { offset: 4, paths },
+            "7 ahead 4 1\n"
+        )
     );
-    let some = summary(alloc, 9, 16, 3, 5, Some(5))?;
-    assert_eq!(rt;
-        some.as_slice(),
-        b"end events=9 steps=16 zxid=3 offset=5 recorded=5\n".as_slice()
+    let path = path_of(&rt, alloc, "/a\\");
+    assert!(rt;
+        shows(
+            &rt,
+            alloc,
+            Verdict::Disagrees { path },
+            "7 disagrees \"/a\\\\\"\n"
+        )
     );
-    Ok(())
 }
 
+const NONE: &str = "end events=0 steps=0 zxid=0 offset=-1 recorded=none\n";
+
+const SOME: &str = "end events=9 steps=16 zxid=3 offset=5 recorded=5\n";
+
 #[test]
-fn a_status_has_a_code_and_a_text(rt: HostRuntime) -> Result<(), Fail> {
+fn a_run_ends_with_its_numbers(rt: HostRuntime) {
     let alloc = rt.alloc();
-    let statuses = [
-        (Status::Done, 0, ""),
-        (Status::Usage, 1, "usage"),
-        (Status::Script { line: 5 }, 2, "script line 5"),
-        (Status::ReadFault, 3, "read fault"),
-        (Status::WriteFault, 4, "write fault"),
-        (Status::NoMemory, 10, "no memory"),
-        (
-            Status::Limit {
-                which: 10,
-                number: 2097152,
-            },
-            11,
-            "limit 10",
-        ),
-    ];
-    for (status, code, text) in statuses {
-        assert_eq!(rt; status_code(&status), code);
-        let printed = status_text(alloc, &status)?;
-        assert_eq!(rt; printed.as_slice(), text.as_bytes());
+    let none = made(&rt, summary(alloc, 0, 0, 0, -1, None));
+    assert!(rt; none.as_slice() == NONE.as_bytes());
+    let some = made(&rt, summary(alloc, 9, 16, 3, 5, Some(5)));
+    assert!(rt; some.as_slice() == SOME.as_bytes());
+}
+
+static STATUSES: [(Status, u8, &str); 7] = [
+    (Status::Done, 0, ""),
+    (Status::Usage, 1, "usage"),
+    (Status::Script { line: 5 }, 2, "script line 5"),
+    (Status::ReadFault, 3, "read fault"),
+    (Status::WriteFault, 4, "write fault"),
+    (Status::NoMemory, 10, "no memory"),
+    (
+        Status::Limit {
+            which: 10,
+            number: 2097152,
+        },
+        11,
+        "limit 10",
+    ),
+];
+
+#[test]
+fn a_status_has_a_code_and_a_text(rt: HostRuntime) {
+    for (status, code, text) in &STATUSES {
+        assert!(rt; status_code(status) == *code);
+        let printed = made(&rt, status_text(rt.alloc(), status));
+        assert!(rt; printed.as_slice() == text.as_bytes());
     }
-    Ok(())
 }

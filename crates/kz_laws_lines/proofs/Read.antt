@@ -1,0 +1,126 @@
+-- What is written of an event is read as that event.
+use Rattle.std.proofs.Common.{◌≡◌, ℕ, ◌==◌, ℤ, pos, negsuc, Bool, true, false, cond, List, [], ◌∷◌, length, Option, Some, None, refl, sym, ap, subst, ◌∙◌, codes}
+use Rattle.std.specs.Prelude.{⊤, map, option_map, option_and_then}
+use Rattle.std.specs.Ordering.{int_eq}
+use Rattle.std.specs.Str.{is_utf8}
+use Rattle.std.proofs.lemmas.Bool.Decides.{Decides-int_eq}
+use Rattle.base64.specs.Engines.{standard}
+use Rattle.base64.specs.GeneralPurpose.{IsBytes, encode_of}
+use Rattle.serde_json.specs.Data.{object, array, put}
+use Rattle.serde_json.specs.View.{items_of}
+use Rattle.kz_types.specs.declared.machine.Event.{Event}
+use Rattle.kz_types.specs.declared.machine.Event.TheVariants.{Quorum, Start, Elect, Turn, Change, Check, ZkOpen, ZkExpire, Zk}
+use Rattle.kz_types.specs.declared.record.ConfigRecord.{ConfigRecord}
+use Rattle.kz_types.specs.declared.record.MetaRecord.{MetaRecord}
+use Rattle.kz_types.specs.declared.record.MetaRecord.TheVariants.{Config}
+use Rattle.kz_types.specs.declared.tree.Op.{Op}
+use Rattle.kz_types.specs.declared.tree.Op.TheVariants as op
+use Rattle.kz_spec_lines.specs.Json.{whole_up_to, whole_within}
+use Rattle.kz_spec_lines.specs.Ops.{op_of}
+use Rattle.kz_spec_lines.specs.Records.{config_of, record_of}
+use Rattle.kz_spec_lines.specs.Events.{id_of, is_broker_config, is_open_op, open_op_of, ops_in, some_ops, event_of, line_event}
+use Rattle.kz_spec_lines.specs.Written.{whole_data, with_text, with_whole, controller_members, config_members, record_data, with_body, with_owner, op_members, op_data, members_of_event, written_event}
+use Rattle.kz_laws_bodies.proofs.Plain.{plain_is_read}
+use Rattle.kz_laws_lines.specs.Writable.{IsId, IsTime, IsSession, IsVersion, IsConfigRecord, IsPath, IsOwner, IsOp, AreOps, AreSomeOps, IsEvent}
+use Rattle.kz_laws_lines.proofs.Values.{up_to_is, session_is, within_is, long_version, long_byte, decoded_is, no_bytes}
+use Rattle.kz_laws_lines.proofs.Plain.{event_is_plain}
+
+-- ---- records
+
+config_with : (type : ℤ) (resource name : List ℕ) (value : Option (List ℕ)) → IsConfigRecord (record { resource_type = type; resource_name = resource; name = name; value = value })
+    → config_of (object (config_members (record { resource_type = type; resource_name = resource; name = name; value = value })))
+    ≡ Some (Config (record { resource_type = type; resource_name = resource; name = name; value = value }))
+config_with type resource name None h = rw (within_is (negsuc 127) (pos 127) type (long_byte type h.resource_type) h.resource_type) refl
+config_with type resource name (Some text) h = rw (within_is (negsuc 127) (pos 127) type (long_byte type h.resource_type) h.resource_type) refl
+
+pub record_is_read : (c : ConfigRecord) → IsConfigRecord c → record_of (record_data (Config c)) ≡ Some (Config c)
+unfolding record_of record_data
+record_is_read c h = config_with c.resource_type c.resource_name c.name c.value h
+
+-- ---- operations
+
+version_is : (v : ℤ) → IsVersion v → whole_within (negsuc 0) (pos 2147483647) (whole_data v) ≡ Some v
+version_is v h = within_is (negsuc 0) (pos 2147483647) v (long_version v h) h
+
+create_by : (path body : List ℕ) (owner : Option ℤ) (no_body text : Bool) → (length body == 0) ≡ no_body → is_utf8 body ≡ text → IsPath path → IsBytes body → IsOwner owner
+    → op_of (object (with_owner owner (cond no_body (op_members (codes "create") path) (cond text (with_text (codes "text") body (op_members (codes "create") path)) (with_text (codes "bytes") (encode_of standard body) (op_members (codes "create") path))))))
+    ≡ Some (op.Create path body owner)
+unfolding op_of
+create_by path body None true text none utf8 is bytes owner = rw is (ap (λ b. Some (op.Create path b None)) (no_bytes body none))
+create_by path body (Some s) true text none utf8 is bytes owner = rw (is, session_is s owner) (ap (λ b. Some (op.Create path b (Some s))) (no_bytes body none))
+create_by path body None false true none utf8 is bytes owner = rw is refl
+create_by path body (Some s) false true none utf8 is bytes owner = rw (is, session_is s owner) refl
+create_by path body None false false none utf8 is bytes owner = rw (is, decoded_is body bytes) refl
+create_by path body (Some s) false false none utf8 is bytes owner = rw (is, decoded_is body bytes, session_is s owner) refl
+
+set_by : (path body : List ℕ) (version : ℤ) (no_body text : Bool) → (length body == 0) ≡ no_body → is_utf8 body ≡ text → IsPath path → IsBytes body → IsVersion version
+    → op_of (object (with_whole (codes "version") version (cond no_body (op_members (codes "set") path) (cond text (with_text (codes "text") body (op_members (codes "set") path)) (with_text (codes "bytes") (encode_of standard body) (op_members (codes "set") path))))))
+    ≡ Some (op.Set path body version)
+unfolding op_of
+set_by path body v true text none utf8 is bytes h = rw (is, version_is v h) (ap (λ b. Some (op.Set path b v)) (no_bytes body none))
+set_by path body v false true none utf8 is bytes h = rw (is, version_is v h) refl
+set_by path body v false false none utf8 is bytes h = rw (is, decoded_is body bytes, version_is v h) refl
+
+pub op_is_read : (o : Op) → IsOp o → op_of (op_data o) ≡ Some o
+unfolding op_of
+op_is_read (op.Create path body owner) h = create_by path body owner _ _ refl refl h.0 h.1 h.2
+op_is_read (op.Set path body version) h = set_by path body version _ _ refl refl h.0 h.1 h.2
+op_is_read (op.Delete path version) h = rw (h.0, version_is version h.1) refl
+op_is_read (op.Check path version) h = rw (h.0, version_is version h.1) refl
+
+open_is_read : (o : Op) → IsOp o → is_open_op o ≡ true → open_op_of (op_data o) ≡ Some o
+open_is_read o h is =
+    ap (option_and_then (λ p. cond (is_open_op p) (Some p) None)) (op_is_read o h)
+    ∙ (λ i. cond (is i) (Some o) None)
+
+ops_are_read : (os : List Op) → AreOps os → ops_in (items_of (map op_data os)) ≡ Some os
+ops_are_read [] h = refl
+ops_are_read (o ∷ os) h =
+    ap (option_and_then (λ p. option_map (λ ps. p ∷ ps) (ops_in (items_of (map op_data os))))) (open_is_read o h.0 h.1)
+    ∙ ap (option_map (λ ps. o ∷ ps)) (ops_are_read os h.2)
+
+-- ---- events
+
+id_is : (c : ℤ) → IsId c → id_of (whole_data c) ≡ Some c
+id_is c h = up_to_is 2147483647 c h
+
+time_is : (t : ℤ) → IsTime t → whole_up_to 9223372036854775807 (whole_data t) ≡ Some t
+time_is t h = up_to_is 9223372036854775807 t h
+
+is_zero : (now : ℤ) → int_eq now (pos 0) ≡ true → pos 0 ≡ now
+is_zero now h = sym ((Decides-int_eq now (pos 0)).0 h)
+
+elect_by : (c now : ℤ) (zero : Bool) → int_eq now (pos 0) ≡ zero → IsId c → IsTime now
+    → event_of (object (cond zero (controller_members (codes "elect") c) (with_whole (codes "now") now (controller_members (codes "elect") c)))) ≡ Some (Elect c now)
+elect_by c now true is id time = rw (id_is c id) (ap (λ t. Some (Elect c t)) (is_zero now is))
+elect_by c now false is id time = rw (id_is c id, time_is now time) refl
+
+turn_by : (c now : ℤ) (zero : Bool) → int_eq now (pos 0) ≡ zero → IsId c → IsTime now
+    → event_of (object (cond zero (controller_members (codes "turn") c) (with_whole (codes "now") now (controller_members (codes "turn") c)))) ≡ Some (Turn c now)
+turn_by c now true is id time = rw (id_is c id) (ap (λ t. Some (Turn c t)) (is_zero now is))
+turn_by c now false is id time = rw (id_is c id, time_is now time) refl
+
+change_by : (c now : ℤ) (r : ConfigRecord) (zero : Bool) → int_eq now (pos 0) ≡ zero → IsId c → IsConfigRecord r → is_broker_config r ≡ true → IsTime now
+    → event_of (object (put (codes "records") (array (items_of (map record_data (Config r ∷ [])))) (cond zero (controller_members (codes "change") c) (with_whole (codes "now") now (controller_members (codes "change") c)))))
+    ≡ Some (Change c (Config r ∷ []) now)
+change_by c now r true is id config broker time = rw (id_is c id, record_is_read r config, broker) (ap (λ t. Some (Change c (Config r ∷ []) t)) (is_zero now is))
+change_by c now r false is id config broker time = rw (id_is c id, record_is_read r config, broker, time_is now time) refl
+
+zk_says : (os : List Op) → AreSomeOps os → event_of (object (members_of_event (Zk os))) ≡ Some (Zk os)
+zk_says [] h = absurd h
+zk_says (o ∷ os) h = ap (option_and_then some_ops) (ops_are_read (o ∷ os) h)
+
+event_says : (e : Event) → IsEvent e → event_of (object (members_of_event e)) ≡ Some e
+event_says (Quorum ids) h = subst (λ is. event_of (object (members_of_event (Quorum is))) ≡ Some (Quorum is)) (sym h.1) (rw (id_is h.0 h.2) refl)
+event_says (Start c) h = rw (id_is c h) refl
+event_says (Elect c now) h = elect_by c now _ refl h.0 h.1
+event_says (Turn c now) h = turn_by c now _ refl h.0 h.1
+event_says (Change c records now) h = subst (λ rs. event_of (object (members_of_event (Change c rs now))) ≡ Some (Change c rs now)) (sym h.1.1) (change_by c now h.1.0 _ refl h.0 h.1.2 h.1.3 h.2)
+event_says Check h = refl
+event_says (ZkOpen s) h = rw (session_is s h) refl
+event_says (ZkExpire s) h = rw (session_is s h) refl
+event_says (Zk os) h = zk_says os h
+
+pub event_is_read : (e : Event) → IsEvent e → line_event (written_event e) ≡ Some e
+unfolding line_event written_event
+event_is_read e h = ap (option_and_then event_of) (plain_is_read (object (members_of_event e)) (event_is_plain e h)) ∙ event_says e h

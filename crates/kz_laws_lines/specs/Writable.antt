@@ -1,0 +1,93 @@
+-- The events, operations and records that a line can hold.
+use Rattle.std.specs.Prelude.{◌≡◌, ⊤, ℕ, true, ℤ, pos, negsuc, ◌≤ℤ◌, List, [], ◌∷◌, Option, Some, None}
+use Rattle.std.specs.Str.{is_utf8}
+use Rattle.base64.specs.GeneralPurpose.{IsBytes}
+use Rattle.kz_types.specs.Paths.{is_path}
+use Rattle.kz_types.specs.declared.machine.Event.{Event}
+use Rattle.kz_types.specs.declared.machine.Event.TheVariants.{Quorum, Start, Elect, Turn, Change, Check, ZkOpen, ZkExpire, Zk}
+use Rattle.kz_types.specs.declared.record.ConfigRecord.{ConfigRecord}
+use Rattle.kz_types.specs.declared.record.MetaRecord.{MetaRecord}
+use Rattle.kz_types.specs.declared.record.MetaRecord.TheVariants.{Config}
+use Rattle.kz_types.specs.declared.tree.Op.{Op}
+use Rattle.kz_types.specs.declared.tree.Op.TheVariants as op
+use Rattle.kz_spec_lines.specs.Events.{is_broker_config, is_open_op}
+
+-- ---- numbers and texts
+
+-- from the first number to the second, both among them
+abbrev pub IsFromTo : ℤ → ℤ → ℤ → Type 0
+IsFromTo low high n = (low ≤ℤ n) × (n ≤ℤ high)
+
+abbrev pub IsId : ℤ → Type 0
+IsId id = IsFromTo (pos 0) (pos 2147483647) id
+
+abbrev pub IsTime : ℤ → Type 0
+IsTime now = IsFromTo (pos 0) (pos 9223372036854775807) now
+
+abbrev pub IsSession : ℤ → Type 0
+IsSession session = IsFromTo (pos 1) (pos 9223372036854775807) session
+
+-- -1 is any version
+abbrev pub IsVersion : ℤ → Type 0
+IsVersion version = IsFromTo (negsuc 0) (pos 2147483647) version
+
+-- bytes that are a text
+abbrev pub IsText : List ℕ → Type 0
+IsText bytes = is_utf8 bytes ≡ true
+
+abbrev pub IsTextOrNull : Option (List ℕ) → Type 0
+IsTextOrNull None = ⊤
+IsTextOrNull (Some text) = IsText text
+
+-- ---- records
+
+-- a Config record whose fields have their types
+pub record IsConfigRecord (c : ConfigRecord) : Type 0 where
+  pub resource_type : IsFromTo (negsuc 127) (pos 127) c.resource_type
+  pub resource_name : IsText c.resource_name
+  pub name : IsText c.name
+  pub value : IsTextOrNull c.value
+
+-- one record, of the configuration of a broker or of all
+abbrev pub AreChanges : List MetaRecord → Type 0
+AreChanges records = (c : ConfigRecord) × (records ≡ Config c ∷ []) × IsConfigRecord c × (is_broker_config c ≡ true)
+
+-- ---- operations
+
+abbrev pub IsPath : List ℕ → Type 0
+IsPath path = is_path path ≡ true
+
+abbrev pub IsOwner : Option ℤ → Type 0
+IsOwner None = ⊤
+IsOwner (Some session) = IsSession session
+
+-- an operation whose fields have their types
+abbrev pub IsOp : Op → Type 0
+IsOp (op.Create path body owner) = IsPath path × IsBytes body × IsOwner owner
+IsOp (op.Set path body version) = IsPath path × IsBytes body × IsVersion version
+IsOp (op.Delete path version) = IsPath path × IsVersion version
+IsOp (op.Check path version) = IsPath path × IsVersion version
+
+-- operations that lines can hold now
+abbrev pub AreOps : List Op → Type 0
+AreOps [] = ⊤
+AreOps (o ∷ os) = IsOp o × (is_open_op o ≡ true) × AreOps os
+
+-- at least one of them
+abbrev pub AreSomeOps : List Op → Type 0
+AreSomeOps [] = ⊥
+AreSomeOps (o ∷ os) = AreOps (o ∷ os)
+
+-- ---- events
+
+-- an event that a line can be
+abbrev pub IsEvent : Event → Type 0
+IsEvent (Quorum ids) = (id : ℤ) × (ids ≡ id ∷ []) × IsId id
+IsEvent (Start controller) = IsId controller
+IsEvent (Elect controller now) = IsId controller × IsTime now
+IsEvent (Turn controller now) = IsId controller × IsTime now
+IsEvent (Change controller records now) = IsId controller × AreChanges records × IsTime now
+IsEvent Check = ⊤
+IsEvent (ZkOpen session) = IsSession session
+IsEvent (ZkExpire session) = IsSession session
+IsEvent (Zk ops) = AreSomeOps ops

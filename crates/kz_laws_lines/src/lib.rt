@@ -1,0 +1,30 @@
+//! Laws of the definitions of lines: what is written of an event is the line of that event.
+//!
+//! Each law is the contract of a function that does nothing.
+#![tactic(auto)]
+
+ghost use Rattle.std.specs.Prelude.{◌≡◌, Some};
+ghost use Rattle.kz_types.specs.declared.machine.Event.{Event};
+ghost use Rattle.kz_types.specs.declared.record.ConfigRecord.{ConfigRecord};
+ghost use Rattle.kz_types.specs.declared.record.MetaRecord.TheVariants.{Config};
+ghost use Rattle.kz_types.specs.declared.tree.Op.{Op};
+ghost use Rattle.kz_spec_lines.specs.Ops.{op_of};
+ghost use Rattle.kz_spec_lines.specs.Records.{record_of};
+ghost use Rattle.kz_spec_lines.specs.Events.{line_event};
+ghost use Rattle.kz_spec_lines.specs.Written.{op_data, record_data, written_event};
+ghost use Rattle.kz_laws_lines.specs.Writable.{IsConfigRecord, IsOp, IsEvent};
+
+/// A record of a configuration is read as it was written.
+pub fn record_is_read()
+    ensures { (config : ConfigRecord) → IsConfigRecord config → record_of (record_data (Config config)) ≡ Some (Config config) }
+{}
+
+/// An operation is read as it was written.
+pub fn operation_is_read()
+    ensures { (o : Op) → IsOp o → op_of (op_data o) ≡ Some o }
+{}
+
+/// An event is read from its line, where it is one that a line can be.
+pub fn event_is_read()
+    ensures { (event : Event) → IsEvent event → line_event (written_event event) ≡ Some event }
+{}
