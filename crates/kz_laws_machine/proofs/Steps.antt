@@ -41,11 +41,11 @@ use Rattle.kz_spec_machine.specs.Driver.{Shared, Driver, state_of, at_stage, res
 use Rattle.kz_spec_machine.specs.Machine.{is_held_tree}
 use Rattle.kz_spec_machine.specs.Sound.{IsId, IsEpochOrNone, IsStamped, TreeShape, LogShape, IsBatchEnd, Kept, IsTime, claim_version, IsCurrent, shown_in, Claimed, Claims, Epochs, Elected, Aims, Reads, Writes, Rests, AtStage, IsConfig}
 use Rattle.kz_laws_values.proofs.Control.{recorded_is_read}
-use Rattle.kz_laws_trees.proofs.Multi.{multi_ran, shape_kept, write_keeps_lasting, write_keeps_version, last_write, remaining_after_write}
-use Rattle.kz_laws_trees.specs.TreeLaws.{KeepsLasting, Completed}
+use Rattle.kz_laws_trees.proofs.Multi.{multi_ran, shape_kept, write_keeps_shape, write_keeps_version, last_write, remaining_after_write}
+use Rattle.kz_laws_trees.specs.TreeLaws.{KeepsShape, Completed}
 use Rattle.kz_laws_trees.proofs.Pages.{behind_last, short_page, one_page_more}
 use Rattle.kz_laws_trees.proofs.Ends.{end_most}
-use Rattle.kz_laws_trees.proofs.Claim.{claim_keeps_lasting, claim_gives_version, claim_shows, write_keeps_shown}
+use Rattle.kz_laws_trees.proofs.Claim.{claim_keeps_shape, claim_gives_version, claim_shows, write_keeps_shown}
 use Rattle.kz_laws_trees.proofs.Growth.{append_appends, view_within, append_grows, StaysMigrated, plain_stays, commit_is_migrated}
 use Rattle.kz_laws_machine.proofs.Agreements.{rest_area, agreement_last, agreement_more, agreement_claim}
 use Rattle.kz_laws_machine.proofs.Groups.{Base, Current, Owed, moves, stays, resigns, again, chosen, finalised, base_read, zero_or, own_epoch, aims, base_grown, base_written}
@@ -55,7 +55,7 @@ use Rattle.kz_laws_machine.proofs.Groups.{Base, Current, Owed, moves, stays, res
 abbrev Shaped : Shared → Type 0
 Shaped s = TreeShape s.tree × LogShape s.log
 
-with_tree_shaped : (s : Shared) (ops : List Op) (r : Result Tree TreeFault) → multi s.tree ops ≡ r → All KeepsLasting ops → Kept s → Shaped (with_tree s r)
+with_tree_shaped : (s : Shared) (ops : List Op) (r : Result Tree TreeFault) → multi s.tree ops ≡ r → All KeepsShape ops → Kept s → Shaped (with_tree s r)
 with_tree_shaped s ops (Ok t) is keeps kept = (shape_kept s.tree t ops (multi_ran s.tree t ops is) keeps kept.tree, kept.log)
 with_tree_shaped s ops (Err e) is keeps kept = (kept.tree, kept.log)
 
@@ -70,12 +70,12 @@ RequestKeeps read_log = ⊤
 RequestKeeps list_brokers = ⊤
 RequestKeeps look_up = ⊤
 RequestKeeps (read_page after) = ⊤
-RequestKeeps (write ops) = All KeepsLasting ops
+RequestKeeps (write ops) = All KeepsShape ops
 RequestKeeps (add records) = ⊤
 
 write_request_keeps : (s : Shared) (m : Option ℤ) (target : Recorded) → RequestKeeps (write_request m (remaining_at s.tree s.log target.offset) target)
 write_request_keeps s None target = tt
-write_request_keeps s (Some claim) target = write_keeps_lasting s.tree (image_at s.log target.offset) claim target
+write_request_keeps s (Some claim) target = write_keeps_shape s.tree (image_at s.log target.offset) claim target
 
 begin_request_keeps : (r : Result (List MetaRecord) Unreadable) → RequestKeeps (begin_request r)
 begin_request_keeps (Ok records) = tt
@@ -88,7 +88,7 @@ asked_keeps s now d stage.WaitForQuorum = tt
 asked_keeps s now d stage.WaitForBrokers = tt
 asked_keeps s now d stage.CompareBrokers = tt
 asked_keeps s now d stage.Look = tt
-asked_keeps s now d (stage.Claim seen) = claim_keeps_lasting seen d now
+asked_keeps s now d (stage.Claim seen) = claim_keeps_shape seen d now
 asked_keeps s now d (stage.ReadSource rows) = tt
 asked_keeps s now d (stage.Begin rows) = begin_request_keeps (translate rows)
 asked_keeps s now d (stage.Fill records) = tt
@@ -372,7 +372,7 @@ written_by s d claim target x more last t from kept base current claimed elected
     let version = write_keeps_version s.tree t (image_at s.log target.offset) claim target made-is in
     let new : Shared = record s { tree = t } in
     let shown = write_keeps_shown s.tree t (image_at s.log target.offset) claim target made-is in
-    let after = shape_kept s.tree t (write_ops claim ops target) (multi_ran s.tree t (write_ops claim ops target) made-is) (write_keeps_lasting s.tree (image_at s.log target.offset) claim target) kept.tree in
+    let after = shape_kept s.tree t (write_ops claim ops target) (multi_ran s.tree t (write_ops claim ops target) made-is) (write_keeps_shape s.tree (image_at s.log target.offset) claim target) kept.tree in
     let now_current : Current new d = λ some. (let old = current some in (old.0 ∙ sym version, old.1)) in
     chosen new d.id (is_last_write ops) (record d { stage = last; recorded = Some target.offset }, reply.Recorded target.offset) (at_stage (more (drop max_chunk ops)) d, reply.Wrote (length (chunk ops)))
     (λ is.

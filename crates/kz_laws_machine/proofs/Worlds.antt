@@ -24,7 +24,7 @@ use Rattle.kz_spec_stores.specs.Log.{Log, end_of, image_at, max_epoch, full_log,
 use Rattle.kz_spec_stores.specs.Rendering.{render}
 use Rattle.kz_spec_machine.specs.Driver.{Shared, Driver, new_driver, elected_driver, is_one_of}
 use Rattle.kz_spec_machine.specs.Machine.{World, empty_world, running_ids, is_running, driver_of, with_driver, Turned, turn, work, decided, first_of, unless, over, full, running_refusal, leader_refusal, quorum_refusal, declared_world, start_refusal, started_world, election_records, next_epoch, elected_log, election_refusal, elected_world, election_answer, turn_result, change_refusal, changed_log, changed_world, with_tree, moved_world, is_held_tree, client_refusal, client_world, unless_refused, next}
-use Rattle.kz_spec_machine.specs.Sound.{IsId, IsTime, IsEpoch, IsEpochOrNone, TreeShape, LogShape, IsBatchEnd, Agreement, Kept, Aims, AtStage, Fine, IsLawful, IsChange}
+use Rattle.kz_spec_machine.specs.Sound.{IsId, IsTime, IsEpoch, IsEpochOrNone, TreeShape, LogShape, IsBatchEnd, Agreement, Kept, Aims, AtStage, Fine, IsLawful, IsChange, IsSession, IsLawfulOp}
 use Rattle.kz_laws_trees.specs.TreeLaws.{Unchanged}
 use Rattle.kz_laws_trees.proofs.Sessions.{begin_leaves, end_leaves}
 use Rattle.kz_laws_trees.proofs.Clients.{client_keeps_shape, client_leaves_recorded, client_leaves_held}
@@ -363,20 +363,23 @@ moved_kept : (w : World) (r : Result Tree MoveFault) → ((t : Tree) → r ≡ O
 moved_kept w (Ok t) made lone = made t refl
 moved_kept w (Err f) made lone = lone
 
-open_kept : (w : World) (session : ℤ) → Lone w → Lone (moved_world w (begin_session w.shared.tree session)).0
-open_kept w session lone = moved_kept w (begin_session w.shared.tree session) (λ t is. tree_unchanged w t (begin_leaves w.shared.tree t session is lone.kept.tree) lone) lone
+session_begun : (w : World) (t : Tree) {session : ℤ} → IsSession session → (IsSession session → TreeShape t) × Unchanged w.shared.tree t → Lone w → Lone (with_tree w t)
+session_begun w t range both lone = tree_unchanged w t (both.0 range, both.1) lone
+
+open_kept : (w : World) (session : ℤ) → IsSession session → Lone w → Lone (moved_world w (begin_session w.shared.tree session)).0
+open_kept w session range lone = moved_kept w (begin_session w.shared.tree session) (λ t is. session_begun w t range (begin_leaves w.shared.tree t session is lone.kept.tree) lone) lone
 
 expire_kept : (w : World) (session : ℤ) → Lone w → Lone (moved_world w (end_session w.shared.tree session)).0
 expire_kept w session lone = moved_kept w (end_session w.shared.tree session) (λ t is. tree_unchanged w t (end_leaves w.shared.tree t session is lone.kept.tree) lone) lone
 
-client_by : (w : World) (t : Tree) (ops : List Op) (b : Bool) → is_held_tree w.shared.tree ≡ b → multi w.shared.tree ops ≡ Ok t → client_refusal w.shared.tree ops ≡ None → Lone w → Lone (with_tree w t)
-client_by w t ops true held is none lone = tree_unchanged w t (client_keeps_shape w.shared.tree t ops is none lone.kept.tree, client_leaves_held w.shared.tree t ops is none held lone.kept.tree) lone
-client_by w t ops false free is none lone = tree_moved w t (client_keeps_shape w.shared.tree t ops is none lone.kept.tree)
+client_by : (w : World) (t : Tree) (ops : List Op) (b : Bool) → is_held_tree w.shared.tree ≡ b → multi w.shared.tree ops ≡ Ok t → client_refusal w.shared.tree ops ≡ None → All IsLawfulOp ops → Lone w → Lone (with_tree w t)
+client_by w t ops true held is none lawful lone = tree_unchanged w t (client_keeps_shape w.shared.tree t ops is none lawful lone.kept.tree, client_leaves_held w.shared.tree t ops is none held lone.kept.tree) lone
+client_by w t ops false free is none lawful lone = tree_moved w t (client_keeps_shape w.shared.tree t ops is none lawful lone.kept.tree)
     (agreement_unheld w.shared.tree t w.shared.log free (client_leaves_recorded w.shared.tree t ops is none) lone.kept.agreement) (λ d own. own_unheld w.shared t d free own) lone
 
-client_kept : (w : World) (ops : List Op) (r : Result Tree TreeFault) → multi w.shared.tree ops ≡ r → Lone w → client_refusal w.shared.tree ops ≡ None → Lone (client_world w r).0
-client_kept w ops (Ok t) is lone none = client_by w t ops (is_held_tree w.shared.tree) refl is none lone
-client_kept w ops (Err f) is lone none = lone
+client_kept : (w : World) (ops : List Op) (r : Result Tree TreeFault) → multi w.shared.tree ops ≡ r → All IsLawfulOp ops → Lone w → client_refusal w.shared.tree ops ≡ None → Lone (client_world w r).0
+client_kept w ops (Ok t) is lawful lone none = client_by w t ops (is_held_tree w.shared.tree) refl is none lawful lone
+client_kept w ops (Err f) is lawful lone none = lone
 
 unless_made : (P : World → Type 0) (w : World) (refusal : Option Answer) (rest : World × Answer) → P w → (refusal ≡ None → P rest.0) → P (unless_refused w refusal rest).0
 unless_made P w (Some a) rest old made = old
@@ -392,15 +395,26 @@ next_kept w (event.Elect id now) lawful lone = decided_kept Lone w (election_ref
 next_kept w (event.Turn id now) lawful lone = unless_kept Lone w (running_refusal w id) (turn_result w now (driver_of id w.drivers)) lone (turn_kept w id now (driver_of id w.drivers) lawful.1 lone refl)
 next_kept w (event.Change id records now) lawful lone = decided_kept Lone w (change_refusal w id records) (changed_world w records now) (answer.Appended (end_of (changed_log w.shared.log records now))) lone (change_kept w id records now lawful.2 lone)
 next_kept w event.Check lawful lone = lone
-next_kept w (event.ZkOpen session) lawful lone = open_kept w session lone
+next_kept w (event.ZkOpen session) lawful lone = open_kept w session lawful lone
 next_kept w (event.ZkExpire session) lawful lone = expire_kept w session lone
 next_kept w (event.Zk ops) lawful lone =
-    unless_made Lone w (client_refusal w.shared.tree ops) (client_world w (multi w.shared.tree ops)) lone (client_kept w ops (multi w.shared.tree ops) refl lone)
+    unless_made Lone w (client_refusal w.shared.tree ops) (client_world w (multi w.shared.tree ops)) lone (client_kept w ops (multi w.shared.tree ops) refl lawful.0 lone)
 
 pub empty_lone : Lone empty_world
 empty_lone = record {
   kept = record {
-    tree = record { rise = tt; parents = λ path there. absurd (cc); stamped = All-nil _; last = All-nil _; stay = λ path there up. absurd (cc) };
+    tree = record {
+      rise = tt;
+      named = All-nil _;
+      free = All-nil _;
+      parents = λ path there. absurd (cc);
+      stamped = All-nil _;
+      last = All-nil _;
+      stay = λ path there. absurd (cc);
+      live = tt;
+      least = All-nil _;
+      owned = All-nil _;
+    };
     agreement = record { held = λ r is low. absurd (cc); end = λ r is low. absurd (cc); same = λ r is closed. absurd (cc) };
     log = record {
       base = refl;

@@ -4,6 +4,7 @@ pub mod Runs
 pub mod Each
 pub mod Parents
 pub mod Below
+pub mod Free
 pub mod Lasting
 pub mod Render
 pub mod Multi

@@ -3,15 +3,15 @@
 //! A law is the contract of a function that does nothing.
 #![tactic(auto)]
 
-ghost use Rattle.kz_laws_trees.specs.TreeLaws.{MultiKeepsShape, ClaimKeepsLasting, WriteKeepsLasting, OutsideLeavesArea, WriteAppliesEdits, WriteLeavesRest, WriteKeepsClaim, WriteKeepsShown, LastWriteCompletes, EarlierWriteUnclosed, ClaimGivesVersion, ClaimShowsEpoch, ClaimLeavesArea, ClaimRecordsNone, BeginLeaves, EndLeaves, ClientKeepsShape, ClientLeavesRecorded, ClientLeavesHeld};
+ghost use Rattle.kz_laws_trees.specs.TreeLaws.{MultiKeepsShape, ClaimKeepsShape, WriteKeepsShape, OutsideLeavesArea, WriteAppliesEdits, WriteLeavesRest, WriteKeepsClaim, WriteKeepsShown, LastWriteCompletes, EarlierWriteUnclosed, ClaimGivesVersion, ClaimShowsEpoch, ClaimLeavesArea, ClaimRecordsNone, BeginLeaves, EndLeaves, ClientKeepsShape, ClientLeavesRecorded, ClientLeavesHeld};
 ghost use Rattle.kz_laws_trees.specs.LogLaws.{BatchLeavesImages, BatchLeavesEnds, BatchMovesEnd, BatchKeepsShape, AppendKeepsShape, EndIsLastBatchEnd, PlainKeepsState, CommitMigrates};
 
-/// A multi that isn't refused gives the tree the next zxid, and where it makes no znode that lasts end with a session it
-/// keeps the tree's shape, as claims and writes do; outside of the migrated area it leaves the area.
+/// A multi that isn't refused gives the tree the next zxid, and where no operation of it would spoil the
+/// tree's shape keeps that, as claims and writes do; outside of the migrated area it leaves the area.
 pub fn multi_keeps()
     ensures shape { MultiKeepsShape }
-    ensures claim { ClaimKeepsLasting }
-    ensures write { WriteKeepsLasting }
+    ensures claim { ClaimKeepsShape }
+    ensures write { WriteKeepsShape }
     ensures area { OutsideLeavesArea }
 {}
 

@@ -13,11 +13,13 @@ use Rattle.kz_types.specs.declared.machine.Event.TheVariants as event
 use Rattle.kz_types.specs.declared.record.MetaRecord.{MetaRecord}
 use Rattle.kz_types.specs.declared.record.MetaRecord.TheVariants as meta
 use Rattle.std.specs.Str.{bytes_eq}
-use Rattle.kz_types.specs.Paths.{base_paths, is_among, is_migrated}
+use Rattle.std.specs.Ordering.{int_cmp}
+use Rattle.std.specs.List.{list_any}
+use Rattle.kz_types.specs.Paths.{base_paths, control_paths, is_among, is_below, is_migrated, is_path}
 use Rattle.kz_ordered.specs.Order.{bytes_cmp}
 use Rattle.kz_ordered.specs.Ordered.{Rises}
 use Rattle.kz_spec_values.specs.Control.{control_path, epoch_path, migration_path, shown_epoch}
-use Rattle.kz_spec_stores.specs.Tree.{Tree, row_at, parent_of, is_root, has_parent, is_ephemeral, path_of_row, migrated_rows, area, recorded, unclosed, max_long}
+use Rattle.kz_spec_stores.specs.Tree.{Tree, row_at, parent_of, is_root, has_parent, is_ephemeral, may_own, path_of_row, migrated_rows, area, recorded, unclosed, max_long}
 use Rattle.kz_spec_stores.specs.Image.{empty_image, is_broker_config, is_migrated_state}
 use Rattle.kz_spec_stores.specs.Log.{Log, View, last_of, end_of, batch_ends, record_count, image_at, is_migrated_log, max_records, max_epoch}
 use Rattle.kz_spec_stores.specs.Rendering.{render}
@@ -69,18 +71,36 @@ is_lasting r = is_migrated r.path || is_among base_paths r.path || bytes_eq r.pa
 abbrev pub Lasts : Row → Type 0
 Lasts r = is_some r.owner ≡ true → is_lasting r ≡ false
 
--- no znode's parent, unless it is the root, ends with a session
+-- no znode's parent ends with a session
 abbrev pub ParentsStay : List Row → Type 0
-ParentsStay rows = (path : List ℕ) → is_some (row_at path rows) ≡ true → is_root (parent_of path) ≡ false → is_ephemeral (row_at (parent_of path) rows) ≡ false
+ParentsStay rows = (path : List ℕ) → is_some (row_at path rows) ≡ true → is_ephemeral (row_at (parent_of path) rows) ≡ false
 
--- The znodes rise by path, their parents are there, and their transactions are those of the tree. Those that end with a
--- session are no parents, and none of those that last.
+-- a znode isn't the root
+abbrev pub IsNamed : Row → Type 0
+IsNamed r = is_root r.path ≡ false
+
+-- a znode doesn't stand below one by which controllers find each other or record the migration
+abbrev pub IsFree : Row → Type 0
+IsFree r = list_any (λ control. is_below control r.path) control_paths ≡ false
+
+-- the owner of a znode, where it has one, is a live session
+abbrev pub IsOwned : List ℤ → Row → Type 0
+IsOwned sessions r = may_own r.owner sessions ≡ true
+
+-- The znodes rise by path, none of them is the root or stands below a control znode, their parents are there, and their
+-- transactions are those of the tree. Those that end with a session are no parents, and none of those that last. The
+-- sessions rise, each is at least 1, and no znode has another owner.
 pub record TreeShape (t : Tree) : Type 0 where
   pub rise : Rises bytes_cmp path_of_row t.rows
+  pub named : All IsNamed t.rows
+  pub free : All IsFree t.rows
   pub parents : HaveParents t.rows
   pub stamped : All (IsStamped t.zxid) t.rows
   pub last : All Lasts t.rows
   pub stay : ParentsStay t.rows
+  pub live : Rises int_cmp (λ s. s) t.sessions
+  pub least : All (λ s. pos 1 ≤ℤ s) t.sessions
+  pub owned : All (IsOwned t.sessions) t.rows
 
 -- each batch begins behind the one before it
 abbrev pub Follows : ℤ → List BatchRow → Type 0
@@ -251,12 +271,17 @@ abbrev pub IsOwner : Option ℤ → Type 0
 IsOwner None = ⊤
 IsOwner (Some session) = IsSession session
 
--- an operation whose owner is a session
+-- from -1, which stands for any, to the greatest of 32 bits
+pub record IsVersion (version : ℤ) : Type 0 where
+  pub least : negsuc 0 ≤ℤ version
+  pub most : version ≤ℤ pos 2147483647
+
+-- an operation whose path keeps the rule of paths, whose owner is a session, and whose version is in range
 abbrev pub IsLawfulOp : Op → Type 0
-IsLawfulOp (op.Create path body owner) = IsOwner owner
-IsLawfulOp (op.Set path body version) = ⊤
-IsLawfulOp (op.Delete path version) = ⊤
-IsLawfulOp (op.Check path version) = ⊤
+IsLawfulOp (op.Create path body owner) = (is_path path ≡ true) × IsOwner owner
+IsLawfulOp (op.Set path body version) = (is_path path ≡ true) × IsVersion version
+IsLawfulOp (op.Delete path version) = (is_path path ≡ true) × IsVersion version
+IsLawfulOp (op.Check path version) = (is_path path ≡ true) × IsVersion version
 
 -- An event as a line of a script gives it: ids and times are in range, one controller is declared, and a change has one
 -- member of the configuration of a broker.
