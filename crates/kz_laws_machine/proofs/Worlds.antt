@@ -404,6 +404,8 @@ pub empty_lone : Lone empty_world
 empty_lone = record {
   kept = record {
     tree = record {
+      zxid = record { least = omega (arith, ints); most = omega (arith, ints) };
+      limits = record { each = All-nil _; migrated = omega arith; others = omega arith };
       rise = tt;
       named = All-nil _;
       free = All-nil _;

@@ -6,6 +6,7 @@ pub mod Parents
 pub mod Below
 pub mod Free
 pub mod Lasting
+pub mod Limits
 pub mod Render
 pub mod Multi
 pub mod Later

@@ -27,7 +27,7 @@ use Rattle.kz_spec_stores.specs.Image.{Image}
 use Rattle.kz_spec_stores.specs.Rendering.{path_of_rendered, render}
 use Rattle.kz_spec_stores.specs.Difference.{same_body, op_of, diff, max_chunk, chunk}
 use Rattle.kz_spec_machine.specs.Driver.{is_last_write, record_ops, write_ops}
-use Rattle.kz_spec_machine.specs.Sound.{IsStamped, HaveParents, Lasts, ParentsStay, IsNamed, IsFree, IsOwned, TreeShape, claim_version}
+use Rattle.kz_spec_machine.specs.Sound.{IsStamped, HaveParents, Lasts, ParentsStay, IsNamed, IsFree, IsOwned, IsSmall, Limits, TreeShape, claim_version}
 use Rattle.kz_laws_trees.specs.TreeLaws.{path_of_op, KeepsShape, Completed}
 use Rattle.kz_laws_trees.proofs.Rows.{still, set_found}
 use Rattle.kz_laws_trees.proofs.Area.{area_of, area_rises, area_left}
@@ -36,6 +36,7 @@ use Rattle.kz_laws_trees.proofs.Each.{Keeps, all_ran, none_later}
 use Rattle.kz_laws_trees.proofs.Parents.{ran_parents}
 use Rattle.kz_laws_trees.proofs.Lasting.{lasts_keep, named_keep, free_keep, owned_keep, stays_everywhere, ran_stays}
 use Rattle.kz_laws_trees.proofs.Free.{migrated_free}
+use Rattle.kz_laws_trees.proofs.Limits.{small_keep, ran_counts}
 use Rattle.kz_laws_trees.proofs.Below.{not_empty}
 use Rattle.kz_laws_trees.proofs.Render.{decides_body, render_rises, render_inside, area_inside, difference_inside}
 
@@ -43,12 +44,23 @@ use Rattle.kz_laws_trees.proofs.Render.{decides_body, render_rises, render_insid
 
 pub record Ran (t new : Tree) (ops : List Op) : Type 0 where
   pub zxid : new.zxid ≡ t.zxid +ℤ pos 1
+  pub most : new.zxid ≤ℤ max_long
   pub sessions : new.sessions ≡ t.sessions
   pub rows : new.rows ≡ ran (t.zxid +ℤ pos 1) ops t.rows
   pub passes : Passes t.sessions (t.zxid +ℤ pos 1) ops t.rows
 
 abbrev counted_up : Tree → List Row → Bool → Result Tree TreeFault
 counted_up t rows full = if full then Err (fault.Limit 0 17) else Ok (record { zxid = t.zxid +ℤ pos 1; sessions = t.sessions; rows = rows })
+
+pub room_for_one : (a b : ℤ) → int_le max_long a ≡ false → b ≡ a +ℤ pos 1 → b ≤ℤ max_long
+room_for_one a b room is = subst (λ (z : ℤ). z ≤ℤ max_long) (sym is) (below_most a room)
+  where
+    below_most : (z : ℤ) → int_le max_long z ≡ false → (z +ℤ pos 1) ≤ℤ max_long
+    below_most z room = grind (arith, ints)
+
+not_full : (t new : Tree) (rows : List Row) (full : Bool) → counted_up t rows full ≡ Ok new → full ≡ false
+not_full t new rows true is = absurd (cc)
+not_full t new rows false is = refl
 
 counted_by : (t new : Tree) (rows : List Row) (full : Bool) → counted_up t rows full ≡ Ok new → (new.zxid ≡ t.zxid +ℤ pos 1) × (new.sessions ≡ t.sessions) × (new.rows ≡ rows)
 counted_by t new rows true is = absurd (cc)
@@ -63,6 +75,7 @@ made_by t new ops (Ok rows) ran-is is =
     let both = counted_by t new rows (int_le max_long t.zxid) is in
     record {
       zxid = both.0;
+      most = room_for_one t.zxid new.zxid (not_full t new rows (int_le max_long t.zxid) is) both.0;
       sessions = both.1;
       rows = both.2 ∙ ran_is t.sessions (t.zxid +ℤ pos 1) 0 ops t.rows rows ran-is;
       passes = passed t.sessions (t.zxid +ℤ pos 1) 0 ops t.rows rows ran-is;
@@ -87,12 +100,16 @@ stamped_later zxid r old = record {
   version = old.version;
 }
 
+pub one_more : (z : ℤ) → pos 0 ≤ℤ z → pos 0 ≤ℤ (z +ℤ pos 1)
+one_more z low = omega (arith, ints)
+
 -- a multi whose operations keep the shape of a tree
 pub shape_kept : (t new : Tree) (ops : List Op) → Ran t new ops → All KeepsShape ops → TreeShape t → TreeShape new
 shape_kept t new ops m shaped shape =
     let zxid = t.zxid +ℤ pos 1 in
     let named : All IsNamed (ran zxid ops t.rows) = all_ran IsNamed t.sessions zxid ops t.rows m.passes shaped (named_keep t.sessions zxid) shape.named in
     record {
+      zxid = record { least = subst (λ (z : ℤ). pos 0 ≤ℤ z) (sym m.zxid) (one_more t.zxid shape.zxid.least); most = m.most };
       rise = subst (Rises bytes_cmp path_of_row) (sym m.rows) (ran_rises zxid ops t.rows shape.rise);
       named = subst (All IsNamed) (sym m.rows) named;
       free = subst (All IsFree) (sym m.rows) (all_ran IsFree t.sessions zxid ops t.rows m.passes shaped (free_keep t.sessions zxid) shape.free);
@@ -106,6 +123,11 @@ shape_kept t new ops m shaped shape =
       least = subst (All (λ s. pos 1 ≤ℤ s)) (sym m.sessions) shape.least;
       owned = subst (λ (ss : List ℤ). All (IsOwned ss) new.rows) (sym m.sessions)
           (subst (All (IsOwned t.sessions)) (sym m.rows) (all_ran (IsOwned t.sessions) t.sessions zxid ops t.rows m.passes shaped (owned_keep t.sessions zxid) shape.owned));
+      limits = subst Limits (sym m.rows) (record {
+        each = all_ran IsSmall t.sessions zxid ops t.rows m.passes shaped (small_keep t.sessions zxid) shape.limits.each;
+        migrated = ran_counts true t.sessions zxid ops t.rows m.passes shape.rise shape.limits.migrated;
+        others = ran_counts false t.sessions zxid ops t.rows m.passes shape.rise shape.limits.others;
+      });
     }
 
 -- ---- paths that differ

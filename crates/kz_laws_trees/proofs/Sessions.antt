@@ -20,13 +20,14 @@ use Rattle.kz_ordered.proofs.Maps.{find-map, find-filter_absent, find-filter_fou
 use Rattle.kz_spec_values.specs.Control.{control_path, epoch_path, migration_path, shown_epoch}
 use Rattle.kz_spec_stores.specs.Tree.{Tree, path_of_row, row_at, parent_of, is_root, is_ephemeral, is_live, may_own, max_long, begin_session, is_owner, is_owned, loses_child, after_loss, without_owned, end_session}
 use Rattle.kz_spec_machine.specs.Driver.{shown_by}
-use Rattle.kz_spec_machine.specs.Sound.{IsStamped, HaveParents, is_lasting, Lasts, ParentsStay, IsNamed, IsFree, IsOwned, TreeShape, IsSession}
+use Rattle.kz_spec_machine.specs.Sound.{IsStamped, HaveParents, is_lasting, Lasts, ParentsStay, IsNamed, IsFree, IsOwned, IsSmall, Limits, TreeShape, IsSession}
 use Rattle.kz_laws_trees.specs.TreeLaws.{Unchanged}
 use Rattle.kz_laws_trees.proofs.Rows.{still}
 use Rattle.kz_laws_trees.proofs.Parents.{Is}
 use Rattle.kz_laws_trees.proofs.Each.{all_from_contains}
 use Rattle.kz_laws_trees.proofs.Below.{child_migrated}
-use Rattle.kz_laws_trees.proofs.Multi.{stamped_later}
+use Rattle.kz_laws_trees.proofs.Multi.{room_for_one, one_more, stamped_later}
+use Rattle.kz_laws_trees.proofs.Limits.{left_counts}
 use Rattle.kz_laws_trees.proofs.Unchanged.{Alike, unchanged_by}
 
 -- ---- one transaction more
@@ -34,15 +35,18 @@ use Rattle.kz_laws_trees.proofs.Unchanged.{Alike, unchanged_by}
 -- a tree with the next zxid, these sessions and these znodes
 pub record Moved (t new : Tree) (live : List ℤ) (made : List Row) : Type 0 where
   pub zxid : new.zxid ≡ t.zxid +ℤ pos 1
+  pub most : new.zxid ≤ℤ max_long
   pub sessions : new.sessions ≡ live
   pub rows : new.rows ≡ made
 
-moved_by : (t new : Tree) (sessions : List ℤ) (rows : List Row) (full : Bool) → (if full then Err (move_fault.Limit 17) else Ok (record { zxid = t.zxid +ℤ pos 1; sessions = sessions; rows = rows })) ≡ Ok new → Moved t new sessions rows
-moved_by t new sessions rows true is = absurd (cc)
-moved_by t new sessions rows false is =
+moved_by : (t new : Tree) (sessions : List ℤ) (rows : List Row) (full : Bool) → int_le max_long t.zxid ≡ full
+    → (if full then Err (move_fault.Limit 17) else Ok (record { zxid = t.zxid +ℤ pos 1; sessions = sessions; rows = rows })) ≡ Ok new → Moved t new sessions rows
+moved_by t new sessions rows true room is = absurd (cc)
+moved_by t new sessions rows false room is =
     let made : Tree = record { zxid = t.zxid +ℤ pos 1; sessions = sessions; rows = rows } in
     let same : made ≡ new = cc in
-    record { zxid = sym (ap (λ (x : Tree). x.zxid) same); sessions = sym (ap (λ (x : Tree). x.sessions) same); rows = sym (ap (λ (x : Tree). x.rows) same) }
+    let zxid : new.zxid ≡ t.zxid +ℤ pos 1 = sym (ap (λ (x : Tree). x.zxid) same) in
+    record { zxid = zxid; most = room_for_one t.zxid new.zxid room zxid; sessions = sym (ap (λ (x : Tree). x.sessions) same); rows = sym (ap (λ (x : Tree). x.rows) same) }
 
 unless_refused : (t new : Tree) (sessions : List ℤ) (rows : List Row) (b : Bool) (fault : MoveFault) (rest : Result Tree MoveFault) → (if b then Err fault else rest) ≡ Ok new → (rest ≡ Ok new → Moved t new sessions rows) → Moved t new sessions rows
 unless_refused t new sessions rows true fault rest is made = absurd (cc)
@@ -61,12 +65,12 @@ without_session session sessions = without int_cmp (λ s. s) session sessions
 
 begun : (t new : Tree) (session : ℤ) → begin_session t session ≡ Ok new → Moved t new (with_session session t.sessions) t.rows
 unfolding begin_session
-begun t new session is = unless_refused t new (with_session session t.sessions) t.rows (is_live session t.sessions) move_fault.Known _ is (moved_by t new (with_session session t.sessions) t.rows (int_le max_long t.zxid))
+begun t new session is = unless_refused t new (with_session session t.sessions) t.rows (is_live session t.sessions) move_fault.Known _ is (moved_by t new (with_session session t.sessions) t.rows (int_le max_long t.zxid) refl)
 
 ended : (t new : Tree) (session : ℤ) → end_session t session ≡ Ok new → Moved t new (without_session session t.sessions) (without_owned (t.zxid +ℤ pos 1) session t.rows)
 unfolding end_session
 ended t new session is = if_live t new (without_session session t.sessions) (without_owned (t.zxid +ℤ pos 1) session t.rows) (is_live session t.sessions) move_fault.Unknown _ is
-    (moved_by t new (without_session session t.sessions) (without_owned (t.zxid +ℤ pos 1) session t.rows) (int_le max_long t.zxid))
+    (moved_by t new (without_session session t.sessions) (without_owned (t.zxid +ℤ pos 1) session t.rows) (int_le max_long t.zxid) refl)
 
 -- ---- live sessions
 
@@ -121,6 +125,8 @@ least_without session xs all = all_from_contains (λ s. pos 1 ≤ℤ s) (without
 
 begun_shape : (t new : Tree) (session : ℤ) → Moved t new (with_session session t.sessions) t.rows → IsSession session → TreeShape t → TreeShape new
 begun_shape t new session m range shape = record {
+  zxid = record { least = subst (λ (z : ℤ). pos 0 ≤ℤ z) (sym m.zxid) (one_more t.zxid shape.zxid.least); most = m.most };
+  limits = subst Limits (sym m.rows) shape.limits;
   rise = subst (Rises bytes_cmp path_of_row) (sym m.rows) shape.rise;
   named = subst (All IsNamed) (sym m.rows) shape.named;
   free = subst (All IsFree) (sym m.rows) shape.free;
@@ -328,6 +334,10 @@ loss_free : (b : Bool) (zxid : ℤ) (r : Row) → IsFree r → IsFree (if b then
 loss_free true zxid r old = old
 loss_free false zxid r old = old
 
+loss_small : (b : Bool) (zxid : ℤ) (r : Row) → IsSmall r → IsSmall (if b then record r { pzxid = zxid } else r)
+loss_small true zxid r old = record { body = old.body; version = old.version }
+loss_small false zxid r old = old
+
 loss_owned : (b : Bool) (zxid : ℤ) (sessions : List ℤ) (r : Row) → IsOwned sessions r → IsOwned sessions (if b then record r { pzxid = zxid } else r)
 loss_owned true zxid sessions r old = old
 loss_owned false zxid sessions r old = old
@@ -357,6 +367,12 @@ ended_shape t new session m shape =
     let loss = after_loss zxid session t.rows in
     let left = filter (stays_on session) t.rows in
     record {
+      zxid = record { least = subst (λ (z : ℤ). pos 0 ≤ℤ z) (sym m.zxid) (one_more t.zxid shape.zxid.least); most = m.most };
+      limits = subst Limits (sym m.rows) (record {
+        each = loss_all IsSmall zxid session t.rows (λ r old. loss_small (loses_child session t.rows r.path) zxid r old) shape.limits.each;
+        migrated = left_counts true loss (stays_on session) t.rows (loss_path zxid session t.rows) shape.limits.migrated;
+        others = left_counts false loss (stays_on session) t.rows (loss_path zxid session t.rows) shape.limits.others;
+      });
       named = subst (All IsNamed) (sym m.rows) (loss_all IsNamed zxid session t.rows (λ r old. loss_named (loses_child session t.rows r.path) zxid r old) shape.named);
       free = subst (All IsFree) (sym m.rows) (loss_all IsFree zxid session t.rows (λ r old. loss_free (loses_child session t.rows r.path) zxid r old) shape.free);
       live = subst (Rises int_cmp (λ s. s)) (sym m.sessions) (Rises-without int_order (λ s. s) session t.sessions shape.live);

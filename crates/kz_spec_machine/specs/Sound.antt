@@ -1,6 +1,6 @@
 -- What is true of every world of a run. Each group of facts is a record over the values that it reads, so that what
 -- changes anything else keeps the group as it stands.
-use Rattle.std.specs.Prelude.{◌≡◌, ◌≢◌, ◌≤◌, ℕ, Bool, true, false, ◌&&◌, ◌||◌, ℤ, pos, negsuc, ◌+ℤ◌, ◌≤ℤ◌, List, [], ◌∷◌, ◌++◌, length, Option, Some, None, is_some, option_map, All, IsTrue, ⊤}
+use Rattle.std.specs.Prelude.{◌≡◌, ◌≢◌, ◌≤◌, ℕ, Bool, true, false, not, ◌&&◌, ◌||◌, ℤ, pos, negsuc, ◌+ℤ◌, ◌≤ℤ◌, List, [], ◌∷◌, ◌++◌, length, Option, Some, None, is_some, option_map, All, IsTrue, ⊤}
 use Rattle.kz_types.specs.declared.tree.Row.{Row}
 use Rattle.kz_types.specs.declared.tree.Op.{Op}
 use Rattle.kz_types.specs.declared.tree.Op.TheVariants as op
@@ -14,12 +14,12 @@ use Rattle.kz_types.specs.declared.record.MetaRecord.{MetaRecord}
 use Rattle.kz_types.specs.declared.record.MetaRecord.TheVariants as meta
 use Rattle.std.specs.Str.{bytes_eq}
 use Rattle.std.specs.Ordering.{int_cmp}
-use Rattle.std.specs.List.{list_any}
+use Rattle.std.specs.List.{list_any, count_by}
 use Rattle.kz_types.specs.Paths.{base_paths, control_paths, is_among, is_below, is_migrated, is_path}
 use Rattle.kz_ordered.specs.Order.{bytes_cmp}
 use Rattle.kz_ordered.specs.Ordered.{Rises}
 use Rattle.kz_spec_values.specs.Control.{control_path, epoch_path, migration_path, shown_epoch}
-use Rattle.kz_spec_stores.specs.Tree.{Tree, row_at, parent_of, is_root, has_parent, is_ephemeral, may_own, path_of_row, migrated_rows, area, recorded, unclosed, max_long}
+use Rattle.kz_spec_stores.specs.Tree.{Tree, row_at, parent_of, is_root, has_parent, is_ephemeral, may_own, path_of_row, migrated_rows, area, recorded, unclosed, max_body, max_znodes, max_version, max_long}
 use Rattle.kz_spec_stores.specs.Image.{empty_image, is_broker_config, is_migrated_state}
 use Rattle.kz_spec_stores.specs.Log.{Log, View, last_of, end_of, batch_ends, record_count, image_at, is_migrated_log, max_records, max_epoch}
 use Rattle.kz_spec_stores.specs.Rendering.{render}
@@ -87,10 +87,27 @@ IsFree r = list_any (λ control. is_below control r.path) control_paths ≡ fals
 abbrev pub IsOwned : List ℤ → Row → Type 0
 IsOwned sessions r = may_own r.owner sessions ≡ true
 
+-- the body and the data version of a znode keep their limits
+pub record IsSmall (r : Row) : Type 0 where
+  pub body : length r.body ≤ max_body
+  pub version : r.version ≤ℤ max_version
+
+-- The znodes keep the limits: each by itself, and the numbers of those of the migrated area and of all others.
+pub record Limits (rows : List Row) : Type 0 where
+  pub each : All IsSmall rows
+  pub migrated : count_by (λ (r : Row). is_migrated r.path) rows ≤ max_znodes
+  pub others : count_by (λ (r : Row). not (is_migrated r.path)) rows ≤ max_znodes
+
+-- from 0 to the greatest of 64 bits
+pub record IsZxid (zxid : ℤ) : Type 0 where
+  pub least : pos 0 ≤ℤ zxid
+  pub most : zxid ≤ℤ max_long
+
 -- The znodes rise by path, none of them is the root or stands below a control znode, their parents are there, and their
 -- transactions are those of the tree. Those that end with a session are no parents, and none of those that last. The
--- sessions rise, each is at least 1, and no znode has another owner.
+-- sessions rise, each is at least 1, and no znode has another owner. The limits are kept.
 pub record TreeShape (t : Tree) : Type 0 where
+  pub zxid : IsZxid t.zxid
   pub rise : Rises bytes_cmp path_of_row t.rows
   pub named : All IsNamed t.rows
   pub free : All IsFree t.rows
@@ -101,6 +118,7 @@ pub record TreeShape (t : Tree) : Type 0 where
   pub live : Rises int_cmp (λ s. s) t.sessions
   pub least : All (λ s. pos 1 ≤ℤ s) t.sessions
   pub owned : All (IsOwned t.sessions) t.rows
+  pub limits : Limits t.rows
 
 -- each batch begins behind the one before it
 abbrev pub Follows : ℤ → List BatchRow → Type 0
