@@ -4,7 +4,7 @@
 #![tactic(auto)]
 
 ghost use Rattle.kz_laws_trees.specs.TreeLaws.{MultiKeepsShape, ClaimKeepsShape, WriteKeepsShape, OutsideLeavesArea, WriteAppliesEdits, WriteLeavesRest, WriteKeepsClaim, WriteKeepsShown, LastWriteCompletes, EarlierWriteUnclosed, ClaimGivesVersion, ClaimShowsEpoch, ClaimLeavesArea, ClaimRecordsNone, BeginLeaves, EndLeaves, ClientKeepsShape, ClientLeavesRecorded, ClientLeavesHeld};
-ghost use Rattle.kz_laws_trees.specs.LogLaws.{BatchLeavesImages, BatchLeavesEnds, BatchMovesEnd, BatchKeepsShape, AppendKeepsShape, EndIsLastBatchEnd, PlainKeepsState, CommitMigrates};
+ghost use Rattle.kz_laws_trees.specs.LogLaws.{BatchLeavesImages, BatchLeavesEnds, BatchMovesEnd, BatchKeepsShape, AppendKeepsShape, EndIsLastBatchEnd, PlainKeepsState, UncommittedStays, CommitMigrates};
 
 /// A multi that isn't refused gives the tree the next zxid, and where no operation of it would spoil the
 /// tree's shape keeps that, as claims and writes do; outside of the migrated area it leaves the area.
@@ -64,8 +64,10 @@ pub fn log_keeps()
     ensures end { EndIsLastBatchEnd }
 {}
 
-/// The state of the migration changes by a record of it alone, once its transaction is ended.
+/// The state of the migration changes by a record of it alone, once its transaction is ended; a log is migrated by the commit
+/// alone.
 pub fn migration_state()
     ensures plain { PlainKeepsState }
+    ensures uncommitted { UncommittedStays }
     ensures commit { CommitMigrates }
 {}

@@ -142,9 +142,10 @@ pub record IsBatchEnd (l : Log) (offset : ℤ) : Type 0 where
   pub after : List ℤ
   pub among : batch_ends l ≡ before ++ offset ∷ after
 
--- What is recorded is a batch end, and a KRaft controller holds the tree then; where the tree is closed, its migrated area
--- is the rendering of the metadata there.
+-- While the log is migrated, and where an offset is recorded, a KRaft controller holds the tree. What is recorded is a batch
+-- end, and where the tree is closed, its migrated area is the rendering of the metadata there.
 pub record Agreement (t : Tree) (l : Log) : Type 0 where
+  pub holds : is_migrated_log l ≡ true → is_held_tree t ≡ true
   pub held : (r : Recorded) → recorded t ≡ Some r → pos 0 ≤ℤ r.offset → is_held_tree t ≡ true
   pub end : (r : Recorded) → recorded t ≡ Some r → pos 0 ≤ℤ r.offset → IsBatchEnd l r.offset
   pub same : (r : Recorded) → recorded t ≡ Some r → unclosed t ≡ None → area t ≡ render (image_at l r.offset)
@@ -229,10 +230,13 @@ abbrev pub IsConfig : MetaRecord → Type 0
 IsConfig (meta.Config c) = ⊤
 IsConfig r = ⊥
 
--- What holds at each stage, by cases. What is said of the tree is said of a current driver alone.
+-- What holds at each stage, by cases: a driver that migrates has a claim. What is said of the tree is said of a current
+-- driver alone.
 abbrev pub AtStage : Tree → Log → Driver → Stage → Type 0
 AtStage t l d (stage.Claim seen) = (r : Row) → seen.epoch ≡ Some r → pos 0 ≤ℤ r.version
-AtStage t l d (stage.Fill records) = All IsConfig records
+AtStage t l d (stage.ReadSource rows) = d.claim ≢ None
+AtStage t l d (stage.Begin rows) = d.claim ≢ None
+AtStage t l d (stage.Fill records) = (d.claim ≢ None) × All IsConfig records
 AtStage t l d stage.ReadLog = is_migrated_log l ≡ true
 AtStage t l d (stage.ReadArea target rows) = Aims target d.id d.epoch d.view × (IsCurrent t d.claim → Reads t rows)
 AtStage t l d (stage.WriteAll target ops) = Aims target d.id d.epoch d.view × (IsCurrent t d.claim → Writes t l target ops)
