@@ -85,20 +85,50 @@ pub multi_ran : (t new : Tree) (ops : List Op) → multi t ops ≡ Ok new → Ra
 unfolding multi
 multi_ran t new ops is = made_by t new ops (after_ops t.sessions (t.zxid +ℤ pos 1) 0 ops t.rows) refl is
 
-stamps_keep : (sessions : List ℤ) (zxid : ℤ) → Keeps (IsStamped zxid) sessions zxid
-stamps_keep sessions zxid = record {
-  made = λ path body owner rows pass shaped. record { created = omega (arith, ints); modified = omega (arith, ints); children = omega (arith, ints); version = omega (arith, ints) };
-  set = λ path body version r pass shaped key old. record { created = old.created; modified = omega (arith, ints); children = old.children; version = let low = old.version in omega (arith, ints) };
-  touched = λ r old. record { created = old.created; modified = old.modified; children = omega (arith, ints); version = old.version };
+stamps_keep : (sessions : List ℤ) (zxid : ℤ) → pos 1 ≤ℤ zxid → Keeps (IsStamped zxid) sessions zxid
+stamps_keep sessions zxid low = record {
+  made = λ path body owner rows pass shaped. record {
+    least = low;
+    modified_since = omega (arith, ints);
+    children_since = omega (arith, ints);
+    created = omega (arith, ints);
+    modified = omega (arith, ints);
+    children = omega (arith, ints);
+    version = omega (arith, ints);
+  };
+  set = λ path body version r pass shaped key old. record {
+    least = old.least;
+    modified_since = old.created;
+    children_since = old.children_since;
+    created = old.created;
+    modified = omega (arith, ints);
+    children = old.children;
+    version = let least = old.version in omega (arith, ints);
+  };
+  touched = λ r old. record {
+    least = old.least;
+    modified_since = old.modified_since;
+    children_since = old.created;
+    created = old.created;
+    modified = old.modified;
+    children = omega (arith, ints);
+    version = old.version;
+  };
 }
 
 pub stamped_later : (zxid : ℤ) (r : Row) → IsStamped zxid r → IsStamped (zxid +ℤ pos 1) r
 stamped_later zxid r old = record {
+  least = old.least;
+  modified_since = old.modified_since;
+  children_since = old.children_since;
   created = let a = old.created in omega (arith, ints);
   modified = let a = old.modified in omega (arith, ints);
   children = let a = old.children in omega (arith, ints);
   version = old.version;
 }
+
+first_or_later : (z : ℤ) → pos 0 ≤ℤ z → pos 1 ≤ℤ (z +ℤ pos 1)
+first_or_later z low = omega (arith, ints)
 
 pub one_more : (z : ℤ) → pos 0 ≤ℤ z → pos 0 ≤ℤ (z +ℤ pos 1)
 one_more z low = omega (arith, ints)
@@ -115,7 +145,7 @@ shape_kept t new ops m shaped shape =
       free = subst (All IsFree) (sym m.rows) (all_ran IsFree t.sessions zxid ops t.rows m.passes shaped (free_keep t.sessions zxid) shape.free);
       parents = subst HaveParents (sym m.rows) (ran_parents t.sessions zxid ops t.rows m.passes shape.rise shape.parents);
       stamped = subst (λ (z : ℤ). All (IsStamped z) new.rows) (sym m.zxid) (subst (All (IsStamped zxid)) (sym m.rows)
-          (all_ran (IsStamped zxid) t.sessions zxid ops t.rows m.passes shaped (stamps_keep t.sessions zxid) (All-weaker (IsStamped t.zxid) (IsStamped zxid) (stamped_later t.zxid) t.rows shape.stamped)));
+          (all_ran (IsStamped zxid) t.sessions zxid ops t.rows m.passes shaped (stamps_keep t.sessions zxid (first_or_later t.zxid shape.zxid.least)) (All-weaker (IsStamped t.zxid) (IsStamped zxid) (stamped_later t.zxid) t.rows shape.stamped)));
       last = subst (All Lasts) (sym m.rows) (all_ran Lasts t.sessions zxid ops t.rows m.passes shaped (lasts_keep t.sessions zxid) shape.last);
       stay = subst ParentsStay (sym m.rows)
           (stays_everywhere (ran zxid ops t.rows) named (ran_stays t.sessions zxid ops t.rows m.passes shape.rise shape.parents (λ path there up. shape.stay path there)));

@@ -305,7 +305,16 @@ parent_by true there now is kept = refl
 parent_by false there now is kept = kept refl is
 
 loss_stamped : (b : Bool) (zxid : ℤ) (r : Row) → IsStamped zxid r → IsStamped (zxid +ℤ pos 1) (if b then record r { pzxid = zxid +ℤ pos 1 } else r)
-loss_stamped true zxid r old = let later = stamped_later zxid r old in record { created = later.created; modified = later.modified; children = omega (arith, ints); version = later.version }
+loss_stamped true zxid r old = let later = stamped_later zxid r old in
+    record {
+      least = old.least;
+      modified_since = old.modified_since;
+      children_since = later.created;
+      created = later.created;
+      modified = later.modified;
+      children = omega (arith, ints);
+      version = later.version;
+    }
 loss_stamped false zxid r old = stamped_later zxid r old
 
 loss_lasts : (b : Bool) (zxid : ℤ) (r : Row) → Lasts r → Lasts (if b then record r { pzxid = zxid } else r)

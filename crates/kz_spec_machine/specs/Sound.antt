@@ -50,8 +50,12 @@ pub record IsTime (now : ℤ) : Type 0 where
 
 -- ---- the tree and the log
 
--- no transaction of a znode is above the tree's last one, and its version isn't negative
+-- A znode was made by a transaction from the first one on, and was written and had its children changed by none before that;
+-- none of the three is above the tree's last one. Its version isn't negative.
 pub record IsStamped (zxid : ℤ) (r : Row) : Type 0 where
+  pub least : pos 1 ≤ℤ r.czxid
+  pub modified_since : r.czxid ≤ℤ r.mzxid
+  pub children_since : r.czxid ≤ℤ r.pzxid
   pub created : r.czxid ≤ℤ zxid
   pub modified : r.mzxid ≤ℤ zxid
   pub children : r.pzxid ≤ℤ zxid
