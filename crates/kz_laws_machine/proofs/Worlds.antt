@@ -437,7 +437,7 @@ empty_lone = record {
       zxid = record { least = omega (arith, ints); most = omega (arith, ints) };
       limits = record { each = All-nil _; migrated = omega arith; others = omega arith };
       rise = tt;
-      named = All-nil _;
+      not_root = All-nil _;
       free = All-nil _;
       parents = λ path there. absurd (cc);
       stamped = All-nil _;

@@ -120,27 +120,27 @@ claim_gives_version t new seen d now low is =
 
 -- where a znode without an owner may stand
 record Standable (path : List ℕ) : Type 0 where
-  named : is_root path ≡ false
+  not_root : is_root path ≡ false
   free : list_any (λ control. is_below control path) control_paths ≡ false
 
 unowned : (path body : List ℕ) → Standable path → KeepsShape (Create path body None)
-unowned path body at = record { named = at.named; free = at.free; last = λ owned. absurd (cc) }
+unowned path body at = record { not_root = at.not_root; free = at.free; last = λ owned. absurd (cc) }
 
 control_standable : Standable control_path
 unfolding control_paths
-control_standable = record { named = refl; free = refl }
+control_standable = record { not_root = refl; free = refl }
 
 epoch_standable : Standable epoch_path
 unfolding control_paths
-epoch_standable = record { named = refl; free = refl }
+epoch_standable = record { not_root = refl; free = refl }
 
 migration_standable : Standable migration_path
 unfolding control_paths
-migration_standable = record { named = refl; free = refl }
+migration_standable = record { not_root = refl; free = refl }
 
 bases_standable : All Standable base_paths
 unfolding control_paths base_paths
-bases_standable = All-from_recursion Standable base_paths (record { named = refl; free = refl }, (record { named = refl; free = refl }, (record { named = refl; free = refl }, (record { named = refl; free = refl }, (record { named = refl; free = refl }, tt)))))
+bases_standable = All-from_recursion Standable base_paths (record { not_root = refl; free = refl }, (record { not_root = refl; free = refl }, (record { not_root = refl; free = refl }, (record { not_root = refl; free = refl }, (record { not_root = refl; free = refl }, tt)))))
 
 epoch_keeps : (seen : Option Row) → KeepsShape (epoch_op seen)
 epoch_keeps None = unowned epoch_path (written_epoch (pos 1)) epoch_standable

@@ -114,7 +114,7 @@ one_keeps : (o : Op) → IsLawfulOp o → is_reserved o ≡ false → KeepsShape
 one_keeps (Create path body owner) lawful is =
     let parts = create_parts path body owner is in
     record {
-      named = not_root path lawful.0;
+      not_root = not_root path lawful.0;
       free = parts.2;
       last = λ owned. none_lasts (is_some owner) (bytes_eq path epoch_path) (is_migrated path) (is_among base_paths path) (bytes_eq path migration_path) (bytes_eq path control_path && is_some (shown_epoch body)) owned parts.1 parts.0 parts.3;
     }

@@ -14,7 +14,7 @@ use Rattle.kz_ordered.proofs.Order.{bytes_order}
 use Rattle.kz_ordered.proofs.Lookup.{found_is_contained, key_of_found}
 use Rattle.kz_spec_values.specs.Control.{control_path, epoch_path, migration_path, shown_epoch}
 use Rattle.kz_spec_stores.specs.Tree.{path_of_row, row_at, parent_of, is_root, has_parent, is_ephemeral, may_own, count_beside, limit_beside, max_body, max_znodes, Refusal, code, limit, create_refusal, op_refusal, after_set, after_op}
-use Rattle.kz_spec_machine.specs.Sound.{HaveParents, Lasts, ParentsStay, IsNamed, IsFree, IsOwned}
+use Rattle.kz_spec_machine.specs.Sound.{HaveParents, Lasts, ParentsStay, IsNotRoot, IsUnreserved, IsOwned}
 use Rattle.kz_laws_trees.specs.TreeLaws.{path_of_op}
 use Rattle.kz_laws_trees.proofs.Rows.{still, same, other, compare, others_kept, op_rises, set_found, deleted_found}
 use Rattle.kz_laws_trees.proofs.Runs.{ran, Passes}
@@ -43,10 +43,10 @@ lasts_keep sessions zxid = record {
 
 -- ---- what depends on the path alone, and on the owner
 
-pub named_keep : (sessions : List ℤ) (zxid : ℤ) → Keeps IsNamed sessions zxid
-named_keep sessions zxid = record { made = λ path body owner rows pass shaped. shaped.named; set = λ path body version r pass shaped key old. old; touched = λ r old. old }
+pub not_root_keep : (sessions : List ℤ) (zxid : ℤ) → Keeps IsNotRoot sessions zxid
+not_root_keep sessions zxid = record { made = λ path body owner rows pass shaped. shaped.not_root; set = λ path body version r pass shaped key old. old; touched = λ r old. old }
 
-pub free_keep : (sessions : List ℤ) (zxid : ℤ) → Keeps IsFree sessions zxid
+pub free_keep : (sessions : List ℤ) (zxid : ℤ) → Keeps IsUnreserved sessions zxid
 free_keep sessions zxid = record { made = λ path body owner rows pass shaped. shaped.free; set = λ path body version r pass shaped key old. old; touched = λ r old. old }
 
 may_own_first : (sessions : List ℤ) (path body : List ℕ) (owner : Option ℤ) (rows : List Row) → create_refusal sessions path body owner rows ≡ None → may_own owner sessions ≡ true
@@ -69,17 +69,17 @@ owned_keep sessions zxid = record {
 abbrev pub StayBelowRoot : List Row → Type 0
 StayBelowRoot rows = (path : List ℕ) → Is path rows → is_root (parent_of path) ≡ false → is_ephemeral (row_at (parent_of path) rows) ≡ false
 
-none_at_root : (q : List ℕ) (rows : List Row) (m : Option Row) → All IsNamed rows → is_root q ≡ true → row_at q rows ≡ m → is_ephemeral m ≡ false
-none_at_root q rows None named root is = refl
-none_at_root q rows (Some r) named root is =
-    absurd (let own = All-contains IsNamed rows r named (found_is_contained bytes_order path_of_row q rows r is) in let same_root = ap is_root (key_of_found bytes_order path_of_row q rows r is) in cc)
+none_at_root : (q : List ℕ) (rows : List Row) (m : Option Row) → All IsNotRoot rows → is_root q ≡ true → row_at q rows ≡ m → is_ephemeral m ≡ false
+none_at_root q rows None apart root is = refl
+none_at_root q rows (Some r) apart root is =
+    absurd (let own = All-contains IsNotRoot rows r apart (found_is_contained bytes_order path_of_row q rows r is) in let same_root = ap is_root (key_of_found bytes_order path_of_row q rows r is) in cc)
 
 -- no znode is the root, so that none of their parents ends with a session
-pub stays_everywhere : (rows : List Row) → All IsNamed rows → StayBelowRoot rows → ParentsStay rows
-stays_everywhere rows named stay p there = by_root (is_root (parent_of p)) refl
+pub stays_everywhere : (rows : List Row) → All IsNotRoot rows → StayBelowRoot rows → ParentsStay rows
+stays_everywhere rows apart stay p there = by_root (is_root (parent_of p)) refl
   where
     by_root : (b : Bool) → is_root (parent_of p) ≡ b → is_ephemeral (row_at (parent_of p) rows) ≡ false
-    by_root true root = none_at_root (parent_of p) rows (row_at (parent_of p) rows) named root refl
+    by_root true root = none_at_root (parent_of p) rows (row_at (parent_of p) rows) apart root refl
     by_root false up = stay p there up
 
 ephemeral_still : (m : Option Row) → is_ephemeral (option_map still m) ≡ is_ephemeral m

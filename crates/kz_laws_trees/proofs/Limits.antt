@@ -14,7 +14,7 @@ use Rattle.kz_ordered.specs.Ordered.{Rises}
 use Rattle.kz_ordered.proofs.Order.{bytes_order, below, equal, above, place, cmp_equal, cmp_greater, is_eq_same, is_eq_other, less_differs, less_differs_back}
 use Rattle.kz_ordered.proofs.Lookup.{some_is_none, key_of_found, find_skip, find_below_first, rest_rises}
 use Rattle.kz_spec_stores.specs.Tree.{path_of_row, row_at, put_row, without_row, parent_of, has_parent, is_ephemeral, may_own, fits_version, count_beside, limit_beside, max_body, max_znodes, max_version, Refusal, code, limit, create_refusal, set_refusal, op_refusal, created_row, set_row, touched, after_set, after_op}
-use Rattle.kz_spec_machine.specs.Sound.{IsSmall, Limits}
+use Rattle.kz_spec_machine.specs.Sound.{IsSmall}
 use Rattle.kz_laws_trees.proofs.Rows.{op_rises}
 use Rattle.kz_laws_trees.proofs.Runs.{ran, Passes}
 use Rattle.kz_laws_trees.proofs.Each.{Keeps}

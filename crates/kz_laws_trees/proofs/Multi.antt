@@ -27,14 +27,14 @@ use Rattle.kz_spec_stores.specs.Image.{Image}
 use Rattle.kz_spec_stores.specs.Rendering.{path_of_rendered, render}
 use Rattle.kz_spec_stores.specs.Difference.{same_body, op_of, diff, max_chunk, chunk}
 use Rattle.kz_spec_machine.specs.Driver.{is_last_write, record_ops, write_ops}
-use Rattle.kz_spec_machine.specs.Sound.{IsStamped, HaveParents, Lasts, ParentsStay, IsNamed, IsFree, IsOwned, IsSmall, Limits, TreeShape, claim_version}
+use Rattle.kz_spec_machine.specs.Sound.{IsStamped, HaveParents, Lasts, ParentsStay, IsNotRoot, IsUnreserved, IsOwned, IsSmall, Limits, TreeShape, claim_version}
 use Rattle.kz_laws_trees.specs.TreeLaws.{path_of_op, KeepsShape, Completed}
 use Rattle.kz_laws_trees.proofs.Rows.{still, set_found}
 use Rattle.kz_laws_trees.proofs.Area.{area_of, area_rises, area_left}
 use Rattle.kz_laws_trees.proofs.Runs.{ran, Passes, passed, ran_is, ran_append, passes_left, passes_right, ran_rises, Avoids, avoids_append, ran_keeps, Inside, Outside, area_ran, area_ran_left, inside_take, avoids_inside}
 use Rattle.kz_laws_trees.proofs.Each.{Keeps, all_ran, none_later}
 use Rattle.kz_laws_trees.proofs.Parents.{ran_parents}
-use Rattle.kz_laws_trees.proofs.Lasting.{lasts_keep, named_keep, free_keep, owned_keep, stays_everywhere, ran_stays}
+use Rattle.kz_laws_trees.proofs.Lasting.{lasts_keep, not_root_keep, free_keep, owned_keep, stays_everywhere, ran_stays}
 use Rattle.kz_laws_trees.proofs.Free.{migrated_free}
 use Rattle.kz_laws_trees.proofs.Limits.{small_keep, ran_counts}
 use Rattle.kz_laws_trees.proofs.Below.{not_empty}
@@ -137,18 +137,18 @@ one_more z low = omega (arith, ints)
 pub shape_kept : (t new : Tree) (ops : List Op) → Ran t new ops → All KeepsShape ops → TreeShape t → TreeShape new
 shape_kept t new ops m shaped shape =
     let zxid = t.zxid +ℤ pos 1 in
-    let named : All IsNamed (ran zxid ops t.rows) = all_ran IsNamed t.sessions zxid ops t.rows m.passes shaped (named_keep t.sessions zxid) shape.named in
+    let not_root : All IsNotRoot (ran zxid ops t.rows) = all_ran IsNotRoot t.sessions zxid ops t.rows m.passes shaped (not_root_keep t.sessions zxid) shape.not_root in
     record {
       zxid = record { least = subst (λ (z : ℤ). pos 0 ≤ℤ z) (sym m.zxid) (one_more t.zxid shape.zxid.least); most = m.most };
       rise = subst (Rises bytes_cmp path_of_row) (sym m.rows) (ran_rises zxid ops t.rows shape.rise);
-      named = subst (All IsNamed) (sym m.rows) named;
-      free = subst (All IsFree) (sym m.rows) (all_ran IsFree t.sessions zxid ops t.rows m.passes shaped (free_keep t.sessions zxid) shape.free);
+      not_root = subst (All IsNotRoot) (sym m.rows) not_root;
+      free = subst (All IsUnreserved) (sym m.rows) (all_ran IsUnreserved t.sessions zxid ops t.rows m.passes shaped (free_keep t.sessions zxid) shape.free);
       parents = subst HaveParents (sym m.rows) (ran_parents t.sessions zxid ops t.rows m.passes shape.rise shape.parents);
       stamped = subst (λ (z : ℤ). All (IsStamped z) new.rows) (sym m.zxid) (subst (All (IsStamped zxid)) (sym m.rows)
           (all_ran (IsStamped zxid) t.sessions zxid ops t.rows m.passes shaped (stamps_keep t.sessions zxid (first_or_later t.zxid shape.zxid.least)) (All-weaker (IsStamped t.zxid) (IsStamped zxid) (stamped_later t.zxid) t.rows shape.stamped)));
       last = subst (All Lasts) (sym m.rows) (all_ran Lasts t.sessions zxid ops t.rows m.passes shaped (lasts_keep t.sessions zxid) shape.last);
       stay = subst ParentsStay (sym m.rows)
-          (stays_everywhere (ran zxid ops t.rows) named (ran_stays t.sessions zxid ops t.rows m.passes shape.rise shape.parents (λ path there up. shape.stay path there)));
+          (stays_everywhere (ran zxid ops t.rows) not_root (ran_stays t.sessions zxid ops t.rows m.passes shape.rise shape.parents (λ path there up. shape.stay path there)));
       live = subst (Rises int_cmp (λ s. s)) (sym m.sessions) shape.live;
       least = subst (All (λ s. pos 1 ≤ℤ s)) (sym m.sessions) shape.least;
       owned = subst (λ (ss : List ℤ). All (IsOwned ss) new.rows) (sym m.sessions)
@@ -241,7 +241,7 @@ not_control p false is inside = refl
 edits_keep : (es : List (Edit Rendered (List ℕ))) → Inside es → All KeepsShape (map op_of es)
 edits_keep [] inside = All-nil KeepsShape
 edits_keep (drop_key p ∷ es) inside = All-cons KeepsShape (op_of (drop_key p)) (map op_of es) tt (edits_keep es inside.1)
-edits_keep (make r ∷ es) inside = All-cons KeepsShape (op_of (make r)) (map op_of es) (record { named = not_empty r.path inside.0; free = migrated_free r.path inside.0; last = λ owned. absurd (cc) }) (edits_keep es inside.1)
+edits_keep (make r ∷ es) inside = All-cons KeepsShape (op_of (make r)) (map op_of es) (record { not_root = not_empty r.path inside.0; free = migrated_free r.path inside.0; last = λ owned. absurd (cc) }) (edits_keep es inside.1)
 edits_keep (alter r ∷ es) inside =
     All-cons KeepsShape (op_of (alter r)) (map op_of es) (ap (λ b. b && is_some (shown_epoch r.body)) (not_control r.path (bytes_eq r.path control_path) refl inside.0)) (edits_keep es inside.1)
 

@@ -20,7 +20,7 @@ use Rattle.kz_ordered.proofs.Maps.{find-map, find-filter_absent, find-filter_fou
 use Rattle.kz_spec_values.specs.Control.{control_path, epoch_path, migration_path, shown_epoch}
 use Rattle.kz_spec_stores.specs.Tree.{Tree, path_of_row, row_at, parent_of, is_root, is_ephemeral, is_live, may_own, max_long, begin_session, is_owner, is_owned, loses_child, after_loss, without_owned, end_session}
 use Rattle.kz_spec_machine.specs.Driver.{shown_by}
-use Rattle.kz_spec_machine.specs.Sound.{IsStamped, HaveParents, is_lasting, Lasts, ParentsStay, IsNamed, IsFree, IsOwned, IsSmall, Limits, TreeShape, IsSession}
+use Rattle.kz_spec_machine.specs.Sound.{IsStamped, HaveParents, is_lasting, Lasts, ParentsStay, IsNotRoot, IsUnreserved, IsOwned, IsSmall, Limits, TreeShape, IsSession}
 use Rattle.kz_laws_trees.specs.TreeLaws.{Unchanged}
 use Rattle.kz_laws_trees.proofs.Rows.{still}
 use Rattle.kz_laws_trees.proofs.Parents.{Is}
@@ -128,8 +128,8 @@ begun_shape t new session m range shape = record {
   zxid = record { least = subst (λ (z : ℤ). pos 0 ≤ℤ z) (sym m.zxid) (one_more t.zxid shape.zxid.least); most = m.most };
   limits = subst Limits (sym m.rows) shape.limits;
   rise = subst (Rises bytes_cmp path_of_row) (sym m.rows) shape.rise;
-  named = subst (All IsNamed) (sym m.rows) shape.named;
-  free = subst (All IsFree) (sym m.rows) shape.free;
+  not_root = subst (All IsNotRoot) (sym m.rows) shape.not_root;
+  free = subst (All IsUnreserved) (sym m.rows) shape.free;
   parents = subst HaveParents (sym m.rows) shape.parents;
   stamped = subst (λ (z : ℤ). All (IsStamped z) new.rows) (sym m.zxid) (subst (All (IsStamped (t.zxid +ℤ pos 1))) (sym m.rows) (All-weaker (IsStamped t.zxid) (IsStamped (t.zxid +ℤ pos 1)) (stamped_later t.zxid) t.rows shape.stamped));
   last = subst (All Lasts) (sym m.rows) shape.last;
@@ -335,11 +335,11 @@ ended_stay : (zxid session : ℤ) (rows : List Row) → Rises bytes_cmp path_of_
 ended_stay zxid session rows rise stay p there =
     ap is_ephemeral (found_after zxid session (parent_of p) rows rise) ∙ free_after zxid session rows (row_at (parent_of p) rows) (stay p (there_before zxid session p rows rise there))
 
-loss_named : (b : Bool) (zxid : ℤ) (r : Row) → IsNamed r → IsNamed (if b then record r { pzxid = zxid } else r)
-loss_named true zxid r old = old
-loss_named false zxid r old = old
+loss_not_root : (b : Bool) (zxid : ℤ) (r : Row) → IsNotRoot r → IsNotRoot (if b then record r { pzxid = zxid } else r)
+loss_not_root true zxid r old = old
+loss_not_root false zxid r old = old
 
-loss_free : (b : Bool) (zxid : ℤ) (r : Row) → IsFree r → IsFree (if b then record r { pzxid = zxid } else r)
+loss_free : (b : Bool) (zxid : ℤ) (r : Row) → IsUnreserved r → IsUnreserved (if b then record r { pzxid = zxid } else r)
 loss_free true zxid r old = old
 loss_free false zxid r old = old
 
@@ -382,8 +382,8 @@ ended_shape t new session m shape =
         migrated = left_counts true loss (stays_on session) t.rows (loss_path zxid session t.rows) shape.limits.migrated;
         others = left_counts false loss (stays_on session) t.rows (loss_path zxid session t.rows) shape.limits.others;
       });
-      named = subst (All IsNamed) (sym m.rows) (loss_all IsNamed zxid session t.rows (λ r old. loss_named (loses_child session t.rows r.path) zxid r old) shape.named);
-      free = subst (All IsFree) (sym m.rows) (loss_all IsFree zxid session t.rows (λ r old. loss_free (loses_child session t.rows r.path) zxid r old) shape.free);
+      not_root = subst (All IsNotRoot) (sym m.rows) (loss_all IsNotRoot zxid session t.rows (λ r old. loss_not_root (loses_child session t.rows r.path) zxid r old) shape.not_root);
+      free = subst (All IsUnreserved) (sym m.rows) (loss_all IsUnreserved zxid session t.rows (λ r old. loss_free (loses_child session t.rows r.path) zxid r old) shape.free);
       live = subst (Rises int_cmp (λ s. s)) (sym m.sessions) (Rises-without int_order (λ s. s) session t.sessions shape.live);
       least = subst (All (λ s. pos 1 ≤ℤ s)) (sym m.sessions) (least_without session t.sessions shape.least);
       owned = subst (λ (ss : List ℤ). All (IsOwned ss) new.rows) (sym m.sessions) (subst (All (IsOwned (without_session session t.sessions))) (sym m.rows) (ended_owned zxid session t.sessions t.rows shape.owned));

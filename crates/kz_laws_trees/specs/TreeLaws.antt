@@ -16,7 +16,7 @@ use Rattle.kz_spec_stores.specs.Rendering.{path_of_rendered, render}
 use Rattle.kz_spec_stores.specs.Difference.{same_body, diff, max_chunk}
 use Rattle.kz_spec_machine.specs.Driver.{Driver, epoch_or_zero, views_migrated, unrecorded, is_last_write, write_ops, claimed_version, claim_ops}
 use Rattle.kz_spec_machine.specs.Machine.{is_held_tree, client_refusal}
-use Rattle.kz_spec_machine.specs.Sound.{IsNamed, IsFree, Lasts, TreeShape, claim_version, shown_in, IsSession, IsLawfulOp}
+use Rattle.kz_spec_machine.specs.Sound.{IsNotRoot, IsUnreserved, Lasts, TreeShape, claim_version, shown_in, IsSession, IsLawfulOp}
 use Rattle.kz_laws_values.specs.Ranges.{IsLong, IsEpoch}
 
 -- the path of an operation
@@ -31,8 +31,8 @@ path_of_op (Check path version) = path
 -- A znode that may stand in a tree: it isn't the root, it doesn't stand below a control znode, and where it lasts it doesn't
 -- end with a session.
 pub record MayStand (r : Row) : Type 0 where
-  pub named : IsNamed r
-  pub free : IsFree r
+  pub not_root : IsNotRoot r
+  pub free : IsUnreserved r
   pub last : Lasts r
 
 -- An operation that keeps the shape of a tree: a create is of a znode that may stand, and no set gives `/controller` the body

@@ -6,8 +6,8 @@
 ghost use Rattle.kz_laws_trees.specs.TreeLaws.{MultiKeepsShape, ClaimKeepsShape, WriteKeepsShape, OutsideLeavesArea, WriteAppliesEdits, WriteLeavesRest, WriteKeepsClaim, WriteKeepsShown, LastWriteCompletes, EarlierWriteUnclosed, ClaimGivesVersion, ClaimShowsEpoch, ClaimLeavesArea, ClaimRecordsNone, BeginLeaves, EndLeaves, ClientKeepsShape, ClientLeavesRecorded, ClientLeavesHeld};
 ghost use Rattle.kz_laws_trees.specs.LogLaws.{BatchLeavesImages, BatchLeavesEnds, BatchMovesEnd, BatchKeepsShape, AppendKeepsShape, EndIsLastBatchEnd, PlainKeepsState, UncommittedStays, CommitMigrates};
 
-/// A multi that isn't refused gives the tree the next zxid, and where no operation of it would spoil the
-/// tree's shape keeps that, as claims and writes do; outside of the migrated area it leaves the area.
+/// A multi that isn't refused gives the tree the next zxid, and keeps the tree's shape where each of its operations is one that
+/// does, as those of claims and writes are; outside of the migrated area it leaves the area.
 pub fn multi_keeps()
     ensures shape { MultiKeepsShape }
     ensures claim { ClaimKeepsShape }
@@ -42,7 +42,7 @@ pub fn session_leaves()
     ensures end { EndLeaves }
 {}
 
-/// A multi of a ZooKeeper client that isn't refused keeps the tree's shape and what is recorded; while a KRaft controller
+/// A multi of a ZooKeeper client that isn't refused keeps the tree's shape, if its operations are in range, and what is recorded; while a KRaft controller
 /// holds the tree it leaves all that a driver rests on.
 pub fn client_leaves()
     ensures shape { ClientKeepsShape }

@@ -80,12 +80,12 @@ abbrev pub ParentsStay : List Row → Type 0
 ParentsStay rows = (path : List ℕ) → is_some (row_at path rows) ≡ true → is_ephemeral (row_at (parent_of path) rows) ≡ false
 
 -- a znode isn't the root
-abbrev pub IsNamed : Row → Type 0
-IsNamed r = is_root r.path ≡ false
+abbrev pub IsNotRoot : Row → Type 0
+IsNotRoot r = is_root r.path ≡ false
 
 -- a znode doesn't stand below one by which controllers find each other or record the migration
-abbrev pub IsFree : Row → Type 0
-IsFree r = list_any (λ control. is_below control r.path) control_paths ≡ false
+abbrev pub IsUnreserved : Row → Type 0
+IsUnreserved r = list_any (λ control. is_below control r.path) control_paths ≡ false
 
 -- the owner of a znode, where it has one, is a live session
 abbrev pub IsOwned : List ℤ → Row → Type 0
@@ -113,8 +113,8 @@ pub record IsZxid (zxid : ℤ) : Type 0 where
 pub record TreeShape (t : Tree) : Type 0 where
   pub zxid : IsZxid t.zxid
   pub rise : Rises bytes_cmp path_of_row t.rows
-  pub named : All IsNamed t.rows
-  pub free : All IsFree t.rows
+  pub not_root : All IsNotRoot t.rows
+  pub free : All IsUnreserved t.rows
   pub parents : HaveParents t.rows
   pub stamped : All (IsStamped t.zxid) t.rows
   pub last : All Lasts t.rows
