@@ -63,7 +63,7 @@ with_log_shaped : (s : Shared) (epoch now : ℤ) (items : List MetaRecord) (r : 
 with_log_shaped s epoch now items (Ok l) is kept = (kept.tree, (append_appends s.log epoch now items l is kept.log).shape)
 with_log_shaped s epoch now items (Err e) is kept = (kept.tree, kept.log)
 
--- a write makes no znode that lasts end with a session
+-- a write keeps the shape of the tree
 abbrev pub RequestKeeps : Request → Type 0
 RequestKeeps nothing = ⊤
 RequestKeeps read_log = ⊤

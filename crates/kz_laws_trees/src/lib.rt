@@ -42,8 +42,8 @@ pub fn session_leaves()
     ensures end { EndLeaves }
 {}
 
-/// A multi of a ZooKeeper client that isn't refused keeps the tree's shape, if its operations are in range, and what is recorded; while a KRaft controller
-/// holds the tree it leaves all that a driver rests on.
+/// A multi of a ZooKeeper client that isn't refused keeps the tree's shape, where its operations are those of a line, and what
+/// is recorded; while a KRaft controller holds the tree it leaves all that a driver rests on.
 pub fn client_leaves()
     ensures shape { ClientKeepsShape }
     ensures recorded { ClientLeavesRecorded }
