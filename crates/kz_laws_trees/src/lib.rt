@@ -64,8 +64,8 @@ pub fn log_keeps()
     ensures end { EndIsLastBatchEnd }
 {}
 
-/// The state of the migration changes by a record of it alone, once its transaction is ended; a log is migrated by the commit
-/// alone.
+/// The state of the migration changes by a record of it alone, once its transaction is ended: plain records leave it, records
+/// of a state before the commit leave an unmigrated log so, and the commit makes it migrated.
 pub fn migration_state()
     ensures plain { PlainKeepsState }
     ensures uncommitted { UncommittedStays }
