@@ -9,7 +9,7 @@ use Rattle.kz_types.specs.declared.machine.Recorded.{Recorded}
 use Rattle.kz_spec_values.specs.Control.{recorded_of, written_recorded}
 use Rattle.kz_spec_stores.specs.Tree.{Tree, multi, area, recorded, has_offset, unclosed}
 use Rattle.kz_spec_stores.specs.Image.{Image}
-use Rattle.kz_spec_stores.specs.Log.{Log, View, image_at}
+use Rattle.kz_spec_stores.specs.Log.{Log, View, image_at, is_migrated_log}
 use Rattle.kz_spec_stores.specs.Rendering.{render}
 use Rattle.kz_spec_stores.specs.Difference.{diff}
 use Rattle.kz_spec_machine.specs.Driver.{Driver, epoch_or_zero, views_migrated, unrecorded, claim_ops, is_last_write, write_ops}
@@ -38,8 +38,9 @@ closed_offset t r is closed =
 
 -- ---- the log grows
 
-pub agreement_grown : (t : Tree) (l more : Log) → LogShape l → Grows l more → Agreement t l → Agreement t more
-agreement_grown t l more shape grows old = record {
+pub agreement_grown : (t : Tree) (l more : Log) → LogShape l → Grows l more → (is_migrated_log more ≡ true → is_held_tree t ≡ true) → Agreement t l → Agreement t more
+agreement_grown t l more shape grows holds old = record {
+  holds = holds;
   held = old.held;
   end = λ r is low. grows.batch_end r.offset (old.end r is low);
   same = λ r is closed. old.same r is closed ∙ ap render (sym (grows.image r.offset (batch_end_within l r.offset shape (old.end r is (closed_offset t r is closed)))));
@@ -64,6 +65,7 @@ same_recorded m n x y same a b = cc
 
 pub agreement_last : (t : Tree) (l : Log) (target : Recorded) → is_held_tree t ≡ true → IsBatchEnd l target.offset → recorded_of (written_recorded target) ≡ Some target → Completed t (image_at l target.offset) (written_recorded target) → Agreement t l
 agreement_last t l target held end read all = record {
+  holds = λ migrated. held;
   held = λ r is low. held;
   end = λ r is low. subst (λ (x : Recorded). IsBatchEnd l x.offset) (sym (same_recorded (recorded t) (recorded_of (written_recorded target)) r target all.recorded is read)) end;
   same = λ r is closed. all.area ∙ ap (λ (x : Recorded). render (image_at l x.offset)) (sym (same_recorded (recorded t) (recorded_of (written_recorded target)) r target all.recorded is read));
@@ -71,6 +73,7 @@ agreement_last t l target held end read all = record {
 
 pub agreement_more : (t new : Tree) (l : Log) (i : Image) (claim : ℤ) (target : Recorded) → TreeShape t → TreeShape new → Agreement t l → is_last_write (diff (area t) (render i)) ≡ false → multi t (write_ops claim (diff (area t) (render i)) target) ≡ Ok new → Agreement new l
 agreement_more t new l i claim target shape after old more is = record {
+  holds = λ migrated. ap is_some (write_keeps_shown t new i claim target is) ∙ old.holds migrated;
   held = λ r found low. ap is_some (write_keeps_shown t new i claim target is) ∙ old.held r (sym (write_keeps_recorded t new i claim target more is) ∙ found) low;
   end = λ r found low. old.end r (sym (write_keeps_recorded t new i claim target more is) ∙ found) low;
   same = λ r found closed. absurd (not_last_unclosed t new i claim target shape after more is closed);
@@ -88,6 +91,7 @@ unrecorded_read d id epoch = ap result_ok (recorded_is_read (unrecorded d) (reco
 
 agreement_none : (t : Tree) (l : Log) (d : Driver) → is_held_tree t ≡ true → recorded t ≡ Some (unrecorded d) → Agreement t l
 agreement_none t l d held none = record {
+  holds = λ migrated. held;
   held = λ r is low. held;
   end = λ r is low. let same : r ≡ unrecorded d = same_recorded (recorded t) (recorded t) r (unrecorded d) refl is none in absurd (below r.offset (ap (λ (x : Recorded). x.offset) same) low);
   same = λ r is closed. let same : r ≡ unrecorded d = same_recorded (recorded t) (recorded t) r (unrecorded d) refl is none in absurd (below r.offset (ap (λ (x : Recorded). x.offset) same) (closed_offset t r is closed));
@@ -100,6 +104,7 @@ agreement_by : (t new : Tree) (l : Log) (seen : ClaimSeen) (d : Driver) (now : �
 agreement_by t new l seen d now true migrated shape id epoch held old is =
     let left = claim_leaves t new seen d now shape migrated is in
     record {
+      holds = λ log_migrated. held;
       held = λ r found low. held;
       end = λ r found low. old.end r (sym left.recorded ∙ found) low;
       same = λ r found closed. left.area ∙ old.same r (sym left.recorded ∙ found) (left.closed closed);

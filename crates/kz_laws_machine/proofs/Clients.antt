@@ -18,6 +18,7 @@ use Rattle.kz_laws_machine.proofs.Groups.{Current}
 
 pub agreement_unchanged : (t new : Tree) (l : Log) → Unchanged t new → Agreement t l → Agreement new l
 agreement_unchanged t new l u old = record {
+  holds = λ migrated. ap is_some u.shown ∙ old.holds migrated;
   held = λ r is low. ap is_some u.shown ∙ old.held r (sym u.recorded ∙ is) low;
   end = λ r is low. old.end r (sym u.recorded ∙ is) low;
   same = λ r is closed. ap (map rendered_row) u.rows ∙ old.same r (sym u.recorded ∙ is) (sym u.unclosed ∙ closed);
@@ -42,8 +43,8 @@ at_unchanged t new l d stage.WaitForBrokers u at = tt
 at_unchanged t new l d stage.CompareBrokers u at = tt
 at_unchanged t new l d stage.Look u at = tt
 at_unchanged t new l d (stage.Claim seen) u at = at
-at_unchanged t new l d (stage.ReadSource rows) u at = tt
-at_unchanged t new l d (stage.Begin rows) u at = tt
+at_unchanged t new l d (stage.ReadSource rows) u at = at
+at_unchanged t new l d (stage.Begin rows) u at = at
 at_unchanged t new l d (stage.Fill records) u at = at
 at_unchanged t new l d stage.ReadLog u at = at
 at_unchanged t new l d (stage.ReadArea target rows) u at = (at.0, λ c. let old = at.1 (was_current t new d.claim u c) in record { rest = old.rest; whole = u.rows ∙ old.whole })
@@ -80,9 +81,10 @@ current_unchanged s new d u current some = let old = current some in (old.0 ∙ 
 not_held : (t : Tree) (l : Log) (r : Recorded) → is_held_tree t ≡ false → Agreement t l → recorded t ≡ Some r → pos 0 ≤ℤ r.offset → ⊥
 not_held t l r free old is low = let held = old.held r is low in cc
 
--- no offset is recorded then, and none is where that stays
+-- the log isn't migrated then, no offset is recorded, and none is where that stays
 pub agreement_unheld : (t new : Tree) (l : Log) → is_held_tree t ≡ false → recorded new ≡ recorded t → Agreement t l → Agreement new l
 agreement_unheld t new l free same old = record {
+  holds = λ migrated. absurd (let held = old.holds migrated in cc);
   held = λ r is low. absurd (not_held t l r free old (sym same ∙ is) low);
   end = λ r is low. absurd (not_held t l r free old (sym same ∙ is) low);
   same = λ r is closed. absurd (not_held t l r free old (sym same ∙ is) (closed_offset new r is closed));
@@ -108,8 +110,8 @@ at_unheld t new l d stage.WaitForBrokers none at = tt
 at_unheld t new l d stage.CompareBrokers none at = tt
 at_unheld t new l d stage.Look none at = tt
 at_unheld t new l d (stage.Claim seen) none at = at
-at_unheld t new l d (stage.ReadSource rows) none at = tt
-at_unheld t new l d (stage.Begin rows) none at = tt
+at_unheld t new l d (stage.ReadSource rows) none at = at
+at_unheld t new l d (stage.Begin rows) none at = at
 at_unheld t new l d (stage.Fill records) none at = at
 at_unheld t new l d stage.ReadLog none at = at
 at_unheld t new l d (stage.ReadArea target rows) none at = (at.0, λ c. absurd (c.1 none))

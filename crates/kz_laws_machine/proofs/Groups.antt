@@ -10,6 +10,7 @@ use Rattle.kz_types.specs.declared.machine.Reply.TheVariants as reply
 use Rattle.kz_spec_stores.specs.Tree.{Tree, recorded}
 use Rattle.kz_spec_stores.specs.Log.{Log, end_of, is_migrated_log}
 use Rattle.kz_spec_machine.specs.Driver.{Shared, Driver, state_of, at_stage, resigned, begins_again, epoch_or_zero, unless_finalised, having_read, target_of}
+use Rattle.kz_spec_machine.specs.Machine.{is_held_tree}
 use Rattle.kz_spec_machine.specs.Sound.{IsId, IsEpochOrNone, LogShape, Agreement, claim_version, IsCurrent, shown_in, Claims, Views, Epochs, Elected, Aims, AtStage, Fine}
 use Rattle.kz_spec_stores.specs.Image.{is_migrated_state}
 use Rattle.kz_spec_runs.specs.InStep.{InStep}
@@ -137,8 +138,8 @@ pub epochs_grown : (l more : Log) (e : Option ℤ) → Grows l more → Epochs l
 epochs_grown l more None grows old = tt
 epochs_grown l more (Some e) grows old = (old.0, let a = old.1 in let b = grows.epoch in omega (arith, ints))
 
-pub base_grown : (s : Shared) (more : Log) (d : Driver) → LogShape s.log → Grows s.log more → Base s d → Base (record s { log = more }) d
-base_grown s more d shape grows base = record { agreement = agreement_grown s.tree s.log more shape grows base.agreement; id = base.id; epochs = epochs_grown s.log more d.epoch grows base.epochs; claims = base.claims; views = view_grown s.log more d.view shape grows base.views }
+pub base_grown : (s : Shared) (more : Log) (d : Driver) → LogShape s.log → Grows s.log more → (is_migrated_log more ≡ true → is_held_tree s.tree ≡ true) → Base s d → Base (record s { log = more }) d
+base_grown s more d shape grows holds base = record { agreement = agreement_grown s.tree s.log more shape grows holds base.agreement; id = base.id; epochs = epochs_grown s.log more d.epoch grows base.epochs; claims = base.claims; views = view_grown s.log more d.view shape grows base.views }
 
 -- a tree in which `/controller_epoch` and `/controller` are as they were
 pub base_written : (s : Shared) (t : Tree) (d : Driver) → claim_version t ≡ claim_version s.tree → shown_in t ≡ shown_in s.tree → Agreement t s.log → Base s d → Base (record s { tree = t }) d

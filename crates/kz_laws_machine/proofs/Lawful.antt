@@ -1,5 +1,5 @@
 -- The events that lines give are lawful.
-use Rattle.std.proofs.Common.{◌≡◌, ℕ, suc, ◌==◌, ◌≤◌, nat_le, ℤ, pos, ◌≤ℤ◌, Bool, true, false, not, ◌&&◌, ◌||◌, if◌then◌else◌, List, [], ◌∷◌, length, Option, Some, None, option_map, is_some, All, refl, sym, ap, ◌∙◌, subst, arith}
+use Rattle.std.proofs.Common.{◌≡◌, ℕ, suc, ◌==◌, ◌≤◌, nat_le, ℤ, pos, negsuc, ◌≤ℤ◌, int_le, Bool, true, false, not, ◌&&◌, ◌||◌, if◌then◌else◌, List, [], ◌∷◌, length, Option, Some, None, option_map, is_some, All, refl, sym, ap, ◌∙◌, subst, arith}
 use Rattle.std.specs.Prelude.{⊤, option_and_then, codes}
 use Rattle.std.specs.Ordering.{int_eq}
 use Rattle.std.specs.Str.{bytes_eq}
@@ -7,14 +7,15 @@ use Rattle.std.proofs.lemmas.Bool.Decides.{nat_tests}
 use Rattle.std.proofs.lemmas.Int.{ints}
 use Rattle.std.proofs.lemmas.List.Elements.{All-nil, All-cons}
 use Rattle.serde_json.specs.Data.{Data, Items, no_items, item}
-use Rattle.serde_json.specs.Find.{get, as_array, as_u64, as_number}
+use Rattle.serde_json.specs.Find.{get, as_array, as_u64, as_i64, as_number}
 use Rattle.kz_types.specs.Numbers.{canonical}
+use Rattle.kz_types.specs.Paths.{is_path}
 use Rattle.kz_types.specs.declared.machine.Event.{Event}
 use Rattle.kz_types.specs.declared.machine.Event.TheVariants as event
 use Rattle.kz_types.specs.declared.record.ConfigRecord.{ConfigRecord}
 use Rattle.kz_types.specs.declared.record.MetaRecord.{MetaRecord}
 use Rattle.kz_types.specs.declared.record.MetaRecord.TheVariants as meta
-use Rattle.kz_spec_lines.specs.Json.{json_of, member_count, whole_up_to, text_member, by_name}
+use Rattle.kz_spec_lines.specs.Json.{json_of, member_count, whole_up_to, whole_within, text_member, by_name}
 use Rattle.kz_spec_lines.specs.Lines.{Item, line, long, much, items, is_passed_over}
 use Rattle.kz_spec_lines.specs.Records.{record_of}
 use Rattle.kz_spec_lines.specs.Ops.{session_in, path_in, version_in, body_in, owner_by, create_of, set_of, delete_of, op_forms, op_of}
@@ -24,7 +25,7 @@ use Rattle.kz_types.specs.declared.tree.Op.TheVariants.{Create, Set, Delete, Che
 use Rattle.kz_spec_lines.specs.Events.{id_of, time_of, controller_of, now_of, timed_count, only_id, quorum_of, start_of, elect_of, turn_of, is_broker_config, is_changeable, changeable_of, only_record, change_of, check_of, session_of, open_of, expire_of, is_open_op, open_op_of, ops_in, some_ops, zk_of, event_forms, event_of, line_event}
 use Rattle.kz_spec_stores.specs.Image.{is_empty, is_broker_name}
 use Rattle.kz_spec_stores.specs.Image as image
-use Rattle.kz_spec_machine.specs.Sound.{IsId, IsTime, IsChange, IsSession, IsOwner, IsLawfulOp, IsLawful}
+use Rattle.kz_spec_machine.specs.Sound.{IsId, IsTime, IsChange, IsSession, IsOwner, IsVersion, IsLawfulOp, IsLawful}
 use Rattle.kz_spec_runs.specs.InStep.{events_on, events_of, script_events}
 
 -- it is so of what is there
@@ -193,21 +194,36 @@ owner_is : (o : Option Data) → OfSome IsOwner (owner_by o)
 owner_is None = tt
 owner_is (Some d) = mapped IsSession IsOwner (λ s. Some s) (session_in d) (session_is d) (λ s is. is)
 
+path_is : (d : Data) → OfSome (λ p. is_path p ≡ true) (path_in d)
+path_is d = after (λ (p : List ℕ). ⊤) (λ p. is_path p ≡ true) (λ p. if is_path p then Some p else None) (text_member (codes "path") d) (anything (text_member (codes "path") d))
+    (λ p t. where_true (λ q. is_path q ≡ true) (is_path p) (Some p) (λ is. is))
+
+int_at_most : (a b : ℤ) → int_le a b ≡ true → a ≤ℤ b
+int_at_most a b is = grind (arith, ints)
+
+whole_within_is : (d : Data) → OfSome IsVersion (whole_within (negsuc 0) (pos 2147483647) d)
+whole_within_is d = after (λ (n : ℤ). ⊤) IsVersion (λ n. if int_le (negsuc 0) n && int_le n (pos 2147483647) then Some n else None) (option_and_then as_i64 (as_number d)) (anything (option_and_then as_i64 (as_number d)))
+    (λ n t. where_true IsVersion (int_le (negsuc 0) n && int_le n (pos 2147483647)) (Some n) (λ is.
+    let both = both_true (int_le (negsuc 0) n) (int_le n (pos 2147483647)) is in record { least = int_at_most (negsuc 0) n both.0; most = int_at_most n (pos 2147483647) both.1 }))
+
+version_is : (d : Data) → OfSome IsVersion (version_in d)
+version_is d = after (λ (x : Data). ⊤) IsVersion (λ v. whole_within (negsuc 0) (pos 2147483647) v) (get (codes "version") d) (anything (get (codes "version") d)) (λ v t. whole_within_is v)
+
 create_lawful : (d : Data) → OfSome IsLawfulOp (create_of d)
-create_lawful d = where_true IsLawfulOp _ _ (λ few. after (λ (p : List ℕ). ⊤) IsLawfulOp _ (path_in d) (anything (path_in d)) (λ path t. after (λ (b : List ℕ). ⊤) IsLawfulOp _ (body_in d) (anything (body_in d))
-    (λ body u. mapped IsOwner IsLawfulOp (λ owner. Create path body owner) (owner_by (get (codes "owner") d)) (owner_is (get (codes "owner") d)) (λ owner is. is))))
+create_lawful d = where_true IsLawfulOp _ _ (λ few. after (λ p. is_path p ≡ true) IsLawfulOp _ (path_in d) (path_is d) (λ path kept. after (λ (b : List ℕ). ⊤) IsLawfulOp _ (body_in d) (anything (body_in d))
+    (λ body u. mapped IsOwner IsLawfulOp (λ owner. Create path body owner) (owner_by (get (codes "owner") d)) (owner_is (get (codes "owner") d)) (λ owner is. (kept, is)))))
 
 set_lawful : (d : Data) → OfSome IsLawfulOp (set_of d)
-set_lawful d = where_true IsLawfulOp _ _ (λ few. after (λ (p : List ℕ). ⊤) IsLawfulOp _ (path_in d) (anything (path_in d)) (λ path t. after (λ (b : List ℕ). ⊤) IsLawfulOp _ (body_in d) (anything (body_in d))
-    (λ body u. mapped (λ (v : ℤ). ⊤) IsLawfulOp (λ version. Set path body version) (version_in d) (anything (version_in d)) (λ version v. tt))))
+set_lawful d = where_true IsLawfulOp _ _ (λ few. after (λ p. is_path p ≡ true) IsLawfulOp _ (path_in d) (path_is d) (λ path kept. after (λ (b : List ℕ). ⊤) IsLawfulOp _ (body_in d) (anything (body_in d))
+    (λ body u. mapped IsVersion IsLawfulOp (λ version. Set path body version) (version_in d) (version_is d) (λ version is. (kept, is)))))
 
 delete_lawful : (d : Data) → OfSome IsLawfulOp (delete_of d)
-delete_lawful d = where_true IsLawfulOp _ _ (λ few. after (λ (p : List ℕ). ⊤) IsLawfulOp _ (path_in d) (anything (path_in d))
-    (λ path t. mapped (λ (v : ℤ). ⊤) IsLawfulOp (λ version. Delete path version) (version_in d) (anything (version_in d)) (λ version v. tt)))
+delete_lawful d = where_true IsLawfulOp _ _ (λ few. after (λ p. is_path p ≡ true) IsLawfulOp _ (path_in d) (path_is d)
+    (λ path kept. mapped IsVersion IsLawfulOp (λ version. Delete path version) (version_in d) (version_is d) (λ version is. (kept, is))))
 
 check_op_lawful : (d : Data) → OfSome IsLawfulOp (ops.check_of d)
-check_op_lawful d = where_true IsLawfulOp _ _ (λ few. after (λ (p : List ℕ). ⊤) IsLawfulOp _ (path_in d) (anything (path_in d))
-    (λ path t. mapped (λ (v : ℤ). ⊤) IsLawfulOp (λ version. Check path version) (version_in d) (anything (version_in d)) (λ version v. tt)))
+check_op_lawful d = where_true IsLawfulOp _ _ (λ few. after (λ p. is_path p ≡ true) IsLawfulOp _ (path_in d) (path_is d)
+    (λ path kept. mapped IsVersion IsLawfulOp (λ version. Check path version) (version_in d) (version_is d) (λ version is. (kept, is))))
 
 op_lawful : (d : Data) → OfSome IsLawfulOp (op_of d)
 unfolding op_of

@@ -41,12 +41,12 @@ use Rattle.kz_spec_machine.specs.Driver.{Shared, Driver, state_of, at_stage, res
 use Rattle.kz_spec_machine.specs.Machine.{is_held_tree}
 use Rattle.kz_spec_machine.specs.Sound.{IsId, IsEpochOrNone, IsStamped, TreeShape, LogShape, IsBatchEnd, Kept, IsTime, claim_version, IsCurrent, shown_in, Claimed, Claims, Epochs, Elected, Aims, Reads, Writes, Rests, AtStage, IsConfig}
 use Rattle.kz_laws_values.proofs.Control.{recorded_is_read}
-use Rattle.kz_laws_trees.proofs.Multi.{multi_ran, shape_kept, write_keeps_lasting, write_keeps_version, last_write, remaining_after_write}
-use Rattle.kz_laws_trees.specs.TreeLaws.{KeepsLasting, Completed}
+use Rattle.kz_laws_trees.proofs.Multi.{multi_ran, shape_kept, write_keeps_shape, write_keeps_version, last_write, remaining_after_write}
+use Rattle.kz_laws_trees.specs.TreeLaws.{KeepsShape, Completed}
 use Rattle.kz_laws_trees.proofs.Pages.{behind_last, short_page, one_page_more}
 use Rattle.kz_laws_trees.proofs.Ends.{end_most}
-use Rattle.kz_laws_trees.proofs.Claim.{claim_keeps_lasting, claim_gives_version, claim_shows, write_keeps_shown}
-use Rattle.kz_laws_trees.proofs.Growth.{append_appends, view_within, append_grows, StaysMigrated, plain_stays, commit_is_migrated}
+use Rattle.kz_laws_trees.proofs.Claim.{claim_keeps_shape, claim_gives_version, claim_shows, write_keeps_shown}
+use Rattle.kz_laws_trees.proofs.Growth.{append_appends, view_within, append_grows, StaysMigrated, plain_stays, plain_was, commit_is_migrated}
 use Rattle.kz_laws_machine.proofs.Agreements.{rest_area, agreement_last, agreement_more, agreement_claim}
 use Rattle.kz_laws_machine.proofs.Groups.{Base, Current, Owed, moves, stays, resigns, again, chosen, finalised, base_read, zero_or, own_epoch, aims, base_grown, base_written}
 
@@ -55,7 +55,7 @@ use Rattle.kz_laws_machine.proofs.Groups.{Base, Current, Owed, moves, stays, res
 abbrev Shaped : Shared → Type 0
 Shaped s = TreeShape s.tree × LogShape s.log
 
-with_tree_shaped : (s : Shared) (ops : List Op) (r : Result Tree TreeFault) → multi s.tree ops ≡ r → All KeepsLasting ops → Kept s → Shaped (with_tree s r)
+with_tree_shaped : (s : Shared) (ops : List Op) (r : Result Tree TreeFault) → multi s.tree ops ≡ r → All KeepsShape ops → Kept s → Shaped (with_tree s r)
 with_tree_shaped s ops (Ok t) is keeps kept = (shape_kept s.tree t ops (multi_ran s.tree t ops is) keeps kept.tree, kept.log)
 with_tree_shaped s ops (Err e) is keeps kept = (kept.tree, kept.log)
 
@@ -63,19 +63,19 @@ with_log_shaped : (s : Shared) (epoch now : ℤ) (items : List MetaRecord) (r : 
 with_log_shaped s epoch now items (Ok l) is kept = (kept.tree, (append_appends s.log epoch now items l is kept.log).shape)
 with_log_shaped s epoch now items (Err e) is kept = (kept.tree, kept.log)
 
--- a write makes no znode that lasts end with a session
+-- a write keeps the shape of the tree
 abbrev pub RequestKeeps : Request → Type 0
 RequestKeeps nothing = ⊤
 RequestKeeps read_log = ⊤
 RequestKeeps list_brokers = ⊤
 RequestKeeps look_up = ⊤
 RequestKeeps (read_page after) = ⊤
-RequestKeeps (write ops) = All KeepsLasting ops
+RequestKeeps (write ops) = All KeepsShape ops
 RequestKeeps (add records) = ⊤
 
 write_request_keeps : (s : Shared) (m : Option ℤ) (target : Recorded) → RequestKeeps (write_request m (remaining_at s.tree s.log target.offset) target)
 write_request_keeps s None target = tt
-write_request_keeps s (Some claim) target = write_keeps_lasting s.tree (image_at s.log target.offset) claim target
+write_request_keeps s (Some claim) target = write_keeps_shape s.tree (image_at s.log target.offset) claim target
 
 begin_request_keeps : (r : Result (List MetaRecord) Unreadable) → RequestKeeps (begin_request r)
 begin_request_keeps (Ok records) = tt
@@ -88,7 +88,7 @@ asked_keeps s now d stage.WaitForQuorum = tt
 asked_keeps s now d stage.WaitForBrokers = tt
 asked_keeps s now d stage.CompareBrokers = tt
 asked_keeps s now d stage.Look = tt
-asked_keeps s now d (stage.Claim seen) = claim_keeps_lasting seen d now
+asked_keeps s now d (stage.Claim seen) = claim_keeps_shape seen d now
 asked_keeps s now d (stage.ReadSource rows) = tt
 asked_keeps s now d (stage.Begin rows) = begin_request_keeps (translate rows)
 asked_keeps s now d (stage.Fill records) = tt
@@ -178,10 +178,10 @@ looks s d kept is base current elected =
 
 -- ---- the claim
 
-after_claim_stage : (b : Bool) (l : Log) (t : Tree) (d : Driver) → (b ≡ true → is_migrated_log l ≡ true) → d.epoch ≢ None
+after_claim_stage : (b : Bool) (l : Log) (t : Tree) (d : Driver) → (b ≡ true → is_migrated_log l ≡ true) → d.epoch ≢ None → d.claim ≢ None
     → Elected d.epoch (if b then stage.ReadLog else stage.ReadSource []) × AtStage t l d (if b then stage.ReadLog else stage.ReadSource [])
-after_claim_stage true l t d migrated elected = (elected, migrated refl)
-after_claim_stage false l t d migrated elected = (elected, tt)
+after_claim_stage true l t d migrated elected some = (elected, migrated refl)
+after_claim_stage false l t d migrated elected some = (elected, some)
 
 version_least : (seen : Option Row) → ((x : Row) → seen ≡ Some x → pos 0 ≤ℤ x.version) → pos 0 ≤ℤ claimed_version seen
 version_least None low = omega (arith, ints)
@@ -213,7 +213,7 @@ claims : (s : Shared) (d : Driver) (seen : ClaimSeen) (now : ℤ) (r : Result Tr
     → ((x : Row) → seen.epoch ≡ Some x → pos 0 ≤ℤ x.version) → Owed (with_tree s r) d.id (after_claim seen d (claim_ops seen d now) r)
 claims s d seen now (Ok t) made-is time is shape base current elected low =
     let e : Driver = record d { claim = Some (claimed_version seen.epoch); stage = if views_migrated d then stage.ReadLog else stage.ReadSource [] } in
-    let both = after_claim_stage (views_migrated d) s.log t e base.views.migrated elected in
+    let both = after_claim_stage (views_migrated d) s.log t e base.views.migrated elected (λ none. absurd (cc)) in
     let version = claim_gives_version s.tree t seen d now low made-is in
     record {
       agreement = agreement_claim s.tree t s.log seen d now shape base.id (zero_or s.log d.epoch base.epochs) (ap is_some (claim_shown s d t seen now base time made-is)) base.agreement made-is;
@@ -235,27 +235,45 @@ paged : (s : Shared) (d : Driver) (b : Bool) (x y : Stage) (r : Reply) → Owed 
 paged s d true x y r first second = first
 paged s d false x y r first second = second
 
+some_shown : (m : Option ℤ) → m ≢ None → is_some m ≡ true
+some_shown None some = absurd (some refl)
+some_shown (Some e) some = refl
+
+-- a KRaft controller holds the tree of a driver that has a claim
+held_by : (s : Shared) (d : Driver) (claim : ℤ) → Base s d → d.claim ≡ Some claim → is_held_tree s.tree ≡ true
+held_by s d claim base is = some_shown (shown_in s.tree) (subst (Claims (claim_version s.tree) (shown_in s.tree) d.epoch) is base.claims).held
+
+claim_holds : (s : Shared) (d : Driver) (m : Option ℤ) → Base s d → d.claim ≡ m → m ≢ None → is_held_tree s.tree ≡ true
+claim_holds s d None base is some = absurd (some refl)
+claim_holds s d (Some claim) base is some = held_by s d claim base is
+
 -- ---- appends
 
+-- a KRaft controller holds the tree where this batch leaves the log migrated
+abbrev pub HoldsThen : Shared → ℤ → ℤ → List MetaRecord → Type 0
+HoldsThen s epoch now items = is_migrated_log (with_batch s.log epoch now items) ≡ true → is_held_tree s.tree ≡ true
+
 appends : (s : Shared) (d : Driver) (now : ℤ) (items : List MetaRecord) (x next : Stage) (r : Result Log LogFault) → append s.log (epoch_or_zero d.epoch) now items ≡ r → d.stage ≡ x → Kept s → Base s d → Current s d
-    → Elected d.epoch x → AtStage s.tree s.log d x → Elected d.epoch next → StaysMigrated s.log (epoch_or_zero d.epoch) now items → ((l : Log) → with_batch s.log (epoch_or_zero d.epoch) now items ≡ l → AtStage s.tree l (at_stage next d) next) → Owed (with_log s r) d.id (after_append next d r)
-appends s d now items x next (Ok l) made-is is kept base current elected at elected-next stays-so at-next =
+    → Elected d.epoch x → AtStage s.tree s.log d x → Elected d.epoch next → StaysMigrated s.log (epoch_or_zero d.epoch) now items → HoldsThen s (epoch_or_zero d.epoch) now items → ((l : Log) → with_batch s.log (epoch_or_zero d.epoch) now items ≡ l → AtStage s.tree l (at_stage next d) next) → Owed (with_log s r) d.id (after_append next d r)
+appends s d now items x next (Ok l) made-is is kept base current elected at elected-next stays-so holds at-next =
     let a = append_appends s.log (epoch_or_zero d.epoch) now items l made-is kept.log in
     let grows = append_grows s.log (epoch_or_zero d.epoch) now items l a stays-so in
-    moves (record s { log = l }) d next (reply.Appended (end_of l)) (base_grown s l d kept.log grows base) current elected-next (at-next l a.made) (λ e. cc)
-appends s d now items x next (Err (log_fault.Stale epoch)) made-is is kept base current elected at elected-next stays-so at-next = resigns s d (reply.Stale epoch) base (λ e. cc)
-appends s d now items x next (Err log_fault.Failed) made-is is kept base current elected at elected-next stays-so at-next = stays s d x (reply.LogFailed log_fault.Failed) is base current elected at (λ e. cc)
-appends s d now items x next (Err (log_fault.Limit number)) made-is is kept base current elected at elected-next stays-so at-next = stays s d x (reply.LogFailed (log_fault.Limit number)) is base current elected at (λ e. cc)
-appends s d now items x next (Err log_fault.NoMemory) made-is is kept base current elected at elected-next stays-so at-next = stays s d x (reply.LogFailed log_fault.NoMemory) is base current elected at (λ e. cc)
-appends s d now items x next (Err log_fault.Down) made-is is kept base current elected at elected-next stays-so at-next = stays s d x (reply.LogFailed log_fault.Down) is base current elected at (λ e. cc)
-appends s d now items x next (Err (log_fault.Full length)) made-is is kept base current elected at elected-next stays-so at-next = stays s d x (reply.LogFailed (log_fault.Full length)) is base current elected at (λ e. cc)
+    moves (record s { log = l }) d next (reply.Appended (end_of l)) (base_grown s l d kept.log grows (λ migrated. holds (ap is_migrated_log a.made ∙ migrated)) base) current elected-next (at-next l a.made) (λ e. cc)
+appends s d now items x next (Err (log_fault.Stale epoch)) made-is is kept base current elected at elected-next stays-so holds at-next = resigns s d (reply.Stale epoch) base (λ e. cc)
+appends s d now items x next (Err log_fault.Failed) made-is is kept base current elected at elected-next stays-so holds at-next = stays s d x (reply.LogFailed log_fault.Failed) is base current elected at (λ e. cc)
+appends s d now items x next (Err (log_fault.Limit number)) made-is is kept base current elected at elected-next stays-so holds at-next = stays s d x (reply.LogFailed (log_fault.Limit number)) is base current elected at (λ e. cc)
+appends s d now items x next (Err log_fault.NoMemory) made-is is kept base current elected at elected-next stays-so holds at-next = stays s d x (reply.LogFailed log_fault.NoMemory) is base current elected at (λ e. cc)
+appends s d now items x next (Err log_fault.Down) made-is is kept base current elected at elected-next stays-so holds at-next = stays s d x (reply.LogFailed log_fault.Down) is base current elected at (λ e. cc)
+appends s d now items x next (Err (log_fault.Full length)) made-is is kept base current elected at elected-next stays-so holds at-next = stays s d x (reply.LogFailed (log_fault.Full length)) is base current elected at (λ e. cc)
 
-begins : (s : Shared) (now : ℤ) (d : Driver) (rows : List Row) (r : Result (List MetaRecord) Unreadable) → translate rows ≡ r → d.stage ≡ stage.Begin rows → Kept s → Base s d → Current s d → d.epoch ≢ None
+begins : (s : Shared) (now : ℤ) (d : Driver) (rows : List Row) (r : Result (List MetaRecord) Unreadable) → translate rows ≡ r → d.stage ≡ stage.Begin rows → Kept s → Base s d → Current s d → d.epoch ≢ None → d.claim ≢ None
     → Owed (made s (epoch_or_zero d.epoch) now (begin_request r)) d.id (after_translation s now d r)
-begins s now d rows (Err e) translated is kept base current elected = moves s d (stage.ReadSource []) (reply.Untranslatable e.path e.why) base current elected tt (λ i. cc)
-begins s now d rows (Ok records) translated is kept base current elected =
-    appends s d now (begin_record ∷ []) (stage.Begin rows) (stage.Fill records) (append s.log (epoch_or_zero d.epoch) now (begin_record ∷ [])) refl is kept base current elected tt elected
-    (plain_stays s.log (epoch_or_zero d.epoch) now (begin_record ∷ []) kept.log (All-cons IsPlain begin_record [] tt (All-nil IsPlain))) (λ l made-is. translated_are_configs rows records translated)
+begins s now d rows (Err e) translated is kept base current elected claimed = moves s d (stage.ReadSource []) (reply.Untranslatable e.path e.why) base current elected claimed (λ i. cc)
+begins s now d rows (Ok records) translated is kept base current elected claimed =
+    appends s d now (begin_record ∷ []) (stage.Begin rows) (stage.Fill records) (append s.log (epoch_or_zero d.epoch) now (begin_record ∷ [])) refl is kept base current elected claimed elected
+    (plain_stays s.log (epoch_or_zero d.epoch) now (begin_record ∷ []) kept.log (All-cons IsPlain begin_record [] tt (All-nil IsPlain)))
+    (λ migrated. base.agreement.holds (plain_was s.log (epoch_or_zero d.epoch) now (begin_record ∷ []) kept.log (All-cons IsPlain begin_record [] tt (All-nil IsPlain)) migrated))
+    (λ l made-is. (claimed, translated_are_configs rows records translated))
 
 config_plain : (r : MetaRecord) → IsConfig r → IsPlain r
 config_plain (meta.RegisterBroker b) is = absurd is
@@ -276,19 +294,27 @@ config_plain (meta.BeginTransaction name) is = tt
 config_plain meta.EndTransaction is = absurd is
 config_plain (meta.AbortTransaction reason) is = tt
 
+all_plain : (records : List MetaRecord) → All IsConfig records → All IsPlain (take batch_size records)
+all_plain records all = All-take IsPlain batch_size records (All-weaker IsConfig IsPlain config_plain records all)
+
+-- the driver that makes a log migrated has a claim
+fill_holds : (s : Shared) (d : Driver) (epoch now : ℤ) (records : List MetaRecord) → Kept s → Base s d → d.claim ≢ None → All IsConfig records → HoldsThen s epoch now (next_records records)
+fill_holds s d epoch now [] kept base claimed all migrated = claim_holds s d d.claim base refl claimed
+fill_holds s d epoch now (r ∷ rs) kept base claimed all migrated = base.agreement.holds (plain_was s.log epoch now (take batch_size (r ∷ rs)) kept.log (all_plain (r ∷ rs) all) migrated)
+
 -- a migrated log stays so with the records of the migration, and the last of them make it so
 fill_stays : (l : Log) (epoch now : ℤ) (records : List MetaRecord) → LogShape l → All IsConfig records → StaysMigrated l epoch now (next_records records)
 fill_stays l epoch now [] shape all is = commit_is_migrated l epoch now shape
 fill_stays l epoch now (r ∷ rs) shape all is =
-    plain_stays l epoch now (take batch_size (r ∷ rs)) shape (All-take IsPlain batch_size (r ∷ rs) (All-weaker IsConfig IsPlain config_plain (r ∷ rs) all)) is
+    plain_stays l epoch now (take batch_size (r ∷ rs)) shape (all_plain (r ∷ rs) all) is
 
 after_records_elected : (records : List MetaRecord) (e : Option ℤ) → e ≢ None → Elected e (after_records records)
 after_records_elected [] e elected = elected
 after_records_elected (r ∷ rs) e elected = elected
 
-after_records_at : (records : List MetaRecord) (t : Tree) (l more : Log) (epoch now : ℤ) (d : Driver) → LogShape l → All IsConfig records → with_batch l epoch now (next_records records) ≡ more → AtStage t more (at_stage (after_records records) d) (after_records records)
-after_records_at [] t l more epoch now d shape all made-is = subst (λ (x : Log). is_migrated_log x ≡ true) made-is (commit_is_migrated l epoch now shape)
-after_records_at (r ∷ rs) t l more epoch now d shape all made-is = All-drop IsConfig batch_size (r ∷ rs) all
+after_records_at : (records : List MetaRecord) (t : Tree) (l more : Log) (epoch now : ℤ) (d : Driver) → LogShape l → d.claim ≢ None → All IsConfig records → with_batch l epoch now (next_records records) ≡ more → AtStage t more (at_stage (after_records records) d) (after_records records)
+after_records_at [] t l more epoch now d shape claimed all made-is = subst (λ (x : Log). is_migrated_log x ≡ true) made-is (commit_is_migrated l epoch now shape)
+after_records_at (r ∷ rs) t l more epoch now d shape claimed all made-is = (claimed, All-drop IsConfig batch_size (r ∷ rs) all)
 
 -- ---- writes
 
@@ -356,14 +382,6 @@ rests_there s d t target kept base aim done-all =
       migrated = aim.migrated;
     }
 
-some_shown : (m : Option ℤ) → m ≢ None → is_some m ≡ true
-some_shown None some = absurd (some refl)
-some_shown (Some e) some = refl
-
--- a KRaft controller holds the tree of a driver that has a claim
-held_by : (s : Shared) (d : Driver) (claim : ℤ) → Base s d → d.claim ≡ Some claim → is_held_tree s.tree ≡ true
-held_by s d claim base is = some_shown (shown_in s.tree) (subst (Claims (claim_version s.tree) (shown_in s.tree) d.epoch) is base.claims).held
-
 written_by : (s : Shared) (d : Driver) (claim : ℤ) (target : Recorded) (x : Stage) (more : List Op → Stage) (last : Stage) (t : Tree) → WritesFrom target x more last
     → Kept s → Base s d → Current s d → d.claim ≡ Some claim → d.epoch ≢ None → Aims target d.id d.epoch d.view → multi s.tree (write_ops claim (remaining_at s.tree s.log target.offset) target) ≡ Ok t
     → Owed (record s { tree = t }) d.id (written_driver (remaining_at s.tree s.log target.offset) target more last d)
@@ -372,7 +390,7 @@ written_by s d claim target x more last t from kept base current claimed elected
     let version = write_keeps_version s.tree t (image_at s.log target.offset) claim target made-is in
     let new : Shared = record s { tree = t } in
     let shown = write_keeps_shown s.tree t (image_at s.log target.offset) claim target made-is in
-    let after = shape_kept s.tree t (write_ops claim ops target) (multi_ran s.tree t (write_ops claim ops target) made-is) (write_keeps_lasting s.tree (image_at s.log target.offset) claim target) kept.tree in
+    let after = shape_kept s.tree t (write_ops claim ops target) (multi_ran s.tree t (write_ops claim ops target) made-is) (write_keeps_shape s.tree (image_at s.log target.offset) claim target) kept.tree in
     let now_current : Current new d = λ some. (let old = current some in (old.0 ∙ sym version, old.1)) in
     chosen new d.id (is_last_write ops) (record d { stage = last; recorded = Some target.offset }, reply.Recorded target.offset) (at_stage (more (drop max_chunk ops)) d, reply.Wrote (length (chunk ops)))
     (λ is.
@@ -518,13 +536,14 @@ owed s running now d (stage.Claim seen) time is kept base current elected at = c
 owed s running now d (stage.ReadSource rows) time is kept base current elected at =
     let page = scan s.tree (last_path rows) page_size in
     paged s d (nat_lt (length page) page_size) (stage.Begin (rows ++ page)) (stage.ReadSource (rows ++ page)) (reply.Read (length page))
-    (moves s d (stage.Begin (rows ++ page)) (reply.Read (length page)) base current elected tt (λ i. cc))
-    (moves s d (stage.ReadSource (rows ++ page)) (reply.Read (length page)) base current elected tt (λ i. cc))
-owed s running now d (stage.Begin rows) time is kept base current elected at = begins s now d rows (translate rows) refl is kept base current elected
+    (moves s d (stage.Begin (rows ++ page)) (reply.Read (length page)) base current elected at (λ i. cc))
+    (moves s d (stage.ReadSource (rows ++ page)) (reply.Read (length page)) base current elected at (λ i. cc))
+owed s running now d (stage.Begin rows) time is kept base current elected at = begins s now d rows (translate rows) refl is kept base current elected at
 owed s running now d (stage.Fill records) time is kept base current elected at =
     appends s d now (next_records records) (stage.Fill records) (after_records records) (append s.log (epoch_or_zero d.epoch) now (next_records records)) refl is kept base current elected at
-    (after_records_elected records d.epoch elected) (fill_stays s.log (epoch_or_zero d.epoch) now records kept.log at)
-    (λ l made-is. after_records_at records s.tree s.log l (epoch_or_zero d.epoch) now d kept.log at made-is)
+    (after_records_elected records d.epoch elected) (fill_stays s.log (epoch_or_zero d.epoch) now records kept.log at.1)
+    (fill_holds s d (epoch_or_zero d.epoch) now records kept base at.0 at.1)
+    (λ l made-is. after_records_at records s.tree s.log l (epoch_or_zero d.epoch) now d kept.log at.0 at.1 made-is)
 owed s running now d stage.ReadLog time is kept base current elected at =
     let e : Driver = having_read s.log d in
     let base-now = base_read s d kept.log base in

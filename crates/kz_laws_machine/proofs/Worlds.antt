@@ -1,12 +1,12 @@
 -- Worlds with at most one driver, event by event.
 use Rattle.kz_spec_stores.specs.Image.{is_migrated_state}
-use Rattle.kz_laws_trees.specs.LogLaws.{IsPlain}
-use Rattle.std.proofs.Common.{◌≡◌, ℕ, ◌≤◌, ℤ, pos, negsuc, ◌+ℤ◌, ◌≤ℤ◌, int_lt, Bool, true, false, not, ◌||◌, if◌then◌else◌, cond, List, [], ◌∷◌, ◌++◌, length, map, Option, Some, None, option_map, refl, sym, ap, ◌∙◌, subst, arith, All}
+use Rattle.kz_laws_trees.specs.LogLaws.{IsPlain, IsUncommitted}
+use Rattle.std.proofs.Common.{◌≡◌, inl, inr, ℕ, ◌≤◌, ℤ, pos, negsuc, ◌+ℤ◌, ◌≤ℤ◌, int_lt, Bool, true, false, not, ◌||◌, if◌then◌else◌, cond, List, [], ◌∷◌, ◌++◌, length, map, Option, Some, None, option_map, refl, sym, ap, ◌∙◌, subst, arith, All}
 use Rattle.std.specs.Prelude.{⊤, Result, Ok, Err}
 use Rattle.std.specs.Ordering.{int_eq}
 use Rattle.std.proofs.lemmas.Bool.Decides.{Decides-int_eq}
 use Rattle.std.proofs.lemmas.Int.{ints}
-use Rattle.std.proofs.lemmas.List.Elements.{All-nil, All-cons, All-weaker}
+use Rattle.std.proofs.lemmas.List.Elements.{All-nil, All-cons, All-append, All-weaker}
 use Rattle.kz_types.specs.declared.driver.Stage.TheVariants as stage
 use Rattle.kz_types.specs.declared.machine.Event.{Event}
 use Rattle.kz_types.specs.declared.machine.Event.TheVariants as event
@@ -20,18 +20,18 @@ use Rattle.kz_types.specs.declared.fault.TreeFault.{TreeFault}
 use Rattle.kz_types.specs.declared.move_fault.MoveFault.{MoveFault}
 use Rattle.kz_spec_stores.specs.Tree.{Tree, multi, begin_session, end_session, area}
 use Rattle.kz_spec_stores.specs.Difference.{diff}
-use Rattle.kz_spec_stores.specs.Log.{Log, end_of, image_at, max_epoch, full_log, is_migrated_log, image_of, is_open_log}
+use Rattle.kz_spec_stores.specs.Log.{Log, empty_log, end_of, image_at, max_epoch, full_log, is_migrated_log, image_of, is_open_log}
 use Rattle.kz_spec_stores.specs.Rendering.{render}
 use Rattle.kz_spec_machine.specs.Driver.{Shared, Driver, new_driver, elected_driver, is_one_of}
 use Rattle.kz_spec_machine.specs.Machine.{World, empty_world, running_ids, is_running, driver_of, with_driver, Turned, turn, work, decided, first_of, unless, over, full, running_refusal, leader_refusal, quorum_refusal, declared_world, start_refusal, started_world, election_records, next_epoch, elected_log, election_refusal, elected_world, election_answer, turn_result, change_refusal, changed_log, changed_world, with_tree, moved_world, is_held_tree, client_refusal, client_world, unless_refused, next}
-use Rattle.kz_spec_machine.specs.Sound.{IsId, IsTime, IsEpoch, IsEpochOrNone, TreeShape, LogShape, IsBatchEnd, Agreement, Kept, Aims, AtStage, Fine, IsLawful, IsChange}
+use Rattle.kz_spec_machine.specs.Sound.{IsId, IsTime, IsEpoch, IsEpochOrNone, TreeShape, LogShape, IsBatchEnd, Agreement, Kept, Aims, AtStage, Fine, IsLawful, IsChange, IsSession, IsLawfulOp}
 use Rattle.kz_laws_trees.specs.TreeLaws.{Unchanged}
 use Rattle.kz_laws_trees.proofs.Sessions.{begin_leaves, end_leaves}
 use Rattle.kz_laws_trees.proofs.Clients.{client_keeps_shape, client_leaves_recorded, client_leaves_held}
 use Rattle.kz_laws_trees.proofs.Ends.{end_least, base_is_batch_end, image_before}
-use Rattle.kz_laws_trees.proofs.Growth.{Grows, batch_shape, grows_batch, view_within, StaysMigrated, plain_stays}
+use Rattle.kz_laws_trees.proofs.Growth.{Grows, batch_shape, grows_batch, view_grown, view_within, StaysMigrated, plain_stays, uncommitted_was}
 use Rattle.kz_laws_machine.proofs.Agreements.{agreement_grown}
-use Rattle.kz_laws_machine.proofs.Groups.{base_of, Current, base_grown}
+use Rattle.kz_laws_machine.proofs.Groups.{Current, epochs_grown}
 use Rattle.kz_laws_machine.proofs.Clients.{agreement_unchanged, fine_unchanged, current_unchanged, agreement_unheld, unclaimed, fine_unheld}
 use Rattle.kz_laws_machine.proofs.Turns.{TurnKept, turned}
 
@@ -84,8 +84,8 @@ at_grown s l d grows within stage.WaitForBrokers at = tt
 at_grown s l d grows within stage.CompareBrokers at = tt
 at_grown s l d grows within stage.Look at = tt
 at_grown s l d grows within (stage.Claim seen) at = at
-at_grown s l d grows within (stage.ReadSource rows) at = tt
-at_grown s l d grows within (stage.Begin rows) at = tt
+at_grown s l d grows within (stage.ReadSource rows) at = at
+at_grown s l d grows within (stage.Begin rows) at = at
 at_grown s l d grows within (stage.Fill records) at = at
 at_grown s l d grows within stage.ReadLog at = grows.migrated at
 at_grown s l d grows within (stage.ReadArea target rows) at = at
@@ -95,9 +95,14 @@ at_grown s l d grows within stage.Rest at = (at.0, λ c. let old = at.1 c in rec
 at_grown s l d grows within (stage.WriteChange target ops) at = (at.0, λ c. record { remaining = (at.1 c).remaining ∙ ap (λ i. diff (area s.tree) (render i)) (sym (image_there s l d target grows within at.0)) })
 
 fine_grown : (s : Shared) (l : Log) (d : Driver) → Kept s → Grows s.log l → Fine s d → Fine (record s { log = l }) d
-fine_grown s l d kept grows fine =
-    let base = base_grown s l d kept.log grows (base_of s d kept.agreement fine) in
-    record { id = base.id; epochs = base.epochs; elected = fine.elected; claims = base.claims; views = base.views; stage = at_grown s l d grows (view_within s.log d.view kept.log fine.views) d.stage fine.stage }
+fine_grown s l d kept grows fine = record {
+  id = fine.id;
+  epochs = epochs_grown s.log l d.epoch grows fine.epochs;
+  elected = fine.elected;
+  claims = fine.claims;
+  views = view_grown s.log l d.view kept.log grows fine.views;
+  stage = at_grown s l d grows (view_within s.log d.view kept.log fine.views) d.stage fine.stage;
+}
 
 -- ---- refusals
 
@@ -207,6 +212,21 @@ plain_election open_now true is = absurd (cc)
 election_stays : (l : Log) (now : ℤ) → LogShape l → StaysMigrated l (next_epoch l) now (election_records l)
 election_stays l now shape is = plain_stays l (next_epoch l) now (election_records l) shape (plain_election (is_open_log l) (int_eq (image_of l).state (pos 0)) (not_none (image_of l).state (int_eq (image_of l).state (pos 0)) refl is)) is
 
+early_election : (open_now none : Bool) → All IsUncommitted (meta.NoOp ∷ ((if open_now then meta.AbortTransaction None ∷ [] else []) ++ (if none then meta.ZkMigrationState (pos 1) ∷ [] else [])))
+early_election open_now none = All-cons IsUncommitted meta.NoOp _ (inl tt) (All-append IsUncommitted (if open_now then meta.AbortTransaction None ∷ [] else []) (if none then meta.ZkMigrationState (pos 1) ∷ [] else []) (ended open_now) (first none))
+  where
+    ended : (b : Bool) → All IsUncommitted (if b then meta.AbortTransaction None ∷ [] else [])
+    ended true = All-cons IsUncommitted (meta.AbortTransaction None) [] (inl tt) (All-nil IsUncommitted)
+    ended false = All-nil IsUncommitted
+
+    first : (b : Bool) → All IsUncommitted (if b then meta.ZkMigrationState (pos 1) ∷ [] else [])
+    first true = All-cons IsUncommitted (meta.ZkMigrationState (pos 1)) [] (inr (pos 1, refl, refl)) (All-nil IsUncommitted)
+    first false = All-nil IsUncommitted
+
+-- and it makes none so
+election_was : (l : Log) (now : ℤ) → LogShape l → is_migrated_log (elected_log l now) ≡ true → is_migrated_log l ≡ true
+election_was l now shape is = uncommitted_was l (next_epoch l) now (election_records l) shape (early_election (is_open_log l) (int_eq (image_of l).state (pos 0))) is
+
 election_grows : (l : Log) (now : ℤ) → LogShape l → Grows l (elected_log l now)
 election_grows l now shape = grows_batch l (next_epoch l) now (election_records l) (omega (arith, ints)) (election_stays l now shape)
 
@@ -215,9 +235,8 @@ elected_one : (s : Shared) (now : ℤ) (d : Driver) (b : Bool) → Kept s → in
 elected_one s now d true kept less own =
     let l = elected_log s.log now in
     let grows = election_grows s.log now kept.log in
-    let base = base_grown s l d kept.log grows (base_of s d kept.agreement own.fine) in
     record {
-      fine = record { id = base.id; epochs = (next_range s.log.epoch kept.log.epoch less, omega (arith, ints)); elected = λ none. cc; claims = tt; views = base.views; stage = tt };
+      fine = record { id = own.fine.id; epochs = (next_range s.log.epoch kept.log.epoch less, omega (arith, ints)); elected = λ none. cc; claims = tt; views = view_grown s.log l d.view kept.log grows own.fine.views; stage = tt };
       declared = own.declared;
       current = λ some. absurd (some refl);
     }
@@ -240,13 +259,20 @@ election_kept w id now lone none =
       kept = record {
         tree = lone.kept.tree;
         log = elected_shape w.shared.log now lone.kept.log both.0 both.1;
-        agreement = agreement_grown w.shared.tree w.shared.log (elected_log w.shared.log now) lone.kept.log (election_grows w.shared.log now lone.kept.log) lone.kept.agreement;
+        agreement = agreement_grown w.shared.tree w.shared.log (elected_log w.shared.log now) lone.kept.log (election_grows w.shared.log now lone.kept.log)
+            (λ migrated. lone.kept.agreement.holds (election_was w.shared.log now lone.kept.log migrated)) lone.kept.agreement;
       };
       declared = lone.declared;
       one = elected_all w.shared now id w.drivers lone.kept both.0 lone.one;
     }
 
 -- ---- changes
+
+change_migrated : (w : World) (id : ℤ) (records : List MetaRecord) → change_refusal w id records ≡ None → is_migrated_log w.shared.log ≡ true
+change_migrated w id records none =
+    let a = first_none (leader_refusal w id) _ none in
+    let b = first_none (unless (is_migrated_log w.shared.log) answer.NotMigrated) _ a.1 in
+    unless_none (is_migrated_log w.shared.log) answer.NotMigrated b.0
 
 change_room : (w : World) (id : ℤ) (records : List MetaRecord) → change_refusal w id records ≡ None → full_log w.shared.log records ≡ None
 change_room w id records none =
@@ -288,7 +314,7 @@ change_kept w id records now all lone none =
       kept = record {
         tree = lone.kept.tree;
         log = batch_shape l l.epoch now records shape shape.epoch (change_room w id records none) (λ high. let old = shape.begun high in omega (arith, ints));
-        agreement = agreement_grown w.shared.tree l (changed_log l records now) shape grows lone.kept.agreement;
+        agreement = agreement_grown w.shared.tree l (changed_log l records now) shape grows (λ migrated. lone.kept.agreement.holds (change_migrated w id records none)) lone.kept.agreement;
       };
       declared = lone.declared;
       one = changed_one w.shared (changed_log l records now) w.drivers lone.kept grows lone.one;
@@ -363,20 +389,23 @@ moved_kept : (w : World) (r : Result Tree MoveFault) → ((t : Tree) → r ≡ O
 moved_kept w (Ok t) made lone = made t refl
 moved_kept w (Err f) made lone = lone
 
-open_kept : (w : World) (session : ℤ) → Lone w → Lone (moved_world w (begin_session w.shared.tree session)).0
-open_kept w session lone = moved_kept w (begin_session w.shared.tree session) (λ t is. tree_unchanged w t (begin_leaves w.shared.tree t session is lone.kept.tree) lone) lone
+session_begun : (w : World) (t : Tree) {session : ℤ} → IsSession session → (IsSession session → TreeShape t) × Unchanged w.shared.tree t → Lone w → Lone (with_tree w t)
+session_begun w t range both lone = tree_unchanged w t (both.0 range, both.1) lone
+
+open_kept : (w : World) (session : ℤ) → IsSession session → Lone w → Lone (moved_world w (begin_session w.shared.tree session)).0
+open_kept w session range lone = moved_kept w (begin_session w.shared.tree session) (λ t is. session_begun w t range (begin_leaves w.shared.tree t session is lone.kept.tree) lone) lone
 
 expire_kept : (w : World) (session : ℤ) → Lone w → Lone (moved_world w (end_session w.shared.tree session)).0
 expire_kept w session lone = moved_kept w (end_session w.shared.tree session) (λ t is. tree_unchanged w t (end_leaves w.shared.tree t session is lone.kept.tree) lone) lone
 
-client_by : (w : World) (t : Tree) (ops : List Op) (b : Bool) → is_held_tree w.shared.tree ≡ b → multi w.shared.tree ops ≡ Ok t → client_refusal w.shared.tree ops ≡ None → Lone w → Lone (with_tree w t)
-client_by w t ops true held is none lone = tree_unchanged w t (client_keeps_shape w.shared.tree t ops is none lone.kept.tree, client_leaves_held w.shared.tree t ops is none held lone.kept.tree) lone
-client_by w t ops false free is none lone = tree_moved w t (client_keeps_shape w.shared.tree t ops is none lone.kept.tree)
+client_by : (w : World) (t : Tree) (ops : List Op) (b : Bool) → is_held_tree w.shared.tree ≡ b → multi w.shared.tree ops ≡ Ok t → client_refusal w.shared.tree ops ≡ None → All IsLawfulOp ops → Lone w → Lone (with_tree w t)
+client_by w t ops true held is none lawful lone = tree_unchanged w t (client_keeps_shape w.shared.tree t ops is none lawful lone.kept.tree, client_leaves_held w.shared.tree t ops is none held lone.kept.tree) lone
+client_by w t ops false free is none lawful lone = tree_moved w t (client_keeps_shape w.shared.tree t ops is none lawful lone.kept.tree)
     (agreement_unheld w.shared.tree t w.shared.log free (client_leaves_recorded w.shared.tree t ops is none) lone.kept.agreement) (λ d own. own_unheld w.shared t d free own) lone
 
-client_kept : (w : World) (ops : List Op) (r : Result Tree TreeFault) → multi w.shared.tree ops ≡ r → Lone w → client_refusal w.shared.tree ops ≡ None → Lone (client_world w r).0
-client_kept w ops (Ok t) is lone none = client_by w t ops (is_held_tree w.shared.tree) refl is none lone
-client_kept w ops (Err f) is lone none = lone
+client_kept : (w : World) (ops : List Op) (r : Result Tree TreeFault) → multi w.shared.tree ops ≡ r → All IsLawfulOp ops → Lone w → client_refusal w.shared.tree ops ≡ None → Lone (client_world w r).0
+client_kept w ops (Ok t) is lawful lone none = client_by w t ops (is_held_tree w.shared.tree) refl is none lawful lone
+client_kept w ops (Err f) is lawful lone none = lone
 
 unless_made : (P : World → Type 0) (w : World) (refusal : Option Answer) (rest : World × Answer) → P w → (refusal ≡ None → P rest.0) → P (unless_refused w refusal rest).0
 unless_made P w (Some a) rest old made = old
@@ -392,16 +421,33 @@ next_kept w (event.Elect id now) lawful lone = decided_kept Lone w (election_ref
 next_kept w (event.Turn id now) lawful lone = unless_kept Lone w (running_refusal w id) (turn_result w now (driver_of id w.drivers)) lone (turn_kept w id now (driver_of id w.drivers) lawful.1 lone refl)
 next_kept w (event.Change id records now) lawful lone = decided_kept Lone w (change_refusal w id records) (changed_world w records now) (answer.Appended (end_of (changed_log w.shared.log records now))) lone (change_kept w id records now lawful.2 lone)
 next_kept w event.Check lawful lone = lone
-next_kept w (event.ZkOpen session) lawful lone = open_kept w session lone
+next_kept w (event.ZkOpen session) lawful lone = open_kept w session lawful lone
 next_kept w (event.ZkExpire session) lawful lone = expire_kept w session lone
 next_kept w (event.Zk ops) lawful lone =
-    unless_made Lone w (client_refusal w.shared.tree ops) (client_world w (multi w.shared.tree ops)) lone (client_kept w ops (multi w.shared.tree ops) refl lone)
+    unless_made Lone w (client_refusal w.shared.tree ops) (client_world w (multi w.shared.tree ops)) lone (client_kept w ops (multi w.shared.tree ops) refl lawful.0 lone)
+
+empty_unmigrated : is_migrated_log empty_log ≡ false
+unfolding image_at
+empty_unmigrated = refl
 
 pub empty_lone : Lone empty_world
 empty_lone = record {
   kept = record {
-    tree = record { rise = tt; parents = λ path there. absurd (cc); stamped = All-nil _; last = All-nil _; stay = λ path there up. absurd (cc) };
-    agreement = record { held = λ r is low. absurd (cc); end = λ r is low. absurd (cc); same = λ r is closed. absurd (cc) };
+    tree = record {
+      zxid = record { least = omega (arith, ints); most = omega (arith, ints) };
+      limits = record { each = All-nil _; migrated = omega arith; others = omega arith };
+      rise = tt;
+      not_root = All-nil _;
+      free = All-nil _;
+      parents = λ path there. absurd (cc);
+      stamped = All-nil _;
+      last = All-nil _;
+      stay = λ path there. absurd (cc);
+      live = tt;
+      least = All-nil _;
+      owned = All-nil _;
+    };
+    agreement = record { holds = λ migrated. absurd (let none = empty_unmigrated in cc); held = λ r is low. absurd (cc); end = λ r is low. absurd (cc); same = λ r is closed. absurd (cc) };
     log = record {
       base = refl;
       empty = refl;

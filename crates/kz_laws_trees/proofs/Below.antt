@@ -53,7 +53,7 @@ parent_within (b ∷ a) x = subst (λ (c : Bool). Within (b ∷ a) (if c then b 
 abbrev under : List ℕ → List ℕ → Bool
 under p root = bytes_eq p root || is_below root p
 
-below_is : (root p : List ℕ) → is_below root p ≡ true → (x : List ℕ) × (p ≡ root ++ 47 ∷ x)
+pub below_is : (root p : List ℕ) → is_below root p ≡ true → (x : List ℕ) × (p ≡ root ++ 47 ∷ x)
 below_is root p is =
     let front = root ++ codes "/" in
     let split = (starts_is Decides-eqb p front (is_below root p) refl).0 is in

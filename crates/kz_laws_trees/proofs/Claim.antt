@@ -4,14 +4,15 @@ use Rattle.std.specs.Prelude.{Ok, ⊤, nat_lt, int_le, length}
 use Rattle.std.specs.Ordering.{int_eq}
 use Rattle.std.proofs.lemmas.Bool.Decides.{Decides-int_eq}
 use Rattle.std.proofs.lemmas.Int.{ints}
-use Rattle.std.proofs.lemmas.List.Elements.{All-nil, All-cons, All-append}
+use Rattle.std.proofs.lemmas.List.Elements.{All-nil, All-cons, All-append, All-head, All-tail, All-from_recursion}
+use Rattle.std.specs.List.{list_any}
 use Rattle.kz_types.specs.declared.tree.Row.{Row}
 use Rattle.kz_types.specs.declared.tree.Op.{Op}
 use Rattle.kz_types.specs.declared.tree.Op.TheVariants.{Create, Set, Delete}
 use Rattle.kz_types.specs.declared.driver.ClaimSeen.{ClaimSeen}
-use Rattle.kz_types.specs.Paths.{base_paths}
+use Rattle.kz_types.specs.Paths.{base_paths, control_paths, is_below}
 use Rattle.kz_spec_values.specs.Control.{control_path, epoch_path, migration_path, written_epoch, written_control, written_recorded}
-use Rattle.kz_spec_stores.specs.Tree.{Tree, area, row_at, after_op, op_refusal, max_body, max_version, Refusal, code, limit, first_refusal, fits_version, set_refusal, created_row, multi}
+use Rattle.kz_spec_stores.specs.Tree.{Tree, area, row_at, after_op, op_refusal, max_body, max_version, Refusal, code, limit, first_refusal, fits_version, set_refusal, created_row, multi, is_root}
 use Rattle.kz_types.specs.declared.machine.Recorded.{Recorded}
 use Rattle.kz_spec_stores.specs.Image.{Image}
 use Rattle.kz_spec_stores.specs.Rendering.{render}
@@ -20,7 +21,7 @@ use Rattle.kz_laws_values.specs.Ranges.{IsLong, IsEpoch}
 use Rattle.kz_laws_values.proofs.Control.{control_is_read}
 use Rattle.kz_spec_machine.specs.Driver.{Driver, epoch_or_zero, views_migrated, epoch_op, epoch_number, control_ops, migration_ops, base_op, base_ops, unrecorded, claimed_version, claim_ops, shown_by, write_ops}
 use Rattle.kz_spec_machine.specs.Sound.{claim_version, shown_in}
-use Rattle.kz_laws_trees.specs.TreeLaws.{path_of_op, KeepsLasting}
+use Rattle.kz_laws_trees.specs.TreeLaws.{path_of_op, KeepsShape}
 use Rattle.kz_laws_trees.proofs.Rows.{still, set_found, created_found}
 use Rattle.kz_laws_trees.proofs.Runs.{ran, ran_append, Avoids, avoids_append, ran_keeps}
 use Rattle.kz_laws_trees.proofs.Multi.{Ran, multi_ran, differ, version_still, control_outside, rest_of_write_avoids}
@@ -115,38 +116,62 @@ claim_gives_version t new seen d now low is =
     ∙ version_after zxid (control_ops seen.control control ++ (migration_ops (views_migrated d) seen.migration recorded ++ base_ops seen.bases base_paths)) (after_op zxid (epoch_op seen.epoch) t.rows) (rest_avoids seen (views_migrated d) control recorded)
     ∙ first_op t.sessions zxid seen.epoch t.rows low m.passes.0
 
--- ---- no znode that lasts ends with a session
+-- ---- the shape of the tree is kept
 
-epoch_keeps : (seen : Option Row) → KeepsLasting (epoch_op seen)
-epoch_keeps None = λ owned. absurd (cc)
+-- where a znode without an owner may stand
+record Standable (path : List ℕ) : Type 0 where
+  not_root : is_root path ≡ false
+  free : list_any (λ control. is_below control path) control_paths ≡ false
+
+unowned : (path body : List ℕ) → Standable path → KeepsShape (Create path body None)
+unowned path body at = record { not_root = at.not_root; free = at.free; last = λ owned. absurd (cc) }
+
+control_standable : Standable control_path
+unfolding control_paths
+control_standable = record { not_root = refl; free = refl }
+
+epoch_standable : Standable epoch_path
+unfolding control_paths
+epoch_standable = record { not_root = refl; free = refl }
+
+migration_standable : Standable migration_path
+unfolding control_paths
+migration_standable = record { not_root = refl; free = refl }
+
+bases_standable : All Standable base_paths
+unfolding control_paths base_paths
+bases_standable = All-from_recursion Standable base_paths (record { not_root = refl; free = refl }, (record { not_root = refl; free = refl }, (record { not_root = refl; free = refl }, (record { not_root = refl; free = refl }, (record { not_root = refl; free = refl }, tt)))))
+
+epoch_keeps : (seen : Option Row) → KeepsShape (epoch_op seen)
+epoch_keeps None = unowned epoch_path (written_epoch (pos 1)) epoch_standable
 epoch_keeps (Some r) = refl
 
-control_keeps : (seen : Option Row) (body : List ℕ) → All KeepsLasting (control_ops seen body)
-control_keeps None body = All-cons KeepsLasting (Create control_path body None) [] (λ owned. absurd (cc)) (All-nil KeepsLasting)
-control_keeps (Some r) body = All-cons KeepsLasting (Delete control_path r.version) (Create control_path body None ∷ []) tt (All-cons KeepsLasting (Create control_path body None) [] (λ owned. absurd (cc)) (All-nil KeepsLasting))
+control_keeps : (seen : Option Row) (body : List ℕ) → All KeepsShape (control_ops seen body)
+control_keeps None body = All-cons KeepsShape (Create control_path body None) [] (unowned control_path body control_standable) (All-nil KeepsShape)
+control_keeps (Some r) body = All-cons KeepsShape (Delete control_path r.version) (Create control_path body None ∷ []) tt (All-cons KeepsShape (Create control_path body None) [] (unowned control_path body control_standable) (All-nil KeepsShape))
 
-migration_keeps : (b : Bool) (seen : Option Row) (body : List ℕ) → All KeepsLasting (migration_ops b seen body)
-migration_keeps true seen body = All-nil KeepsLasting
-migration_keeps false None body = All-cons KeepsLasting (Create migration_path body None) [] (λ owned. absurd (cc)) (All-nil KeepsLasting)
-migration_keeps false (Some r) body = All-cons KeepsLasting (Set migration_path body (negsuc 0)) [] refl (All-nil KeepsLasting)
+migration_keeps : (b : Bool) (seen : Option Row) (body : List ℕ) → All KeepsShape (migration_ops b seen body)
+migration_keeps true seen body = All-nil KeepsShape
+migration_keeps false None body = All-cons KeepsShape (Create migration_path body None) [] (unowned migration_path body migration_standable) (All-nil KeepsShape)
+migration_keeps false (Some r) body = All-cons KeepsShape (Set migration_path body (negsuc 0)) [] refl (All-nil KeepsShape)
 
-one_base_keeps : (b : Bool) (p : List ℕ) → All KeepsLasting (base_op b p)
-one_base_keeps true p = All-nil KeepsLasting
-one_base_keeps false p = All-cons KeepsLasting (Create p [] None) [] (λ owned. absurd (cc)) (All-nil KeepsLasting)
+one_base_keeps : (b : Bool) (p : List ℕ) → Standable p → All KeepsShape (base_op b p)
+one_base_keeps true p at = All-nil KeepsShape
+one_base_keeps false p at = All-cons KeepsShape (Create p [] None) [] (unowned p [] at) (All-nil KeepsShape)
 
-base_keeps : (bs : List Bool) (ps : List (List ℕ)) → All KeepsLasting (base_ops bs ps)
-base_keeps [] ps = All-nil KeepsLasting
-base_keeps (b ∷ bs) [] = All-nil KeepsLasting
-base_keeps (b ∷ bs) (p ∷ ps) = All-append KeepsLasting (base_op b p) (base_ops bs ps) (one_base_keeps b p) (base_keeps bs ps)
+base_keeps : (bs : List Bool) (ps : List (List ℕ)) → All Standable ps → All KeepsShape (base_ops bs ps)
+base_keeps [] ps at = All-nil KeepsShape
+base_keeps (b ∷ bs) [] at = All-nil KeepsShape
+base_keeps (b ∷ bs) (p ∷ ps) at = All-append KeepsShape (base_op b p) (base_ops bs ps) (one_base_keeps b p (All-head Standable p ps at)) (base_keeps bs ps (All-tail Standable p ps at))
 
-pub claim_keeps_lasting : (seen : ClaimSeen) (d : Driver) (now : ℤ) → All KeepsLasting (claim_ops seen d now)
-claim_keeps_lasting seen d now =
+pub claim_keeps_shape : (seen : ClaimSeen) (d : Driver) (now : ℤ) → All KeepsShape (claim_ops seen d now)
+claim_keeps_shape seen d now =
     let body = written_control d.id (epoch_or_zero d.epoch) now in
     let recording = migration_ops (views_migrated d) seen.migration (written_recorded (unrecorded d)) in
     let bases = base_ops seen.bases base_paths in
-    All-cons KeepsLasting (epoch_op seen.epoch) (control_ops seen.control body ++ (recording ++ bases)) (epoch_keeps seen.epoch)
-    (All-append KeepsLasting (control_ops seen.control body) (recording ++ bases) (control_keeps seen.control body)
-    (All-append KeepsLasting recording bases (migration_keeps (views_migrated d) seen.migration (written_recorded (unrecorded d))) (base_keeps seen.bases base_paths)))
+    All-cons KeepsShape (epoch_op seen.epoch) (control_ops seen.control body ++ (recording ++ bases)) (epoch_keeps seen.epoch)
+    (All-append KeepsShape (control_ops seen.control body) (recording ++ bases) (control_keeps seen.control body)
+    (All-append KeepsShape recording bases (migration_keeps (views_migrated d) seen.migration (written_recorded (unrecorded d))) (base_keeps seen.bases base_paths bases_standable)))
 
 -- ---- what `/controller` shows
 

@@ -1,7 +1,7 @@
 -- A tree after a multi of a ZooKeeper client that isn't refused.
 use Rattle.std.proofs.Common.{◌≡◌, ◌≢◌, ℕ, ℤ, pos, ◌+ℤ◌, Bool, true, false, ◌&&◌, ◌||◌, if◌then◌else◌, cond, List, [], ◌∷◌, Option, Some, None, option_map, is_some, All, refl, sym, ap, ◌∙◌, filter}
 use Rattle.std.specs.Prelude.{Ok, ⊤}
-use Rattle.std.specs.Str.{bytes_eq}
+use Rattle.std.specs.Str.{bytes_eq, is_utf8}
 use Rattle.std.specs.List.{find, list_any}
 use Rattle.std.proofs.lemmas.List.Elements.{All-nil, All-cons, All-head, All-tail, All-weaker}
 use Rattle.std.proofs.lemmas.Slice.Eq.{bytes_eq-Decides}
@@ -11,14 +11,15 @@ use Rattle.kz_types.specs.declared.tree.Op.TheVariants.{Create, Set, Delete, Che
 use Rattle.kz_types.specs.declared.machine.Answer.{Answer}
 use Rattle.kz_types.specs.declared.machine.Answer.TheVariants as answer
 use Rattle.kz_types.specs.Paths.{base_paths, control_paths, is_among, is_below, is_migrated}
+use Rattle.kz_types.specs.PathRule.{is_path, has_path_form}
 use Rattle.kz_ordered.specs.Order.{bytes_cmp}
 use Rattle.kz_ordered.specs.Ordered.{Rises}
 use Rattle.kz_spec_values.specs.Control.{control_path, epoch_path, migration_path, shown_epoch}
-use Rattle.kz_spec_stores.specs.Tree.{Tree, path_of_row, row_at, after_op, multi, recorded}
+use Rattle.kz_spec_stores.specs.Tree.{Tree, path_of_row, row_at, is_root, after_op, multi, recorded}
 use Rattle.kz_spec_machine.specs.Driver.{shown_by}
 use Rattle.kz_spec_machine.specs.Machine.{first_of, is_reserved, is_held_path, is_held, is_held_tree, first_told, client_refusal}
-use Rattle.kz_spec_machine.specs.Sound.{TreeShape, shown_in}
-use Rattle.kz_laws_trees.specs.TreeLaws.{KeepsLasting, Unchanged}
+use Rattle.kz_spec_machine.specs.Sound.{TreeShape, shown_in, IsLawfulOp}
+use Rattle.kz_laws_trees.specs.TreeLaws.{KeepsShape, Unchanged}
 use Rattle.kz_laws_trees.proofs.Rows.{still, others_kept, op_rises}
 use Rattle.kz_laws_trees.proofs.Runs.{ran}
 use Rattle.kz_laws_trees.proofs.Below.{parent_outside}
@@ -86,7 +87,7 @@ create_parts path body owner is = four_parts (bytes_eq path migration_path) (end
 other_path : (p q : List ℕ) → bytes_eq q p ≡ false → p ≢ q
 other_path p q no_test is = let yes = (bytes_eq-Decides q p).1 (sym is) in cc
 
--- ---- znodes that last
+-- ---- the shape of the tree
 
 none_lasts : (owned epoch migrated base migration held : Bool) → owned ≡ true → (owned && (epoch || migrated || base)) ≡ false → migration ≡ false → held ≡ false → (migrated || base || epoch || migration || held) ≡ false
 none_lasts false epoch migrated base migration held is free no_migration no_control = absurd (cc)
@@ -96,19 +97,37 @@ none_lasts true false false true migration held is free no_migration no_control 
 none_lasts true false false false true held is free no_migration no_control = absurd (cc)
 none_lasts true false false false false held is free no_migration no_control = no_control
 
-one_keeps : (o : Op) → is_reserved o ≡ false → KeepsLasting o
-one_keeps (Create path body owner) is =
+no_slash : (a : Bool) → (a && false && true && true) ≡ false
+no_slash true = refl
+no_slash false = refl
+
+empty_path : is_path [] ≡ false
+unfolding is_path has_path_form
+empty_path = no_slash (is_utf8 [])
+
+-- a path that keeps the rule isn't the root's
+not_root : (path : List ℕ) → is_path path ≡ true → is_root path ≡ false
+not_root [] is = absurd (cc (empty_path))
+not_root (b ∷ bs) is = refl
+
+one_keeps : (o : Op) → IsLawfulOp o → is_reserved o ≡ false → KeepsShape o
+one_keeps (Create path body owner) lawful is =
     let parts = create_parts path body owner is in
-    (λ owned. none_lasts (is_some owner) (bytes_eq path epoch_path) (is_migrated path) (is_among base_paths path) (bytes_eq path migration_path) (bytes_eq path control_path && is_some (shown_epoch body)) owned parts.1 parts.0 parts.3)
-one_keeps (Set path body version) is = (neither (bytes_eq path migration_path) (bytes_eq path control_path && is_some (shown_epoch body)) is).1
-one_keeps (Delete path version) is = tt
-one_keeps (Check path version) is = tt
+    record {
+      not_root = not_root path lawful.0;
+      free = parts.2;
+      last = λ owned. none_lasts (is_some owner) (bytes_eq path epoch_path) (is_migrated path) (is_among base_paths path) (bytes_eq path migration_path) (bytes_eq path control_path && is_some (shown_epoch body)) owned parts.1 parts.0 parts.3;
+    }
+one_keeps (Set path body version) lawful is = (neither (bytes_eq path migration_path) (bytes_eq path control_path && is_some (shown_epoch body)) is).1
+one_keeps (Delete path version) lawful is = tt
+one_keeps (Check path version) lawful is = tt
 
-pub client_keeps_lasting : (t : Tree) (ops : List Op) → client_refusal t ops ≡ None → All KeepsLasting ops
-client_keeps_lasting t ops none = All-weaker (λ o. is_reserved o ≡ false) KeepsLasting one_keeps ops (none_reserved t ops none)
+all_keep : (ops : List Op) → All IsLawfulOp ops → Passes is_reserved ops → All KeepsShape ops
+all_keep [] lawful free = All-nil KeepsShape
+all_keep (o ∷ os) lawful free = All-cons KeepsShape o os (one_keeps o (All-head IsLawfulOp o os lawful) (All-head (λ x. is_reserved x ≡ false) o os free)) (all_keep os (All-tail IsLawfulOp o os lawful) (All-tail (λ x. is_reserved x ≡ false) o os free))
 
-pub client_keeps_shape : (t new : Tree) (ops : List Op) → multi t ops ≡ Ok new → client_refusal t ops ≡ None → TreeShape t → TreeShape new
-client_keeps_shape t new ops is none shape = shape_kept t new ops (multi_ran t new ops is) (client_keeps_lasting t ops none) shape
+pub client_keeps_shape : (t new : Tree) (ops : List Op) → multi t ops ≡ Ok new → client_refusal t ops ≡ None → All IsLawfulOp ops → TreeShape t → TreeShape new
+client_keeps_shape t new ops is none lawful shape = shape_kept t new ops (multi_ran t new ops is) (all_keep ops lawful (none_reserved t ops none)) shape
 
 -- ---- a path that is spared
 

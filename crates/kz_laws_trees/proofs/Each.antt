@@ -7,9 +7,10 @@ use Rattle.kz_types.specs.declared.tree.Row.{Row}
 use Rattle.kz_types.specs.declared.tree.Op.{Op}
 use Rattle.kz_types.specs.declared.tree.Op.TheVariants.{Create, Set, Delete, Check}
 use Rattle.kz_ordered.proofs.Order.{bytes_order}
-use Rattle.kz_ordered.proofs.Lookup.{Contains-put_cases, Contains-without, found_is_contained}
-use Rattle.kz_spec_stores.specs.Tree.{path_of_row, row_at, put_row, without_row, parent_of, created_row, set_row, touched, after_set, after_op, is_later}
-use Rattle.kz_laws_trees.proofs.Runs.{ran}
+use Rattle.kz_ordered.proofs.Lookup.{Contains-put_cases, Contains-without, found_is_contained, key_of_found}
+use Rattle.kz_spec_stores.specs.Tree.{path_of_row, row_at, put_row, without_row, parent_of, create_refusal, set_refusal, op_refusal, created_row, set_row, touched, after_set, after_op, is_later}
+use Rattle.kz_laws_trees.specs.TreeLaws.{KeepsShape}
+use Rattle.kz_laws_trees.proofs.Runs.{ran, Passes}
 
 pub all_from_contains : {A : Type 0} (P : A → Type 0) (xs : List A) → ((x : A) → Contains xs x → P x) → All P xs
 all_from_contains P xs h k d within = h _ (Contains-get_or xs k d within)
@@ -24,31 +25,36 @@ all_put P r rows own all = all_from_contains P (put_row r rows) (λ x has. eithe
 pub all_without : (P : Row → Type 0) (path : List ℕ) (rows : List Row) → All P rows → All P (without_row path rows)
 all_without P path rows all = all_from_contains P (without_row path rows) (λ x has. All-contains P rows x all (Contains-without bytes_order path_of_row path rows x has))
 
--- What holds of a new znode, and stays when its body is set and when its children change.
-pub record Persists (P : Row → Type 0) (zxid : ℤ) : Type 0 where
-  pub made : (path body : List ℕ) (owner : Option ℤ) → P (created_row zxid path body owner)
-  pub set : (body : List ℕ) (r : Row) → P r → P (set_row zxid body r)
+-- What a create that isn't refused and keeps the shape gives a new znode, and what stays when its body is set so and when
+-- its children change.
+pub record Keeps (P : Row → Type 0) (sessions : List ℤ) (zxid : ℤ) : Type 0 where
+  pub made : (path body : List ℕ) (owner : Option ℤ) (rows : List Row) → create_refusal sessions path body owner rows ≡ None → KeepsShape (Create path body owner) → P (created_row zxid path body owner)
+  pub set : (path body : List ℕ) (version : ℤ) (r : Row) → set_refusal body version (Some r) ≡ None → KeepsShape (Set path body version) → r.path ≡ path → P r → P (set_row zxid body r)
   pub touched : (r : Row) → P r → P (record r { pzxid = zxid })
 
-all_touched : (P : Row → Type 0) (zxid : ℤ) (q : List ℕ) (rows : List Row) (m : Option Row) → row_at q rows ≡ m → Persists P zxid → All P rows → All P (touched zxid m rows)
-all_touched P zxid q rows None is persists all = all
-all_touched P zxid q rows (Some r) is persists all = all_put P (record r { pzxid = zxid }) rows (persists.touched r (All-contains P rows r all (found_is_contained bytes_order path_of_row q rows r is))) all
+all_touched : (P : Row → Type 0) (zxid : ℤ) (q : List ℕ) (rows : List Row) (m : Option Row) → row_at q rows ≡ m → ((r : Row) → P r → P (record r { pzxid = zxid })) → All P rows → All P (touched zxid m rows)
+all_touched P zxid q rows None is touch all = all
+all_touched P zxid q rows (Some r) is touch all = all_put P (record r { pzxid = zxid }) rows (touch r (All-contains P rows r all (found_is_contained bytes_order path_of_row q rows r is))) all
 
-all_set : (P : Row → Type 0) (zxid : ℤ) (q body : List ℕ) (rows : List Row) (m : Option Row) → row_at q rows ≡ m → Persists P zxid → All P rows → All P (after_set zxid body m rows)
-all_set P zxid q body rows None is persists all = all
-all_set P zxid q body rows (Some r) is persists all = all_put P (set_row zxid body r) rows (persists.set body r (All-contains P rows r all (found_is_contained bytes_order path_of_row q rows r is))) all
+all_set : (P : Row → Type 0) (sessions : List ℤ) (zxid : ℤ) (path body : List ℕ) (version : ℤ) (rows : List Row) (m : Option Row) → row_at path rows ≡ m → set_refusal body version m ≡ None → KeepsShape (Set path body version) → Keeps P sessions zxid → All P rows → All P (after_set zxid body m rows)
+all_set P sessions zxid path body version rows None is pass shaped keeps all = all
+all_set P sessions zxid path body version rows (Some r) is pass shaped keeps all =
+    all_put P (set_row zxid body r) rows
+    (keeps.set path body version r pass shaped (key_of_found bytes_order path_of_row path rows r is) (All-contains P rows r all (found_is_contained bytes_order path_of_row path rows r is))) all
 
-all_after_op : (P : Row → Type 0) (zxid : ℤ) (o : Op) (rows : List Row) → Persists P zxid → All P rows → All P (after_op zxid o rows)
-all_after_op P zxid (Create path body owner) rows persists all =
-    all_put P (created_row zxid path body owner) (touched zxid (row_at (parent_of path) rows) rows) (persists.made path body owner)
-    (all_touched P zxid (parent_of path) rows (row_at (parent_of path) rows) refl persists all)
-all_after_op P zxid (Set path body version) rows persists all = all_set P zxid path body rows (row_at path rows) refl persists all
-all_after_op P zxid (Delete path version) rows persists all = all_without P path (touched zxid (row_at (parent_of path) rows) rows) (all_touched P zxid (parent_of path) rows (row_at (parent_of path) rows) refl persists all)
-all_after_op P zxid (Check path version) rows persists all = all
+all_after_op : (P : Row → Type 0) (sessions : List ℤ) (zxid : ℤ) (o : Op) (rows : List Row) → op_refusal sessions o rows ≡ None → KeepsShape o → Keeps P sessions zxid → All P rows → All P (after_op zxid o rows)
+all_after_op P sessions zxid (Create path body owner) rows pass shaped keeps all =
+    all_put P (created_row zxid path body owner) (touched zxid (row_at (parent_of path) rows) rows) (keeps.made path body owner rows pass shaped)
+    (all_touched P zxid (parent_of path) rows (row_at (parent_of path) rows) refl keeps.touched all)
+all_after_op P sessions zxid (Set path body version) rows pass shaped keeps all = all_set P sessions zxid path body version rows (row_at path rows) refl pass shaped keeps all
+all_after_op P sessions zxid (Delete path version) rows pass shaped keeps all =
+    all_without P path (touched zxid (row_at (parent_of path) rows) rows) (all_touched P zxid (parent_of path) rows (row_at (parent_of path) rows) refl keeps.touched all)
+all_after_op P sessions zxid (Check path version) rows pass shaped keeps all = all
 
-pub all_ran : (P : Row → Type 0) (zxid : ℤ) (os : List Op) (rows : List Row) → Persists P zxid → All P rows → All P (ran zxid os rows)
-all_ran P zxid [] rows persists all = all
-all_ran P zxid (o ∷ os) rows persists all = all_ran P zxid os (after_op zxid o rows) persists (all_after_op P zxid o rows persists all)
+pub all_ran : (P : Row → Type 0) (sessions : List ℤ) (zxid : ℤ) (os : List Op) (rows : List Row) → Passes sessions zxid os rows → All KeepsShape os → Keeps P sessions zxid → All P rows → All P (ran zxid os rows)
+all_ran P sessions zxid [] rows passes shaped keeps all = all
+all_ran P sessions zxid (o ∷ os) rows passes shaped keeps all =
+    all_ran P sessions zxid os (after_op zxid o rows) passes.1 (All-tail KeepsShape o os shaped) keeps (all_after_op P sessions zxid o rows passes.0 (All-head KeepsShape o os shaped) keeps all)
 
 -- ---- none is later
 

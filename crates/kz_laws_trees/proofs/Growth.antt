@@ -14,8 +14,8 @@ use Rattle.kz_spec_stores.specs.Image.{is_migrated_state}
 use Rattle.kz_spec_machine.specs.Driver.{commit_records}
 use Rattle.kz_spec_machine.specs.Sound.{IsEpochOrNone, LogShape, IsBatchEnd, Views}
 use Rattle.kz_laws_trees.proofs.Logs.{image_kept, end_more}
-use Rattle.kz_laws_trees.specs.LogLaws.{IsPlain}
-use Rattle.kz_laws_trees.proofs.Migration.{plain_keeps_state, commit_migrates}
+use Rattle.kz_laws_trees.specs.LogLaws.{IsPlain, IsUncommitted}
+use Rattle.kz_laws_trees.proofs.Migration.{plain_keeps_state, uncommitted_stays, commit_migrates}
 use Rattle.kz_laws_trees.proofs.Ends.{follows_more, count_more, end_is_batch_end, batch_end_kept, batch_end_within}
 
 -- ---- the shape
@@ -65,6 +65,17 @@ StaysMigrated l epoch now items = is_migrated_log l ≡ true → is_migrated_log
 
 pub plain_stays : (l : Log) (epoch now : ℤ) (items : List MetaRecord) → LogShape l → All IsPlain items → StaysMigrated l epoch now items
 plain_stays l epoch now items shape plain is = ap is_migrated_state (plain_keeps_state l epoch now items shape plain) ∙ is
+
+-- and an unmigrated one too
+pub plain_was : (l : Log) (epoch now : ℤ) (items : List MetaRecord) → LogShape l → All IsPlain items → is_migrated_log (with_batch l epoch now items) ≡ true → is_migrated_log l ≡ true
+plain_was l epoch now items shape plain is = sym (ap is_migrated_state (plain_keeps_state l epoch now items shape plain)) ∙ is
+
+pub uncommitted_was : (l : Log) (epoch now : ℤ) (items : List MetaRecord) → LogShape l → All IsUncommitted items → is_migrated_log (with_batch l epoch now items) ≡ true → is_migrated_log l ≡ true
+uncommitted_was l epoch now items shape early is = by_state (is_migrated_log l) refl
+  where
+    by_state : (b : Bool) → is_migrated_log l ≡ b → b ≡ true
+    by_state true before = refl
+    by_state false before = absurd (let none = uncommitted_stays l epoch now items shape early before in cc)
 
 pub commit_is_migrated : (l : Log) (epoch now : ℤ) → LogShape l → is_migrated_log (with_batch l epoch now commit_records) ≡ true
 commit_is_migrated l epoch now shape = ap is_migrated_state (commit_migrates l epoch now shape)

@@ -1,8 +1,9 @@
--- Operations leave no owner to a znode that lasts, and no znode's parent ends with a session.
+-- Operations leave no owner to a znode that lasts and no other than a live session to any, make no znode where none may
+-- stand, and leave no znode a parent that ends with a session.
 use Rattle.std.proofs.Common.{◌≡◌, ◌≢◌, ℕ, ℤ, negsuc, Bool, true, false, not, ◌&&◌, ◌||◌, List, [], ◌∷◌, Option, Some, None, option_map, is_some, All, refl, sym, ap, ◌∙◌, subst}
 use Rattle.std.specs.Prelude.{length, nat_lt, nat_le}
 use Rattle.std.specs.Str.{bytes_eq}
-use Rattle.std.proofs.lemmas.List.Elements.{All-contains, All-head, All-tail}
+use Rattle.std.proofs.lemmas.List.Elements.{All-contains}
 use Rattle.kz_types.specs.declared.tree.Row.{Row}
 use Rattle.kz_types.specs.declared.tree.Op.{Op}
 use Rattle.kz_types.specs.declared.tree.Op.TheVariants.{Create, Set, Delete, Check}
@@ -12,20 +13,16 @@ use Rattle.kz_ordered.specs.Ordered.{Rises}
 use Rattle.kz_ordered.proofs.Order.{bytes_order}
 use Rattle.kz_ordered.proofs.Lookup.{found_is_contained, key_of_found}
 use Rattle.kz_spec_values.specs.Control.{control_path, epoch_path, migration_path, shown_epoch}
-use Rattle.kz_spec_stores.specs.Tree.{path_of_row, row_at, parent_of, is_root, has_parent, is_ephemeral, may_own, count_beside, limit_beside, max_body, max_znodes, Refusal, code, limit, create_refusal, op_refusal, created_row, set_row, touched, after_set, after_op}
-use Rattle.kz_spec_machine.specs.Sound.{HaveParents, Lasts, ParentsStay}
-use Rattle.kz_laws_trees.specs.TreeLaws.{path_of_op, KeepsLasting}
+use Rattle.kz_spec_stores.specs.Tree.{path_of_row, row_at, parent_of, is_root, has_parent, is_ephemeral, may_own, count_beside, limit_beside, max_body, max_znodes, Refusal, code, limit, create_refusal, op_refusal, after_set, after_op}
+use Rattle.kz_spec_machine.specs.Sound.{HaveParents, Lasts, ParentsStay, IsNotRoot, IsUnreserved, IsOwned}
+use Rattle.kz_laws_trees.specs.TreeLaws.{path_of_op}
 use Rattle.kz_laws_trees.proofs.Rows.{still, same, other, compare, others_kept, op_rises, set_found, deleted_found}
 use Rattle.kz_laws_trees.proofs.Runs.{ran, Passes}
-use Rattle.kz_laws_trees.proofs.Each.{all_put, all_without}
-use Rattle.kz_laws_trees.proofs.Parents.{Is, there_kept, passed_first, set_there, op_parents}
+use Rattle.kz_laws_trees.proofs.Each.{Keeps}
+use Rattle.kz_laws_trees.proofs.Parents.{Is, there_kept, passed_first, not_not, set_there, op_parents}
 use Rattle.kz_laws_trees.proofs.Below.{parent_apart}
 
 -- ---- a znode that lasts has no owner
-
-touched_lasts : (zxid : ℤ) (q : List ℕ) (rows : List Row) (m : Option Row) → row_at q rows ≡ m → All Lasts rows → All Lasts (touched zxid m rows)
-touched_lasts zxid q rows None is all = all
-touched_lasts zxid q rows (Some r) is all = all_put Lasts (record r { pzxid = zxid }) rows (All-contains Lasts rows r all (found_is_contained bytes_order path_of_row q rows r is)) all
 
 -- of the tests of what lasts the last one alone reads the body
 other_body : (a b c d x y : Bool) → (a || b || c || d || x) ≡ false → y ≡ false → (a || b || c || d || y) ≡ false
@@ -35,27 +32,55 @@ other_body false false true d x y old new = absurd (cc)
 other_body false false false true x y old new = absurd (cc)
 other_body false false false false x y old new = new
 
-set_lasts : (zxid : ℤ) (path body : List ℕ) (rows : List Row) (m : Option Row) → row_at path rows ≡ m → (bytes_eq path control_path && is_some (shown_epoch body)) ≡ false → All Lasts rows → All Lasts (after_set zxid body m rows)
-set_lasts zxid path body rows None is free all = all
-set_lasts zxid path body rows (Some r) is free all =
-    let old : Lasts r = All-contains Lasts rows r all (found_is_contained bytes_order path_of_row path rows r is) in
-    let key : r.path ≡ path = key_of_found bytes_order path_of_row path rows r is in
-    all_put Lasts (set_row zxid body r) rows (λ owned. other_body (is_migrated r.path) (is_among base_paths r.path) (bytes_eq r.path epoch_path) (bytes_eq r.path migration_path)
-    (bytes_eq r.path control_path && is_some (shown_epoch r.body)) (bytes_eq r.path control_path && is_some (shown_epoch body)) (old owned)
-    (ap (λ q. bytes_eq q control_path && is_some (shown_epoch body)) key ∙ free)) all
+pub lasts_keep : (sessions : List ℤ) (zxid : ℤ) → Keeps Lasts sessions zxid
+lasts_keep sessions zxid = record {
+  made = λ path body owner rows pass shaped. shaped.last;
+  set = λ path body version r pass free key old. λ owned. other_body (is_migrated r.path) (is_among base_paths r.path) (bytes_eq r.path epoch_path) (bytes_eq r.path migration_path)
+      (bytes_eq r.path control_path && is_some (shown_epoch r.body)) (bytes_eq r.path control_path && is_some (shown_epoch body)) (old owned)
+      (ap (λ q. bytes_eq q control_path && is_some (shown_epoch body)) key ∙ free);
+  touched = λ r old. old;
+}
 
-op_lasts : (zxid : ℤ) (o : Op) (rows : List Row) → KeepsLasting o → All Lasts rows → All Lasts (after_op zxid o rows)
-op_lasts zxid (Create path body owner) rows keeps all =
-    all_put Lasts (created_row zxid path body owner) (touched zxid (row_at (parent_of path) rows) rows) keeps (touched_lasts zxid (parent_of path) rows (row_at (parent_of path) rows) refl all)
-op_lasts zxid (Set path body version) rows keeps all = set_lasts zxid path body rows (row_at path rows) refl keeps all
-op_lasts zxid (Delete path version) rows keeps all = all_without Lasts path (touched zxid (row_at (parent_of path) rows) rows) (touched_lasts zxid (parent_of path) rows (row_at (parent_of path) rows) refl all)
-op_lasts zxid (Check path version) rows keeps all = all
+-- ---- what depends on the path alone, and on the owner
 
-pub ran_lasts : (zxid : ℤ) (os : List Op) (rows : List Row) → All KeepsLasting os → All Lasts rows → All Lasts (ran zxid os rows)
-ran_lasts zxid [] rows keeps all = all
-ran_lasts zxid (o ∷ os) rows keeps all = ran_lasts zxid os (after_op zxid o rows) (All-tail KeepsLasting o os keeps) (op_lasts zxid o rows (All-head KeepsLasting o os keeps) all)
+pub not_root_keep : (sessions : List ℤ) (zxid : ℤ) → Keeps IsNotRoot sessions zxid
+not_root_keep sessions zxid = record { made = λ path body owner rows pass shaped. shaped.not_root; set = λ path body version r pass shaped key old. old; touched = λ r old. old }
+
+pub free_keep : (sessions : List ℤ) (zxid : ℤ) → Keeps IsUnreserved sessions zxid
+free_keep sessions zxid = record { made = λ path body owner rows pass shaped. shaped.free; set = λ path body version r pass shaped key old. old; touched = λ r old. old }
+
+may_own_first : (sessions : List ℤ) (path body : List ℕ) (owner : Option ℤ) (rows : List Row) → create_refusal sessions path body owner rows ≡ None → may_own owner sessions ≡ true
+may_own_first sessions path body owner rows pass =
+    let limits : List (Bool × Refusal) = (nat_lt max_body (length body), limit 2) ∷ (nat_le max_znodes (count_beside path rows), limit (limit_beside path)) ∷ [] in
+    let third : List (Bool × Refusal) = (is_ephemeral (row_at (parent_of path) rows), code (negsuc 107)) ∷ limits in
+    let second : List (Bool × Refusal) = (is_some (row_at path rows), code (negsuc 109)) ∷ third in
+    not_not (may_own owner sessions) (passed_first (not (may_own owner sessions)) (code (negsuc 111)) ((not (has_parent path rows), code (negsuc 100)) ∷ second) pass).0
+
+pub owned_keep : (sessions : List ℤ) (zxid : ℤ) → Keeps (IsOwned sessions) sessions zxid
+owned_keep sessions zxid = record {
+  made = λ path body owner rows pass shaped. may_own_first sessions path body owner rows pass;
+  set = λ path body version r pass shaped key old. old;
+  touched = λ r old. old;
+}
 
 -- ---- no parent ends with a session
+
+-- no parent but the root ends with a session
+abbrev pub StayBelowRoot : List Row → Type 0
+StayBelowRoot rows = (path : List ℕ) → Is path rows → is_root (parent_of path) ≡ false → is_ephemeral (row_at (parent_of path) rows) ≡ false
+
+none_at_root : (q : List ℕ) (rows : List Row) (m : Option Row) → All IsNotRoot rows → is_root q ≡ true → row_at q rows ≡ m → is_ephemeral m ≡ false
+none_at_root q rows None apart root is = refl
+none_at_root q rows (Some r) apart root is =
+    absurd (let own = All-contains IsNotRoot rows r apart (found_is_contained bytes_order path_of_row q rows r is) in let same_root = ap is_root (key_of_found bytes_order path_of_row q rows r is) in cc)
+
+-- no znode is the root, so that none of their parents ends with a session
+pub stays_everywhere : (rows : List Row) → All IsNotRoot rows → StayBelowRoot rows → ParentsStay rows
+stays_everywhere rows apart stay p there = by_root (is_root (parent_of p)) refl
+  where
+    by_root : (b : Bool) → is_root (parent_of p) ≡ b → is_ephemeral (row_at (parent_of p) rows) ≡ false
+    by_root true root = none_at_root (parent_of p) rows (row_at (parent_of p) rows) apart root refl
+    by_root false up = stay p there up
 
 ephemeral_still : (m : Option Row) → is_ephemeral (option_map still m) ≡ is_ephemeral m
 ephemeral_still None = refl
@@ -91,7 +116,7 @@ set_owner zxid path body version rows None is = ap (λ m. is_ephemeral (row_at p
 set_owner zxid path body version rows (Some r) is = ap is_ephemeral (set_found zxid path body version rows r is) ∙ ap is_ephemeral (sym is)
 
 -- the operation's own znode as a parent
-own_parent : (sessions : List ℤ) (zxid : ℤ) (o : Op) (p : List ℕ) (rows : List Row) → op_refusal sessions o rows ≡ None → Rises bytes_cmp path_of_row rows → HaveParents rows → ParentsStay rows
+own_parent : (sessions : List ℤ) (zxid : ℤ) (o : Op) (p : List ℕ) (rows : List Row) → op_refusal sessions o rows ≡ None → Rises bytes_cmp path_of_row rows → HaveParents rows → StayBelowRoot rows
     → parent_of p ≡ path_of_op o → Is p (after_op zxid o rows) → is_root (parent_of p) ≡ false → is_ephemeral (row_at (path_of_op o) (after_op zxid o rows)) ≡ false
 own_parent sessions zxid (Create path body owner) p rows pass rise have stay is there up =
     let was : Is p rows = sym (there_kept zxid (Create path body owner) p rows (λ own. parent_apart p up (is ∙ sym own))) ∙ there in
@@ -104,14 +129,14 @@ own_parent sessions zxid (Delete path version) p rows pass rise have stay is the
 own_parent sessions zxid (Check path version) p rows pass rise have stay is there up = ap (λ q. is_ephemeral (row_at q rows)) (sym is) ∙ stay p there up
 
 -- the parent of the operation's own znode
-own_child : (sessions : List ℤ) (zxid : ℤ) (o : Op) (rows : List Row) → op_refusal sessions o rows ≡ None → Rises bytes_cmp path_of_row rows → ParentsStay rows
+own_child : (sessions : List ℤ) (zxid : ℤ) (o : Op) (rows : List Row) → op_refusal sessions o rows ≡ None → Rises bytes_cmp path_of_row rows → StayBelowRoot rows
     → Is (path_of_op o) (after_op zxid o rows) → is_root (parent_of (path_of_op o)) ≡ false → is_ephemeral (row_at (parent_of (path_of_op o)) rows) ≡ false
 own_child sessions zxid (Create path body owner) rows pass rise stay there up = (created_new sessions path body owner rows pass).parent
 own_child sessions zxid (Set path body version) rows pass rise stay there up = stay path (set_there body path version rows (row_at path rows) refl pass) up
 own_child sessions zxid (Delete path version) rows pass rise stay there up = absurd (let none = ap is_some (deleted_found zxid path version rows rise) in cc)
 own_child sessions zxid (Check path version) rows pass rise stay there up = stay path there up
 
-op_stays : (sessions : List ℤ) (zxid : ℤ) (o : Op) (rows : List Row) → op_refusal sessions o rows ≡ None → Rises bytes_cmp path_of_row rows → HaveParents rows → ParentsStay rows → ParentsStay (after_op zxid o rows)
+op_stays : (sessions : List ℤ) (zxid : ℤ) (o : Op) (rows : List Row) → op_refusal sessions o rows ≡ None → Rises bytes_cmp path_of_row rows → HaveParents rows → StayBelowRoot rows → StayBelowRoot (after_op zxid o rows)
 op_stays sessions zxid o rows pass rise have stay p there up = elim (compare (parent_of p) (path_of_op o)) [
   | same is ↦ ap (λ q. is_ephemeral (row_at q (after_op zxid o rows))) is ∙ own_parent sessions zxid o p rows pass rise have stay is there up
   | other differ ↦ owner_kept zxid o (parent_of p) rows differ ∙ elim (compare p (path_of_op o)) [
@@ -121,7 +146,7 @@ op_stays sessions zxid o rows pass rise have stay p there up = elim (compare (pa
   ]
 ]
 
-pub ran_stays : (sessions : List ℤ) (zxid : ℤ) (os : List Op) (rows : List Row) → Passes sessions zxid os rows → Rises bytes_cmp path_of_row rows → HaveParents rows → ParentsStay rows → ParentsStay (ran zxid os rows)
+pub ran_stays : (sessions : List ℤ) (zxid : ℤ) (os : List Op) (rows : List Row) → Passes sessions zxid os rows → Rises bytes_cmp path_of_row rows → HaveParents rows → StayBelowRoot rows → StayBelowRoot (ran zxid os rows)
 ran_stays sessions zxid [] rows passes rise have stay = stay
 ran_stays sessions zxid (o ∷ os) rows passes rise have stay =
     ran_stays sessions zxid os (after_op zxid o rows) passes.1 (op_rises zxid o rows rise) (op_parents sessions zxid o rows passes.0 rise have) (op_stays sessions zxid o rows passes.0 rise have stay)

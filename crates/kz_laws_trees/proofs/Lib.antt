@@ -4,7 +4,9 @@ pub mod Runs
 pub mod Each
 pub mod Parents
 pub mod Below
+pub mod Free
 pub mod Lasting
+pub mod Limits
 pub mod Render
 pub mod Multi
 pub mod Later

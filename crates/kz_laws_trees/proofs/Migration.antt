@@ -1,5 +1,5 @@
 -- A log whose migration is committed stays so, and its commit makes it so.
-use Rattle.std.proofs.Common.{◌≡◌, ℕ, suc, ℤ, pos, ◌+ℤ◌, ◌-ℤ◌, ◌≤ℤ◌, int_le, int_lt, Bool, true, false, not, ◌&&◌, ◌||◌, if◌then◌else◌, cond, List, [], ◌∷◌, ◌++◌, length, Option, Some, None, All, refl, sym, ap, ◌∙◌, filter, arith, append-nil}
+use Rattle.std.proofs.Common.{◌≡◌, inl, inr, ℕ, suc, ℤ, pos, ◌+ℤ◌, ◌-ℤ◌, ◌≤ℤ◌, int_le, int_lt, Bool, true, false, not, ◌&&◌, ◌||◌, if◌then◌else◌, cond, List, [], ◌∷◌, ◌++◌, length, Option, Some, None, All, refl, sym, ap, ◌∙◌, filter, arith, append-nil}
 use Rattle.std.specs.Prelude.{⊤}
 use Rattle.std.specs.List.{find}
 use Rattle.std.proofs.lemmas.Int.{ints}
@@ -9,12 +9,12 @@ use Rattle.kz_types.specs.declared.log.BatchRow.{BatchRow}
 use Rattle.kz_types.specs.declared.log.Entry.{Entry}
 use Rattle.kz_types.specs.declared.record.MetaRecord.{MetaRecord}
 use Rattle.kz_types.specs.declared.record.MetaRecord.TheVariants as meta
-use Rattle.kz_spec_stores.specs.Image.{Image, is_broker_config, applied, configured}
+use Rattle.kz_spec_stores.specs.Image.{Image, is_broker_config, applied, configured, is_migrated_state}
 use Rattle.kz_spec_stores.specs.Settlement.{is_end, closes, is_marker, is_inside, first_close, is_ended_by, is_counted, counted}
-use Rattle.kz_spec_stores.specs.Log.{Log, last_of, last_end, end_of, numbered, entries_of_batch, entries, record_count, all_entries_applied, image_at, image_of, new_batch, with_batch}
+use Rattle.kz_spec_stores.specs.Log.{Log, last_of, last_end, end_of, numbered, entries_of_batch, entries, record_count, all_entries_applied, image_at, image_of, is_migrated_log, new_batch, with_batch}
 use Rattle.kz_spec_machine.specs.Driver.{commit_records}
 use Rattle.kz_spec_machine.specs.Sound.{Follows, LogShape}
-use Rattle.kz_laws_trees.specs.LogLaws.{IsPlain}
+use Rattle.kz_laws_trees.specs.LogLaws.{IsPlain, IsUncommitted}
 use Rattle.kz_laws_trees.proofs.Logs.{AllAfter, inside_same, end_more, numbered_after}
 use Rattle.kz_laws_trees.proofs.Ends.{end_counts, counted_up}
 
@@ -126,22 +126,27 @@ not_ended : (at : ℤ) (b : Bool) (e : Entry) (m : Option Entry) → is_end e.it
 not_ended at true e m one rest = and_first (is_end e.item) (int_le e.offset at) one
 not_ended at false e m one rest = rest
 
-plain_ends_none : (at : ℤ) (p : Entry → Bool) (new : List Entry) → AllPlain new → is_ended_by at (find p new) ≡ false
-plain_ends_none at p [] all = refl
-plain_ends_none at p (e ∷ new) all = not_ended at (p e) e (find p new) (no_end e.item all.0) (plain_ends_none at p new all.1)
+-- none of these ends a transaction
+abbrev NoneEnds : List Entry → Type 0
+NoneEnds [] = ⊤
+NoneEnds (e ∷ es) = (is_end e.item ≡ false) × NoneEnds es
+
+ends_none : (at : ℤ) (p : Entry → Bool) (new : List Entry) → NoneEnds new → is_ended_by at (find p new) ≡ false
+ends_none at p [] all = refl
+ends_none at p (e ∷ new) all = not_ended at (p e) e (find p new) all.0 (ends_none at p new all.1)
 
 both_ended : (at later : ℤ) (b : Bool) (e : Entry) (m n : Option Entry) → e.offset ≤ℤ at → e.offset ≤ℤ later → is_ended_by later m ≡ is_ended_by at n → is_ended_by later (cond b (Some e) m) ≡ is_ended_by at (cond b (Some e) n)
 both_ended at later true e m n low high rest = ap (λ x. is_end e.item && x) (not_after e.offset later high ∙ sym (not_after e.offset at low))
 both_ended at later false e m n low high rest = rest
 
-ended_as_before : (at later : ℤ) (p : Entry → Bool) (es new : List Entry) → at ≤ℤ later → AllUpTo at es → AllPlain new → is_ended_by later (find p (es ++ new)) ≡ is_ended_by at (find p es)
-ended_as_before at later p [] new more up_to all = plain_ends_none later p new all
+ended_as_before : (at later : ℤ) (p : Entry → Bool) (es new : List Entry) → at ≤ℤ later → AllUpTo at es → NoneEnds new → is_ended_by later (find p (es ++ new)) ≡ is_ended_by at (find p es)
+ended_as_before at later p [] new more up_to all = ends_none later p new all
 ended_as_before at later p (e ∷ es) new more up_to all = both_ended at later (p e) e (find p (es ++ new)) (find p es) up_to.0 (before e.offset up_to.0) (ended_as_before at later p es new more up_to.1 all)
   where
     before : (o : ℤ) → o ≤ℤ at → o ≤ℤ later
     before o low = omega (arith, ints)
 
-counted_as_before : (at later : ℤ) (es new : List Entry) (e : Entry) → at ≤ℤ later → AllUpTo at es → AllAfter at new → AllPlain new → e.offset ≤ℤ at → is_counted (es ++ new) later e ≡ is_counted es at e
+counted_as_before : (at later : ℤ) (es new : List Entry) (e : Entry) → at ≤ℤ later → AllUpTo at es → AllAfter at new → NoneEnds new → e.offset ≤ℤ at → is_counted (es ++ new) later e ≡ is_counted es at e
 counted_as_before at later es new e more up_to after all low =
     let closing : Entry → Bool = λ (x : Entry). closes x.item && int_lt e.offset x.offset in
     ap (λ b. b && not (is_marker e.item) && (not (is_inside (es ++ new) e.offset) || is_ended_by later (first_close (es ++ new) e.offset))) (not_after e.offset later (omega (arith, ints)) ∙ sym (not_after e.offset at low))
@@ -164,23 +169,86 @@ up_to_end l shape = entries_up_to (end_of l) l.base l.batches (omega (arith, int
 not_before : (e n : ℤ) (k : ℕ) → n ≡ e +ℤ pos k → e ≤ℤ n
 not_before e n k is = omega (arith, ints)
 
-pub plain_keeps_state : (l : Log) (epoch now : ℤ) (items : List MetaRecord) → LogShape l → All IsPlain items → (image_of (with_batch l epoch now items)).state ≡ (image_of l).state
+-- the entries of a batch behind the log's end
+abbrev next_entries : Log → ℤ → List MetaRecord → List Entry
+next_entries l epoch items = numbered (end_of l +ℤ pos 1) epoch items
+
+-- those of them that count then
+abbrev next_counted : Log → ℤ → ℤ → List MetaRecord → List Entry
+next_counted l epoch now items = filter (is_counted (entries l.batches ++ next_entries l epoch items) (end_of (with_batch l epoch now items))) (next_entries l epoch items)
+
+-- where none of a batch ends a transaction, those that count are applied to the image that was
+more_applied : (l : Log) (epoch now : ℤ) (items : List MetaRecord) → LogShape l → NoneEnds (next_entries l epoch items) → image_of (with_batch l epoch now items) ≡ all_entries_applied (next_counted l epoch now items) (image_of l)
 unfolding image_at
-plain_keeps_state l epoch now items shape all =
+more_applied l epoch now items shape none =
     let es = entries l.batches in
-    let new = numbered (end_of l +ℤ pos 1) epoch items in
+    let new = next_entries l epoch items in
     let at = end_of l in
     let later = end_of (with_batch l epoch now items) in
     let up_to = up_to_end l shape in
-    let plain = numbered_plain (end_of l +ℤ pos 1) epoch items all in
     let after = numbered_after at (end_of l +ℤ pos 1) epoch items (omega (arith, ints)) in
     let more = not_before at later (length items) (end_more l epoch now items) in
     let test = is_counted (es ++ new) later in
-    ap (λ xs. (all_entries_applied (counted xs later) l.base_image).state) (entries_more l epoch now items)
-    ∙ ap (λ xs. (all_entries_applied xs l.base_image).state) (filter-append test es new)
-    ∙ ap (λ (i : Image). i.state) (applied_append (filter test es) (filter test new) l.base_image)
-    ∙ plain_state (filter test new) (all_entries_applied (filter test es) l.base_image) (filter_plain test new plain)
-    ∙ ap (λ xs. (all_entries_applied xs l.base_image).state) (filter_same at test (is_counted es at) es up_to (λ e low. counted_as_before at later es new e more up_to after plain low))
+    ap (λ xs. all_entries_applied (counted xs later) l.base_image) (entries_more l epoch now items)
+    ∙ ap (λ xs. all_entries_applied xs l.base_image) (filter-append test es new)
+    ∙ applied_append (filter test es) (filter test new) l.base_image
+    ∙ ap (λ xs. all_entries_applied (filter test new) (all_entries_applied xs l.base_image)) (filter_same at test (is_counted es at) es up_to (λ e low. counted_as_before at later es new e more up_to after none low))
+
+plain_ends : (es : List Entry) → AllPlain es → NoneEnds es
+plain_ends [] all = tt
+plain_ends (e ∷ es) all = (no_end e.item all.0, plain_ends es all.1)
+
+pub plain_keeps_state : (l : Log) (epoch now : ℤ) (items : List MetaRecord) → LogShape l → All IsPlain items → (image_of (with_batch l epoch now items)).state ≡ (image_of l).state
+plain_keeps_state l epoch now items shape all =
+    let new = next_entries l epoch items in
+    let plain = numbered_plain (end_of l +ℤ pos 1) epoch items all in
+    ap (λ (i : Image). i.state) (more_applied l epoch now items shape (plain_ends new plain))
+    ∙ plain_state (next_counted l epoch now items) (image_of l) (filter_plain (is_counted (entries l.batches ++ new) (end_of (with_batch l epoch now items))) new plain)
+
+-- ---- a batch without the commit
+
+abbrev AllUncommitted : List Entry → Type 0
+AllUncommitted [] = ⊤
+AllUncommitted (e ∷ es) = IsUncommitted e.item × AllUncommitted es
+
+numbered_uncommitted : (offset epoch : ℤ) (items : List MetaRecord) → All IsUncommitted items → AllUncommitted (numbered offset epoch items)
+numbered_uncommitted offset epoch [] all = tt
+numbered_uncommitted offset epoch (r ∷ rs) all = (All-head IsUncommitted r rs all, numbered_uncommitted (offset +ℤ pos 1) epoch rs (All-tail IsUncommitted r rs all))
+
+kept_uncommitted : (e : Entry) (b : Bool) (es : List Entry) → IsUncommitted e.item → AllUncommitted es → AllUncommitted (cond b (e ∷ es) es)
+kept_uncommitted e true es one all = (one, all)
+kept_uncommitted e false es one all = all
+
+filter_uncommitted : (p : Entry → Bool) (es : List Entry) → AllUncommitted es → AllUncommitted (filter p es)
+filter_uncommitted p [] all = tt
+filter_uncommitted p (e ∷ es) all = kept_uncommitted e (p e) (filter p es) all.0 (filter_uncommitted p es all.1)
+
+ends_nothing : (r : MetaRecord) → IsUncommitted r → is_end r ≡ false
+ends_nothing r (inl plain) = no_end r plain
+ends_nothing r (inr state) = ap is_end state.1
+
+uncommitted_ends : (es : List Entry) → AllUncommitted es → NoneEnds es
+uncommitted_ends [] all = tt
+uncommitted_ends (e ∷ es) all = (ends_nothing e.item all.0, uncommitted_ends es all.1)
+
+state_or_before : (b : Bool) (s : ℤ) (i : Image) → is_migrated_state s ≡ false → is_migrated_state i.state ≡ false → is_migrated_state (if b then record i { state = s } else i).state ≡ false
+state_or_before true s i new before = new
+state_or_before false s i new before = before
+
+one_uncommitted : (epoch : ℤ) (r : MetaRecord) (i : Image) → IsUncommitted r → is_migrated_state i.state ≡ false → is_migrated_state (applied epoch r i).state ≡ false
+one_uncommitted epoch r i (inl plain) before = ap is_migrated_state (state_left epoch r i plain) ∙ before
+one_uncommitted epoch r i (inr state) before = ap (λ x. is_migrated_state (applied epoch x i).state) state.1 ∙ state_or_before (int_le (pos 0) state.0 && int_le state.0 (pos 3)) state.0 i state.2 before
+
+all_uncommitted : (es : List Entry) (i : Image) → AllUncommitted es → is_migrated_state i.state ≡ false → is_migrated_state (all_entries_applied es i).state ≡ false
+all_uncommitted [] i all before = before
+all_uncommitted (e ∷ es) i all before = all_uncommitted es (applied e.epoch e.item i) all.1 (one_uncommitted e.epoch e.item i all.0 before)
+
+pub uncommitted_stays : (l : Log) (epoch now : ℤ) (items : List MetaRecord) → LogShape l → All IsUncommitted items → is_migrated_log l ≡ false → is_migrated_log (with_batch l epoch now items) ≡ false
+uncommitted_stays l epoch now items shape all before =
+    let new = next_entries l epoch items in
+    let early = numbered_uncommitted (end_of l +ℤ pos 1) epoch items all in
+    ap (λ (i : Image). is_migrated_state i.state) (more_applied l epoch now items shape (uncommitted_ends new early))
+    ∙ all_uncommitted (next_counted l epoch now items) (image_of l) (filter_uncommitted (is_counted (entries l.batches ++ new) (end_of (with_batch l epoch now items))) new early) before
 
 -- ---- the commit
 

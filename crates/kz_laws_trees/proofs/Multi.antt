@@ -2,6 +2,7 @@
 use Rattle.std.proofs.Common.{◌≡◌, ◌≢◌, ℕ, zero, suc, ◌≤◌, nat_le, ℤ, pos, negsuc, ◌+ℤ◌, ◌≤ℤ◌, int_le, Bool, true, false, if◌then◌else◌, List, [], ◌∷◌, ◌++◌, length, ◌&&◌, Option, Some, None, option_map, is_some, All, refl, sym, ap, ◌∙◌, subst, map, filter, take, drop, arith}
 use Rattle.std.specs.Prelude.{Result, Ok, Err, option_and_then}
 use Rattle.std.specs.Str.{bytes_eq}
+use Rattle.std.specs.Ordering.{int_cmp}
 use Rattle.std.proofs.lemmas.Bool.Decides.{nat_tests}
 use Rattle.std.proofs.lemmas.Int.{ints}
 use Rattle.std.proofs.lemmas.List.{take_all}
@@ -26,32 +27,47 @@ use Rattle.kz_spec_stores.specs.Image.{Image}
 use Rattle.kz_spec_stores.specs.Rendering.{path_of_rendered, render}
 use Rattle.kz_spec_stores.specs.Difference.{same_body, op_of, diff, max_chunk, chunk}
 use Rattle.kz_spec_machine.specs.Driver.{is_last_write, record_ops, write_ops}
-use Rattle.kz_spec_machine.specs.Sound.{IsStamped, HaveParents, Lasts, ParentsStay, TreeShape, claim_version}
-use Rattle.kz_laws_trees.specs.TreeLaws.{path_of_op, KeepsLasting, Completed}
+use Rattle.kz_spec_machine.specs.Sound.{IsStamped, HaveParents, Lasts, ParentsStay, IsNotRoot, IsUnreserved, IsOwned, IsSmall, Limits, TreeShape, claim_version}
+use Rattle.kz_laws_trees.specs.TreeLaws.{path_of_op, KeepsShape, Completed}
 use Rattle.kz_laws_trees.proofs.Rows.{still, set_found}
 use Rattle.kz_laws_trees.proofs.Area.{area_of, area_rises, area_left}
 use Rattle.kz_laws_trees.proofs.Runs.{ran, Passes, passed, ran_is, ran_append, passes_left, passes_right, ran_rises, Avoids, avoids_append, ran_keeps, Inside, Outside, area_ran, area_ran_left, inside_take, avoids_inside}
-use Rattle.kz_laws_trees.proofs.Each.{Persists, all_ran, none_later}
+use Rattle.kz_laws_trees.proofs.Each.{Keeps, all_ran, none_later}
 use Rattle.kz_laws_trees.proofs.Parents.{ran_parents}
-use Rattle.kz_laws_trees.proofs.Lasting.{ran_lasts, ran_stays}
+use Rattle.kz_laws_trees.proofs.Lasting.{lasts_keep, not_root_keep, free_keep, owned_keep, stays_everywhere, ran_stays}
+use Rattle.kz_laws_trees.proofs.Free.{migrated_free}
+use Rattle.kz_laws_trees.proofs.Limits.{small_keep, ran_counts}
+use Rattle.kz_laws_trees.proofs.Below.{not_empty}
 use Rattle.kz_laws_trees.proofs.Render.{decides_body, render_rises, render_inside, area_inside, difference_inside}
 
 -- ---- any multi
 
 pub record Ran (t new : Tree) (ops : List Op) : Type 0 where
   pub zxid : new.zxid ≡ t.zxid +ℤ pos 1
+  pub most : new.zxid ≤ℤ max_long
+  pub sessions : new.sessions ≡ t.sessions
   pub rows : new.rows ≡ ran (t.zxid +ℤ pos 1) ops t.rows
   pub passes : Passes t.sessions (t.zxid +ℤ pos 1) ops t.rows
 
 abbrev counted_up : Tree → List Row → Bool → Result Tree TreeFault
 counted_up t rows full = if full then Err (fault.Limit 0 17) else Ok (record { zxid = t.zxid +ℤ pos 1; sessions = t.sessions; rows = rows })
 
-counted_by : (t new : Tree) (rows : List Row) (full : Bool) → counted_up t rows full ≡ Ok new → (new.zxid ≡ t.zxid +ℤ pos 1) × (new.rows ≡ rows)
+pub room_for_one : (a b : ℤ) → int_le max_long a ≡ false → b ≡ a +ℤ pos 1 → b ≤ℤ max_long
+room_for_one a b room is = subst (λ (z : ℤ). z ≤ℤ max_long) (sym is) (below_most a room)
+  where
+    below_most : (z : ℤ) → int_le max_long z ≡ false → (z +ℤ pos 1) ≤ℤ max_long
+    below_most z room = grind (arith, ints)
+
+not_full : (t new : Tree) (rows : List Row) (full : Bool) → counted_up t rows full ≡ Ok new → full ≡ false
+not_full t new rows true is = absurd (cc)
+not_full t new rows false is = refl
+
+counted_by : (t new : Tree) (rows : List Row) (full : Bool) → counted_up t rows full ≡ Ok new → (new.zxid ≡ t.zxid +ℤ pos 1) × (new.sessions ≡ t.sessions) × (new.rows ≡ rows)
 counted_by t new rows true is = absurd (cc)
 counted_by t new rows false is =
     let made : Tree = record { zxid = t.zxid +ℤ pos 1; sessions = t.sessions; rows = rows } in
     let same : made ≡ new = cc in
-    (sym (ap (λ (x : Tree). x.zxid) same), sym (ap (λ (x : Tree). x.rows) same))
+    (sym (ap (λ (x : Tree). x.zxid) same), sym (ap (λ (x : Tree). x.sessions) same), sym (ap (λ (x : Tree). x.rows) same))
 
 made_by : (t new : Tree) (ops : List Op) (r : Result (List Row) TreeFault) → after_ops t.sessions (t.zxid +ℤ pos 1) 0 ops t.rows ≡ r → with_zxid t r ≡ Ok new → Ran t new ops
 made_by t new ops (Err e) ran-is is = absurd (cc)
@@ -59,7 +75,9 @@ made_by t new ops (Ok rows) ran-is is =
     let both = counted_by t new rows (int_le max_long t.zxid) is in
     record {
       zxid = both.0;
-      rows = both.1 ∙ ran_is t.sessions (t.zxid +ℤ pos 1) 0 ops t.rows rows ran-is;
+      most = room_for_one t.zxid new.zxid (not_full t new rows (int_le max_long t.zxid) is) both.0;
+      sessions = both.1;
+      rows = both.2 ∙ ran_is t.sessions (t.zxid +ℤ pos 1) 0 ops t.rows rows ran-is;
       passes = passed t.sessions (t.zxid +ℤ pos 1) 0 ops t.rows rows ran-is;
     }
 
@@ -67,32 +85,79 @@ pub multi_ran : (t new : Tree) (ops : List Op) → multi t ops ≡ Ok new → Ra
 unfolding multi
 multi_ran t new ops is = made_by t new ops (after_ops t.sessions (t.zxid +ℤ pos 1) 0 ops t.rows) refl is
 
-stamps_last : (zxid : ℤ) → Persists (IsStamped zxid) zxid
-stamps_last zxid = record {
-  made = λ path body owner. record { created = omega (arith, ints); modified = omega (arith, ints); children = omega (arith, ints); version = omega (arith, ints) };
-  set = λ body r old. record { created = old.created; modified = omega (arith, ints); children = old.children; version = let low = old.version in omega (arith, ints) };
-  touched = λ r old. record { created = old.created; modified = old.modified; children = omega (arith, ints); version = old.version };
+stamps_keep : (sessions : List ℤ) (zxid : ℤ) → pos 1 ≤ℤ zxid → Keeps (IsStamped zxid) sessions zxid
+stamps_keep sessions zxid low = record {
+  made = λ path body owner rows pass shaped. record {
+    least = low;
+    modified_since = omega (arith, ints);
+    children_since = omega (arith, ints);
+    created = omega (arith, ints);
+    modified = omega (arith, ints);
+    children = omega (arith, ints);
+    version = omega (arith, ints);
+  };
+  set = λ path body version r pass shaped key old. record {
+    least = old.least;
+    modified_since = old.created;
+    children_since = old.children_since;
+    created = old.created;
+    modified = omega (arith, ints);
+    children = old.children;
+    version = let least = old.version in omega (arith, ints);
+  };
+  touched = λ r old. record {
+    least = old.least;
+    modified_since = old.modified_since;
+    children_since = old.created;
+    created = old.created;
+    modified = old.modified;
+    children = omega (arith, ints);
+    version = old.version;
+  };
 }
 
 pub stamped_later : (zxid : ℤ) (r : Row) → IsStamped zxid r → IsStamped (zxid +ℤ pos 1) r
 stamped_later zxid r old = record {
+  least = old.least;
+  modified_since = old.modified_since;
+  children_since = old.children_since;
   created = let a = old.created in omega (arith, ints);
   modified = let a = old.modified in omega (arith, ints);
   children = let a = old.children in omega (arith, ints);
   version = old.version;
 }
 
--- a multi that gives no znode that lasts an owner keeps the shape of a tree
-pub shape_kept : (t new : Tree) (ops : List Op) → Ran t new ops → All KeepsLasting ops → TreeShape t → TreeShape new
-shape_kept t new ops m keeps shape =
+first_or_later : (z : ℤ) → pos 0 ≤ℤ z → pos 1 ≤ℤ (z +ℤ pos 1)
+first_or_later z low = omega (arith, ints)
+
+pub one_more : (z : ℤ) → pos 0 ≤ℤ z → pos 0 ≤ℤ (z +ℤ pos 1)
+one_more z low = omega (arith, ints)
+
+-- a multi whose operations keep the shape of a tree
+pub shape_kept : (t new : Tree) (ops : List Op) → Ran t new ops → All KeepsShape ops → TreeShape t → TreeShape new
+shape_kept t new ops m shaped shape =
     let zxid = t.zxid +ℤ pos 1 in
+    let not_root : All IsNotRoot (ran zxid ops t.rows) = all_ran IsNotRoot t.sessions zxid ops t.rows m.passes shaped (not_root_keep t.sessions zxid) shape.not_root in
     record {
+      zxid = record { least = subst (λ (z : ℤ). pos 0 ≤ℤ z) (sym m.zxid) (one_more t.zxid shape.zxid.least); most = m.most };
       rise = subst (Rises bytes_cmp path_of_row) (sym m.rows) (ran_rises zxid ops t.rows shape.rise);
+      not_root = subst (All IsNotRoot) (sym m.rows) not_root;
+      free = subst (All IsUnreserved) (sym m.rows) (all_ran IsUnreserved t.sessions zxid ops t.rows m.passes shaped (free_keep t.sessions zxid) shape.free);
       parents = subst HaveParents (sym m.rows) (ran_parents t.sessions zxid ops t.rows m.passes shape.rise shape.parents);
       stamped = subst (λ (z : ℤ). All (IsStamped z) new.rows) (sym m.zxid) (subst (All (IsStamped zxid)) (sym m.rows)
-          (all_ran (IsStamped zxid) zxid ops t.rows (stamps_last zxid) (All-weaker (IsStamped t.zxid) (IsStamped zxid) (stamped_later t.zxid) t.rows shape.stamped)));
-      last = subst (All Lasts) (sym m.rows) (ran_lasts zxid ops t.rows keeps shape.last);
-      stay = subst ParentsStay (sym m.rows) (ran_stays t.sessions zxid ops t.rows m.passes shape.rise shape.parents shape.stay);
+          (all_ran (IsStamped zxid) t.sessions zxid ops t.rows m.passes shaped (stamps_keep t.sessions zxid (first_or_later t.zxid shape.zxid.least)) (All-weaker (IsStamped t.zxid) (IsStamped zxid) (stamped_later t.zxid) t.rows shape.stamped)));
+      last = subst (All Lasts) (sym m.rows) (all_ran Lasts t.sessions zxid ops t.rows m.passes shaped (lasts_keep t.sessions zxid) shape.last);
+      stay = subst ParentsStay (sym m.rows)
+          (stays_everywhere (ran zxid ops t.rows) not_root (ran_stays t.sessions zxid ops t.rows m.passes shape.rise shape.parents (λ path there up. shape.stay path there)));
+      live = subst (Rises int_cmp (λ s. s)) (sym m.sessions) shape.live;
+      least = subst (All (λ s. pos 1 ≤ℤ s)) (sym m.sessions) shape.least;
+      owned = subst (λ (ss : List ℤ). All (IsOwned ss) new.rows) (sym m.sessions)
+          (subst (All (IsOwned t.sessions)) (sym m.rows) (all_ran (IsOwned t.sessions) t.sessions zxid ops t.rows m.passes shaped (owned_keep t.sessions zxid) shape.owned));
+      limits = subst Limits (sym m.rows) (record {
+        each = all_ran IsSmall t.sessions zxid ops t.rows m.passes shaped (small_keep t.sessions zxid) shape.limits.each;
+        migrated = ran_counts true t.sessions zxid ops t.rows m.passes shape.rise shape.limits.migrated;
+        others = ran_counts false t.sessions zxid ops t.rows m.passes shape.rise shape.limits.others;
+      });
     }
 
 -- ---- paths that differ
@@ -168,26 +233,26 @@ version_by t new i claim target m =
 pub write_keeps_version : (t new : Tree) (i : Image) (claim : ℤ) (target : Recorded) → multi t (write_ops claim (diff (area t) (render i)) target) ≡ Ok new → claim_version new ≡ claim_version t
 write_keeps_version t new i claim target is = version_by t new i claim target (multi_ran t new (write_ops claim (diff (area t) (render i)) target) is)
 
--- an edit of the area makes nothing that ends with a session
+-- an edit of the area keeps the shape
 not_control : (p : List ℕ) (b : Bool) → bytes_eq p control_path ≡ b → is_migrated p ≡ true → b ≡ false
 not_control p true is inside = absurd (let e = ap is_migrated ((bytes_eq-Decides p control_path).0 is) in cc (control_outside))
 not_control p false is inside = refl
 
-edits_keep : (es : List (Edit Rendered (List ℕ))) → Inside es → All KeepsLasting (map op_of es)
-edits_keep [] inside = All-nil KeepsLasting
-edits_keep (drop_key p ∷ es) inside = All-cons KeepsLasting (op_of (drop_key p)) (map op_of es) tt (edits_keep es inside.1)
-edits_keep (make r ∷ es) inside = All-cons KeepsLasting (op_of (make r)) (map op_of es) (λ owned. absurd (cc)) (edits_keep es inside.1)
+edits_keep : (es : List (Edit Rendered (List ℕ))) → Inside es → All KeepsShape (map op_of es)
+edits_keep [] inside = All-nil KeepsShape
+edits_keep (drop_key p ∷ es) inside = All-cons KeepsShape (op_of (drop_key p)) (map op_of es) tt (edits_keep es inside.1)
+edits_keep (make r ∷ es) inside = All-cons KeepsShape (op_of (make r)) (map op_of es) (record { not_root = not_empty r.path inside.0; free = migrated_free r.path inside.0; last = λ owned. absurd (cc) }) (edits_keep es inside.1)
 edits_keep (alter r ∷ es) inside =
-    All-cons KeepsLasting (op_of (alter r)) (map op_of es) (ap (λ b. b && is_some (shown_epoch r.body)) (not_control r.path (bytes_eq r.path control_path) refl inside.0)) (edits_keep es inside.1)
+    All-cons KeepsShape (op_of (alter r)) (map op_of es) (ap (λ b. b && is_some (shown_epoch r.body)) (not_control r.path (bytes_eq r.path control_path) refl inside.0)) (edits_keep es inside.1)
 
-record_keeps : (b : Bool) (target : Recorded) → All KeepsLasting (record_ops b target)
-record_keeps true target = All-cons KeepsLasting (Set migration_path (written_recorded target) (negsuc 0)) [] refl (All-nil KeepsLasting)
-record_keeps false target = All-nil KeepsLasting
+record_keeps : (b : Bool) (target : Recorded) → All KeepsShape (record_ops b target)
+record_keeps true target = All-cons KeepsShape (Set migration_path (written_recorded target) (negsuc 0)) [] refl (All-nil KeepsShape)
+record_keeps false target = All-nil KeepsShape
 
-pub write_keeps_lasting : (t : Tree) (i : Image) (claim : ℤ) (target : Recorded) → All KeepsLasting (write_ops claim (diff (area t) (render i)) target)
-write_keeps_lasting t i claim target =
-    All-cons KeepsLasting (Check epoch_path claim) (rest_of_write t i target) tt (All-append KeepsLasting (chunk (diff (area t) (render i))) (record_ops (is_last_write (diff (area t) (render i))) target)
-    (subst (All KeepsLasting) (sym (chunk_is t i)) (edits_keep (take max_chunk (edits_to t (render i))) (inside_take max_chunk (edits_to t (render i)) (edits_inside t i))))
+pub write_keeps_shape : (t : Tree) (i : Image) (claim : ℤ) (target : Recorded) → All KeepsShape (write_ops claim (diff (area t) (render i)) target)
+write_keeps_shape t i claim target =
+    All-cons KeepsShape (Check epoch_path claim) (rest_of_write t i target) tt (All-append KeepsShape (chunk (diff (area t) (render i))) (record_ops (is_last_write (diff (area t) (render i))) target)
+    (subst (All KeepsShape) (sym (chunk_is t i)) (edits_keep (take max_chunk (edits_to t (render i))) (inside_take max_chunk (edits_to t (render i)) (edits_inside t i))))
     (record_keeps (is_last_write (diff (area t) (render i))) target))
 
 -- ---- the last write
@@ -245,7 +310,7 @@ last_write t new i claim target shape last is =
     let edits = map op_of (edits_to t (render i)) in
     let rest : rest_of_write t i target ≡ edits ++ Set migration_path body (negsuc 0) ∷ [] = last_is t i target (is_last_write (diff (area t) (render i))) refl last in
     let passes : Passes t.sessions zxid (edits ++ Set migration_path body (negsuc 0) ∷ []) t.rows = subst (λ os. Passes t.sessions zxid os t.rows) rest m.passes.1 in
-    set_last t new i body shape (shape_kept t new ops m (write_keeps_lasting t i claim target) shape) m.zxid
+    set_last t new i body shape (shape_kept t new ops m (write_keeps_shape t i claim target) shape) m.zxid
     (m.rows ∙ ap (λ os. ran zxid os t.rows) rest ∙ ran_append zxid edits (Set migration_path body (negsuc 0) ∷ []) t.rows)
     (passes_left t.sessions zxid edits (Set migration_path body (negsuc 0) ∷ []) t.rows passes)
     (passes_right t.sessions zxid edits (Set migration_path body (negsuc 0) ∷ []) t.rows passes).0

@@ -1,8 +1,9 @@
 -- What one batch more makes of a log.
-use Rattle.std.specs.Prelude.{◌≡◌, ℤ, pos, ◌+ℤ◌, ◌≤ℤ◌, List, length, None, Ok, All, ⊤}
+use Rattle.std.specs.Prelude.{◌≡◌, ◌⊎◌, false, ℤ, pos, ◌+ℤ◌, ◌≤ℤ◌, List, length, None, Ok, All, ⊤}
 use Rattle.kz_types.specs.declared.record.MetaRecord.{MetaRecord}
 use Rattle.kz_types.specs.declared.record.MetaRecord.TheVariants as meta
-use Rattle.kz_spec_stores.specs.Log.{Log, end_of, image_at, image_of, with_batch, full_log, append}
+use Rattle.kz_spec_stores.specs.Log.{Log, end_of, image_at, image_of, is_migrated_log, with_batch, full_log, append}
+use Rattle.kz_spec_stores.specs.Image.{is_migrated_state}
 use Rattle.kz_spec_machine.specs.Driver.{commit_records}
 use Rattle.kz_spec_machine.specs.Sound.{IsEpochOrNone, LogShape, IsBatchEnd}
 
@@ -44,6 +45,14 @@ IsPlain r = ⊥
 -- A batch of such records leaves the state of the migration.
 abbrev pub PlainKeepsState : Type 0
 PlainKeepsState = (l : Log) (epoch now : ℤ) (items : List MetaRecord) → LogShape l → All IsPlain items → (image_of (with_batch l epoch now items)).state ≡ (image_of l).state
+
+-- A record that is plain, or a state of the migration before its commit.
+abbrev pub IsUncommitted : MetaRecord → Type 0
+IsUncommitted r = IsPlain r ⊎ ((s : ℤ) × (r ≡ meta.ZkMigrationState s) × (is_migrated_state s ≡ false))
+
+-- A batch of such records leaves an unmigrated log so.
+abbrev pub UncommittedStays : Type 0
+UncommittedStays = (l : Log) (epoch now : ℤ) (items : List MetaRecord) → LogShape l → All IsUncommitted items → is_migrated_log l ≡ false → is_migrated_log (with_batch l epoch now items) ≡ false
 
 -- The records of the commit make it 2, whatever transaction was open.
 abbrev pub CommitMigrates : Type 0

@@ -16,7 +16,7 @@ use Rattle.kz_spec_stores.specs.Rendering.{path_of_rendered, render}
 use Rattle.kz_spec_stores.specs.Difference.{same_body, diff, max_chunk}
 use Rattle.kz_spec_machine.specs.Driver.{Driver, epoch_or_zero, views_migrated, unrecorded, is_last_write, write_ops, claimed_version, claim_ops}
 use Rattle.kz_spec_machine.specs.Machine.{is_held_tree, client_refusal}
-use Rattle.kz_spec_machine.specs.Sound.{Lasts, TreeShape, claim_version, shown_in}
+use Rattle.kz_spec_machine.specs.Sound.{IsNotRoot, IsUnreserved, Lasts, TreeShape, claim_version, shown_in, IsSession, IsLawfulOp}
 use Rattle.kz_laws_values.specs.Ranges.{IsLong, IsEpoch}
 
 -- the path of an operation
@@ -28,25 +28,32 @@ path_of_op (Check path version) = path
 
 -- ---- any multi
 
--- An operation after which no znode that lasts ends with a session: a create with an owner is of another znode, and no set
--- gives `/controller` the body of a KRaft controller.
-abbrev pub KeepsLasting : Op → Type 0
-KeepsLasting (Create path body owner) = Lasts (created_row (pos 0) path body owner)
-KeepsLasting (Set path body version) = (bytes_eq path control_path && is_some (shown_epoch body)) ≡ false
-KeepsLasting (Delete path version) = ⊤
-KeepsLasting (Check path version) = ⊤
+-- A znode that may stand in a tree: it isn't the root, it doesn't stand below a control znode, and where it lasts it doesn't
+-- end with a session.
+pub record MayStand (r : Row) : Type 0 where
+  pub not_root : IsNotRoot r
+  pub free : IsUnreserved r
+  pub last : Lasts r
+
+-- An operation that keeps the shape of a tree: a create is of a znode that may stand, and no set gives `/controller` the body
+-- of a KRaft controller.
+abbrev pub KeepsShape : Op → Type 0
+KeepsShape (Create path body owner) = MayStand (created_row (pos 0) path body owner)
+KeepsShape (Set path body version) = (bytes_eq path control_path && is_some (shown_epoch body)) ≡ false
+KeepsShape (Delete path version) = ⊤
+KeepsShape (Check path version) = ⊤
 
 -- A multi gives the tree the next zxid. It keeps the tree's shape where each of its operations is such a one.
 abbrev pub MultiKeepsShape : Type 0
-MultiKeepsShape = (t new : Tree) (ops : List Op) → multi t ops ≡ Ok new → All KeepsLasting ops → TreeShape t → (new.zxid ≡ t.zxid +ℤ pos 1) × TreeShape new
+MultiKeepsShape = (t new : Tree) (ops : List Op) → multi t ops ≡ Ok new → All KeepsShape ops → TreeShape t → (new.zxid ≡ t.zxid +ℤ pos 1) × TreeShape new
 
 -- The operations of a claim are such.
-abbrev pub ClaimKeepsLasting : Type 0
-ClaimKeepsLasting = (seen : ClaimSeen) (d : Driver) (now : ℤ) → All KeepsLasting (claim_ops seen d now)
+abbrev pub ClaimKeepsShape : Type 0
+ClaimKeepsShape = (seen : ClaimSeen) (d : Driver) (now : ℤ) → All KeepsShape (claim_ops seen d now)
 
 -- So are those of a write.
-abbrev pub WriteKeepsLasting : Type 0
-WriteKeepsLasting = (t : Tree) (i : Image) (claim : ℤ) (target : Recorded) → All KeepsLasting (write_ops claim (diff (area t) (render i)) target)
+abbrev pub WriteKeepsShape : Type 0
+WriteKeepsShape = (t : Tree) (i : Image) (claim : ℤ) (target : Recorded) → All KeepsShape (write_ops claim (diff (area t) (render i)) target)
 
 -- A multi none of whose operations is in the migrated area leaves the area.
 abbrev pub OutsideLeavesArea : Type 0
@@ -129,17 +136,17 @@ pub record Unchanged (t new : Tree) : Type 0 where
   pub version : claim_version new ≡ claim_version t
   pub shown : shown_in new ≡ shown_in t
 
--- A session that begins keeps the tree's shape and leaves all that a driver rests on.
+-- A session that begins leaves all that a driver rests on, and where its number is in range it keeps the tree's shape.
 abbrev pub BeginLeaves : Type 0
-BeginLeaves = (t new : Tree) (session : ℤ) → begin_session t session ≡ Ok new → TreeShape t → TreeShape new × Unchanged t new
+BeginLeaves = (t new : Tree) (session : ℤ) → begin_session t session ≡ Ok new → TreeShape t → (IsSession session → TreeShape new) × Unchanged t new
 
--- So does one that ends, whatever znodes end with it.
+-- One that ends keeps the tree's shape and leaves all that a driver rests on, whatever znodes end with it.
 abbrev pub EndLeaves : Type 0
 EndLeaves = (t new : Tree) (session : ℤ) → end_session t session ≡ Ok new → TreeShape t → TreeShape new × Unchanged t new
 
--- A client's multi that isn't refused keeps the tree's shape.
+-- A client's multi that isn't refused keeps the tree's shape, where its operations are those of a line.
 abbrev pub ClientKeepsShape : Type 0
-ClientKeepsShape = (t new : Tree) (ops : List Op) → multi t ops ≡ Ok new → client_refusal t ops ≡ None → TreeShape t → TreeShape new
+ClientKeepsShape = (t new : Tree) (ops : List Op) → multi t ops ≡ Ok new → client_refusal t ops ≡ None → All IsLawfulOp ops → TreeShape t → TreeShape new
 
 -- It leaves what is recorded.
 abbrev pub ClientLeavesRecorded : Type 0

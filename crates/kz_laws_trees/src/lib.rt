@@ -3,15 +3,15 @@
 //! A law is the contract of a function that does nothing.
 #![tactic(auto)]
 
-ghost use Rattle.kz_laws_trees.specs.TreeLaws.{MultiKeepsShape, ClaimKeepsLasting, WriteKeepsLasting, OutsideLeavesArea, WriteAppliesEdits, WriteLeavesRest, WriteKeepsClaim, WriteKeepsShown, LastWriteCompletes, EarlierWriteUnclosed, ClaimGivesVersion, ClaimShowsEpoch, ClaimLeavesArea, ClaimRecordsNone, BeginLeaves, EndLeaves, ClientKeepsShape, ClientLeavesRecorded, ClientLeavesHeld};
-ghost use Rattle.kz_laws_trees.specs.LogLaws.{BatchLeavesImages, BatchLeavesEnds, BatchMovesEnd, BatchKeepsShape, AppendKeepsShape, EndIsLastBatchEnd, PlainKeepsState, CommitMigrates};
+ghost use Rattle.kz_laws_trees.specs.TreeLaws.{MultiKeepsShape, ClaimKeepsShape, WriteKeepsShape, OutsideLeavesArea, WriteAppliesEdits, WriteLeavesRest, WriteKeepsClaim, WriteKeepsShown, LastWriteCompletes, EarlierWriteUnclosed, ClaimGivesVersion, ClaimShowsEpoch, ClaimLeavesArea, ClaimRecordsNone, BeginLeaves, EndLeaves, ClientKeepsShape, ClientLeavesRecorded, ClientLeavesHeld};
+ghost use Rattle.kz_laws_trees.specs.LogLaws.{BatchLeavesImages, BatchLeavesEnds, BatchMovesEnd, BatchKeepsShape, AppendKeepsShape, EndIsLastBatchEnd, PlainKeepsState, UncommittedStays, CommitMigrates};
 
-/// A multi that isn't refused gives the tree the next zxid, and where it makes no znode that lasts end with a session it
-/// keeps the tree's shape, as claims and writes do; outside of the migrated area it leaves the area.
+/// A multi that isn't refused gives the tree the next zxid, and keeps the tree's shape where each of its operations is one that
+/// does, as those of claims and writes are; outside of the migrated area it leaves the area.
 pub fn multi_keeps()
     ensures shape { MultiKeepsShape }
-    ensures claim { ClaimKeepsLasting }
-    ensures write { WriteKeepsLasting }
+    ensures claim { ClaimKeepsShape }
+    ensures write { WriteKeepsShape }
     ensures area { OutsideLeavesArea }
 {}
 
@@ -42,8 +42,8 @@ pub fn session_leaves()
     ensures end { EndLeaves }
 {}
 
-/// A multi of a ZooKeeper client that isn't refused keeps the tree's shape and what is recorded; while a KRaft controller
-/// holds the tree it leaves all that a driver rests on.
+/// A multi of a ZooKeeper client that isn't refused keeps the tree's shape, where its operations are those of a line, and what
+/// is recorded; while a KRaft controller holds the tree it leaves all that a driver rests on.
 pub fn client_leaves()
     ensures shape { ClientKeepsShape }
     ensures recorded { ClientLeavesRecorded }
@@ -64,8 +64,10 @@ pub fn log_keeps()
     ensures end { EndIsLastBatchEnd }
 {}
 
-/// The state of the migration changes by a record of it alone, once its transaction is ended.
+/// The state of the migration changes by a record of it alone, once its transaction is ended: plain records leave it, records
+/// of a state before the commit leave an unmigrated log so, and the commit makes it migrated.
 pub fn migration_state()
     ensures plain { PlainKeepsState }
+    ensures uncommitted { UncommittedStays }
     ensures commit { CommitMigrates }
 {}

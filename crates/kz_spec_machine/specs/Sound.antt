@@ -1,6 +1,6 @@
 -- What is true of every world of a run. Each group of facts is a record over the values that it reads, so that what
 -- changes anything else keeps the group as it stands.
-use Rattle.std.specs.Prelude.{◌≡◌, ◌≢◌, ◌≤◌, ℕ, Bool, true, false, ◌&&◌, ◌||◌, ℤ, pos, negsuc, ◌+ℤ◌, ◌≤ℤ◌, List, [], ◌∷◌, ◌++◌, length, Option, Some, None, is_some, option_map, All, IsTrue, ⊤}
+use Rattle.std.specs.Prelude.{◌≡◌, ◌≢◌, ◌≤◌, ℕ, Bool, true, false, not, ◌&&◌, ◌||◌, ℤ, pos, negsuc, ◌+ℤ◌, ◌≤ℤ◌, List, [], ◌∷◌, ◌++◌, length, Option, Some, None, is_some, option_map, All, IsTrue, ⊤}
 use Rattle.kz_types.specs.declared.tree.Row.{Row}
 use Rattle.kz_types.specs.declared.tree.Op.{Op}
 use Rattle.kz_types.specs.declared.tree.Op.TheVariants as op
@@ -13,11 +13,13 @@ use Rattle.kz_types.specs.declared.machine.Event.TheVariants as event
 use Rattle.kz_types.specs.declared.record.MetaRecord.{MetaRecord}
 use Rattle.kz_types.specs.declared.record.MetaRecord.TheVariants as meta
 use Rattle.std.specs.Str.{bytes_eq}
-use Rattle.kz_types.specs.Paths.{base_paths, is_among, is_migrated}
+use Rattle.std.specs.Ordering.{int_cmp}
+use Rattle.std.specs.List.{list_any, count_by}
+use Rattle.kz_types.specs.Paths.{base_paths, control_paths, is_among, is_below, is_migrated, is_path}
 use Rattle.kz_ordered.specs.Order.{bytes_cmp}
 use Rattle.kz_ordered.specs.Ordered.{Rises}
 use Rattle.kz_spec_values.specs.Control.{control_path, epoch_path, migration_path, shown_epoch}
-use Rattle.kz_spec_stores.specs.Tree.{Tree, row_at, parent_of, is_root, has_parent, is_ephemeral, path_of_row, migrated_rows, area, recorded, unclosed, max_long}
+use Rattle.kz_spec_stores.specs.Tree.{Tree, row_at, parent_of, is_root, has_parent, is_ephemeral, may_own, path_of_row, migrated_rows, area, recorded, unclosed, max_body, max_znodes, max_version, max_long}
 use Rattle.kz_spec_stores.specs.Image.{empty_image, is_broker_config, is_migrated_state}
 use Rattle.kz_spec_stores.specs.Log.{Log, View, last_of, end_of, batch_ends, record_count, image_at, is_migrated_log, max_records, max_epoch}
 use Rattle.kz_spec_stores.specs.Rendering.{render}
@@ -48,8 +50,12 @@ pub record IsTime (now : ℤ) : Type 0 where
 
 -- ---- the tree and the log
 
--- no transaction of a znode is above the tree's last one, and its version isn't negative
+-- A znode was made by a transaction from the first one on, and was written and had its children changed by none before that;
+-- none of the three is above the tree's last one. Its version isn't negative.
 pub record IsStamped (zxid : ℤ) (r : Row) : Type 0 where
+  pub least : pos 1 ≤ℤ r.czxid
+  pub modified_since : r.czxid ≤ℤ r.mzxid
+  pub children_since : r.czxid ≤ℤ r.pzxid
   pub created : r.czxid ≤ℤ zxid
   pub modified : r.mzxid ≤ℤ zxid
   pub children : r.pzxid ≤ℤ zxid
@@ -69,18 +75,54 @@ is_lasting r = is_migrated r.path || is_among base_paths r.path || bytes_eq r.pa
 abbrev pub Lasts : Row → Type 0
 Lasts r = is_some r.owner ≡ true → is_lasting r ≡ false
 
--- no znode's parent, unless it is the root, ends with a session
+-- no znode's parent ends with a session
 abbrev pub ParentsStay : List Row → Type 0
-ParentsStay rows = (path : List ℕ) → is_some (row_at path rows) ≡ true → is_root (parent_of path) ≡ false → is_ephemeral (row_at (parent_of path) rows) ≡ false
+ParentsStay rows = (path : List ℕ) → is_some (row_at path rows) ≡ true → is_ephemeral (row_at (parent_of path) rows) ≡ false
 
--- The znodes rise by path, their parents are there, and their transactions are those of the tree. Those that end with a
--- session are no parents, and none of those that last.
+-- a znode isn't the root
+abbrev pub IsNotRoot : Row → Type 0
+IsNotRoot r = is_root r.path ≡ false
+
+-- a znode doesn't stand below one by which controllers find each other or record the migration
+abbrev pub IsUnreserved : Row → Type 0
+IsUnreserved r = list_any (λ control. is_below control r.path) control_paths ≡ false
+
+-- the owner of a znode, where it has one, is a live session
+abbrev pub IsOwned : List ℤ → Row → Type 0
+IsOwned sessions r = may_own r.owner sessions ≡ true
+
+-- the body and the data version of a znode keep their limits
+pub record IsSmall (r : Row) : Type 0 where
+  pub body : length r.body ≤ max_body
+  pub version : r.version ≤ℤ max_version
+
+-- The znodes keep the limits: each by itself, and the numbers of those of the migrated area and of all others.
+pub record Limits (rows : List Row) : Type 0 where
+  pub each : All IsSmall rows
+  pub migrated : count_by (λ (r : Row). is_migrated r.path) rows ≤ max_znodes
+  pub others : count_by (λ (r : Row). not (is_migrated r.path)) rows ≤ max_znodes
+
+-- from 0 to the greatest of 64 bits
+pub record IsZxid (zxid : ℤ) : Type 0 where
+  pub least : pos 0 ≤ℤ zxid
+  pub most : zxid ≤ℤ max_long
+
+-- The znodes rise by path, none of them is the root or stands below a control znode, their parents are there, and their
+-- transactions are those of the tree. Those that end with a session are no parents, and none of those that last. The
+-- sessions rise, each is at least 1, and no znode has another owner. The limits are kept.
 pub record TreeShape (t : Tree) : Type 0 where
+  pub zxid : IsZxid t.zxid
   pub rise : Rises bytes_cmp path_of_row t.rows
+  pub not_root : All IsNotRoot t.rows
+  pub free : All IsUnreserved t.rows
   pub parents : HaveParents t.rows
   pub stamped : All (IsStamped t.zxid) t.rows
   pub last : All Lasts t.rows
   pub stay : ParentsStay t.rows
+  pub live : Rises int_cmp (λ s. s) t.sessions
+  pub least : All (λ s. pos 1 ≤ℤ s) t.sessions
+  pub owned : All (IsOwned t.sessions) t.rows
+  pub limits : Limits t.rows
 
 -- each batch begins behind the one before it
 abbrev pub Follows : ℤ → List BatchRow → Type 0
@@ -104,9 +146,10 @@ pub record IsBatchEnd (l : Log) (offset : ℤ) : Type 0 where
   pub after : List ℤ
   pub among : batch_ends l ≡ before ++ offset ∷ after
 
--- What is recorded is a batch end, and a KRaft controller holds the tree then; where the tree is closed, its migrated area
--- is the rendering of the metadata there.
+-- While the log is migrated, and where an offset is recorded, a KRaft controller holds the tree. What is recorded is a batch
+-- end, and where the tree is closed, its migrated area is the rendering of the metadata there.
 pub record Agreement (t : Tree) (l : Log) : Type 0 where
+  pub holds : is_migrated_log l ≡ true → is_held_tree t ≡ true
   pub held : (r : Recorded) → recorded t ≡ Some r → pos 0 ≤ℤ r.offset → is_held_tree t ≡ true
   pub end : (r : Recorded) → recorded t ≡ Some r → pos 0 ≤ℤ r.offset → IsBatchEnd l r.offset
   pub same : (r : Recorded) → recorded t ≡ Some r → unclosed t ≡ None → area t ≡ render (image_at l r.offset)
@@ -191,10 +234,13 @@ abbrev pub IsConfig : MetaRecord → Type 0
 IsConfig (meta.Config c) = ⊤
 IsConfig r = ⊥
 
--- What holds at each stage, by cases. What is said of the tree is said of a current driver alone.
+-- What holds at each stage, by cases: a driver that migrates has a claim. What is said of the tree is said of a current
+-- driver alone.
 abbrev pub AtStage : Tree → Log → Driver → Stage → Type 0
 AtStage t l d (stage.Claim seen) = (r : Row) → seen.epoch ≡ Some r → pos 0 ≤ℤ r.version
-AtStage t l d (stage.Fill records) = All IsConfig records
+AtStage t l d (stage.ReadSource rows) = d.claim ≢ None
+AtStage t l d (stage.Begin rows) = d.claim ≢ None
+AtStage t l d (stage.Fill records) = (d.claim ≢ None) × All IsConfig records
 AtStage t l d stage.ReadLog = is_migrated_log l ≡ true
 AtStage t l d (stage.ReadArea target rows) = Aims target d.id d.epoch d.view × (IsCurrent t d.claim → Reads t rows)
 AtStage t l d (stage.WriteAll target ops) = Aims target d.id d.epoch d.view × (IsCurrent t d.claim → Writes t l target ops)
@@ -251,12 +297,17 @@ abbrev pub IsOwner : Option ℤ → Type 0
 IsOwner None = ⊤
 IsOwner (Some session) = IsSession session
 
--- an operation whose owner is a session
+-- from -1, which stands for any, to the greatest of 32 bits
+pub record IsVersion (version : ℤ) : Type 0 where
+  pub least : negsuc 0 ≤ℤ version
+  pub most : version ≤ℤ pos 2147483647
+
+-- an operation whose path keeps the rule of paths, whose owner is a session, and whose version is in range
 abbrev pub IsLawfulOp : Op → Type 0
-IsLawfulOp (op.Create path body owner) = IsOwner owner
-IsLawfulOp (op.Set path body version) = ⊤
-IsLawfulOp (op.Delete path version) = ⊤
-IsLawfulOp (op.Check path version) = ⊤
+IsLawfulOp (op.Create path body owner) = (is_path path ≡ true) × IsOwner owner
+IsLawfulOp (op.Set path body version) = (is_path path ≡ true) × IsVersion version
+IsLawfulOp (op.Delete path version) = (is_path path ≡ true) × IsVersion version
+IsLawfulOp (op.Check path version) = (is_path path ≡ true) × IsVersion version
 
 -- An event as a line of a script gives it: ids and times are in range, one controller is declared, and a change has one
 -- member of the configuration of a broker.

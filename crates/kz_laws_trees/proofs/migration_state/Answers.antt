@@ -1,4 +1,4 @@
-use Rattle.kz_laws_trees.proofs.Migration.{plain_keeps_state, commit_migrates}
+use Rattle.kz_laws_trees.proofs.Migration.{plain_keeps_state, uncommitted_stays, commit_migrates}
 use Rattle.kz_laws_trees.proofs.migration_state.Goals as goal
 
 pub returns-clause-plain : goal.returns-clause-plain
@@ -6,3 +6,6 @@ returns-clause-plain c = plain_keeps_state
 
 pub returns-clause-commit : goal.returns-clause-commit
 returns-clause-commit c = commit_migrates
+
+pub returns-clause-uncommitted : goal.returns-clause-uncommitted
+returns-clause-uncommitted c = uncommitted_stays

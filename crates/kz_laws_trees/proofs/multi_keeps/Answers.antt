@@ -1,5 +1,5 @@
-use Rattle.kz_laws_trees.proofs.Multi.{multi_ran, shape_kept, outside_left, write_keeps_lasting}
-use Rattle.kz_laws_trees.proofs.Claim.{claim_keeps_lasting}
+use Rattle.kz_laws_trees.proofs.Multi.{multi_ran, shape_kept, outside_left, write_keeps_shape}
+use Rattle.kz_laws_trees.proofs.Claim.{claim_keeps_shape}
 use Rattle.kz_laws_trees.proofs.multi_keeps.Goals as goal
 
 pub returns-clause-shape : goal.returns-clause-shape
@@ -9,7 +9,7 @@ pub returns-clause-area : goal.returns-clause-area
 returns-clause-area c = outside_left
 
 pub returns-clause-claim : goal.returns-clause-claim
-returns-clause-claim c = claim_keeps_lasting
+returns-clause-claim c = claim_keeps_shape
 
 pub returns-clause-write : goal.returns-clause-write
-returns-clause-write c = write_keeps_lasting
+returns-clause-write c = write_keeps_shape

@@ -1,4 +1,4 @@
-use Rattle.kz_laws_trees.proofs.Multi.{multi_ran, shape_kept, write_keeps_lasting, area_after_write, remaining_after_write, write_keeps_version, last_write}
+use Rattle.kz_laws_trees.proofs.Multi.{multi_ran, shape_kept, write_keeps_shape, area_after_write, remaining_after_write, write_keeps_version, last_write}
 use Rattle.kz_laws_trees.proofs.Claim.{write_keeps_shown}
 use Rattle.kz_laws_trees.proofs.Later.{not_last_unclosed}
 use Rattle.kz_laws_trees.proofs.Beside.{write_keeps_recorded}
@@ -22,5 +22,5 @@ returns-clause-shown c = write_keeps_shown
 pub returns-clause-earlier : goal.returns-clause-earlier
 returns-clause-earlier c = λ t new i claim target shape more is. (
   write_keeps_recorded t new i claim target more is,
-  not_last_unclosed t new i claim target shape (shape_kept t new _ (multi_ran t new _ is) (write_keeps_lasting t i claim target) shape) more is,
+  not_last_unclosed t new i claim target shape (shape_kept t new _ (multi_ran t new _ is) (write_keeps_shape t i claim target) shape) more is,
 )
