@@ -1,8 +1,13 @@
-use Rattle.std.proofs.Common.{rules, ◌≡◌}
+use mir.Val.{SFits}
+use Rattle.std.proofs.Common.{rules, ◌≡◌, w32, to_z, of_z, sym, ap, ◌∙◌, subst}
+use Rattle.std.proofs.lemmas.Int.{to_z-of_z}
+use Rattle.kz_spec_stores.specs.Requests.{Either}
 use Rattle.kz_spec_stores.specs.Tree.{multi}
 use Rattle.kz_spec_machine.specs.Driver.{remaining_at, write_ops}
+use Rattle.kz_driver.specs.Claims.{tree_after}
+use Rattle.kz_driver.specs.Faults.{IsChangeStop}
 use Rattle.kz_driver.specs.Rows.{driver_of}
-use Rattle.kz_driver.specs.Writes.{more_of, last_of, written_by}
+use Rattle.kz_driver.specs.Writes.{more_of, last_of, written_by, tree_written}
 use Rattle.kz_driver.proofs.Writings.{writes_is}
 use Rattle.kz_driver.proofs.writing.write_next.Goals as goal
 
@@ -18,3 +23,22 @@ returns-clause-driver g c =
     writes_is tree row.claim claim left target (λ rest. more_of c.args.scope target rest) (last_of c.args.scope) (driver_of row)
     written (driver_of c.after_written.new.row, c.after_written.result)
     c.in-Some.is said c.after_written.ensures.driver
+
+pub returns-in_err-written-clause-stop : goal.returns-in_err-written-clause-stop
+returns-in_err-written-clause-stop g c =
+    let store = g.T.ZTree in
+    let old = c.args.tree.now in
+    let new = c.ask_write.new.tree in
+    let tree = store.tree old in
+    let target = c.args.target in
+    let claim = c.in-Some.claim in
+    let ops = c.in_ok-ops.ops.items in
+    let left = remaining_at tree c.args.log.now target.offset in
+    let fits : SFits w32 claim = search rules in
+    let ops_are : ops ≡ left = search rules in
+    let made : tree_after (multi tree (write_ops (to_z w32 (of_z w32 claim)) ops target)) tree ≡ tree_written tree c.args.row.now.claim left target =
+    ap (λ n. tree_after (multi tree (write_ops n ops target)) tree) (to_z-of_z w32 claim fits)
+    ∙ (ap (λ rest. tree_after (multi tree (write_ops claim rest target)) tree) ops_are
+    ∙ ap (λ held. tree_written tree held left target) (sym c.in-Some.is)) in
+    let stop = subst (λ t. IsChangeStop (store.length old) (store.faults old) (store.faults new) (store.down old) (store.down new) (Either tree t (store.left new)) c.in_err-written.field-0.0) made c.in_err-written.ensures.stop in
+    search rules
