@@ -1,5 +1,5 @@
 pub mod Batches
-pub mod Endings
+pub mod Causes
 pub mod Faults
 pub mod Keeping
 pub mod Lasts

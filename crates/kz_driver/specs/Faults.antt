@@ -12,36 +12,37 @@ abbrev pub IsStepFault : Option ℕ → Bool → StepFault → Type 0
 IsStepFault file down (Tree f) = IsStoreFault file down f
 IsStepFault file down NoMemory = ⊤
 
--- why nothing was read: an earlier failure of the disk, or want of memory
-abbrev pub IsReadStop : Bool → StepFault → Type 0
-IsReadStop down (Tree (fault.Refused index code)) = ⊥
-IsReadStop down (Tree (fault.Limit index number)) = ⊥
-IsReadStop down (Tree fault.NoMemory) = ⊥
-IsReadStop down (Tree fault.Device) = ⊥
-IsReadStop down (Tree fault.Down) = down ≡ true
-IsReadStop down (Tree (fault.Full length)) = ⊥
-IsReadStop down NoMemory = ⊤
+-- why a step that reads the tree has no reply: an earlier failure of the disk, or want of memory
+abbrev pub IsReadStepFault : Bool → StepFault → Type 0
+IsReadStepFault down (Tree (fault.Refused index code)) = ⊥
+IsReadStepFault down (Tree (fault.Limit index number)) = ⊥
+IsReadStepFault down (Tree fault.NoMemory) = ⊥
+IsReadStepFault down (Tree fault.Device) = ⊥
+IsReadStepFault down (Tree fault.Down) = down ≡ true
+IsReadStepFault down (Tree (fault.Full length)) = ⊥
+IsReadStepFault down NoMemory = ⊤
 
 -- the disk has not failed in this call
 abbrev pub IsCalm : ℕ → ℕ → Bool → Bool → Type 0
 IsCalm faults now_faults down now_down = (now_faults ≡ faults) × (now_down ≡ down)
 
--- the disk has failed in this call, and what a stop may leave is told where the store wasn't down before
+-- The disk has failed in this call: the count rose, and the store is down. Where it wasn't down before, `left` says what a
+-- stop may leave.
 abbrev pub HasFailed : ℕ → ℕ → Bool → Bool → Type 0 → Type 0
 HasFailed faults now_faults down now_down left = (Rose faults now_faults × (now_down ≡ true)) × (down ≡ false → left)
 
--- why no change was asked for, or none was made, and what a stop may leave
-abbrev pub IsChangeStop : Option ℕ → ℕ → ℕ → Bool → Bool → Type 0 → StepFault → Type 0
-IsChangeStop file faults now_faults down now_down left (Tree (fault.Refused index code)) = ⊥
-IsChangeStop file faults now_faults down now_down left (Tree (fault.Limit index number)) = ⊥
-IsChangeStop file faults now_faults down now_down left (Tree fault.NoMemory) = ⊥
-IsChangeStop file faults now_faults down now_down left (Tree fault.Device) = HasFailed faults now_faults down now_down left
-IsChangeStop file faults now_faults down now_down left (Tree fault.Down) = IsCalm faults now_faults down now_down × (down ≡ true)
-IsChangeStop file faults now_faults down now_down left (Tree (fault.Full length)) = IsCalm faults now_faults down now_down × IsFull file length
-IsChangeStop file faults now_faults down now_down left NoMemory = IsCalm faults now_faults down now_down
+-- why a step that changes the tree has no reply, and what that tells of the store
+abbrev pub IsChangeStepFault : Option ℕ → ℕ → ℕ → Bool → Bool → Type 0 → StepFault → Type 0
+IsChangeStepFault file faults now_faults down now_down left (Tree (fault.Refused index code)) = ⊥
+IsChangeStepFault file faults now_faults down now_down left (Tree (fault.Limit index number)) = ⊥
+IsChangeStepFault file faults now_faults down now_down left (Tree fault.NoMemory) = ⊥
+IsChangeStepFault file faults now_faults down now_down left (Tree fault.Device) = HasFailed faults now_faults down now_down left
+IsChangeStepFault file faults now_faults down now_down left (Tree fault.Down) = IsCalm faults now_faults down now_down × (down ≡ true)
+IsChangeStepFault file faults now_faults down now_down left (Tree (fault.Full length)) = IsCalm faults now_faults down now_down × IsFull file length
+IsChangeStepFault file faults now_faults down now_down left NoMemory = IsCalm faults now_faults down now_down
 
--- what a step says of the store: its faults, and what a stop may leave
-pub record Ends {A : Type 0} (result : Result A StepFault) (file : Option ℕ) (faults now_faults : ℕ) (down now_down : Bool) (left : Type 0) : Type 0 where
+-- which faults of its store a step tells, what they say of the disk, and what a stop may then leave
+pub record StepHasCause {A : Type 0} (result : Result A StepFault) (file : Option ℕ) (faults now_faults : ℕ) (down now_down : Bool) (left : Type 0) : Type 0 where
   pub cause : IfErr result (IsStepFault file down)
   pub device : IsErrOf result (Tree fault.Device) → Rose faults now_faults
   pub falls : IsErrOf result (Tree fault.Device) → now_down ≡ true

@@ -11,7 +11,7 @@ ghost use Rattle.kz_spec_stores.specs.Difference.{diff};
 ghost use Rattle.kz_spec_machine.specs.Driver.{last_path, page_size, after_page};
 ghost use Rattle.kz_driver.specs.Rows.{driver_of};
 ghost use Rattle.kz_driver.specs.Drivers.{HasRisen};
-ghost use Rattle.kz_driver.specs.Faults.{IsReadStop};
+ghost use Rattle.kz_driver.specs.Faults.{IsReadStepFault};
 
 use crate::asking::page;
 use crate::fault::StepFault;
@@ -72,7 +72,7 @@ fn next_page<T: ZTree>(tree: &mut T, rows: &[Row]) -> Result<Vec<Row>, StepFault
     requires { Rises bytes_cmp path_of_row rows.now }
     ensures page { IfOk result (λ page. page.items ≡ scan (T.tree tree.old) (last_path rows.now) page_size) }
     ensures rising { IfOk result (λ page. Rises bytes_cmp path_of_row (rows.now ++ page.items)) }
-    ensures stop { IfErr result (IsReadStop (T.down tree.old)) }
+    ensures failed { IfErr result (IsReadStepFault (T.down tree.old)) }
     ensures same { T.tree tree.new ≡ T.tree tree.old }
     ensures calm { T.faults tree.new ≡ T.faults tree.old }
     ensures up { T.down tree.new ≡ T.down tree.old }
@@ -112,7 +112,7 @@ pub fn read_area<T: ZTree>(
         after_page rows (scan (T.tree tree.old) (last_path rows) page_size) (λ all. stage.ReadArea target all) (λ all. stage.WriteAll target (diff (map rendered_row all) (render row.old.view.image))) (driver_of row.old) ≡ (driver_of row.new, told)) }
     ensures rising { (target : RecordedValue) (rows : List RowValue) → row.old.stage ≡ stage.ReadArea target rows → HasRisen row.new.stage }
     ensures err { OnErr result (row.new ≡ row.old) }
-    ensures stop { IfErr result (IsReadStop (T.down tree.old)) }
+    ensures failed { IfErr result (IsReadStepFault (T.down tree.old)) }
     ensures same { T.tree tree.new ≡ T.tree tree.old }
     ensures calm { T.faults tree.new ≡ T.faults tree.old }
     ensures up { T.down tree.new ≡ T.down tree.old }

@@ -8,7 +8,7 @@ ghost use Rattle.kz_spec_stores.specs.Tree.{multi, scan, look, broker_ids, path_
 ghost use Rattle.kz_spec_machine.specs.Driver.{path_of_op, path_at};
 ghost use Rattle.kz_tree.specs.Requests.{IsReadFault};
 ghost use Rattle.kz_driver.specs.Claims.{tree_after};
-ghost use Rattle.kz_driver.specs.Faults.{IsCalm, IsReadStop, IsChangeStop};
+ghost use Rattle.kz_driver.specs.Faults.{IsCalm, IsReadStepFault, IsChangeStepFault};
 
 use crate::fault::StepFault;
 use kz_tree::ZTree;
@@ -25,7 +25,7 @@ pub fn ask<T: ZTree>(tree: &mut T, ops: &[Op]) -> Result<Option<TreeFault>, Step
         (λ f. (multi (T.tree tree.old) ops.now ≡ Err f) × (T.tree tree.new ≡ T.tree tree.old))) }
     ensures same { OnErr result (T.tree tree.new ≡ T.tree tree.old) }
     ensures calm { OnOk result (IsCalm (T.faults tree.old) (T.faults tree.new) (T.down tree.old) (T.down tree.new)) }
-    ensures stop { IfErr result (IsChangeStop (T.length tree.old) (T.faults tree.old) (T.faults tree.new) (T.down tree.old) (T.down tree.new)
+    ensures failed { IfErr result (IsChangeStepFault (T.length tree.old) (T.faults tree.old) (T.faults tree.new) (T.down tree.old) (T.down tree.new)
         (Either (T.tree tree.old) (tree_after (multi (T.tree tree.old) ops.now) (T.tree tree.old)) (T.left tree.new))) }
 {
     match tree.multi(ops) {
@@ -40,8 +40,8 @@ pub fn ask<T: ZTree>(tree: &mut T, ops: &[Op]) -> Result<Option<TreeFault>, Step
 }
 
 // Why a read has no answer.
-fn read_stop(fault: TreeFault) -> StepFault
-    ensures { (down : Bool) → IsReadFault down fault → IsReadStop down result }
+fn read_fault(fault: TreeFault) -> StepFault
+    ensures { (down : Bool) → IsReadFault down fault → IsReadStepFault down result }
 {
     match fault {
         TreeFault::NoMemory => StepFault::NoMemory,
@@ -57,42 +57,42 @@ pub fn page<T: ZTree>(
 ) -> Result<Vec<Row>, StepFault>
     ensures ok { IfOk result (λ rows. rows.items ≡ scan (T.tree tree.old) (option_map (λ path. path.now) after.entry) limit) }
     ensures rising { IfOk result (λ rows. Rises bytes_cmp path_of_row rows.items) }
-    ensures stop { IfErr result (IsReadStop (T.down tree.old)) }
+    ensures failed { IfErr result (IsReadStepFault (T.down tree.old)) }
     ensures same { T.tree tree.new ≡ T.tree tree.old }
     ensures calm { T.faults tree.new ≡ T.faults tree.old }
     ensures up { T.down tree.new ≡ T.down tree.old }
 {
     match tree.scan(after, limit) {
         Ok(rows) => Ok(rows),
-        Err(fault) => Err(read_stop(fault)),
+        Err(fault) => Err(read_fault(fault)),
     }
 }
 
 /// The znodes at these paths, in their order.
 pub fn rows_at<T: ZTree>(tree: &mut T, paths: &[ZPath]) -> Result<Vec<Option<Row>>, StepFault>
     ensures ok { IfOk result (λ rows. rows.items ≡ look (T.tree tree.old) paths.now) }
-    ensures stop { IfErr result (IsReadStop (T.down tree.old)) }
+    ensures failed { IfErr result (IsReadStepFault (T.down tree.old)) }
     ensures same { T.tree tree.new ≡ T.tree tree.old }
     ensures calm { T.faults tree.new ≡ T.faults tree.old }
     ensures up { T.down tree.new ≡ T.down tree.old }
 {
     match tree.look(paths) {
         Ok(rows) => Ok(rows),
-        Err(fault) => Err(read_stop(fault)),
+        Err(fault) => Err(read_fault(fault)),
     }
 }
 
 /// The ids of the brokers that are there, rising.
 pub fn broker_ids<T: ZTree>(tree: &mut T) -> Result<Vec<i32>, StepFault>
     ensures ok { IfOk result (λ ids. ids.items ≡ broker_ids (T.tree tree.old)) }
-    ensures stop { IfErr result (IsReadStop (T.down tree.old)) }
+    ensures failed { IfErr result (IsReadStepFault (T.down tree.old)) }
     ensures same { T.tree tree.new ≡ T.tree tree.old }
     ensures calm { T.faults tree.new ≡ T.faults tree.old }
     ensures up { T.down tree.new ≡ T.down tree.old }
 {
     match tree.broker_ids() {
         Ok(ids) => Ok(ids),
-        Err(fault) => Err(read_stop(fault)),
+        Err(fault) => Err(read_fault(fault)),
     }
 }
 

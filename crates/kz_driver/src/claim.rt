@@ -6,7 +6,7 @@ ghost use Rattle.kz_types.specs.declared.driver.Stage.TheVariants as stage;
 ghost use Rattle.kz_spec_stores.specs.Requests.{Either};
 ghost use Rattle.kz_spec_stores.specs.Tree.{multi, max_version};
 ghost use Rattle.kz_spec_machine.specs.Driver.{claimed_number, claimed_version, claim_ops, after_claim};
-ghost use Rattle.kz_driver.specs.Faults.{IsCalm, IsChangeStop};
+ghost use Rattle.kz_driver.specs.Faults.{IsCalm, IsChangeStepFault};
 ghost use Rattle.kz_driver.specs.Rows.{driver_of};
 ghost use Rattle.kz_driver.specs.Stops.{CanClaim};
 ghost use Rattle.kz_driver.specs.Claims.{claimer_of, claimed_by, after_claimed, tree_after};
@@ -116,7 +116,7 @@ fn ask_claim<T: ZTree>(
     ensures tree { IfOk result (λ claimed. T.tree tree.new ≡ tree_after (multi (T.tree tree.old) ops.now) (T.tree tree.old)) }
     ensures err { OnErr result (T.tree tree.new ≡ T.tree tree.old) }
     ensures calm { OnOk result (IsCalm (T.faults tree.old) (T.faults tree.new) (T.down tree.old) (T.down tree.new)) }
-    ensures stop { IfErr result (IsChangeStop (T.length tree.old) (T.faults tree.old) (T.faults tree.new) (T.down tree.old) (T.down tree.new)
+    ensures failed { IfErr result (IsChangeStepFault (T.length tree.old) (T.faults tree.old) (T.faults tree.new) (T.down tree.old) (T.down tree.new)
         (Either (T.tree tree.old) (tree_after (multi (T.tree tree.old) ops.now) (T.tree tree.old)) (T.left tree.new))) }
 {
     let number = claimed_number(alloc, seen.epoch.as_ref())?;
@@ -165,7 +165,7 @@ fn try_claim<T: ZTree>(
     ensures tree { IfOk result (λ claimed. T.tree tree.new ≡ tree_after (multi (T.tree tree.old) (claim_ops seen.now (driver_of driver.now) now)) (T.tree tree.old)) }
     ensures err { OnErr result (T.tree tree.new ≡ T.tree tree.old) }
     ensures calm { OnOk result (IsCalm (T.faults tree.old) (T.faults tree.new) (T.down tree.old) (T.down tree.new)) }
-    ensures stop { IfErr result (IsChangeStop (T.length tree.old) (T.faults tree.old) (T.faults tree.new) (T.down tree.old) (T.down tree.new)
+    ensures failed { IfErr result (IsChangeStepFault (T.length tree.old) (T.faults tree.old) (T.faults tree.new) (T.down tree.old) (T.down tree.new)
         (Either (T.tree tree.old) (tree_after (multi (T.tree tree.old) (claim_ops seen.now (driver_of driver.now) now)) (T.tree tree.old)) (T.left tree.new))) }
 {
     let ops = ops_of_claim(alloc, driver, seen, now)?;
@@ -186,7 +186,7 @@ pub fn claim<T: ZTree>(
         T.tree tree.new ≡ tree_after (multi (T.tree tree.old) (claim_ops seen (driver_of row.old) now)) (T.tree tree.old)) }
     ensures err { OnErr result ((row.new ≡ row.old) × (T.tree tree.new ≡ T.tree tree.old)) }
     ensures calm { OnOk result (IsCalm (T.faults tree.old) (T.faults tree.new) (T.down tree.old) (T.down tree.new)) }
-    ensures stop { (seen : ClaimSeenValue) → row.old.stage ≡ stage.Claim seen → IfErr result (IsChangeStop (T.length tree.old) (T.faults tree.old) (T.faults tree.new) (T.down tree.old) (T.down tree.new)
+    ensures failed { (seen : ClaimSeenValue) → row.old.stage ≡ stage.Claim seen → IfErr result (IsChangeStepFault (T.length tree.old) (T.faults tree.old) (T.faults tree.new) (T.down tree.old) (T.down tree.new)
         (Either (T.tree tree.old) (tree_after (multi (T.tree tree.old) (claim_ops seen (driver_of row.old) now)) (T.tree tree.old)) (T.left tree.new))) }
 {
     let Stage::Claim { seen } = &row.stage else {

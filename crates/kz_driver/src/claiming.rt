@@ -9,7 +9,7 @@ ghost use Rattle.kz_spec_values.specs.Control.{control_path, epoch_path, migrati
 ghost use Rattle.kz_types.specs.Paths.{base_paths};
 ghost use Rattle.kz_spec_stores.specs.Tree.{Tree as TreeValue, row_at, look, max_version};
 ghost use Rattle.kz_spec_machine.specs.Driver.{Driver as DriverValue, seen_in, shown_by, looked, unless_fenced, unless_bad_epoch, unless_full_record, views_migrated, claimed_number, claimed_version};
-ghost use Rattle.kz_driver.specs.Faults.{IsReadStop};
+ghost use Rattle.kz_driver.specs.Faults.{IsReadStepFault};
 ghost use Rattle.kz_driver.specs.Rows.{driver_of};
 ghost use Rattle.kz_driver.specs.Stops.{stopped, fenced_by, CanClaim, StageCanClaim};
 
@@ -63,7 +63,7 @@ fn seen_of(mut rows: Vec<Option<Row>>) -> ClaimSeen
 /// What a look at the control and base znodes sees.
 pub fn seen_in<T: ZTree>(alloc: Global, tree: &mut T) -> Result<ClaimSeen, StepFault>
     ensures ok { IfOk result (λ seen. seen ≡ seen_in (T.tree tree.old)) }
-    ensures stop { IfErr result (IsReadStop (T.down tree.old)) }
+    ensures failed { IfErr result (IsReadStepFault (T.down tree.old)) }
     ensures same { T.tree tree.new ≡ T.tree tree.old }
     ensures calm { T.faults tree.new ≡ T.faults tree.old }
     ensures up { T.down tree.new ≡ T.down tree.old }
@@ -163,7 +163,7 @@ pub fn look<T: ZTree>(
     ensures ok { IfOk result (λ told. looked (seen_in (T.tree tree.old)) (driver_of row.old) ≡ (driver_of row.new, told)) }
     ensures can { row.old.stage ≡ stage.Look → IfOk result (λ told. StageCanClaim row.new.stage) }
     ensures err { OnErr result (row.new ≡ row.old) }
-    ensures stop { IfErr result (IsReadStop (T.down tree.old)) }
+    ensures failed { IfErr result (IsReadStepFault (T.down tree.old)) }
     ensures same { T.tree tree.new ≡ T.tree tree.old }
     ensures calm { T.faults tree.new ≡ T.faults tree.old }
     ensures up { T.down tree.new ≡ T.down tree.old }

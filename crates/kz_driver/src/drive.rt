@@ -5,7 +5,7 @@ ghost use Rattle.kz_spec_stores.specs.Requests.{Either};
 ghost use Rattle.kz_spec_stores.specs.Tree.{Tree};
 ghost use Rattle.kz_spec_machine.specs.Driver.{Driver as DriverValue, new_driver, elected_driver, step};
 ghost use Rattle.kz_driver.specs.Drivers.{IsKept, asks_tree, shared_of, started, informed};
-ghost use Rattle.kz_driver.specs.Faults.{IsStepFault, Ends};
+ghost use Rattle.kz_driver.specs.Faults.{IsStepFault, StepHasCause};
 ghost use Rattle.kz_driver.specs.Rows.{driver_of};
 
 use crate::area::read_area;
@@ -131,7 +131,7 @@ fn inform_brokers(row: &mut DriverRow) -> Reply
     Reply::Moved(DriverState::DualWrite)
 }
 
-// One step of a driver that doesn't ask the tree, whatever that is. At `Err` nothing has changed.
+// One step of a driver that asks nothing of the tree: the same over every tree. At `Err` nothing has changed.
 fn step_aside(
     alloc: Global,
     row: &mut DriverRow,
@@ -174,7 +174,7 @@ fn step_row<T: ZTree>(
         ≡ record { shared = shared_of (T.tree tree.new) log.new peers.now.declared; driver = driver_of row.new; reply = told }) }
     ensures kept { IsKept row.new.epoch row.new.stage }
     ensures err { OnErr result ((row.new ≡ row.old) × (T.tree tree.new ≡ T.tree tree.old) × (log.new ≡ log.old)) }
-    ensures ends { Ends result (T.length tree.old) (T.faults tree.old) (T.faults tree.new) (T.down tree.old) (T.down tree.new)
+    ensures store { StepHasCause result (T.length tree.old) (T.faults tree.old) (T.faults tree.new) (T.down tree.old) (T.down tree.new)
         (Either (T.tree tree.old) (step (shared_of (T.tree tree.old) log.old peers.now.declared) peers.now.running now (driver_of row.old)).shared.tree (T.left tree.new)) }
 {
     match &row.stage {

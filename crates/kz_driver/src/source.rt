@@ -4,7 +4,7 @@ ghost use Rattle.kz_types.specs.declared.tree.Row.{Row as RowValue};
 ghost use Rattle.kz_types.specs.declared.driver.Stage.TheVariants as stage;
 ghost use Rattle.kz_spec_stores.specs.Tree.{scan};
 ghost use Rattle.kz_spec_machine.specs.Driver.{last_path, page_size, after_page};
-ghost use Rattle.kz_driver.specs.Faults.{IsReadStop};
+ghost use Rattle.kz_driver.specs.Faults.{IsReadStepFault};
 ghost use Rattle.kz_driver.specs.Rows.{driver_of};
 
 use crate::asking::page;
@@ -43,7 +43,7 @@ pub fn add_page<T: ZTree>(rows: &mut Vec<Row>, tree: &mut T) -> Result<usize, St
     ensures rows { IfOk result (λ count. rows.new.items ≡ rows.old.items ++ scan (T.tree tree.old) (last_path rows.old.items) page_size) }
     ensures count { IfOk result (λ count. count ≡ length (scan (T.tree tree.old) (last_path rows.old.items) page_size)) }
     ensures err { OnErr result (rows.new.items ≡ rows.old.items) }
-    ensures stop { IfErr result (IsReadStop (T.down tree.old)) }
+    ensures failed { IfErr result (IsReadStepFault (T.down tree.old)) }
     ensures same { T.tree tree.new ≡ T.tree tree.old }
     ensures calm { T.faults tree.new ≡ T.faults tree.old }
     ensures up { T.down tree.new ≡ T.down tree.old }
@@ -59,7 +59,7 @@ pub fn read_source<T: ZTree>(row: &mut DriverRow, tree: &mut T) -> Result<Reply,
     ensures ok { (rows : List RowValue) → row.old.stage ≡ stage.ReadSource rows → IfOk result (λ told.
         after_page rows (scan (T.tree tree.old) (last_path rows) page_size) (λ all. stage.ReadSource all) (λ all. stage.Begin all) (driver_of row.old) ≡ (driver_of row.new, told)) }
     ensures err { OnErr result (row.new ≡ row.old) }
-    ensures stop { IfErr result (IsReadStop (T.down tree.old)) }
+    ensures failed { IfErr result (IsReadStepFault (T.down tree.old)) }
     ensures same { T.tree tree.new ≡ T.tree tree.old }
     ensures calm { T.faults tree.new ≡ T.faults tree.old }
     ensures up { T.down tree.new ≡ T.down tree.old }

@@ -5,7 +5,7 @@ ghost use Rattle.kz_types.specs.declared.driver.Stage.TheVariants as stage;
 ghost use Rattle.kz_types.specs.declared.machine.Reply.TheVariants as reply;
 ghost use Rattle.kz_spec_stores.specs.Tree.{broker_ids};
 ghost use Rattle.kz_spec_machine.specs.Driver.{having_read, after_quorum, after_brokers, missing_broker, unless_finalised, at_stage, resigned};
-ghost use Rattle.kz_driver.specs.Faults.{IsReadStop};
+ghost use Rattle.kz_driver.specs.Faults.{IsReadStepFault};
 ghost use Rattle.kz_driver.specs.Rows.{driver_of};
 
 use crate::asking::broker_ids;
@@ -104,7 +104,7 @@ pub fn wait_for_brokers(
 pub fn compare_brokers<T: ZTree>(row: &mut DriverRow, tree: &mut T) -> Result<Reply, StepFault>
     ensures ok { IfOk result (λ told. after_brokers (missing_broker (broker_ids (T.tree tree.old)) row.old.view.image) (driver_of row.old) ≡ (driver_of row.new, told)) }
     ensures err { OnErr result (row.new ≡ row.old) }
-    ensures stop { IfErr result (IsReadStop (T.down tree.old)) }
+    ensures failed { IfErr result (IsReadStepFault (T.down tree.old)) }
     ensures same { T.tree tree.new ≡ T.tree tree.old }
     ensures calm { T.faults tree.new ≡ T.faults tree.old }
     ensures up { T.down tree.new ≡ T.down tree.old }

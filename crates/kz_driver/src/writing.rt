@@ -9,7 +9,7 @@ ghost use Rattle.kz_spec_stores.specs.Tree.{multi};
 ghost use Rattle.kz_spec_machine.specs.Driver.{begins_again, remaining_at, write_ops, writes};
 ghost use Rattle.kz_driver.specs.Claims.{tree_after};
 ghost use Rattle.kz_driver.specs.Drivers.{IsElected, IsKept};
-ghost use Rattle.kz_driver.specs.Faults.{IsCalm, IsChangeStop};
+ghost use Rattle.kz_driver.specs.Faults.{IsCalm, IsChangeStepFault};
 ghost use Rattle.kz_driver.specs.Rows.{driver_of};
 ghost use Rattle.kz_driver.specs.Writes.{more_of, last_of, taken_of, refused_of, written_by, after_written, tree_written};
 
@@ -122,7 +122,7 @@ fn ask_write<T: ZTree>(
     ensures tree { IfOk result (λ written. T.tree tree.new ≡ tree_after (multi (T.tree tree.old) (write_ops claim ops.items target.now)) (T.tree tree.old)) }
     ensures err { OnErr result (T.tree tree.new ≡ T.tree tree.old) }
     ensures calm { OnOk result (IsCalm (T.faults tree.old) (T.faults tree.new) (T.down tree.old) (T.down tree.new)) }
-    ensures stop { IfErr result (IsChangeStop (T.length tree.old) (T.faults tree.old) (T.faults tree.new) (T.down tree.old) (T.down tree.new)
+    ensures failed { IfErr result (IsChangeStepFault (T.length tree.old) (T.faults tree.old) (T.faults tree.new) (T.down tree.old) (T.down tree.new)
         (Either (T.tree tree.old) (tree_after (multi (T.tree tree.old) (write_ops claim ops.items target.now)) (T.tree tree.old)) (T.left tree.new))) }
 {
     let made = write_ops(alloc, claim, &ops, target)?;
@@ -205,7 +205,7 @@ fn write_next<T: ZTree>(
     ensures kept { IsKept row.old.epoch row.old.stage → IsElected row.old.epoch → IsKept row.new.epoch row.new.stage }
     ensures err { OnErr result ((row.new ≡ row.old) × (T.tree tree.new ≡ T.tree tree.old)) }
     ensures calm { OnOk result (IsCalm (T.faults tree.old) (T.faults tree.new) (T.down tree.old) (T.down tree.new)) }
-    ensures stop { IfErr result (IsChangeStop (T.length tree.old) (T.faults tree.old) (T.faults tree.new) (T.down tree.old) (T.down tree.new)
+    ensures failed { IfErr result (IsChangeStepFault (T.length tree.old) (T.faults tree.old) (T.faults tree.new) (T.down tree.old) (T.down tree.new)
         (Either (T.tree tree.old) (tree_written (T.tree tree.old) row.old.claim (remaining_at (T.tree tree.old) log.now target.offset) target) (T.left tree.new))) }
 {
     let Some(claim) = row.claim else {
@@ -231,7 +231,7 @@ pub fn write_all<T: ZTree>(
     ensures kept { IsKept row.old.epoch row.old.stage → IsKept row.new.epoch row.new.stage }
     ensures err { OnErr result ((row.new ≡ row.old) × (T.tree tree.new ≡ T.tree tree.old)) }
     ensures calm { OnOk result (IsCalm (T.faults tree.old) (T.faults tree.new) (T.down tree.old) (T.down tree.new)) }
-    ensures stop { (target : RecordedValue) (ops : List OpValue) → row.old.stage ≡ stage.WriteAll target ops → IfErr result (IsChangeStop (T.length tree.old) (T.faults tree.old) (T.faults tree.new) (T.down tree.old) (T.down tree.new)
+    ensures failed { (target : RecordedValue) (ops : List OpValue) → row.old.stage ≡ stage.WriteAll target ops → IfErr result (IsChangeStepFault (T.length tree.old) (T.faults tree.old) (T.faults tree.new) (T.down tree.old) (T.down tree.new)
         (Either (T.tree tree.old) (tree_written (T.tree tree.old) row.old.claim (remaining_at (T.tree tree.old) log.now target.offset) target) (T.left tree.new))) }
 {
     let Stage::WriteAll { target, .. } = &row.stage else {
@@ -255,7 +255,7 @@ pub fn write_change<T: ZTree>(
     ensures kept { IsKept row.old.epoch row.old.stage → IsKept row.new.epoch row.new.stage }
     ensures err { OnErr result ((row.new ≡ row.old) × (T.tree tree.new ≡ T.tree tree.old)) }
     ensures calm { OnOk result (IsCalm (T.faults tree.old) (T.faults tree.new) (T.down tree.old) (T.down tree.new)) }
-    ensures stop { (target : RecordedValue) (ops : List OpValue) → row.old.stage ≡ stage.WriteChange target ops → IfErr result (IsChangeStop (T.length tree.old) (T.faults tree.old) (T.faults tree.new) (T.down tree.old) (T.down tree.new)
+    ensures failed { (target : RecordedValue) (ops : List OpValue) → row.old.stage ≡ stage.WriteChange target ops → IfErr result (IsChangeStepFault (T.length tree.old) (T.faults tree.old) (T.faults tree.new) (T.down tree.old) (T.down tree.new)
         (Either (T.tree tree.old) (tree_written (T.tree tree.old) row.old.claim (remaining_at (T.tree tree.old) log.now target.offset) target) (T.left tree.new))) }
 {
     let Stage::WriteChange { target, .. } = &row.stage else {

@@ -1,4 +1,4 @@
 use Rattle.kz_driver.proofs.asking.page.Goals as goal
 
-pub returns-in-Err-clause-stop : goal.returns-in-Err-clause-stop
-returns-in-Err-clause-stop g c = c.read_stop.ensures (g.T.ZTree.down c.args.tree.now) c.in-Err.ensures.err
+pub returns-in-Err-clause-failed : goal.returns-in-Err-clause-failed
+returns-in-Err-clause-failed g c = c.read_fault.ensures (g.T.ZTree.down c.args.tree.now) c.in-Err.ensures.err

@@ -13,10 +13,10 @@ use Rattle.kz_driver.specs.Rows.{driver_of}
 use Rattle.kz_driver.specs.Claims.{claimed_by, after_claimed, tree_after}
 use Rattle.kz_driver.specs.Writes.{tree_written}
 use Rattle.kz_driver.specs.Drivers.{HasEpoch, shared_of}
-use Rattle.kz_driver.specs.Faults.{IsChangeStop}
+use Rattle.kz_driver.specs.Faults.{IsChangeStepFault}
 use Rattle.kz_driver.proofs.Keeping.{brokers_keep, look_lives, claimed_keeps, page_keeps}
 use Rattle.kz_driver.proofs.Steps.{ok_step, always, first_same, kept_step, look_kept, area_kept, tree_made, written_made, claim_is}
-use Rattle.kz_driver.proofs.Endings.{change_ends, stepped_tree, left_so}
+use Rattle.kz_driver.proofs.Causes.{change_cause, stepped_tree, left_so}
 use Rattle.kz_driver.proofs.drive.step_row.Goals as goal
 
 pub returns-in-CompareBrokers-clause-ok : goal.returns-in-CompareBrokers-clause-ok
@@ -91,8 +91,8 @@ returns-in-ReadArea-clause-kept g c =
     area_kept c.read_area.result c.args.row.now c.read_area.new.row c.in-ReadArea.rows (scan (g.T.ZTree.tree c.args.tree.now) (last_path c.in-ReadArea.rows) page_size) c.in-ReadArea.target (λ all. diff (map rendered_row all) (render c.args.row.now.view.image)) (c.read_area.ensures.ok c.in-ReadArea.target c.in-ReadArea.rows c.in-ReadArea.is) (c.read_area.ensures.rising c.in-ReadArea.target c.in-ReadArea.rows c.in-ReadArea.is) c.read_area.ensures.err c.requires
     (subst (HasEpoch c.args.row.now.epoch) c.in-ReadArea.is c.requires.elected)
 
-pub returns-in-WriteAll-clause-ends : goal.returns-in-WriteAll-clause-ends
-returns-in-WriteAll-clause-ends g c =
+pub returns-in-WriteAll-clause-store : goal.returns-in-WriteAll-clause-store
+returns-in-WriteAll-clause-store g c =
     let store = g.T.ZTree in
     let old = c.args.tree.now in
     let new = c.write_all.new.tree in
@@ -103,11 +103,11 @@ returns-in-WriteAll-clause-ends g c =
     let written = tree_written (store.tree old) row.claim rest target in
     let is_left = stepped_tree (shared_of (store.tree old) c.args.log.now ids) (shared_of written c.args.log.now ids) c.args.peers.now.running c.args.now (driver_of row) (stage.WriteAll target c.in-WriteAll.ops) c.in-WriteAll.is
     (written_made (store.tree old) c.args.log.now ids (epoch_or_zero row.epoch) c.args.now row.claim rest target) in
-    change_ends c.write_all.result (store.length old) (store.faults old) (store.faults new) (store.down old) (store.down new) (Either (store.tree old) written (store.left new)) _
-    c.write_all.ensures.calm (c.write_all.ensures.stop target c.in-WriteAll.ops c.in-WriteAll.is) (left_so (store.tree old) written _ (store.left new) is_left)
+    change_cause c.write_all.result (store.length old) (store.faults old) (store.faults new) (store.down old) (store.down new) (Either (store.tree old) written (store.left new)) _
+    c.write_all.ensures.calm (c.write_all.ensures.failed target c.in-WriteAll.ops c.in-WriteAll.is) (left_so (store.tree old) written _ (store.left new) is_left)
 
-pub returns-in-WriteChange-clause-ends : goal.returns-in-WriteChange-clause-ends
-returns-in-WriteChange-clause-ends g c =
+pub returns-in-WriteChange-clause-store : goal.returns-in-WriteChange-clause-store
+returns-in-WriteChange-clause-store g c =
     let store = g.T.ZTree in
     let old = c.args.tree.now in
     let new = c.write_change.new.tree in
@@ -118,11 +118,11 @@ returns-in-WriteChange-clause-ends g c =
     let written = tree_written (store.tree old) row.claim rest target in
     let is_left = stepped_tree (shared_of (store.tree old) c.args.log.now ids) (shared_of written c.args.log.now ids) c.args.peers.now.running c.args.now (driver_of row) (stage.WriteChange target c.in-WriteChange.ops) c.in-WriteChange.is
     (written_made (store.tree old) c.args.log.now ids (epoch_or_zero row.epoch) c.args.now row.claim rest target) in
-    change_ends c.write_change.result (store.length old) (store.faults old) (store.faults new) (store.down old) (store.down new) (Either (store.tree old) written (store.left new)) _
-    c.write_change.ensures.calm (c.write_change.ensures.stop target c.in-WriteChange.ops c.in-WriteChange.is) (left_so (store.tree old) written _ (store.left new) is_left)
+    change_cause c.write_change.result (store.length old) (store.faults old) (store.faults new) (store.down old) (store.down new) (Either (store.tree old) written (store.left new)) _
+    c.write_change.ensures.calm (c.write_change.ensures.failed target c.in-WriteChange.ops c.in-WriteChange.is) (left_so (store.tree old) written _ (store.left new) is_left)
 
-pub returns-in-Claim-clause-ends : goal.returns-in-Claim-clause-ends
-returns-in-Claim-clause-ends g c =
+pub returns-in-Claim-clause-store : goal.returns-in-Claim-clause-store
+returns-in-Claim-clause-store g c =
     let store = g.T.ZTree in
     let old = c.args.tree.now in
     let new = c.claim.new.tree in
@@ -133,9 +133,9 @@ returns-in-Claim-clause-ends g c =
     let same : to_z w64 (of_z w64 c.args.now) ≡ c.args.now = to_z-of_z w64 c.args.now fits in
     let said = multi (store.tree old) (claim_ops seen (driver_of row) c.args.now) in
     let claimed = tree_after said (store.tree old) in
-    let stop = subst (λ n. IfErr c.claim.result (IsChangeStop (store.length old) (store.faults old) (store.faults new) (store.down old) (store.down new)
-    (Either (store.tree old) (tree_after (multi (store.tree old) (claim_ops seen (driver_of row) n)) (store.tree old)) (store.left new)))) same (c.claim.ensures.stop seen c.in-Claim.is) in
+    let failed = subst (λ n. IfErr c.claim.result (IsChangeStepFault (store.length old) (store.faults old) (store.faults new) (store.down old) (store.down new)
+    (Either (store.tree old) (tree_after (multi (store.tree old) (claim_ops seen (driver_of row) n)) (store.tree old)) (store.left new)))) same (c.claim.ensures.failed seen c.in-Claim.is) in
     let is_left = stepped_tree (shared_of (store.tree old) c.args.log.now ids) (shared_of claimed c.args.log.now ids) c.args.peers.now.running c.args.now (driver_of row) (stage.Claim seen) c.in-Claim.is
     (tree_made (store.tree old) c.args.log.now ids said) in
-    change_ends c.claim.result (store.length old) (store.faults old) (store.faults new) (store.down old) (store.down new) (Either (store.tree old) claimed (store.left new)) _
-    c.claim.ensures.calm stop (left_so (store.tree old) claimed _ (store.left new) is_left)
+    change_cause c.claim.result (store.length old) (store.faults old) (store.faults new) (store.down old) (store.down new) (Either (store.tree old) claimed (store.left new)) _
+    c.claim.ensures.calm failed (left_so (store.tree old) claimed _ (store.left new) is_left)

@@ -5,7 +5,7 @@ use Rattle.kz_spec_stores.specs.Requests.{Either}
 use Rattle.kz_spec_stores.specs.Tree.{multi}
 use Rattle.kz_spec_machine.specs.Driver.{remaining_at, write_ops}
 use Rattle.kz_driver.specs.Claims.{tree_after}
-use Rattle.kz_driver.specs.Faults.{IsChangeStop}
+use Rattle.kz_driver.specs.Faults.{IsChangeStepFault}
 use Rattle.kz_driver.specs.Rows.{driver_of}
 use Rattle.kz_driver.specs.Writes.{more_of, last_of, written_by, tree_written}
 use Rattle.kz_driver.proofs.Writings.{writes_is}
@@ -24,8 +24,8 @@ returns-clause-driver g c =
     written (driver_of c.after_written.new.row, c.after_written.result)
     c.in-Some.is said c.after_written.ensures.driver
 
-pub returns-in_err-written-clause-stop : goal.returns-in_err-written-clause-stop
-returns-in_err-written-clause-stop g c =
+pub returns-in_err-written-clause-failed : goal.returns-in_err-written-clause-failed
+returns-in_err-written-clause-failed g c =
     let store = g.T.ZTree in
     let old = c.args.tree.now in
     let new = c.ask_write.new.tree in
@@ -40,5 +40,5 @@ returns-in_err-written-clause-stop g c =
     ap (λ n. tree_after (multi tree (write_ops n ops target)) tree) (to_z-of_z w32 claim fits)
     ∙ (ap (λ rest. tree_after (multi tree (write_ops claim rest target)) tree) ops_are
     ∙ ap (λ held. tree_written tree held left target) (sym c.in-Some.is)) in
-    let stop = subst (λ t. IsChangeStop (store.length old) (store.faults old) (store.faults new) (store.down old) (store.down new) (Either tree t (store.left new)) c.in_err-written.field-0.0) made c.in_err-written.ensures.stop in
+    let failed = subst (λ t. IsChangeStepFault (store.length old) (store.faults old) (store.faults new) (store.down old) (store.down new) (Either tree t (store.left new)) c.in_err-written.field-0.0) made c.in_err-written.ensures.failed in
     search rules
