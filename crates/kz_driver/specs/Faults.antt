@@ -1,7 +1,6 @@
 -- Why a step of a driver has no reply, and what stands then.
 use Rattle.std.specs.Prelude.{◌≡◌, ℕ, Bool, true, false, ⊤, Option, Result, IfErr, IsErrOf}
 use Rattle.kz_types.specs.Causes.{Rose}
-use Rattle.kz_types.specs.declared.fault.TreeFault.{TreeFault}
 use Rattle.kz_types.specs.declared.fault.TreeFault.TheVariants as fault
 use Rattle.kz_tree.specs.Requests.{IsFull, IsStoreFault}
 use Rattle.kz_driver.specs.declared.fault.StepFault.{StepFault}

@@ -155,11 +155,7 @@ fn after_look(alloc: Global, row: &mut DriverRow, seen: ClaimSeen) -> Result<Rep
 }
 
 /// BECOME_CONTROLLER, before the look. At `Err` nothing has changed.
-pub fn look<T: ZTree>(
-    alloc: Global,
-    row: &mut DriverRow,
-    tree: &mut T,
-) -> Result<Reply, StepFault>
+pub fn look<T: ZTree>(alloc: Global, row: &mut DriverRow, tree: &mut T) -> Result<Reply, StepFault>
     ensures ok { IfOk result (λ told. looked (seen_in (T.tree tree.old)) (driver_of row.old) ≡ (driver_of row.new, told)) }
     ensures can { row.old.stage ≡ stage.Look → IfOk result (λ told. StageCanClaim row.new.stage) }
     ensures err { OnErr result (row.new ≡ row.old) }

@@ -1,5 +1,5 @@
 use mir.Val.{SFits}
-use Rattle.std.proofs.Common.{rules, ◌≡◌, w64, refl, sym, ap, ◌∙◌, subst, map, to_z, of_z}
+use Rattle.std.proofs.Common.{rules, ◌≡◌, w64, sym, ap, ◌∙◌, subst, map, to_z, of_z}
 use Rattle.std.specs.Prelude.{IfOk, IfErr}
 use Rattle.std.proofs.lemmas.Int.{to_z-of_z}
 use Rattle.std.proofs.lemmas.Result.{IfOk-weaker}
