@@ -1,12 +1,12 @@
 -- What is written of an event is plain data.
-use Rattle.std.proofs.Common.{◌≡◌, ℕ, zero, suc, ◌==◌, ℤ, pos, negsuc, Bool, true, false, cond, List, [], ◌∷◌, length, Option, Some, None, refl, sym, subst, codes}
-use Rattle.std.specs.Prelude.{⊤, map}
+use Rattle.std.proofs.Common.{◌≡◌, ℕ, suc, ◌==◌, ℤ, pos, Bool, true, false, cond, List, [], ◌∷◌, length, Option, Some, None, refl, sym, subst, codes}
+use Rattle.std.specs.Prelude.{map}
 use Rattle.std.specs.Ordering.{int_eq}
 use Rattle.std.specs.Str.{is_utf8}
 use Rattle.json.proofs.Printed.Utf8.{are_ascii}
 use Rattle.base64.specs.Engines.{standard}
 use Rattle.base64.specs.GeneralPurpose.{encode_of}
-use Rattle.serde_json.specs.Data.{Data, string, object, array, Members, no_members, member, put}
+use Rattle.serde_json.specs.Data.{Data, string, object, array, Members, no_members, put}
 use Rattle.serde_json.specs.View.{items_of}
 use Rattle.kz_types.specs.declared.machine.Event.{Event}
 use Rattle.kz_types.specs.declared.machine.Event.TheVariants.{Quorum, Start, Elect, Turn, Change, Check, ZkOpen, ZkExpire, Zk}
@@ -17,9 +17,10 @@ use Rattle.kz_types.specs.declared.tree.Op.{Op}
 use Rattle.kz_types.specs.declared.tree.Op.TheVariants as op
 use Rattle.kz_spec_lines.specs.Written.{whole_data, with_text, with_whole, event_members, controller_members, with_now, text_or_null_data, config_members, record_data, with_body, with_owner, op_members, op_data, members_of_event}
 use Rattle.kz_laws_values.specs.Ranges.{IsLong}
-use Rattle.kz_laws_bodies.proofs.Plain.{puts, IsPlain, ArePlainItems, ArePlainMembers, whole_is_plain, word}
+use Rattle.kz_laws_bodies.specs.Readable.{IsText}
+use Rattle.kz_laws_bodies.proofs.Plain.{IsPlain, ArePlainItems, ArePlainMembers, whole_is_plain, word}
 use Rattle.kz_laws_bodies.proofs.Members.{put_plain, Rise, put_rises, puts_same}
-use Rattle.kz_laws_lines.specs.Writable.{IsId, IsTime, IsSession, IsVersion, IsText, IsTextOrNull, IsConfigRecord, IsPath, IsOwner, IsOp, AreOps, AreSomeOps, IsEvent}
+use Rattle.kz_laws_lines.specs.Writable.{IsId, IsTime, IsSession, IsVersion, IsTextOrNull, IsConfigRecord, IsPath, IsOwner, IsOp, AreOps, AreSomeOps, IsEvent}
 use Rattle.kz_laws_lines.proofs.Values.{long_id, long_time, long_session, long_version, long_byte, path_is_text, encoded_is_text}
 
 -- plain members that rise

@@ -1,6 +1,6 @@
 -- What is written of an event is read as that event.
 use Rattle.std.proofs.Common.{◌≡◌, ℕ, ◌==◌, ℤ, pos, negsuc, Bool, true, false, cond, List, [], ◌∷◌, length, Option, Some, None, refl, sym, ap, subst, ◌∙◌, codes}
-use Rattle.std.specs.Prelude.{⊤, map, option_map, option_and_then}
+use Rattle.std.specs.Prelude.{map, option_map, option_and_then}
 use Rattle.std.specs.Ordering.{int_eq}
 use Rattle.std.specs.Str.{is_utf8}
 use Rattle.std.proofs.lemmas.Bool.Decides.{Decides-int_eq}
@@ -11,7 +11,6 @@ use Rattle.serde_json.specs.View.{items_of}
 use Rattle.kz_types.specs.declared.machine.Event.{Event}
 use Rattle.kz_types.specs.declared.machine.Event.TheVariants.{Quorum, Start, Elect, Turn, Change, Check, ZkOpen, ZkExpire, Zk}
 use Rattle.kz_types.specs.declared.record.ConfigRecord.{ConfigRecord}
-use Rattle.kz_types.specs.declared.record.MetaRecord.{MetaRecord}
 use Rattle.kz_types.specs.declared.record.MetaRecord.TheVariants.{Config}
 use Rattle.kz_types.specs.declared.tree.Op.{Op}
 use Rattle.kz_types.specs.declared.tree.Op.TheVariants as op
@@ -19,9 +18,9 @@ use Rattle.kz_spec_lines.specs.Json.{whole_up_to, whole_within}
 use Rattle.kz_spec_lines.specs.Ops.{op_of}
 use Rattle.kz_spec_lines.specs.Records.{config_of, record_of}
 use Rattle.kz_spec_lines.specs.Events.{id_of, is_broker_config, is_open_op, open_op_of, ops_in, some_ops, event_of, line_event}
-use Rattle.kz_spec_lines.specs.Written.{whole_data, with_text, with_whole, controller_members, config_members, record_data, with_body, with_owner, op_members, op_data, members_of_event, written_event}
+use Rattle.kz_spec_lines.specs.Written.{whole_data, with_text, with_whole, controller_members, config_members, record_data, with_owner, op_members, op_data, members_of_event, written_event}
 use Rattle.kz_laws_bodies.proofs.Plain.{plain_is_read}
-use Rattle.kz_laws_lines.specs.Writable.{IsId, IsTime, IsSession, IsVersion, IsConfigRecord, IsPath, IsOwner, IsOp, AreOps, AreSomeOps, IsEvent}
+use Rattle.kz_laws_lines.specs.Writable.{IsId, IsTime, IsVersion, IsConfigRecord, IsPath, IsOwner, IsOp, AreOps, AreSomeOps, IsEvent}
 use Rattle.kz_laws_lines.proofs.Values.{up_to_is, session_is, within_is, long_version, long_byte, decoded_is, no_bytes}
 use Rattle.kz_laws_lines.proofs.Plain.{event_is_plain}
 

@@ -1,6 +1,6 @@
 -- Numbers, texts and bytes are read as they were written.
 use Rattle.std.proofs.Common.{◌≡◌, ℕ, suc, ◌≤◌, ◌==◌, ◌^◌, ◌<◌, ℤ, pos, negsuc, Bool, true, false, cond, ◌&&◌, List, [], ◌∷◌, length, Some, None, refl, sym, ap, ◌∙◌, arith, lt-ltb, le-leb}
-use Rattle.std.specs.Prelude.{◌≤ℤ◌, Option, option_and_then, int_le, nat_le}
+use Rattle.std.specs.Prelude.{◌≤ℤ◌, option_and_then, int_le, nat_le}
 use Rattle.std.specs.Result.{result_ok}
 use Rattle.std.proofs.lemmas.Bool.{false≢true, ne_eqb}
 use Rattle.std.proofs.lemmas.Int.{ints}
@@ -14,8 +14,9 @@ use Rattle.kz_types.proofs.PathRules.{both_hold}
 use Rattle.kz_spec_lines.specs.Json.{whole_up_to, whole_within}
 use Rattle.kz_spec_lines.specs.Ops.{session_in}
 use Rattle.kz_spec_lines.specs.Written.{whole_data}
-use Rattle.kz_laws_values.specs.Ranges.{IsLong}
-use Rattle.kz_laws_lines.specs.Writable.{IsFromTo, IsId, IsTime, IsSession, IsVersion, IsText, IsPath}
+use Rattle.kz_laws_values.specs.Ranges.{IsBetween, IsLong}
+use Rattle.kz_laws_bodies.specs.Readable.{IsText}
+use Rattle.kz_laws_lines.specs.Writable.{IsId, IsTime, IsSession, IsVersion, IsPath}
 
 cond_true : {A : Type 0} (b : Bool) (x y : A) → b ≡ true → cond b x y ≡ x
 cond_true true x y e = refl
@@ -35,13 +36,13 @@ long_session n h = (omega (arith, ints, h.0), omega (arith, ints, h.1))
 pub long_version : (n : ℤ) → IsVersion n → IsLong n
 long_version n h = (omega (arith, ints, h.0), omega (arith, ints, h.1))
 
-pub long_byte : (n : ℤ) → IsFromTo (negsuc 127) (pos 127) n → IsLong n
+pub long_byte : (n : ℤ) → IsBetween (negsuc 127) (pos 127) n → IsLong n
 long_byte n h = (omega (arith, ints, h.0), omega (arith, ints, h.1))
 
 at_most : (n most : ℕ) → pos n ≤ℤ pos most → n ≤ most
 at_most n most h = omega (arith, ints)
 
-pub up_to_is : (most : ℕ) (n : ℤ) → IsFromTo (pos 0) (pos most) n → whole_up_to most (whole_data n) ≡ Some n
+pub up_to_is : (most : ℕ) (n : ℤ) → IsBetween (pos 0) (pos most) n → whole_up_to most (whole_data n) ≡ Some n
 up_to_is most (pos n) h = cond_true (nat_le n most) (Some (pos n)) None (le-leb n most (at_most n most h.1))
 up_to_is most (negsuc n) h = absurd (omega (arith, ints, h.0))
 
@@ -61,7 +62,7 @@ whole_is (negsuc n) h = refl
 between : (low high z : ℤ) → low ≤ℤ z → z ≤ℤ high → cond (int_le low z && int_le z high) (Some z) None ≡ Some z
 between low high z l h = grind (arith, ints)
 
-pub within_is : (low high z : ℤ) → IsLong z → IsFromTo low high z → whole_within low high (whole_data z) ≡ Some z
+pub within_is : (low high z : ℤ) → IsLong z → IsBetween low high z → whole_within low high (whole_data z) ≡ Some z
 within_is low high z long h =
     ap (option_and_then (λ n. cond (int_le low n && int_le n high) (Some n) None)) (whole_is z long) ∙ between low high z h.0 h.1
 

@@ -1,6 +1,5 @@
 -- The events, operations and records that a line can hold.
-use Rattle.std.specs.Prelude.{◌≡◌, ⊤, ℕ, true, ℤ, pos, negsuc, ◌≤ℤ◌, List, [], ◌∷◌, Option, Some, None}
-use Rattle.std.specs.Str.{is_utf8}
+use Rattle.std.specs.Prelude.{◌≡◌, ⊤, ℕ, true, ℤ, pos, negsuc, List, [], ◌∷◌, Option, Some, None}
 use Rattle.base64.specs.GeneralPurpose.{IsBytes}
 use Rattle.kz_types.specs.Paths.{is_path}
 use Rattle.kz_types.specs.declared.machine.Event.{Event}
@@ -11,30 +10,28 @@ use Rattle.kz_types.specs.declared.record.MetaRecord.TheVariants.{Config}
 use Rattle.kz_types.specs.declared.tree.Op.{Op}
 use Rattle.kz_types.specs.declared.tree.Op.TheVariants as op
 use Rattle.kz_spec_lines.specs.Events.{is_broker_config, is_open_op}
+use Rattle.kz_laws_values.specs.Ranges.{IsBetween}
+use Rattle.kz_laws_bodies.specs.Readable.{IsText}
 
 -- ---- numbers and texts
 
--- from the first number to the second, both among them
-abbrev pub IsFromTo : ℤ → ℤ → ℤ → Type 0
-IsFromTo low high n = (low ≤ℤ n) × (n ≤ℤ high)
-
+-- the id of a controller or a broker
 abbrev pub IsId : ℤ → Type 0
-IsId id = IsFromTo (pos 0) (pos 2147483647) id
+IsId id = IsBetween (pos 0) (pos 2147483647) id
 
+-- a time of an event
 abbrev pub IsTime : ℤ → Type 0
-IsTime now = IsFromTo (pos 0) (pos 9223372036854775807) now
+IsTime now = IsBetween (pos 0) (pos 9223372036854775807) now
 
+-- a session of ZooKeeper
 abbrev pub IsSession : ℤ → Type 0
-IsSession session = IsFromTo (pos 1) (pos 9223372036854775807) session
+IsSession session = IsBetween (pos 1) (pos 9223372036854775807) session
 
 -- -1 is any version
 abbrev pub IsVersion : ℤ → Type 0
-IsVersion version = IsFromTo (negsuc 0) (pos 2147483647) version
+IsVersion version = IsBetween (negsuc 0) (pos 2147483647) version
 
--- bytes that are a text
-abbrev pub IsText : List ℕ → Type 0
-IsText bytes = is_utf8 bytes ≡ true
-
+-- a text, if there is one
 abbrev pub IsTextOrNull : Option (List ℕ) → Type 0
 IsTextOrNull None = ⊤
 IsTextOrNull (Some text) = IsText text
@@ -43,7 +40,7 @@ IsTextOrNull (Some text) = IsText text
 
 -- a Config record whose fields have their types
 pub record IsConfigRecord (c : ConfigRecord) : Type 0 where
-  pub resource_type : IsFromTo (negsuc 127) (pos 127) c.resource_type
+  pub resource_type : IsBetween (negsuc 127) (pos 127) c.resource_type
   pub resource_name : IsText c.resource_name
   pub name : IsText c.name
   pub value : IsTextOrNull c.value
@@ -54,9 +51,11 @@ AreChanges records = (c : ConfigRecord) × (records ≡ Config c ∷ []) × IsCo
 
 -- ---- operations
 
+-- a path by the rule of ZooKeeper
 abbrev pub IsPath : List ℕ → Type 0
 IsPath path = is_path path ≡ true
 
+-- a session, if there is one
 abbrev pub IsOwner : Option ℤ → Type 0
 IsOwner None = ⊤
 IsOwner (Some session) = IsSession session

@@ -1,5 +1,5 @@
 -- Events as lines: compact JSON, with the members of an object in the order of their names' bytes.
-use Rattle.std.specs.Prelude.{ℕ, ◌==◌, ℤ, pos, List, [], length, map, Option, Some, None, if◌then◌else◌, codes}
+use Rattle.std.specs.Prelude.{ℕ, ◌==◌, ℤ, pos, List, length, map, Option, Some, None, if◌then◌else◌, codes}
 use Rattle.std.specs.Ordering.{int_eq}
 use Rattle.std.specs.Str.{is_utf8}
 use Rattle.serde_json.specs.Data.{Data, null, number, string, array, object, Members, no_members, put}
