@@ -13,7 +13,8 @@ use kz_driver::{
 use kz_image::Image;
 use kz_log::MemoryLog;
 use kz_script::write_answer;
-use kz_tree::Tree;
+use kz_session::MemoryTree;
+use kz_tree::ZTree;
 use kz_types::{Answer, ClaimSeen, MetaRecord, Op, Recorded, Sequence, Stage};
 use std::alloc::Global;
 use std::process::Abort;
@@ -135,14 +136,14 @@ fn the_last_write_records_the_offset(rt: HostRuntime) {
 // The tree, the log, and the declared and running controllers.
 #[derive(Drop)]
 struct Stores {
-    tree: Tree,
+    tree: MemoryTree,
     log: MemoryLog,
     peers: Peers,
 }
 
 fn new_stores(rt: &impl Abort, alloc: Global, declared: &[i32], running: &[i32]) -> Stores {
     Stores {
-        tree: Tree::new(alloc),
+        tree: MemoryTree::new(alloc),
         log: MemoryLog::new(alloc),
         peers: Peers {
             declared: ids_of(rt, alloc, declared),
@@ -198,8 +199,8 @@ const MIGRATION: &str = "1 moved WAIT_FOR_BROKERS
 ";
 
 // Whether a znode has this body.
-fn has_body(tree: &Tree, path: &str, body: &str) -> bool {
-    match tree.row(path.as_bytes()) {
+fn has_body(tree: &MemoryTree, path: &str, body: &str) -> bool {
+    match tree.tree().row(path.as_bytes()) {
         Some(row) => row.body.as_slice() == body.as_bytes(),
         None => false,
     }
@@ -223,7 +224,7 @@ fn a_driver_migrates_an_empty_tree(rt: HostRuntime) {
     assert!(rt; driver.id() == 3000);
     assert!(rt; driver.epoch() == Some(1));
     assert!(rt; stores.log.end() == 4);
-    assert!(rt; stores.tree.last_zxid() == 2);
+    assert!(rt; stores.tree.tree().last_zxid() == 2);
     assert!(rt; has_body(&stores.tree, "/controller_epoch", "1"));
     assert!(rt;
         has_body(
@@ -277,7 +278,7 @@ fn a_driver_waits_for_controllers(rt: HostRuntime) {
 }
 
 // Creates a znode.
-fn create(rt: &impl Abort, alloc: Global, tree: &mut Tree, path: &str, body: &str) {
+fn create(rt: &impl Abort, alloc: Global, tree: &mut MemoryTree, path: &str, body: &str) {
     let mut ops = Sequence::new(alloc);
     let create = Op::Create {
         path: path_of(rt, alloc, path),
