@@ -24,7 +24,7 @@ impl Model for Prepared {
 
 impl Prepared {
     /// The change that makes a tree of these parts.
-    pub fn new(zxid: i64, sessions: Vec<i64>, rows: Vec<Row>) -> Prepared
+    pub(crate) fn new(zxid: i64, sessions: Vec<i64>, rows: Vec<Row>) -> Prepared
         requires { IsKept zxid sessions.items rows.items }
         ensures { result ≡ record { zxid = zxid; sessions = sessions.items; rows = rows.items } }
     {
@@ -36,7 +36,7 @@ impl Prepared {
     }
 
     /// Gives the parts of the tree: its zxid, its sessions and its znodes.
-    pub fn into_parts(self) -> (i64, Vec<i64>, Vec<Row>)
+    pub(crate) fn into_parts(self) -> (i64, Vec<i64>, Vec<Row>)
         ensures parts { record { zxid = result.0; sessions = result.1.items; rows = result.2.items } ≡ self }
         ensures kept { IsKept result.0 result.1.items result.2.items }
     {
