@@ -6,6 +6,7 @@ use Rattle.std.proofs.lemmas.List.{take_more, take_all, map-append}
 use Rattle.std.proofs.lemmas.List.Elements.{filter-append}
 use Rattle.std.proofs.lemmas.List.Folds.{list_any-append}
 use Rattle.kz_types.specs.declared.tree.Row.{Row}
+use Rattle.kz_types.proofs.NumberLemmas.{bytes_eq-true}
 use Rattle.kz_spec_stores.specs.Tree.{is_owned, loses_child, after_loss, without_owned, parent_of}
 
 or_false : (a b : Bool) → b ≡ false → (a || b) ≡ a
@@ -51,6 +52,22 @@ pub parent_none : (session : ℤ) (rows : List Row) (i : ℕ) (r : Row) (parents
 parent_none session rows i r parents h within is owned = record {
   same = λ path.
       h.same path ∙ sym (or_false _ _ (and_left (is_owned session r) (bytes_eq (parent_of r.path) path) owned)) ∙ sym (loses_more session rows i r path within is);
+}
+
+-- a parent that is there already adds none
+absorbed : (session : ℤ) (rows : List Row) (parent path : List ℕ) (owned b : Bool) → bytes_eq parent path ≡ b → loses_child session rows parent ≡ true
+    → (loses_child session rows path || (owned && bytes_eq parent path)) ≡ loses_child session rows path
+absorbed session rows parent path true true e there = let lost : loses_child session rows path ≡ true = ap (loses_child session rows) (sym (bytes_eq-true parent path e)) ∙ there in rw lost refl
+absorbed session rows parent path true false e there = or_false (loses_child session rows path) (bytes_eq parent path) e
+absorbed session rows parent path false b e there = or_false (loses_child session rows path) false refl
+
+pub parent_again : (session : ℤ) (rows : List Row) (i : ℕ) (r : Row) (parents : List (Bor (List ℕ))) (parent : List ℕ) → AreParents session rows i parents → i < length rows → r ≡ get_or rows i r
+    → parent ≡ parent_of r.path → list_any (λ (q : Bor (List ℕ)). bytes_eq q.now parent) parents ≡ true → AreParents session rows (i + 1) parents
+parent_again session rows i r parents parent h within is e there = record {
+  same = λ path.
+      h.same path
+      ∙ sym (absorbed session (take i rows) (parent_of r.path) path (is_owned session r) (bytes_eq (parent_of r.path) path) refl (ap (loses_child session (take i rows)) (sym e) ∙ sym (h.same parent) ∙ there))
+      ∙ sym (loses_more session rows i r path within is);
 }
 
 pub all_parents : (session : ℤ) (rows : List Row) (i : ℕ) (parents : List (Bor (List ℕ))) → AreParents session rows i parents → length rows ≤ i

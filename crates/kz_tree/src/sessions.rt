@@ -1,5 +1,5 @@
 //! What the begin and the end of a session make of a tree.
-ghost use Rattle.std.specs.Prelude.{◌≡◌, ℕ, List, IfOk, OnOk, if◌then◌else◌};
+ghost use Rattle.std.specs.Prelude.{◌≡◌, true, ℕ, List, IfOk, OnOk, if◌then◌else◌};
 ghost use Rattle.std.specs.Ordering.{int_cmp};
 ghost use Rattle.std.specs.List.{list_any};
 ghost use Rattle.std.specs.Str.{bytes_eq};
@@ -73,6 +73,16 @@ fn is_owned(session: i64, row: &Row) -> bool
     }
 }
 
+// Whether a path is the last of these. Siblings mostly stand one behind another.
+fn is_last(paths: &[&[u8]], path: &[u8]) -> bool
+    ensures { result ≡ true → list_any (λ other. bytes_eq other.now path.now) paths.now ≡ true }
+{
+    match paths.last() {
+        Some(last) => *last == path,
+        None => false,
+    }
+}
+
 // The parents of the znodes that end with a session.
 fn parents_of_owned<'a>(
     alloc: Global,
@@ -84,7 +94,10 @@ fn parents_of_owned<'a>(
     let mut parents = Vec::new(alloc);
     for row in rows {
         if is_owned(session, row) {
-            parents.push(parent_of(row.path.bytes()))?;
+            let parent = parent_of(row.path.bytes());
+            if !is_last(&parents, parent) {
+                parents.push(parent)?;
+            }
         }
     }
     Ok(parents)

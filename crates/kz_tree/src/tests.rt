@@ -98,9 +98,23 @@ fn answer_of(told: Told) -> Result<i64, TreeFault> {
     }
 }
 
-// The multis of a tree after six transactions with the session 1 and the znode /v, which was set as often as it may be,
-// and what it answers.
-static MULTIS: [(&[Ask], Told); 34] = [
+// Why an operation of a table is refused.
+#[derive(Clone, Copy)]
+enum Cause {
+    Code(i32),
+    Limit(u8),
+}
+
+fn told_of(index: usize, cause: Cause) -> Told {
+    match cause {
+        Cause::Code(code) => Told::Refused(index, code),
+        Cause::Limit(number) => Told::Limit(index, number),
+    }
+}
+
+// The first multis of a tree after six transactions with the session 1 and the znode /v, which was set as often as it may
+// be, and what it answers.
+static FIRST: [(&[Ask], Told); 2] = [
     (
         &[
             Ask::Create("/a", 0),
@@ -110,32 +124,39 @@ static MULTIS: [(&[Ask], Told); 34] = [
         Told::Done(7),
     ),
     (&[], Told::Done(8)),
-    // each cause at the first place
-    (&[Ask::Create("/x", 2)], Told::Refused(0, -112)),
-    (&[Ask::Create("/x/y", 0)], Told::Refused(0, -101)),
-    (&[Ask::Create("/a", 0)], Told::Refused(0, -110)),
-    (&[Ask::Create("/e/f", 0)], Told::Refused(0, -108)),
-    (&[Ask::Long("/x")], Told::Limit(0, 2)),
-    (&[Ask::Set("/x", -1)], Told::Refused(0, -101)),
-    (&[Ask::Set("/a", 1)], Told::Refused(0, -103)),
-    (&[Ask::SetLong("/a", 0)], Told::Limit(0, 2)),
-    (&[Ask::Set("/v", -1)], Told::Limit(0, 5)),
-    (&[Ask::Delete("/x", -1)], Told::Refused(0, -101)),
-    (&[Ask::Delete("/a/b", 1)], Told::Refused(0, -103)),
-    (&[Ask::Delete("/a", -1)], Told::Refused(0, -111)),
-    (&[Ask::Check("/x", -1)], Told::Refused(0, -101)),
-    (&[Ask::Check("/a", 1)], Told::Refused(0, -103)),
+];
+
+// What it refuses then, and why.
+static CAUSES: [(Ask, Cause); 23] = [
+    (Ask::Create("/x", 2), Cause::Code(-112)),
+    (Ask::Create("/x/y", 0), Cause::Code(-101)),
+    (Ask::Create("/a", 0), Cause::Code(-110)),
+    (Ask::Create("/e/f", 0), Cause::Code(-108)),
+    (Ask::Long("/x"), Cause::Limit(2)),
+    (Ask::Set("/x", -1), Cause::Code(-101)),
+    (Ask::Set("/a", 1), Cause::Code(-103)),
+    (Ask::SetLong("/a", 0), Cause::Limit(2)),
+    (Ask::Set("/v", -1), Cause::Limit(5)),
+    (Ask::Delete("/x", -1), Cause::Code(-101)),
+    (Ask::Delete("/a/b", 1), Cause::Code(-103)),
+    (Ask::Delete("/a", -1), Cause::Code(-111)),
+    (Ask::Check("/x", -1), Cause::Code(-101)),
+    (Ask::Check("/a", 1), Cause::Code(-103)),
     // several causes at once
-    (&[Ask::Create("/a", 2)], Told::Refused(0, -112)),
-    (&[Ask::Create("/e/f/g", 0)], Told::Refused(0, -101)),
-    (&[Ask::Long("/x/y")], Told::Refused(0, -101)),
-    (&[Ask::Long("/a")], Told::Refused(0, -110)),
-    (&[Ask::Long("/e/f")], Told::Refused(0, -108)),
-    (&[Ask::SetLong("/a", 1)], Told::Refused(0, -103)),
-    (&[Ask::SetLong("/v", 2_147_483_647)], Told::Limit(0, 2)),
-    (&[Ask::Set("/v", 0)], Told::Refused(0, -103)),
-    (&[Ask::Delete("/a", 1)], Told::Refused(0, -103)),
-    // at a later place, where the operations before it count
+    (Ask::Create("/a", 2), Cause::Code(-112)),
+    (Ask::Create("/e/f/g", 0), Cause::Code(-101)),
+    (Ask::Long("/x/y"), Cause::Code(-101)),
+    (Ask::Long("/a"), Cause::Code(-110)),
+    (Ask::Long("/e/f"), Cause::Code(-108)),
+    (Ask::SetLong("/a", 1), Cause::Code(-103)),
+    (Ask::SetLong("/v", 2_147_483_647), Cause::Limit(2)),
+    (Ask::Set("/v", 0), Cause::Code(-103)),
+    (Ask::Delete("/a", 1), Cause::Code(-103)),
+];
+
+// Its further multis, and what it answers.
+static MULTIS: [(&[Ask], Told); 8] = [
+    // the operations before one count
     (
         &[Ask::Create("/x", 0), Ask::Create("/x", 0)],
         Told::Refused(1, -110),
@@ -161,14 +182,14 @@ static MULTIS: [(&[Ask], Told); 34] = [
         Told::Refused(2, -103),
     ),
     (
+        &[Ask::Create("/f", 1), Ask::Create("/f/g", 0)],
+        Told::Refused(1, -108),
+    ),
+    // the first that is refused is named
+    (
         &[Ask::Set("/x", -1), Ask::Create("/x", 2)],
         Told::Refused(0, -101),
     ),
-    (
-        &[Ask::Check("/a/b", -1), Ask::Create("/e/f", 1)],
-        Told::Refused(1, -108),
-    ),
-    (&[Ask::Set("/a", -1), Ask::Set("/v", -1)], Told::Limit(1, 5)),
     // nothing of what was refused stands, and no zxid was taken
     (&[Ask::Set("/a", 0), Ask::Set("/a", 1)], Told::Done(9)),
     (
@@ -208,11 +229,15 @@ fn aged(rt: &impl Abort, alloc: Global, zxid: i64) -> Tree
     made(rt, Tree::with_parts(alloc, zxid, 1, row))
 }
 
-// Makes the multis, and compares the answers.
+// Whether a tree answers a multi so.
+fn answers(rt: &impl Abort, alloc: Global, tree: &mut Tree, asks: &[Ask], told: Told) -> bool {
+    let ops = ops_of(rt, alloc, asks);
+    tree.multi(ops.as_slice()) == answer_of(told)
+}
+
 fn answers_all(rt: &impl Abort, alloc: Global, tree: &mut Tree, multis: &[(&[Ask], Told)]) {
     for (asks, told) in multis {
-        let ops = ops_of(rt, alloc, asks);
-        assert!(rt; tree.multi(ops.as_slice()) == answer_of(*told));
+        assert!(rt; answers(rt, alloc, tree, asks, *told));
     }
 }
 
@@ -220,6 +245,12 @@ fn answers_all(rt: &impl Abort, alloc: Global, tree: &mut Tree, multis: &[(&[Ask
 fn multis_are_made_or_refused_at_their_first_cause(rt: HostRuntime) {
     let alloc = rt.alloc();
     let mut tree = aged(&rt, alloc, 6);
+    answers_all(&rt, alloc, &mut tree, &FIRST);
+    for (ask, cause) in &CAUSES {
+        assert!(rt; answers(&rt, alloc, &mut tree, &[*ask], told_of(0, *cause)));
+        let later = [Ask::Check("/a", 0), Ask::Check("/e", -1), *ask];
+        assert!(rt; answers(&rt, alloc, &mut tree, &later, told_of(2, *cause)));
+    }
     answers_all(&rt, alloc, &mut tree, &MULTIS);
     assert!(rt; tree.count() == 2);
     assert!(rt; tree.last_zxid() == 10);
