@@ -15,8 +15,8 @@ use Rattle.kz_spec_machine.specs.Machine.{World, running_ids, driver_of, turn, w
 use Rattle.kz_driver.specs.Drivers.{shared_of}
 use Rattle.kz_tree.specs.Requests.{IsFull}
 use Rattle.kz_types.specs.declared.fault.TreeFault.TheVariants as tree_fault
-use Rattle.kz_driver.specs.declared.drive.StepFault.{StepFault}
-use Rattle.kz_driver.specs.declared.drive.StepFault.TheVariants as step_fault
+use Rattle.kz_driver.specs.declared.fault.StepFault.{StepFault}
+use Rattle.kz_driver.specs.declared.fault.StepFault.TheVariants as step_fault
 use Rattle.kz_world.specs.declared.parts.Parts.{Parts}
 
 -- the world of these parts, where the store's tree is told

@@ -1,168 +1,296 @@
-ghost use Rattle.std.specs.Prelude.{◌<◌, length, IfOk};
+ghost use Rattle.std.specs.Prelude.{◌<◌, length};
 
 use super::World;
 use crate::comparison::verdict;
 use kz_log::MemoryLog;
 use kz_render::bare_roots;
-use kz_tree::Tree;
+use kz_session::MemoryTree;
+use kz_tree::{Tree, ZTree};
 use kz_types::{
-    Answer, ConfigRecord, Event, MetaRecord, NoMemory, Op, Sequence, Text, Verdict, ZPath,
+    Answer, ConfigRecord, Event, MetaRecord, Op, Rendered, Sequence, Text, Verdict, ZPath,
 };
 use std::alloc::Global;
-use std::test::Fail;
+use std::process::Abort;
 
-fn one_config(alloc: Global) -> Result<Sequence<MetaRecord>, NoMemory>
-    ensures { IfOk result (λ records. 0 < length records) }
-{
-    let mut records = Sequence::new(alloc);
-    records.push(MetaRecord::Config(ConfigRecord {
+// What a call gave, which must not have failed.
+fn made<T: Drop, E: Drop>(rt: &impl Abort, outcome: Result<T, E>) -> T {
+    match outcome {
+        Ok(value) => value,
+        Err(_) => panic!(rt; "a call failed"),
+    }
+}
+
+fn text_of(rt: &impl Abort, alloc: Global, text: &str) -> Text {
+    made(rt, Text::from_str(alloc, text))
+}
+
+fn config(rt: &impl Abort, alloc: Global) -> MetaRecord {
+    MetaRecord::Config(ConfigRecord {
         resource_type: 4,
-        resource_name: Text::from_str(alloc, "1")?,
-        name: Text::from_str(alloc, "a")?,
-        value: Some(Text::from_str(alloc, "v")?),
-    }))?;
-    Ok(records)
+        resource_name: text_of(rt, alloc, "1"),
+        name: text_of(rt, alloc, "a"),
+        value: Some(text_of(rt, alloc, "v")),
+    })
 }
 
-// A world in which this controller is declared.
-fn declared(alloc: Global, id: i32) -> Result<World, NoMemory> {
-    let mut ids = Sequence::new(alloc);
-    ids.push(id)?;
-    let mut world = World::new(alloc)?;
-    let _ = world.event(Event::Quorum { ids })?;
-    Ok(world)
+// A list of one item.
+fn one<T: Drop>(rt: &impl Abort, alloc: Global, item: T) -> Sequence<T>
+    ensures { 0 < length result }
+{
+    let mut items = Sequence::new(alloc);
+    match items.push(item) {
+        Ok(()) => items,
+        Err(_) => panic!(rt; "no memory"),
+    }
 }
+
+// A world in which the controller 1 is declared.
+fn declared(rt: &impl Abort, alloc: Global) -> World<MemoryTree> {
+    let mut world = made(rt, World::new(alloc, MemoryTree::new(alloc)));
+    let ids = one(rt, alloc, 1);
+    drop(made(rt, world.event(Event::Quorum { ids })));
+    world
+}
+
+const START: Event = Event::Start { controller: 1 };
 
 // A world in which it runs.
-fn started(alloc: Global, id: i32) -> Result<World, NoMemory> {
-    let mut world = declared(alloc, id)?;
-    let _ = world.event(Event::Start { controller: id })?;
-    Ok(world)
+fn started(rt: &impl Abort, alloc: Global) -> World<MemoryTree> {
+    let mut world = declared(rt, alloc);
+    drop(made(rt, world.event(START)));
+    world
 }
 
 #[test]
-fn a_controller_starts_once(rt: HostRuntime) -> Result<(), Fail> {
-    let mut world = declared(rt.alloc(), 1)?;
-    let first = world.event(Event::Start { controller: 1 })?;
-    let second = world.event(Event::Start { controller: 1 })?;
+fn a_controller_starts_once(rt: HostRuntime) {
+    let mut world = declared(&rt, rt.alloc());
+    let first = made(&rt, world.event(START));
     assert!(rt; matches!(first, Answer::Done));
+    let second = made(&rt, world.event(START));
     assert!(rt; matches!(second, Answer::AlreadyRunning));
-    Ok(())
+    drop([first, second]);
+    drop(world);
 }
 
+const ELECT: Event = Event::Elect {
+    controller: 1,
+    now: 6,
+};
+
 #[test]
-fn each_election_has_an_epoch(rt: HostRuntime) -> Result<(), Fail> {
-    let mut world = started(rt.alloc(), 1)?;
-    let event = Event::Elect {
-        controller: 1,
-        now: 6,
-    };
-    let first = world.event(event)?;
+fn an_election_has_an_epoch(rt: HostRuntime) {
+    let mut world = started(&rt, rt.alloc());
+    let told = made(&rt, world.event(ELECT));
     assert!(rt;
         matches!(
-            first,
+            told,
             Answer::Elected {
                 epoch: 1,
                 offset: 1
             }
         )
     );
-    assert_eq!(rt; world.end(), 1);
-    Ok(())
+    assert!(rt; world.end() == 1);
+    drop(told);
+    drop(world);
 }
 
 #[test]
-fn a_change_needs_a_leader(rt: HostRuntime) -> Result<(), Fail> {
+fn a_change_needs_a_leader(rt: HostRuntime) {
     let alloc = rt.alloc();
-    let mut world = started(alloc, 1)?;
-    let event = Event::Change {
-        controller: 1,
-        records: one_config(alloc)?,
-        now: 7,
-    };
-    let answer = world.event(event)?;
-    assert!(rt; matches!(answer, Answer::NotLeader));
-    Ok(())
+    let mut world = started(&rt, alloc);
+    let records = one(&rt, alloc, config(&rt, alloc));
+    let told = made(
+        &rt,
+        world.event(Event::Change {
+            controller: 1,
+            records,
+            now: 7,
+        }),
+    );
+    assert!(rt; matches!(told, Answer::NotLeader));
+    drop(told);
+    drop(world);
 }
 
-fn create(alloc: Global, path: &str, body: Vec<u8>) -> Result<Op, NoMemory> {
-    match ZPath::new(alloc, path.as_bytes()) {
-        Ok(path) => Ok(Op::Create {
-            path,
-            body: Sequence::from_vec(body),
-            owner: None,
-        }),
-        Err(_) => Err(NoMemory),
-    }
+fn put_create(
+    rt: &impl Abort,
+    alloc: Global,
+    ops: &mut Sequence<Op>,
+    path: &str,
+    body: Sequence<u8>,
+) {
+    let create = Op::Create {
+        path: made(rt, ZPath::new(alloc, path.as_bytes())),
+        body,
+        owner: None,
+    };
+    made(rt, ops.push(create));
 }
+
+static BASES: [&str; 5] = [
+    "/brokers",
+    "/config",
+    "/kafka-acl",
+    "/kafka-acl-extended",
+    "/kafka-acl-extended/prefixed",
+];
 
 // The base znodes, and the roots of the migrated area.
-fn rooted(alloc: Global) -> Result<Tree, NoMemory> {
-    let mut ops = Vec::new(alloc);
-    for base in [
-        "/brokers",
-        "/config",
-        "/kafka-acl",
-        "/kafka-acl-extended",
-        "/kafka-acl-extended/prefixed",
-    ] {
-        ops.push(create(alloc, base, Vec::new(alloc))?)?;
+fn rooted(rt: &impl Abort, alloc: Global) -> Tree {
+    let mut ops = Sequence::new(alloc);
+    for base in BASES {
+        put_create(rt, alloc, &mut ops, base, Sequence::new(alloc));
     }
-    for root in bare_roots(alloc)? {
-        ops.push(create(alloc, root.path.as_str(), Vec::new(alloc))?)?;
+    let roots: Vec<Rendered> = made(rt, bare_roots(alloc));
+    for root in &roots {
+        put_create(
+            rt,
+            alloc,
+            &mut ops,
+            root.path.as_str(),
+            Sequence::new(alloc),
+        );
     }
+    drop(roots);
     let mut tree = Tree::new(alloc);
-    match tree.multi(&ops) {
-        Ok(_) => Ok(tree),
-        Err(_) => Err(NoMemory),
-    }
+    made(rt, tree.multi(ops.as_slice()));
+    tree
 }
 
 // A log whose migration is committed at its end, offset 1.
-fn migrated(alloc: Global) -> Result<MemoryLog, NoMemory> {
+fn migrated(rt: &impl Abort, alloc: Global) -> MemoryLog {
     let mut log = MemoryLog::new(alloc);
     let items = [MetaRecord::NoOp, MetaRecord::ZkMigrationState { state: 2 }];
-    match log.elect(alloc, 5, &items) {
-        Ok(_) => Ok(log),
-        Err(_) => Err(NoMemory),
-    }
+    made(rt, log.elect(alloc, 5, &items));
+    drop(items);
+    log
 }
 
 // What `/migration` holds where the log was written up to offset 1.
 static RECORDED: &[u8] =
     b"{\"kraft_controller_epoch\":1,\"kraft_controller_id\":1,\"kraft_metadata_epoch\":1,\"kraft_metadata_offset\":1,\"version\":0}";
 
-fn add_recorded(alloc: Global, tree: &mut Tree) -> Result<(), NoMemory> {
-    let op = create(alloc, "/migration", RECORDED.to_vec(alloc)?)?;
-    match tree.multi(&[op]) {
-        Ok(_) => Ok(()),
-        Err(_) => Err(NoMemory),
-    }
+fn add_recorded(rt: &impl Abort, alloc: Global, tree: &mut Tree) {
+    let mut ops = Sequence::new(alloc);
+    let body = Sequence::from_vec(made(rt, RECORDED.to_vec(alloc)));
+    put_create(rt, alloc, &mut ops, "/migration", body);
+    made(rt, tree.multi(ops.as_slice()));
 }
 
 #[test]
-fn a_recorded_tree_is_closed(rt: HostRuntime) -> Result<(), Fail> {
+fn a_recorded_tree_is_closed(rt: HostRuntime) {
     let alloc = rt.alloc();
-    let mut tree = rooted(alloc)?;
-    add_recorded(alloc, &mut tree)?;
-    let told = verdict(alloc, &tree, &migrated(alloc)?)?;
+    let mut tree = rooted(&rt, alloc);
+    add_recorded(&rt, alloc, &mut tree);
+    let log = migrated(&rt, alloc);
+    let told = made(&rt, verdict(alloc, &tree, &log));
     assert!(rt; matches!(told, Verdict::Closed { offset: 1 }));
-    Ok(())
+    drop(told);
+    drop(log);
+    drop(tree);
 }
 
-fn disagreeing(verdict: &Verdict) -> Option<&str> {
+fn disagrees_at(verdict: &Verdict, wanted: &str) -> bool {
     match verdict {
-        Verdict::Disagrees { path } => Some(path.as_str()),
-        _ => None,
+        Verdict::Disagrees { path } => path.as_str() == wanted,
+        _ => false,
     }
 }
 
 #[test]
-fn a_root_that_is_missing_disagrees(rt: HostRuntime) -> Result<(), Fail> {
+fn a_root_that_is_missing_disagrees(rt: HostRuntime) {
     let alloc = rt.alloc();
     let mut tree = Tree::new(alloc);
-    add_recorded(alloc, &mut tree)?;
-    let told = verdict(alloc, &tree, &migrated(alloc)?)?;
-    assert_eq!(rt; disagreeing(&told), Some("/brokers/topics"));
-    Ok(())
+    add_recorded(&rt, alloc, &mut tree);
+    let log = migrated(&rt, alloc);
+    let told = made(&rt, verdict(alloc, &tree, &log));
+    assert!(rt; disagrees_at(&told, "/brokers/topics"));
+    drop(told);
+    drop(log);
+    drop(tree);
+}
+
+#[test]
+fn a_session_begins_once_and_ends_once(rt: HostRuntime) {
+    let alloc = rt.alloc();
+    let mut world = made(&rt, World::new(alloc, MemoryTree::new(alloc)));
+    let begun = made(&rt, world.event(Event::ZkOpen { session: 5 }));
+    assert!(rt; matches!(begun, Answer::DoneAt { zxid: 1 }));
+    let known = made(&rt, world.event(Event::ZkOpen { session: 5 }));
+    assert!(rt; matches!(known, Answer::Known));
+    let ended = made(&rt, world.event(Event::ZkExpire { session: 5 }));
+    assert!(rt; matches!(ended, Answer::DoneAt { zxid: 2 }));
+    let unknown = made(&rt, world.event(Event::ZkExpire { session: 5 }));
+    assert!(rt; matches!(unknown, Answer::Unknown));
+    drop([begun, known, ended, unknown]);
+    drop(world);
+}
+
+// The answer to a client that makes a znode of this path.
+fn answer_to(rt: &impl Abort, alloc: Global, world: &mut World<MemoryTree>, path: &str) -> Answer {
+    let mut ops = Sequence::new(alloc);
+    put_create(rt, alloc, &mut ops, path, Sequence::new(alloc));
+    made(rt, world.event(Event::Zk { ops }))
+}
+
+// A world whose `/controller` is of this body.
+fn held(rt: &impl Abort, alloc: Global, body: &[u8]) -> World<MemoryTree> {
+    let mut ops = Sequence::new(alloc);
+    let body = Sequence::from_vec(made(rt, body.to_vec(alloc)));
+    put_create(rt, alloc, &mut ops, "/controller", body);
+    let mut tree = MemoryTree::new(alloc);
+    made(rt, tree.multi(ops.as_slice()));
+    drop(ops);
+    made(rt, World::new(alloc, tree))
+}
+
+static KRAFT: &[u8] = b"{\"kraftControllerEpoch\":1}";
+
+static ZOOKEEPER: &[u8] = b"{\"version\":1}";
+
+#[test]
+fn a_held_tree_is_kept_from_clients(rt: HostRuntime) {
+    let alloc = rt.alloc();
+    let mut world = held(&rt, alloc, KRAFT);
+    let reserved = answer_to(&rt, alloc, &mut world, "/migration");
+    assert!(rt; matches!(reserved, Answer::Reserved { .. }));
+    let base = answer_to(&rt, alloc, &mut world, "/config");
+    assert!(rt; matches!(base, Answer::KraftHolds { .. }));
+    let other = answer_to(&rt, alloc, &mut world, "/consumers");
+    assert!(rt; matches!(other, Answer::DoneAt { zxid: 2 }));
+    drop([reserved, base, other]);
+    drop(world);
+}
+
+#[test]
+fn a_tree_of_zookeeper_is_open_to_clients(rt: HostRuntime) {
+    let alloc = rt.alloc();
+    let mut world = held(&rt, alloc, ZOOKEEPER);
+    let below = answer_to(&rt, alloc, &mut world, "/controller/a");
+    assert!(rt; matches!(below, Answer::Reserved { .. }));
+    let base = answer_to(&rt, alloc, &mut world, "/config");
+    assert!(rt; matches!(base, Answer::DoneAt { zxid: 2 }));
+    let again = answer_to(&rt, alloc, &mut world, "/config");
+    assert!(rt;
+        matches!(
+            again,
+            Answer::Refused {
+                index: 0,
+                code: -110
+            }
+        )
+    );
+    drop([below, base, again]);
+    drop(world);
+}
+
+#[test]
+fn a_world_gives_its_parts_back(rt: HostRuntime) {
+    let world = started(&rt, rt.alloc());
+    let (tree, log) = world.into_parts();
+    assert!(rt; tree.tree().count() == 0);
+    assert!(rt; log.end() == -1);
+    drop(tree);
+    drop(log);
 }
