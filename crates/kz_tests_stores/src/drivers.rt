@@ -159,7 +159,7 @@ fn tells(rt: &impl Abort, alloc: Global, driver: &mut Driver, stores: &mut Store
         let reply = driver.step(&mut stores.tree, &mut stores.log, &stores.peers, 8);
         put(rt, &mut replies, made(rt, reply));
     }
-    let told = made(rt, write_answer(alloc, 1, &Answer::Turn { replies }));
+    let told = made(rt, write_answer(alloc, 1, &Answer::Turn(replies)));
     assert!(rt; told.as_slice() == lines.as_bytes());
 }
 

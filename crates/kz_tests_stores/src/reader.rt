@@ -91,7 +91,7 @@ fn told(rt: &impl Abort, alloc: Global, rows: &[Row]) -> Vec<u8> {
     if let Some(fault) = translate(alloc, rows).err() {
         put(rt, &mut replies, reply_of(rt, fault));
     }
-    made(rt, write_answer(alloc, 1, &Answer::Turn { replies }))
+    made(rt, write_answer(alloc, 1, &Answer::Turn(replies)))
 }
 
 // Znodes that can't be translated, and what is told.
