@@ -176,7 +176,7 @@ end events=2 steps=0 zxid=0 offset=-1 recorded=none
 
 # All operations are made, or none: the parent of the second one isn't there, so the first isn't made either.
 {"event":"zk","ops":[{"op":"create","path":"/other"},{"op":"create","path":"/none/other"}]}
-# What is migrated is kept from clients, all else isn't.
+# What is migrated is kept from clients; this other znode isn't.
 {"event":"zk","ops":[{"op":"set","path":"/config/brokers/1","text":"{}","version":-1}]}
 {"event":"zk","ops":[{"op":"create","path":"/other"}]}
 {"event":"check"}
