@@ -1,11 +1,12 @@
 //! Copies of the values that own memory. That a copy is equal is proved; that it is made with ample memory is tested.
 use crate::made::{body_of, list_of, made, one, put, text_of};
 use kz_types::{
-    AccessControlEntryRecord, AclRow, AssignmentRow, BatchRow, Body, ClientQuotaRecord,
+    AccessControlEntryRecord, AclEntry, AclRow, AssignmentRow, BatchRow, Body, ClientQuotaRecord,
     ConfigRecord, Configuration, Duplicate, Endpoint, Feature, Id, MetaRecord, NoMemory, Op, Pair,
-    PartitionChangeRecord, PartitionRecord, PartitionRow, ProducerIdsRecord, QuotaEntities,
-    QuotaEntity, QuotaRow, QuotaValue, RegisterBrokerRecord, Rendered, Row, ScramPair, ScramRow,
-    Sequence, TopicRecord, UserScramCredentialRecord, ZPath,
+    PartitionChangeRecord, PartitionEntry, PartitionRecord, PartitionRow, ProducerIdsRecord,
+    QuotaEntities, QuotaEntity, QuotaEntry, QuotaRow, QuotaValue, RegisterBrokerRecord, Rendered,
+    Row, ScramEntry, ScramPair, ScramRow, Sequence, TopicEntry, TopicRecord,
+    UserScramCredentialRecord, ZPath,
 };
 use std::alloc::{AllocError, Global};
 use std::process::Abort;
@@ -310,6 +311,69 @@ pub fn configuration(rt: &impl Abort, alloc: Global) -> Configuration {
         name: text_of(rt, alloc, "1"),
         pairs: one(rt, alloc, pair(rt, alloc)),
     }
+}
+
+fn topic_entry(rt: &impl Abort, alloc: Global) -> TopicEntry {
+    let partition = PartitionEntry {
+        number: 0,
+        row: partition_row(rt, alloc),
+    };
+    TopicEntry {
+        name: text_of(rt, alloc, "orders"),
+        id: ID,
+        partitions: one(rt, alloc, partition),
+        pairs: one(rt, alloc, pair(rt, alloc)),
+    }
+}
+
+fn quota_entry(rt: &impl Abort, alloc: Global) -> QuotaEntry {
+    let quota = QuotaRow {
+        key: text_of(rt, alloc, "producer_byte_rate"),
+        value: QUOTA,
+    };
+    QuotaEntry {
+        path: path_of(rt, alloc),
+        quotas: one(rt, alloc, quota),
+    }
+}
+
+fn scram_entry(rt: &impl Abort, alloc: Global) -> ScramEntry {
+    let value = ScramRow {
+        salt: body_of(rt, alloc, "salt"),
+        stored_key: body_of(rt, alloc, "key"),
+        server_key: body_of(rt, alloc, "server"),
+        iterations: 4096,
+    };
+    let scram = ScramPair {
+        mechanism: 2,
+        value,
+    };
+    ScramEntry {
+        name: text_of(rt, alloc, "alice"),
+        scrams: one(rt, alloc, scram),
+    }
+}
+
+fn acl_entry(rt: &impl Abort, alloc: Global) -> AclEntry {
+    let row = AclRow {
+        kind: 2,
+        pattern: 3,
+        name: text_of(rt, alloc, "orders"),
+        principal: text_of(rt, alloc, "User:alice"),
+        host: text_of(rt, alloc, "*"),
+        operation: 3,
+        permission: 3,
+    };
+    AclEntry { id: ID, row }
+}
+
+#[test]
+fn entities_of_the_metadata_are_copied(rt: HostRuntime) {
+    let alloc = rt.alloc();
+    assert!(rt; is_copied(alloc, topic_entry(&rt, alloc)));
+    assert!(rt; is_copied(alloc, quota_entry(&rt, alloc)));
+    assert!(rt; is_copied(alloc, scram_entry(&rt, alloc)));
+    assert!(rt; is_copied(alloc, acl_entry(&rt, alloc)));
 }
 
 #[test]
