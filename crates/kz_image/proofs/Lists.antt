@@ -14,12 +14,13 @@ use Rattle.kz_ordered.specs.Spot.{IsSpot}
 use Rattle.kz_ordered.proofs.Order.{bytes_order}
 use Rattle.kz_ordered.proofs.Lookup.{Rises-put, Rises-without}
 use Rattle.kz_ordered.proofs.Spot.{find_by_spot, find_by_gap, put_by_spot, put_by_gap, without_by_spot, without_by_gap}
-use Rattle.kz_spec_stores.specs.Image.{name_of_configuration, name_of_pair, pairs_of, pairs_at, with_member, with_pairs, configured, Image, applied, all_applied}
+use Rattle.kz_spec_stores.specs.Image.{name_of_configuration, name_of_pair, with_member, with_pairs, configured, Image, applied, all_applied}
+use Rattle.kz_spec_stores.specs.Metadata.{pairs_of, pairs_at}
 use Rattle.kz_image.specs.InOrder.{IsFilled, AreInOrder}
 
 -- ---- a configuration that is there
 
-remove-set : {A : Type 0} (xs : List A) (i : ℕ) (x : A) → remove (set xs i x) i ≡ remove xs i
+pub remove-set : {A : Type 0} (xs : List A) (i : ℕ) (x : A) → remove (set xs i x) i ≡ remove xs i
 remove-set [] i x = refl
 remove-set (y ∷ ys) zero x = refl
 remove-set (y ∷ ys) (suc i) x = ap (λ zs. y ∷ zs) (remove-set ys i x)
@@ -83,7 +84,7 @@ module _ {A K : Type 0} (P : A → Type 0) (cmp : K → K → Ordering) (key : A
   put_by Equal x y ys zs p q r = All-cons P x ys p (All-tail P y ys q)
   put_by Greater x y ys zs p q r = All-cons P y zs (All-head P y ys q) r
 
-  All-put : (x : A) (ys : List A) → P x → All P ys → All P (put cmp key x ys)
+  pub All-put : (x : A) (ys : List A) → P x → All P ys → All P (put cmp key x ys)
   All-put x [] p q = All-cons P x [] p q
   All-put x (y ∷ ys) p q = put_by (cmp (key x) (key y)) x y ys (put cmp key x ys) p q (All-put x ys p (All-tail P y ys q))
 
@@ -91,7 +92,7 @@ module _ {A K : Type 0} (P : A → Type 0) (cmp : K → K → Ordering) (key : A
   without_by true x xs zs q r = All-tail P x xs q
   without_by false x xs zs q r = All-cons P x zs (All-head P x xs q) r
 
-  All-without : (k : K) (xs : List A) → All P xs → All P (without cmp key k xs)
+  pub All-without : (k : K) (xs : List A) → All P xs → All P (without cmp key k xs)
   All-without k [] q = q
   All-without k (x ∷ xs) q = without_by (is_eq (cmp k (key x))) x xs (without cmp key k xs) q (All-without k xs (All-tail P x xs q))
 
@@ -105,7 +106,7 @@ pairs_rise : (k : List ℕ) (xs : List Configuration) → All IsFilled xs → Ri
 pairs_rise k [] h = tt
 pairs_rise k (x ∷ xs) h = pairs_by (is_eq (bytes_cmp k x.name)) x (find bytes_cmp name_of_configuration k xs) (All-head IsFilled x xs h).1 (pairs_rise k xs (All-tail IsFilled x xs h))
 
-member_rises : (name : List ℕ) (value : Option (List ℕ)) (ps : List Pair) → Rises bytes_cmp name_of_pair ps → Rises bytes_cmp name_of_pair (with_member name value ps)
+pub member_rises : (name : List ℕ) (value : Option (List ℕ)) (ps : List Pair) → Rises bytes_cmp name_of_pair ps → Rises bytes_cmp name_of_pair (with_member name value ps)
 member_rises name (Some value) ps h = Rises-put bytes_order name_of_pair (record { name = name; value = value }) ps h
 member_rises name None ps h = Rises-without bytes_order name_of_pair name ps h
 

@@ -1,10 +1,24 @@
--- What every metadata keeps: its lists rise, and no configuration is empty.
-use Rattle.std.specs.Prelude.{◌<◌, List, length, All}
+-- What every metadata keeps: its lists rise, and those within its entries, and none of these that mustn't be empty is.
+use Rattle.std.specs.Prelude.{◌≡◌, ◌<◌, true, List, length, All}
 use Rattle.std.specs.Ordering.{int_cmp}
+use Rattle.kz_types.specs.PathRule.{is_path}
 use Rattle.kz_types.specs.declared.image.Configuration.{Configuration}
+use Rattle.kz_types.specs.declared.image.TopicEntry.{TopicEntry}
+use Rattle.kz_types.specs.declared.image.QuotaEntry.{QuotaEntry}
+use Rattle.kz_types.specs.declared.image.ScramEntry.{ScramEntry}
 use Rattle.kz_ordered.specs.Order.{bytes_cmp}
 use Rattle.kz_ordered.specs.Ordered.{Rises}
-use Rattle.kz_spec_stores.specs.Image.{Image, name_of_configuration, name_of_pair, id_of_broker}
+use Rattle.kz_spec_stores.specs.Metadata.{Image, name_of_topic, number_of_partition, name_of_configuration, name_of_pair, path_of_quotas, key_of_quota, name_of_user, mechanism_of_pair, id_of_acl, id_of_broker}
+use Rattle.kz_image.specs.QuotaKeys.{is_below_quota_root}
+
+-- A topic's partitions rise by number, and its members by name.
+abbrev pub IsTopicInOrder : TopicEntry → Type 0
+IsTopicInOrder t = Rises int_cmp number_of_partition t.partitions × Rises bytes_cmp name_of_pair t.pairs
+
+-- The topics rise by name, and each is in order.
+pub record AreTopicsInOrder (topics : List TopicEntry) : Type 0 where
+  pub rising : Rises bytes_cmp name_of_topic topics
+  pub within : All IsTopicInOrder topics
 
 -- A configuration has a member, and its members rise by name.
 abbrev pub IsFilled : Configuration → Type 0
@@ -15,7 +29,29 @@ pub record AreInOrder (configs : List Configuration) : Type 0 where
   pub rising : Rises bytes_cmp name_of_configuration configs
   pub filled : All IsFilled configs
 
--- The configurations are in order, and the brokers rise by id.
+-- An entity has a quota, its quotas rise by key, and its path is one of an entity that may have some.
+abbrev pub IsQuotaFilled : QuotaEntry → Type 0
+IsQuotaFilled q = (0 < length q.quotas) × Rises bytes_cmp key_of_quota q.quotas × (is_path q.path ≡ true) × (is_below_quota_root q.path ≡ true)
+
+-- The entities rise by path, and each is filled.
+pub record AreQuotasInOrder (entries : List QuotaEntry) : Type 0 where
+  pub rising : Rises bytes_cmp path_of_quotas entries
+  pub filled : All IsQuotaFilled entries
+
+-- A user has a credential, and its credentials rise by mechanism.
+abbrev pub IsUserFilled : ScramEntry → Type 0
+IsUserFilled u = (0 < length u.scrams) × Rises int_cmp mechanism_of_pair u.scrams
+
+-- The users rise by name, and each is filled.
+pub record AreUsersInOrder (users : List ScramEntry) : Type 0 where
+  pub rising : Rises bytes_cmp name_of_user users
+  pub filled : All IsUserFilled users
+
+-- Each list is in order, and the access control entries and brokers rise by id.
 pub record IsInOrder (i : Image) : Type 0 where
+  pub topics : AreTopicsInOrder i.topics
   pub configs : AreInOrder i.broker_configs
+  pub quotas : AreQuotasInOrder i.quotas
+  pub users : AreUsersInOrder i.users
+  pub acls : Rises bytes_cmp id_of_acl i.acls
   pub brokers : Rises int_cmp id_of_broker i.brokers

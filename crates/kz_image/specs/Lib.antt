@@ -1,1 +1,4 @@
+pub mod QuotaKeys
 pub mod InOrder
+pub mod Faults
+pub mod Places

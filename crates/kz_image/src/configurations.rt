@@ -23,7 +23,12 @@ fn put_pair(alloc: Global, pairs: &mut Vec<Pair>, name: &Text, value: &Text) -> 
     put(pairs, pair)
 }
 
-fn change_pairs(alloc: Global, pairs: &mut Vec<Pair>, change: &ConfigRecord) -> Result<(), NoMemory>
+/// Sets or removes a member.
+pub fn change_pairs(
+    alloc: Global,
+    pairs: &mut Vec<Pair>,
+    change: &ConfigRecord,
+) -> Result<(), NoMemory>
     requires { Rises bytes_cmp name_of_pair pairs.old.items }
     ensures ok { OnOk result (pairs.new.items ≡ with_member change.now.name change.now.value pairs.old.items) }
     ensures err { OnErr result (pairs.new.items ≡ pairs.old.items) }

@@ -1,64 +1,231 @@
 //! The metadata.
-ghost use Rattle.std.specs.Prelude.{ℕ, ◌≡◌, ◌&&◌, pos, OnOk, OnErr, take};
+ghost use Rattle.std.specs.Prelude.{ℕ, ◌≡◌, ◌&&◌, true, None, pos, option_map, IfOk, OnOk, OnErr, IfErr, take};
 ghost use Rattle.std.specs.Ordering.{int_cmp, int_eq};
 ghost use Rattle.std.specs.List.{list_any};
+ghost use Rattle.kz_ordered.specs.Order.{bytes_cmp};
 ghost use Rattle.kz_ordered.specs.Ordered.{Rises};
 ghost use Rattle.kz_types.specs.declared.record.MetaRecord.TheVariants as meta;
-ghost use Rattle.kz_spec_stores.specs.Image.{Image as ImageValue, empty_image, applied, all_applied, id_of_broker};
-ghost use Rattle.kz_image.specs.InOrder.{IsInOrder, AreInOrder};
+ghost use Rattle.kz_spec_stores.specs.Metadata.{empty_image, topic_named, id_of_acl, id_of_broker, topic_id_of, topic_name_of, partition_of, configs_of, quotas_of, scram_of, acl_of};
+ghost use Rattle.kz_spec_stores.specs.ImageRules.{broken, quota_key, has_quota, leaves_row};
+ghost use Rattle.kz_spec_stores.specs.Image.{acl_row, configured, topic_configured, with_changed, effect, applied, all_applied, first_bad};
+ghost use Rattle.kz_image.specs.InOrder.{AreTopicsInOrder, AreInOrder, AreQuotasInOrder, AreUsersInOrder};
+ghost use Rattle.kz_image.specs.Faults.{IsFirstBad};
 
-use crate::broker_name::is_broker_config;
 use crate::brokers::{is_migrating, register};
 use crate::configurations::configure;
+use crate::credentials::{remove_scram, scram_at, set_scram};
+use crate::quotas::{change_quota, quotas_of};
+use crate::rules::{broken, refused};
+use crate::topics::{
+    change_partition, configure_topic, make_partition, make_topic, partition_at, remove_topic,
+    topic_with,
+};
+use kz_sorted::{find, put, without};
 use kz_types::{
-    ConfigRecord, Configuration, Duplicate, MetaRecord, NoMemory, RegisterBrokerRecord, copy_all,
+    AccessControlEntryRecord, AclEntry, AclRow, ClientQuotaRecord, ConfigRecord, Configuration,
+    Duplicate, EntityKey, Id, ImageFault, MetaRecord, NoMemory, Pair, PartitionChangeRecord,
+    PartitionRecord, PartitionRow, ProducerIdsRecord, QuotaEntry, QuotaRow, RegisterBrokerRecord,
+    ScramEntry, ScramRow, Sequence, Text, TopicEntry, TopicRecord, UserScramCredentialRecord,
+    copy_all,
 };
 use std::alloc::Global;
 use std::marker::Model;
 
-/// The metadata of the cluster: the configurations of brokers, the registered brokers, and the state of the migration.
+/// The members of a configuration, by rising name.
+pub type Pairs = Sequence<Pair>;
+
+/// The quotas of an entity, by rising key.
+pub type Quotas = Sequence<QuotaRow>;
+
+/// The registered brokers, by rising id.
+pub type Brokers = Sequence<RegisterBrokerRecord>;
+
+/// The metadata of the cluster: topics, configurations of brokers, quotas, credentials, access control entries, the
+/// registered brokers, the next producer id, and the state of the migration.
 #[derive(Drop)]
 pub struct Image {
+    topics: Vec<TopicEntry>,
     broker_configs: Vec<Configuration>,
-    brokers: Vec<RegisterBrokerRecord>,
+    quotas: Vec<QuotaEntry>,
+    users: Vec<ScramEntry>,
+    acls: Vec<AclEntry>,
+    brokers: Brokers,
+    next_producer: Option<i64>,
     state: i8,
 }
 
 impl Model for Image {
+    ghost use Rattle.kz_spec_stores.specs.Metadata.{Image as ImageValue};
+    ghost use Rattle.kz_image.specs.InOrder.{IsInOrder};
+
     ghost Value = { ImageValue };
 
-    ghost view = { λ i. record { broker_configs = i.broker_configs.items; brokers = i.brokers.items; state = i.state } };
+    ghost view = { λ i. record {
+      topics = i.topics.items;
+      broker_configs = i.broker_configs.items;
+      quotas = i.quotas.items;
+      users = i.users.items;
+      acls = i.acls.items;
+      brokers = i.brokers;
+      next_producer = i.next_producer;
+      state = i.state;
+    } };
 
-    ghost invariant = { λ i. IsInOrder (record { broker_configs = i.broker_configs.items; brokers = i.brokers.items; state = i.state }) };
+    ghost invariant = { λ i. IsInOrder (record {
+      topics = i.topics.items;
+      broker_configs = i.broker_configs.items;
+      quotas = i.quotas.items;
+      users = i.users.items;
+      acls = i.acls.items;
+      brokers = i.brokers;
+      next_producer = i.next_producer;
+      state = i.state;
+    }) };
+}
+
+// ---- access control entries
+
+// The entry that a record makes.
+fn acl_entry(alloc: Global, change: &AccessControlEntryRecord) -> Result<AclEntry, NoMemory>
+    ensures { IfOk result (λ made. made ≡ record { id = change.now.id; row = acl_row change.now }) }
+{
+    Ok(AclEntry {
+        id: change.id,
+        row: AclRow {
+            kind: change.resource_type,
+            pattern: change.pattern_type,
+            name: change.resource_name.copy(alloc)?,
+            principal: change.principal.copy(alloc)?,
+            host: change.host.copy(alloc)?,
+            operation: change.operation,
+            permission: change.permission,
+        },
+    })
 }
 
 impl Image {
-    /// No configuration, no broker, and state 0.
+    /// Nothing, and state 0.
     pub fn new(alloc: Global) -> Self
         ensures { result ≡ empty_image }
     {
         Image {
+            topics: Vec::new(alloc),
             broker_configs: Vec::new(alloc),
-            brokers: Vec::new(alloc),
+            quotas: Vec::new(alloc),
+            users: Vec::new(alloc),
+            acls: Vec::new(alloc),
+            brokers: Sequence::new(alloc),
+            next_producer: None,
             state: 0,
         }
     }
 
-    /// Lends the configurations of brokers, by rising name, where the empty name stands for all brokers. None of them is
-    /// empty.
-    pub fn broker_configs(&self) -> &[Configuration]
-        ensures configs { result.now ≡ self.now.broker_configs }
-        ensures in_order { AreInOrder self.now.broker_configs }
+    // ---- look-ups
+
+    /// The id of the topic of a name.
+    pub fn topic(&self, name: &Text) -> Option<Id>
+        ensures { result ≡ topic_id_of name.now self.now }
     {
-        self.broker_configs.as_slice()
+        match find(&self.topics, name.bytes()) {
+            Some(topic) => Some(topic.id),
+            None => None,
+        }
+    }
+
+    /// The name of the topic of an id.
+    pub fn topic_name(&self, id: Id) -> Option<&Text>
+        ensures { option_map (λ name. name.now) result ≡ topic_name_of id self.now }
+    {
+        match topic_with(&self.topics, id) {
+            Some(topic) => Some(&topic.name),
+            None => None,
+        }
+    }
+
+    /// A partition of the topic of an id.
+    pub fn partition(&self, id: Id, number: i32) -> Option<&PartitionRow>
+        ensures { option_map (λ row. row.now) result ≡ partition_of id number self.now }
+    {
+        match topic_with(&self.topics, id) {
+            Some(topic) => partition_at(topic.partitions.as_slice(), number),
+            None => None,
+        }
+    }
+
+    /// The configuration of a resource, where it has one. `kind` is 2 for a topic and 4 for a broker, where the empty name
+    /// stands for all brokers.
+    pub fn configs(&self, kind: i8, name: &Text) -> Option<&Pairs>
+        ensures { option_map (λ pairs. pairs.now) result ≡ configs_of kind name.now self.now }
+    {
+        match kind {
+            2 => self.topic_configs(name),
+            4 => self.configs_of_broker(name),
+            _ => None,
+        }
+    }
+
+    // The configuration of a topic, where it has one.
+    fn topic_configs(&self, name: &Text) -> Option<&Pairs>
+        ensures { option_map (λ pairs. pairs.now) result ≡ configs_of (pos 2) name.now self.now }
+    {
+        let topic = find(&self.topics, name.bytes())?;
+        if topic.pairs.len() == 0 {
+            return None;
+        }
+        Some(&topic.pairs)
+    }
+
+    // The configuration of a broker, where it has one.
+    fn configs_of_broker(&self, name: &Text) -> Option<&Pairs>
+        ensures { option_map (λ pairs. pairs.now) result ≡ configs_of (pos 4) name.now self.now }
+    {
+        let config = find(&self.broker_configs, name.bytes())?;
+        if config.pairs.len() == 0 {
+            return None;
+        }
+        Some(&config.pairs)
+    }
+
+    /// The quotas of an entity, where it has any.
+    pub fn quotas(&self, key: &EntityKey) -> Option<&Quotas>
+        ensures { option_map (λ quotas. quotas.now) result ≡ quotas_of key.now self.now }
+    {
+        quotas_of(&self.quotas, key)
+    }
+
+    /// The credential of a user by a mechanism: 1 is SCRAM-SHA-256, 2 is SCRAM-SHA-512.
+    pub fn scram(&self, name: &Text, mechanism: i8) -> Option<&ScramRow>
+        ensures { option_map (λ row. row.now) result ≡ scram_of name.now mechanism self.now }
+    {
+        match find(&self.users, name.bytes()) {
+            Some(user) => scram_at(user.scrams.as_slice(), mechanism),
+            None => None,
+        }
+    }
+
+    /// The access control entry of an id.
+    pub fn acl(&self, id: Id) -> Option<&AclRow>
+        ensures { option_map (λ row. row.now) result ≡ acl_of id self.now }
+    {
+        match find(&self.acls, &id.bytes) {
+            Some(entry) => Some(&entry.row),
+            None => None,
+        }
     }
 
     /// Lends the registered brokers, by rising id.
-    pub fn brokers(&self) -> &[RegisterBrokerRecord]
+    pub fn brokers(&self) -> &Brokers
         ensures brokers { result.now ≡ self.now.brokers }
         ensures rising { Rises int_cmp id_of_broker self.now.brokers }
     {
-        self.brokers.as_slice()
+        &self.brokers
+    }
+
+    /// The first producer id that no broker has taken, where one has taken a block.
+    pub fn next_producer(&self) -> Option<i64>
+        ensures { result ≡ self.now.next_producer }
+    {
+        self.next_producer
     }
 
     /// The state of the migration: 0 none, 1 pre-migration, 2 migration, 3 post-migration.
@@ -72,72 +239,273 @@ impl Image {
     pub fn is_migrating(&self, broker: i32) -> bool
         ensures { result ≡ list_any (λ b. int_eq b.broker_id broker && b.migrating) self.now.brokers }
     {
-        is_migrating(&self.brokers, broker)
+        is_migrating(self.brokers.as_slice(), broker)
     }
 
-    // A record of a configuration.
-    fn apply_config(&mut self, alloc: Global, change: &ConfigRecord) -> Result<(), NoMemory>
-        ensures ok { OnOk result (self.new ≡ applied (pos 0) (meta.Config change.now) self.old) }
+    // ---- lists
+
+    /// Lends the topics, by rising name.
+    pub fn topics(&self) -> &[TopicEntry]
+        ensures topics { result.now ≡ self.now.topics }
+        ensures in_order { AreTopicsInOrder self.now.topics }
+    {
+        self.topics.as_slice()
+    }
+
+    /// Lends the configurations of brokers, by rising name, where the empty name stands for all brokers. None of them is
+    /// empty.
+    pub fn broker_configs(&self) -> &[Configuration]
+        ensures configs { result.now ≡ self.now.broker_configs }
+        ensures in_order { AreInOrder self.now.broker_configs }
+    {
+        self.broker_configs.as_slice()
+    }
+
+    /// Lends the quotas, by the rising path of their entity's znode. No entity has none.
+    pub fn quota_entries(&self) -> &[QuotaEntry]
+        ensures quotas { result.now ≡ self.now.quotas }
+        ensures in_order { AreQuotasInOrder self.now.quotas }
+    {
+        self.quotas.as_slice()
+    }
+
+    /// Lends the credentials of users, by rising name. No user has none.
+    pub fn users(&self) -> &[ScramEntry]
+        ensures users { result.now ≡ self.now.users }
+        ensures in_order { AreUsersInOrder self.now.users }
+    {
+        self.users.as_slice()
+    }
+
+    /// Lends the access control entries, by rising id.
+    pub fn acls(&self) -> &[AclEntry]
+        ensures acls { result.now ≡ self.now.acls }
+        ensures rising { Rises bytes_cmp id_of_acl self.now.acls }
+    {
+        self.acls.as_slice()
+    }
+
+    // ---- changes
+
+    fn register_broker(
+        &mut self,
+        alloc: Global,
+        epoch: i32,
+        change: &RegisterBrokerRecord,
+    ) -> Result<(), NoMemory>
+        ensures ok { OnOk result (self.new ≡ effect epoch (meta.RegisterBroker change.now) self.old) }
         ensures err { OnErr result (self.new ≡ self.old) }
     {
-        if is_broker_config(change) {
-            configure(alloc, &mut self.broker_configs, change)?;
-        }
+        let _ = epoch;
+        register(alloc, &mut self.brokers, change)?;
         Ok(())
     }
 
-    // A record of a broker.
-    fn apply_broker(&mut self, alloc: Global, broker: &RegisterBrokerRecord) -> Result<(), NoMemory>
-        ensures ok { OnOk result (self.new ≡ applied (pos 0) (meta.RegisterBroker broker.now) self.old) }
+    fn make_topic(
+        &mut self,
+        alloc: Global,
+        epoch: i32,
+        change: &TopicRecord,
+    ) -> Result<(), NoMemory>
+        ensures ok { OnOk result (self.new ≡ effect epoch (meta.Topic change.now) self.old) }
         ensures err { OnErr result (self.new ≡ self.old) }
     {
-        if 0 <= broker.broker_id {
-            register(alloc, &mut self.brokers, broker)?;
-        }
+        let _ = epoch;
+        make_topic(alloc, &mut self.topics, change)?;
         Ok(())
     }
 
-    // A record of the migration's state.
-    fn apply_state(&mut self, state: i8)
-        ensures { self.new ≡ applied (pos 0) (meta.ZkMigrationState state) self.old }
+    fn make_partition(
+        &mut self,
+        alloc: Global,
+        epoch: i32,
+        change: &PartitionRecord,
+    ) -> Result<(), NoMemory>
+        ensures ok { OnOk result (self.new ≡ effect epoch (meta.Partition change.now) self.old) }
+        ensures err { OnErr result (self.new ≡ self.old) }
     {
+        make_partition(alloc, epoch, &mut self.topics, change)?;
+        Ok(())
+    }
+
+    fn configure_topic(&mut self, alloc: Global, change: &ConfigRecord) -> Result<(), NoMemory>
+        ensures ok { OnOk result (self.new ≡ record self.old { topics = with_changed (topic_configured change.now) (topic_named change.now.resource_name self.old) self.old.topics }) }
+        ensures err { OnErr result (self.new ≡ self.old) }
+    {
+        configure_topic(alloc, &mut self.topics, change)?;
+        Ok(())
+    }
+
+    fn configure_broker(&mut self, alloc: Global, change: &ConfigRecord) -> Result<(), NoMemory>
+        ensures ok { OnOk result (self.new ≡ record self.old { broker_configs = configured change.now self.old.broker_configs }) }
+        ensures err { OnErr result (self.new ≡ self.old) }
+    {
+        configure(alloc, &mut self.broker_configs, change)?;
+        Ok(())
+    }
+
+    fn configure(
+        &mut self,
+        alloc: Global,
+        epoch: i32,
+        change: &ConfigRecord,
+    ) -> Result<(), NoMemory>
+        ensures ok { OnOk result (self.new ≡ effect epoch (meta.Config change.now) self.old) }
+        ensures err { OnErr result (self.new ≡ self.old) }
+    {
+        let _ = epoch;
+        if change.resource_type == 2 {
+            self.configure_topic(alloc, change)
+        } else {
+            self.configure_broker(alloc, change)
+        }
+    }
+
+    fn change_partition(
+        &mut self,
+        alloc: Global,
+        epoch: i32,
+        change: &PartitionChangeRecord,
+    ) -> Result<(), NoMemory>
+        requires { leaves_row change.now (partition_of change.now.topic_id change.now.partition_id self.old) ≡ true }
+        ensures ok { OnOk result (self.new ≡ effect epoch (meta.PartitionChange change.now) self.old) }
+        ensures err { OnErr result (self.new ≡ self.old) }
+    {
+        change_partition(alloc, epoch, &mut self.topics, change)?;
+        Ok(())
+    }
+
+    fn remove_topic(&mut self, epoch: i32, topic_id: Id)
+        ensures { self.new ≡ effect epoch (meta.RemoveTopic topic_id) self.old }
+    {
+        let _ = epoch;
+        remove_topic(&mut self.topics, topic_id);
+    }
+
+    fn set_scram(
+        &mut self,
+        alloc: Global,
+        epoch: i32,
+        change: &UserScramCredentialRecord,
+    ) -> Result<(), NoMemory>
+        ensures ok { OnOk result (self.new ≡ effect epoch (meta.UserScramCredential change.now) self.old) }
+        ensures err { OnErr result (self.new ≡ self.old) }
+    {
+        let _ = epoch;
+        set_scram(alloc, &mut self.users, change)?;
+        Ok(())
+    }
+
+    fn remove_scram(&mut self, alloc: Global, epoch: i32, name: &Text, mechanism: i8)
+        ensures { self.new ≡ effect epoch (meta.RemoveUserScramCredential name.now mechanism) self.old }
+    {
+        let _ = epoch;
+        remove_scram(alloc, &mut self.users, name, mechanism);
+    }
+
+    fn change_quota(
+        &mut self,
+        alloc: Global,
+        epoch: i32,
+        change: &ClientQuotaRecord,
+    ) -> Result<(), NoMemory>
+        requires { has_quota (quota_key change.now.entity) change.now.key ≡ true }
+        ensures ok { OnOk result (self.new ≡ effect epoch (meta.ClientQuota change.now) self.old) }
+        ensures err { OnErr result (self.new ≡ self.old) }
+    {
+        let _ = epoch;
+        change_quota(alloc, &mut self.quotas, change)?;
+        Ok(())
+    }
+
+    fn make_acl(
+        &mut self,
+        alloc: Global,
+        epoch: i32,
+        change: &AccessControlEntryRecord,
+    ) -> Result<(), NoMemory>
+        ensures ok { OnOk result (self.new ≡ effect epoch (meta.AccessControlEntry change.now) self.old) }
+        ensures err { OnErr result (self.new ≡ self.old) }
+    {
+        let _ = epoch;
+        let entry = acl_entry(alloc, change)?;
+        put(&mut self.acls, entry)?;
+        Ok(())
+    }
+
+    fn remove_acl(&mut self, epoch: i32, id: Id)
+        ensures { self.new ≡ effect epoch (meta.RemoveAccessControlEntry id) self.old }
+    {
+        let _ = epoch;
+        without(&mut self.acls, &id.bytes);
+    }
+
+    fn set_next_producer(&mut self, epoch: i32, change: &ProducerIdsRecord)
+        ensures { self.new ≡ effect epoch (meta.ProducerIds change.now) self.old }
+    {
+        let _ = epoch;
+        self.next_producer = Some(change.next);
+    }
+
+    fn set_state(&mut self, epoch: i32, state: i8)
+        ensures { self.new ≡ effect epoch (meta.ZkMigrationState state) self.old }
+    {
+        let _ = epoch;
         if 0 <= state && state <= 3 {
             self.state = state;
         }
     }
 
-    /// Takes in a record of a batch of this epoch. One that isn't accepted changes nothing: a configuration of anything
-    /// but a broker, or of a broker whose name is neither empty nor a decimal, or with an empty name; a broker with a
-    /// negative id; a state outside 0 to 3. At `Err` nothing has changed.
+    // Takes in a record that breaks no rule.
+    fn take_in(&mut self, alloc: Global, epoch: i32, item: &MetaRecord) -> Result<(), NoMemory>
+        requires { broken self.old item.now ≡ None }
+        ensures ok { OnOk result (self.new ≡ effect epoch item.now self.old) }
+        ensures err { OnErr result (self.new ≡ self.old) }
+    {
+        match item {
+            MetaRecord::RegisterBroker(change) => self.register_broker(alloc, epoch, change),
+            MetaRecord::Topic(change) => self.make_topic(alloc, epoch, change),
+            MetaRecord::Partition(change) => self.make_partition(alloc, epoch, change),
+            MetaRecord::Config(change) => self.configure(alloc, epoch, change),
+            MetaRecord::PartitionChange(change) => self.change_partition(alloc, epoch, change),
+            MetaRecord::RemoveTopic { topic_id } => {
+                self.remove_topic(epoch, *topic_id);
+                Ok(())
+            }
+            MetaRecord::UserScramCredential(change) => self.set_scram(alloc, epoch, change),
+            MetaRecord::ClientQuota(change) => self.change_quota(alloc, epoch, change),
+            MetaRecord::ProducerIds(change) => {
+                self.set_next_producer(epoch, change);
+                Ok(())
+            }
+            MetaRecord::AccessControlEntry(change) => self.make_acl(alloc, epoch, change),
+            MetaRecord::RemoveAccessControlEntry { id } => {
+                self.remove_acl(epoch, *id);
+                Ok(())
+            }
+            MetaRecord::ZkMigrationState { state } => {
+                self.set_state(epoch, *state);
+                Ok(())
+            }
+            MetaRecord::RemoveUserScramCredential { name, mechanism } => {
+                self.remove_scram(alloc, epoch, name, *mechanism);
+                Ok(())
+            }
+            MetaRecord::NoOp
+            | MetaRecord::BeginTransaction { name: _ }
+            | MetaRecord::EndTransaction
+            | MetaRecord::AbortTransaction { reason: _ } => Ok(()),
+        }
+    }
+
+    /// Takes in a record of a batch of this epoch. One that breaks a rule changes nothing. At `Err` nothing has changed.
     pub fn apply(&mut self, alloc: Global, epoch: i32, item: &MetaRecord) -> Result<(), NoMemory>
         ensures ok { OnOk result (self.new ≡ applied epoch item.now self.old) }
         ensures err { OnErr result (self.new ≡ self.old) }
     {
-        let _ = epoch;
-        match item {
-            MetaRecord::Config(change) => self.apply_config(alloc, change),
-            MetaRecord::RegisterBroker(broker) => self.apply_broker(alloc, broker),
-            MetaRecord::ZkMigrationState { state } => {
-                self.apply_state(*state);
-                Ok(())
-            }
-            MetaRecord::Topic(_)
-            | MetaRecord::Partition(_)
-            | MetaRecord::PartitionChange(_)
-            | MetaRecord::RemoveTopic { topic_id: _ }
-            | MetaRecord::UserScramCredential(_)
-            | MetaRecord::ClientQuota(_)
-            | MetaRecord::ProducerIds(_)
-            | MetaRecord::AccessControlEntry(_)
-            | MetaRecord::RemoveAccessControlEntry { id: _ }
-            | MetaRecord::NoOp
-            | MetaRecord::RemoveUserScramCredential {
-                name: _,
-                mechanism: _,
-            }
-            | MetaRecord::BeginTransaction { name: _ }
-            | MetaRecord::EndTransaction
-            | MetaRecord::AbortTransaction { reason: _ } => Ok(()),
+        match broken(self, item) {
+            Some(_) => Ok(()),
+            None => self.take_in(alloc, epoch, item),
         }
     }
 
@@ -161,9 +529,36 @@ impl Image {
 impl Duplicate for Image {
     fn copy(&self, alloc: Global) -> Result<Self, NoMemory> {
         Ok(Image {
+            topics: copy_all(alloc, &self.topics)?,
             broker_configs: copy_all(alloc, &self.broker_configs)?,
-            brokers: copy_all(alloc, &self.brokers)?,
+            quotas: copy_all(alloc, &self.quotas)?,
+            users: copy_all(alloc, &self.users)?,
+            acls: copy_all(alloc, &self.acls)?,
+            brokers: self.brokers.copy(alloc)?,
+            next_producer: self.next_producer,
             state: self.state,
         })
     }
+}
+
+/// Whether a controller may be asked for these records, each judged on the metadata that those before it leave. Nothing
+/// changes.
+///
+/// `BadRecord`: the first record that breaks a rule, and the first rule that it breaks. `NoMemory`: memory ran out.
+pub fn valid(alloc: Global, image: &Image, items: &[MetaRecord]) -> Result<(), ImageFault>
+    ensures ok { OnOk result (first_bad 0 items.now image.now ≡ None) }
+    ensures err { IfErr result (IsFirstBad (first_bad 0 items.now image.now)) }
+{
+    let Ok(mut after) = image.copy(alloc) else {
+        return Err(ImageFault::NoMemory);
+    };
+    for index in 0..items.len() {
+        if let Some(why) = refused(&after, &items[index]) {
+            return Err(ImageFault::BadRecord { index, why });
+        }
+        if after.apply(alloc, 0, &items[index]).is_err() {
+            return Err(ImageFault::NoMemory);
+        }
+    }
+    Ok(())
 }

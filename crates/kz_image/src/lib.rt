@@ -1,12 +1,25 @@
-//! The metadata of the cluster as the records that count make it.
+//! The metadata of the cluster as the records that count make it, and the rules by which records are accepted.
 #![tactic(auto)]
 
-mod broker_name;
 mod brokers;
 mod configurations;
+mod credentials;
+mod feed;
 mod image;
+mod names;
+mod partitions;
+mod path_rule;
+mod paths;
+mod presence;
+mod quota_keys;
+mod quotas;
+mod replicas;
+mod rules;
+mod topics;
+mod values;
 
-pub use image::Image;
+pub use feed::Feed;
+pub use image::{Brokers, Image, Pairs, Quotas, valid};
 pub use kz_types::Configuration;
 
 #[cfg(test)]

@@ -1,34 +1,181 @@
-use super::Image;
+use super::{Image, valid};
 use kz_types::{
-    ConfigRecord, Duplicate, Id, MetaRecord, NoMemory, RegisterBrokerRecord, Sequence, Text,
+    AccessControlEntryRecord, ClientQuotaRecord, ConfigRecord, Duplicate, EntityKey, Id,
+    ImageFault, ImageRule, MetaRecord, PartitionChangeRecord, PartitionRecord, PartitionRow,
+    ProducerIdsRecord, QuotaEntities, QuotaEntity, QuotaValue, RegisterBrokerRecord, Sequence,
+    Text, TopicRecord, UserScramCredentialRecord,
 };
 use std::alloc::Global;
-use std::test::Fail;
+use std::process::Abort;
 
-fn config(
-    alloc: Global,
-    resource: &str,
-    name: &str,
-    value: Option<&str>,
-) -> Result<MetaRecord, NoMemory> {
-    let value = match value {
-        Some(text) => Some(Text::from_str(alloc, text)?),
-        None => None,
-    };
-    Ok(MetaRecord::Config(ConfigRecord {
-        resource_type: 4,
-        resource_name: Text::from_str(alloc, resource)?,
-        name: Text::from_str(alloc, name)?,
-        value,
-    }))
+// ---- records
+
+// What a call gave, which must not have failed.
+fn made<T: Drop, E: Drop>(rt: &impl Abort, outcome: Result<T, E>) -> T {
+    match outcome {
+        Ok(value) => value,
+        Err(_) => panic!(rt; "a call failed"),
+    }
 }
 
-fn broker(alloc: Global, broker_id: i32, migrating: bool) -> MetaRecord {
+fn text(rt: &impl Abort, alloc: Global, text: &str) -> Text {
+    made(rt, Text::from_str(alloc, text))
+}
+
+fn text_if(rt: &impl Abort, alloc: Global, value: Option<&str>) -> Option<Text> {
+    match value {
+        Some(value) => Some(text(rt, alloc, value)),
+        None => None,
+    }
+}
+
+fn list(rt: &impl Abort, alloc: Global, ids: &[i32]) -> Sequence<i32> {
+    let mut list = Sequence::new(alloc);
+    for id in ids {
+        made(rt, list.push(*id));
+    }
+    list
+}
+
+// The id whose last byte is this one.
+fn id(last: u8) -> Id {
+    let mut bytes = [0; 16];
+    bytes[15] = last;
+    Id { bytes }
+}
+
+// A record, in few words.
+#[derive(Clone, Copy)]
+enum Step {
+    // A name and an id.
+    Topic(&'static str, u8),
+    // A topic's id, a number, replicas, those in sync, the leader, and the leader epoch.
+    Partition(u8, i32, &'static [i32], &'static [i32], i32, i32),
+    // A topic's id, a number, those in sync.
+    Isr(u8, i32, &'static [i32]),
+    // A topic's id, a number, the leader.
+    Leader(u8, i32, i32),
+    RemoveTopic(u8),
+    // A type, a resource, a name, and a value.
+    Config(i8, &'static str, &'static str, Option<&'static str>),
+    // A kind and its name, a key, a whole part, and whether it is removed.
+    Quota(&'static str, Option<&'static str>, &'static str, i64, bool),
+    // A user, a mechanism, iterations.
+    Scram(&'static str, i8, i32),
+    RemoveScram(&'static str, i8),
+    // An id, a type, a name, an operation.
+    Acl(u8, i8, &'static str, i8),
+    RemoveAcl(u8),
+    // A broker, its epoch, the next id.
+    Producer(i32, i64, i64),
+    // A broker and its epoch.
+    Broker(i32, i64),
+    State(i8),
+    End,
+}
+
+fn partition(
+    rt: &impl Abort,
+    alloc: Global,
+    (topic, number, replicas, isr, leader, leader_epoch): (u8, i32, &[i32], &[i32], i32, i32),
+) -> MetaRecord {
+    MetaRecord::Partition(PartitionRecord {
+        partition_id: number,
+        topic_id: id(topic),
+        replicas: list(rt, alloc, replicas),
+        isr: list(rt, alloc, isr),
+        removing: Sequence::new(alloc),
+        adding: Sequence::new(alloc),
+        leader,
+        recovery: 0,
+        leader_epoch,
+        partition_epoch: 0,
+    })
+}
+
+fn change(topic: u8, number: i32, isr: Option<Sequence<i32>>, leader: i32) -> MetaRecord {
+    MetaRecord::PartitionChange(PartitionChangeRecord {
+        partition_id: number,
+        topic_id: id(topic),
+        isr,
+        leader,
+        replicas: None,
+        removing: None,
+        adding: None,
+        recovery: -1,
+    })
+}
+
+fn config(
+    rt: &impl Abort,
+    alloc: Global,
+    (resource_type, resource, name, value): (i8, &str, &str, Option<&str>),
+) -> MetaRecord {
+    MetaRecord::Config(ConfigRecord {
+        resource_type,
+        resource_name: text(rt, alloc, resource),
+        name: text(rt, alloc, name),
+        value: text_if(rt, alloc, value),
+    })
+}
+
+fn quota(
+    rt: &impl Abort,
+    alloc: Global,
+    (kind, name, key, whole, remove): (&str, Option<&str>, &str, i64, bool),
+) -> MetaRecord {
+    let mut parts = Vec::new(alloc);
+    let part = QuotaEntity {
+        kind: text(rt, alloc, kind),
+        name: text_if(rt, alloc, name),
+    };
+    made(rt, parts.push(part));
+    MetaRecord::ClientQuota(ClientQuotaRecord {
+        entity: QuotaEntities::from_vec(parts),
+        key: text(rt, alloc, key),
+        value: QuotaValue { whole, micros: 0 },
+        remove,
+    })
+}
+
+fn scram(
+    rt: &impl Abort,
+    alloc: Global,
+    (name, mechanism, iterations): (&str, i8, i32),
+) -> MetaRecord {
+    MetaRecord::UserScramCredential(UserScramCredentialRecord {
+        name: text(rt, alloc, name),
+        mechanism,
+        salt: Sequence::new(alloc),
+        stored_key: Sequence::new(alloc),
+        server_key: Sequence::new(alloc),
+        iterations,
+    })
+}
+
+fn acl(
+    rt: &impl Abort,
+    alloc: Global,
+    (last, resource_type, name, operation): (u8, i8, &str, i8),
+) -> MetaRecord {
+    MetaRecord::AccessControlEntry(AccessControlEntryRecord {
+        id: id(last),
+        resource_type,
+        resource_name: text(rt, alloc, name),
+        pattern_type: 3,
+        principal: text(rt, alloc, "User:a"),
+        host: text(rt, alloc, "*"),
+        operation,
+        permission: 3,
+    })
+}
+
+fn broker(alloc: Global, broker_id: i32, broker_epoch: i64) -> MetaRecord {
     MetaRecord::RegisterBroker(RegisterBrokerRecord {
         broker_id,
-        migrating,
-        incarnation: Id { bytes: [0; 16] },
-        broker_epoch: 0,
+        migrating: true,
+        incarnation: id(0),
+        broker_epoch,
         endpoints: Sequence::new(alloc),
         features: Sequence::new(alloc),
         rack: None,
@@ -37,89 +184,407 @@ fn broker(alloc: Global, broker_id: i32, migrating: bool) -> MetaRecord {
     })
 }
 
-// The configurations as a text.
-fn shown(alloc: Global, image: &Image) -> Result<String, NoMemory> {
-    let mut text = String::new(alloc);
-    for config in image.broker_configs() {
-        text.push_str("[")?;
-        text.push_str(config.name.as_str())?;
-        for pair in config.pairs.as_slice() {
-            text.push_str(" ")?;
-            text.push_str(pair.name.as_str())?;
-            text.push_str("=")?;
-            text.push_str(pair.value.as_str())?;
+fn record(rt: &impl Abort, alloc: Global, step: &Step) -> MetaRecord {
+    match *step {
+        Step::Topic(name, last) => MetaRecord::Topic(TopicRecord {
+            name: text(rt, alloc, name),
+            topic_id: id(last),
+        }),
+        Step::Partition(topic, number, replicas, isr, leader, epoch) => {
+            partition(rt, alloc, (topic, number, replicas, isr, leader, epoch))
         }
-        text.push_str("]")?;
+        Step::Isr(topic, number, isr) => change(topic, number, Some(list(rt, alloc, isr)), -2),
+        Step::Leader(topic, number, leader) => change(topic, number, None, leader),
+        Step::RemoveTopic(last) => MetaRecord::RemoveTopic { topic_id: id(last) },
+        Step::Config(kind, resource, name, value) => {
+            config(rt, alloc, (kind, resource, name, value))
+        }
+        Step::Quota(kind, name, key, whole, remove) => {
+            quota(rt, alloc, (kind, name, key, whole, remove))
+        }
+        Step::Scram(name, mechanism, iterations) => {
+            scram(rt, alloc, (name, mechanism, iterations))
+        }
+        Step::RemoveScram(name, mechanism) => MetaRecord::RemoveUserScramCredential {
+            name: text(rt, alloc, name),
+            mechanism,
+        },
+        Step::Acl(last, kind, name, operation) => acl(rt, alloc, (last, kind, name, operation)),
+        Step::RemoveAcl(last) => MetaRecord::RemoveAccessControlEntry { id: id(last) },
+        Step::Producer(broker_id, broker_epoch, next) => MetaRecord::ProducerIds(
+            ProducerIdsRecord {
+                broker_id,
+                broker_epoch,
+                next,
+            },
+        ),
+        Step::Broker(broker_id, epoch) => broker(alloc, broker_id, epoch),
+        Step::State(state) => MetaRecord::ZkMigrationState { state },
+        Step::End => MetaRecord::EndTransaction,
     }
-    Ok(text)
 }
 
-// A resource, a member, its value, and the configurations after it.
-const STEPS: [(&str, &str, Option<&str>, &str); 10] = [
-    ("10", "b", Some("1"), "[10 b=1]"),
-    ("2", "x", Some("y"), "[10 b=1][2 x=y]"),
-    ("", "a", Some(""), "[ a=][10 b=1][2 x=y]"),
-    ("10", "a", Some("2"), "[ a=][10 a=2 b=1][2 x=y]"),
-    ("10", "b", Some("3"), "[ a=][10 a=2 b=3][2 x=y]"),
-    ("10", "c", None, "[ a=][10 a=2 b=3][2 x=y]"),
-    ("10", "a", None, "[ a=][10 b=3][2 x=y]"),
-    ("2", "x", None, "[ a=][10 b=3]"),
-    ("02", "x", Some("1"), "[ a=][10 b=3]"),
-    ("2", "", Some("1"), "[ a=][10 b=3]"),
+fn records(rt: &impl Abort, alloc: Global, steps: &[Step]) -> Vec<MetaRecord> {
+    let mut items = Vec::new(alloc);
+    for step in steps {
+        made(rt, items.push(record(rt, alloc, step)));
+    }
+    items
+}
+
+// ---- rules
+
+// The records that are there before each case.
+static BEFORE: [Step; 5] = [
+    Step::Topic("t", 1),
+    Step::Partition(1, 0, &[1, 2], &[1, 2], 1, 4),
+    Step::Partition(1, 1, &[1, 2], &[1, 2], 1, 2147483647),
+    Step::Acl(1, 2, "t", 3),
+    Step::Producer(1, 1, 2000),
 ];
 
-// The configurations after a member was set or removed.
-fn after(
+// A record that breaks one rule, and the rule.
+static ALONE: [(Step, ImageRule); 61] = [
+    (Step::Broker(1, 1), ImageRule::NotAllowed),
+    (Step::State(3), ImageRule::NotAllowed),
+    (Step::End, ImageRule::NotAllowed),
+    (Step::Topic("", 2), ImageRule::BadName),
+    (Step::Topic("..", 2), ImageRule::BadName),
+    (Step::Topic("a/b", 2), ImageRule::BadName),
+    (Step::Topic("u", 0), ImageRule::BadName),
+    (Step::Partition(0, 0, &[1], &[1], 1, 0), ImageRule::BadName),
+    (Step::Isr(0, 0, &[1]), ImageRule::BadName),
+    (Step::RemoveTopic(0), ImageRule::BadName),
+    (Step::Config(4, "01", "a", None), ImageRule::BadName),
+    (Step::Config(4, "2147483648", "a", None), ImageRule::BadName),
+    (Step::Config(4, "1", "", None), ImageRule::BadName),
+    (Step::Config(2, ".", "a", None), ImageRule::BadName),
+    (Step::Scram("", 1, 1), ImageRule::BadName),
+    (Step::Scram(".", 1, 1), ImageRule::BadName),
+    (Step::RemoveScram("..", 1), ImageRule::BadName),
+    (
+        Step::Quota("group", Some("a"), "producer_byte_rate", 1, false),
+        ImageRule::BadName,
+    ),
+    (
+        Step::Quota("user", Some(""), "producer_byte_rate", 1, false),
+        ImageRule::BadName,
+    ),
+    (
+        Step::Quota("user", Some("."), "producer_byte_rate", 1, false),
+        ImageRule::BadName,
+    ),
+    (
+        Step::Quota("user", Some("a"), "SCRAM-SHA-256", 1, false),
+        ImageRule::BadName,
+    ),
+    (
+        Step::Quota("ip", Some("a"), "producer_byte_rate", 1, false),
+        ImageRule::BadName,
+    ),
+    (
+        Step::Quota("ip", Some("a/b"), "connection_creation_rate", 1, true),
+        ImageRule::BadName,
+    ),
+    (
+        Step::Quota("ip", Some("<default>"), "connection_creation_rate", 1, true),
+        ImageRule::BadName,
+    ),
+    (Step::Acl(0, 2, "t", 3), ImageRule::BadName),
+    (Step::Acl(2, 2, "", 3), ImageRule::BadName),
+    (Step::Acl(2, 2, "a/b", 3), ImageRule::BadName),
+    (Step::RemoveAcl(0), ImageRule::BadName),
+    (Step::Partition(2, 0, &[1], &[1], 1, 0), ImageRule::Absent),
+    (Step::Isr(2, 0, &[1]), ImageRule::Absent),
+    (Step::Isr(1, 2, &[1]), ImageRule::Absent),
+    (Step::RemoveTopic(2), ImageRule::Absent),
+    (Step::Config(2, "u", "a", None), ImageRule::Absent),
+    (Step::RemoveScram("a", 1), ImageRule::Absent),
+    (Step::RemoveAcl(2), ImageRule::Absent),
+    (Step::Topic("t", 2), ImageRule::Exists),
+    (Step::Topic("u", 1), ImageRule::Exists),
+    (Step::Partition(1, 0, &[1], &[1], 1, 0), ImageRule::Exists),
+    (Step::Acl(1, 2, "u", 3), ImageRule::Exists),
+    (
+        Step::Partition(1, -1, &[1], &[1], 1, 0),
+        ImageRule::BadValue,
+    ),
+    (Step::Partition(1, 2, &[], &[], -1, 0), ImageRule::BadValue),
+    (
+        Step::Partition(1, 2, &[1, 1], &[1], 1, 0),
+        ImageRule::BadValue,
+    ),
+    (
+        Step::Partition(1, 2, &[1, -2], &[1], 1, 0),
+        ImageRule::BadValue,
+    ),
+    (Step::Partition(1, 2, &[1], &[2], 1, 0), ImageRule::BadValue),
+    (Step::Partition(1, 2, &[1], &[1], 2, 0), ImageRule::BadValue),
+    (
+        Step::Partition(1, 2, &[1], &[1], 1, -1),
+        ImageRule::BadValue,
+    ),
+    (Step::Isr(1, 0, &[1, 3]), ImageRule::BadValue),
+    (Step::Leader(1, 0, 3), ImageRule::BadValue),
+    (Step::Leader(1, 1, 2), ImageRule::BadValue),
+    (Step::Config(3, "1", "a", None), ImageRule::BadValue),
+    (Step::Scram("a", 3, 1), ImageRule::BadValue),
+    (Step::Scram("a", 1, 0), ImageRule::BadValue),
+    (
+        Step::Quota("user", None, "producer_byte_rate", -1, false),
+        ImageRule::BadValue,
+    ),
+    (Step::Producer(-2, 1, 3000), ImageRule::BadValue),
+    (Step::Producer(1, -2, 3000), ImageRule::BadValue),
+    (Step::Producer(1, 2147483648, 3000), ImageRule::BadValue),
+    (Step::Producer(1, 1, 1999), ImageRule::BadValue),
+    (
+        Step::Producer(1, 1, 9223372036854774809),
+        ImageRule::BadValue,
+    ),
+    (Step::Acl(2, 7, "t", 3), ImageRule::BadValue),
+    (Step::Acl(2, 2, "t", 1), ImageRule::BadValue),
+    (Step::Acl(2, 2, "t", 13), ImageRule::BadValue),
+];
+
+// A record that breaks two rules or more, and the one that is told.
+static SEVERAL: [(Step, ImageRule); 9] = [
+    (Step::Broker(-1, -1), ImageRule::NotAllowed),
+    (Step::Topic("a/b", 1), ImageRule::BadName),
+    (Step::Partition(0, -1, &[], &[1], 2, -1), ImageRule::BadName),
+    (Step::Scram("..", 3, 0), ImageRule::BadName),
+    (Step::Acl(1, 7, "a/b", 1), ImageRule::BadName),
+    (
+        Step::Quota("user", Some("a"), "", -1, false),
+        ImageRule::BadName,
+    ),
+    (Step::Partition(2, -1, &[], &[1], 2, -1), ImageRule::Absent),
+    (Step::Partition(1, 0, &[], &[1], 2, -1), ImageRule::Exists),
+    (Step::Acl(1, 7, "t", 1), ImageRule::Exists),
+];
+
+// Records that break none.
+static KEPT: [Step; 12] = [
+    Step::Topic("u", 2),
+    Step::Partition(2, 7, &[3, 4], &[4], -1, 0),
+    Step::Isr(1, 1, &[]),
+    Step::Leader(1, 0, -1),
+    Step::Config(2, "t", "a", None),
+    Step::Config(4, "", "a", None),
+    Step::Scram("a b", 2, 1),
+    Step::RemoveScram("a b", 2),
+    Step::Quota("client-id", None, "request_percentage", 0, true),
+    Step::Quota(
+        "ip",
+        Some("::1"),
+        "connection_creation_rate",
+        9223372036854775807,
+        false,
+    ),
+    Step::RemoveAcl(1),
+    Step::Producer(-1, -1, 9223372036854774808),
+];
+
+fn image(rt: &impl Abort, alloc: Global, steps: &[Step]) -> Image {
+    let mut image = Image::new(alloc);
+    made(rt, image.apply_all(alloc, 7, &records(rt, alloc, steps)));
+    image
+}
+
+// Whether these records, behind those that are there, are judged like this.
+fn is_judged(
+    rt: &impl Abort,
     alloc: Global,
-    image: &mut Image,
-    resource: &str,
-    name: &str,
-    value: Option<&str>,
-) -> Result<String, NoMemory> {
-    let record = config(alloc, resource, name, value)?;
-    image.apply(alloc, 1, &record)?;
-    shown(alloc, image)
+    steps: &[Step],
+    verdict: Result<(), ImageFault>,
+) -> bool {
+    let before = image(rt, alloc, &BEFORE);
+    let items = records(rt, alloc, steps);
+    valid(alloc, &before, &items) == verdict
+}
+
+// Whether a record is told to break this rule, behind two that break none.
+fn breaks(rt: &impl Abort, alloc: Global, step: Step, why: ImageRule) -> bool {
+    let steps = [Step::Isr(1, 0, &[2]), Step::Producer(1, 1, 2000), step];
+    is_judged(
+        rt,
+        alloc,
+        &steps,
+        Err(ImageFault::BadRecord { index: 2, why }),
+    )
+}
+
+// The first of these that isn't told.
+fn first_other(rt: &impl Abort, alloc: Global, cases: &[(Step, ImageRule)]) -> Option<usize> {
+    for at in 0..cases.len() {
+        let (step, why) = cases[at];
+        if !breaks(rt, alloc, step, why) {
+            return Some(at);
+        }
+    }
+    None
 }
 
 #[test]
-fn configurations_are_set_and_removed(rt: HostRuntime) -> Result<(), Fail> {
+fn each_rule_is_told(rt: HostRuntime) {
     let alloc = rt.alloc();
-    let mut image = Image::new(alloc);
-    for (resource, name, value, want) in STEPS {
-        let text = after(alloc, &mut image, resource, name, value)?;
-        assert_eq!(rt; text.as_str(), want);
-    }
-    Ok(())
-}
-
-fn register(alloc: Global, image: &mut Image, id: i32, migrating: bool) -> Result<(), NoMemory> {
-    image.apply(alloc, 1, &broker(alloc, id, migrating))
+    assert!(rt; first_other(&rt, alloc, &ALONE).is_none());
 }
 
 #[test]
-fn brokers_are_registered(rt: HostRuntime) -> Result<(), Fail> {
+fn the_first_rule_is_told(rt: HostRuntime) {
     let alloc = rt.alloc();
-    let mut image = Image::new(alloc);
-    for (id, migrating) in [(3, false), (1, true), (3, true), (-1, true), (2, false)] {
-        register(alloc, &mut image, id, migrating)?;
-    }
-    let copy = image.copy(alloc)?;
-    assert_eq!(rt; copy.brokers().len(), 3);
-    for (id, migrating) in [(0, false), (1, true), (2, false), (3, true), (-1, false)] {
-        assert_eq!(rt; copy.is_migrating(id), migrating);
-    }
-    Ok(())
+    assert!(rt; first_other(&rt, alloc, &SEVERAL).is_none());
 }
 
 #[test]
-fn the_state_is_set(rt: HostRuntime) -> Result<(), Fail> {
+fn what_breaks_no_rule_is_valid(rt: HostRuntime) {
     let alloc = rt.alloc();
-    let mut image = Image::new(alloc);
-    let items = [
-        MetaRecord::ZkMigrationState { state: 1 },
-        MetaRecord::ZkMigrationState { state: 4 },
-    ];
-    image.apply_all(alloc, 1, &items)?;
-    assert_eq!(rt; image.state(), 1);
-    Ok(())
+    assert!(rt; is_judged(&rt, alloc, &KEPT, Ok(())));
+}
+
+// Records, each after those before it: the first topic is gone, and its name and its id are free.
+static ANEW: [Step; 4] = [
+    Step::RemoveTopic(1),
+    Step::Topic("t", 1),
+    Step::Partition(1, 0, &[5], &[5], 5, 0),
+    Step::Isr(1, 0, &[5]),
+];
+
+#[test]
+fn each_record_is_judged_after_those_before_it(rt: HostRuntime) {
+    let alloc = rt.alloc();
+    assert!(rt; is_judged(&rt, alloc, &ANEW, Ok(())));
+}
+
+// ---- effects
+
+// Those in sync, the leader, and the epochs of the leader, the partition and the controller.
+fn is_row(row: Option<&PartitionRow>, isr: &[i32], numbers: [i32; 4]) -> bool {
+    match row {
+        Some(row) => {
+            row.isr.as_slice() == isr
+                && [
+                    row.leader,
+                    row.leader_epoch,
+                    row.partition_epoch,
+                    row.controller_epoch,
+                ] == numbers
+        }
+        None => false,
+    }
+}
+
+#[test]
+fn partitions_are_changed(rt: HostRuntime) {
+    let alloc = rt.alloc();
+    let mut image = image(&rt, alloc, &BEFORE);
+    assert!(rt; is_row(image.partition(id(1), 0), &[1, 2], [1, 4, 0, 7]));
+    made(
+        &rt,
+        image.apply(alloc, 8, &record(&rt, alloc, &Step::Isr(1, 0, &[2]))),
+    );
+    assert!(rt; is_row(image.partition(id(1), 0), &[2], [1, 4, 1, 8]));
+    made(
+        &rt,
+        image.apply(alloc, 9, &record(&rt, alloc, &Step::Leader(1, 0, 2))),
+    );
+    assert!(rt; is_row(image.partition(id(1), 0), &[2], [2, 5, 2, 9]));
+    made(
+        &rt,
+        image.apply(alloc, 9, &record(&rt, alloc, &Step::Leader(1, 1, 2))),
+    );
+    assert!(rt; is_row(image.partition(id(1), 1), &[1, 2], [1, 2147483647, 0, 7]));
+    assert!(rt; image.partition(id(1), 2).is_none());
+}
+
+static MEMBERS: [Step; 13] = [
+    Step::Config(2, "t", "b", Some("1")),
+    Step::Config(2, "t", "a", Some("2")),
+    Step::Config(4, "5", "c", Some("3")),
+    Step::Config(4, "5", "d", None),
+    Step::Quota("user", Some("a"), "producer_byte_rate", 1, false),
+    Step::Quota("user", Some("a"), "consumer_byte_rate", 2, false),
+    Step::Scram("a", 2, 8192),
+    Step::Scram("a", 1, 4096),
+    Step::RemoveScram("a", 2),
+    Step::Broker(3, 2147483648),
+    Step::Broker(2, 0),
+    Step::State(4),
+    Step::State(2),
+];
+
+// The counts of topics, of configurations, quotas, users, access control entries, and brokers.
+fn counts(image: &Image) -> [usize; 6] {
+    [
+        image.topics().len(),
+        image.broker_configs().len(),
+        image.quota_entries().len(),
+        image.users().len(),
+        image.acls().len(),
+        image.brokers().len(),
+    ]
+}
+
+fn user(rt: &impl Abort, alloc: Global, name: &str) -> EntityKey {
+    EntityKey::User {
+        user: Some(text(rt, alloc, name)),
+    }
+}
+
+#[test]
+fn each_kind_of_record_is_taken_in(rt: HostRuntime) {
+    let alloc = rt.alloc();
+    let mut first = image(&rt, alloc, &BEFORE);
+    made(
+        &rt,
+        first.apply_all(alloc, 7, &records(&rt, alloc, &MEMBERS)),
+    );
+    let image = made(&rt, first.copy(alloc));
+    assert!(rt; counts(&image) == [1, 1, 1, 1, 1, 1]);
+    assert!(rt; image.topic(&text(&rt, alloc, "t")) == Some(id(1)));
+    assert!(rt; image.topic_name(id(1)).is_some());
+    assert!(rt; image.configs(2, &text(&rt, alloc, "t")).is_some());
+    assert!(rt; image.configs(4, &text(&rt, alloc, "5")).is_some());
+    assert!(rt; image.configs(4, &text(&rt, alloc, "t")).is_none());
+    assert!(rt; image.quotas(&user(&rt, alloc, "a")).is_some());
+    assert!(rt; image.quotas(&user(&rt, alloc, "b")).is_none());
+    assert!(rt; image.quotas(&EntityKey::Producer).is_none());
+    assert!(rt; image.scram(&text(&rt, alloc, "a"), 1).is_some());
+    assert!(rt; image.scram(&text(&rt, alloc, "a"), 2).is_none());
+    assert!(rt; image.acl(id(1)).is_some());
+    assert!(rt; image.next_producer() == Some(2000));
+    assert!(rt; image.state() == 2);
+    assert!(rt; image.is_migrating(2));
+    assert!(rt; !image.is_migrating(3));
+}
+
+static REMOVALS: [Step; 6] = [
+    Step::RemoveTopic(1),
+    Step::Config(4, "5", "c", None),
+    Step::Quota("user", Some("a"), "producer_byte_rate", 1, true),
+    Step::Quota("user", Some("a"), "consumer_byte_rate", 2, true),
+    Step::RemoveScram("a", 1),
+    Step::RemoveAcl(1),
+];
+
+#[test]
+fn what_is_removed_leaves_nothing(rt: HostRuntime) {
+    let alloc = rt.alloc();
+    let mut image = image(&rt, alloc, &BEFORE);
+    made(
+        &rt,
+        image.apply_all(alloc, 7, &records(&rt, alloc, &MEMBERS)),
+    );
+    made(
+        &rt,
+        image.apply_all(alloc, 7, &records(&rt, alloc, &REMOVALS)),
+    );
+    assert!(rt; counts(&image) == [0, 0, 0, 0, 0, 1]);
+    made(
+        &rt,
+        image.apply(alloc, 7, &record(&rt, alloc, &Step::Topic("t", 1))),
+    );
+    assert!(rt; image.configs(2, &text(&rt, alloc, "t")).is_none());
+    assert!(rt; image.partition(id(1), 0).is_none());
 }

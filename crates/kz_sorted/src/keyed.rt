@@ -1,7 +1,9 @@
 //! What has a key of bytes.
 ghost use Rattle.std.specs.Prelude.{◌≡◌, List, ℕ};
 
-use kz_types::{Configuration, Pair, Rendered, Row};
+use kz_types::{
+    AclEntry, Configuration, Pair, QuotaEntry, QuotaRow, Rendered, Row, ScramEntry, TopicEntry,
+};
 
 /// What has a key of bytes, by which lists of it are ordered.
 pub trait Keyed {
@@ -42,5 +44,45 @@ impl Keyed for Pair {
 
     fn key(&self) -> &[u8] {
         self.name.bytes()
+    }
+}
+
+impl Keyed for TopicEntry {
+    ghost key = { λ t. t.name };
+
+    fn key(&self) -> &[u8] {
+        self.name.bytes()
+    }
+}
+
+impl Keyed for QuotaEntry {
+    ghost key = { λ q. q.path };
+
+    fn key(&self) -> &[u8] {
+        self.path.bytes()
+    }
+}
+
+impl Keyed for QuotaRow {
+    ghost key = { λ q. q.key };
+
+    fn key(&self) -> &[u8] {
+        self.key.bytes()
+    }
+}
+
+impl Keyed for ScramEntry {
+    ghost key = { λ u. u.name };
+
+    fn key(&self) -> &[u8] {
+        self.name.bytes()
+    }
+}
+
+impl Keyed for AclEntry {
+    ghost key = { λ a. a.id.bytes };
+
+    fn key(&self) -> &[u8] {
+        &self.id.bytes
     }
 }

@@ -3,9 +3,9 @@ use Rattle.std.specs.Prelude.{ℕ, Bool, true, false, not, ◌&&◌, ◌||◌, �
 use Rattle.std.specs.Ordering.{int_eq}
 use Rattle.std.specs.Str.{bytes_eq}
 use Rattle.serde_json.specs.Data.{Data, Items, no_items, item}
-use Rattle.serde_json.specs.Find.{get, as_array}
+use Rattle.serde_json.specs.Find.{get, as_array, as_bool}
 use Rattle.kz_types.specs.declared.machine.Event.{Event}
-use Rattle.kz_types.specs.declared.machine.Event.TheVariants.{Quorum, Start, Elect, Turn, Change, Check, ZkOpen, ZkExpire, Zk}
+use Rattle.kz_types.specs.declared.machine.Event.TheVariants.{Quorum, Start, Elect, Turn, Register, Change, Check, ZkOpen, ZkExpire, Zk}
 use Rattle.kz_types.specs.declared.record.ConfigRecord.{ConfigRecord}
 use Rattle.kz_types.specs.declared.record.MetaRecord.{MetaRecord}
 use Rattle.kz_types.specs.declared.record.MetaRecord.TheVariants.{Config}
@@ -69,33 +69,39 @@ turn_of d = if member_count d == timed_count 2 d
     then option_and_then (λ c. option_map (λ t. Turn c t) (now_of d)) (controller_of d)
     else None
 
--- the configuration of all brokers, whose name is empty, or of the broker whose id its name is
-abbrev pub is_broker_config : ConfigRecord → Bool
-is_broker_config c =
-    int_eq c.resource_type (pos 4)
-    && (length c.resource_name == 0 || is_some (canonical c.resource_name))
-    && not (length c.name == 0)
-
--- a record that a change may hold
+-- a record that a change may hold: one of the configuration of brokers
 abbrev pub is_changeable : MetaRecord → Bool
-is_changeable (Config c) = is_broker_config c
+is_changeable (Config c) = int_eq c.resource_type (pos 4)
 is_changeable r = false
 
 -- the record that a JSON value is, where a change may hold it
 abbrev pub changeable_of : Data → Option MetaRecord
 changeable_of d = option_and_then (λ r. if is_changeable r then Some r else None) (record_of d)
 
--- the record in a list of one
-abbrev pub only_record : Items → Option MetaRecord
-only_record no_items = None
-only_record (item d no_items) = changeable_of d
-only_record (item d (item e ds)) = None
+-- the records in a list
+abbrev pub records_in : Items → Option (List MetaRecord)
+records_in no_items = Some []
+records_in (item d ds) = option_and_then (λ r. option_map (λ rs. r ∷ rs) (records_in ds)) (changeable_of d)
 
--- `change`, with a list of exactly one record
+-- at least one
+abbrev pub some_records : List MetaRecord → Option (List MetaRecord)
+some_records [] = None
+some_records (r ∷ rs) = Some (r ∷ rs)
+
+-- `change`, with a list of records that isn't empty
 abbrev pub change_of : Data → Option Event
 change_of d = if member_count d == timed_count 3 d
-    then option_and_then (λ c. option_and_then (λ r. option_map (λ t. Change c (r ∷ []) t) (now_of d))
-    (option_and_then only_record (option_and_then as_array (get (codes "records") d))))
+    then option_and_then (λ c. option_and_then (λ rs. option_map (λ t. Change c rs t) (now_of d))
+    (option_and_then some_records (option_and_then records_in (option_and_then as_array (get (codes "records") d)))))
+    (controller_of d)
+    else None
+
+-- `register`, with a broker, and whether it is ready to migrate
+abbrev pub register_of : Data → Option Event
+register_of d = if member_count d == timed_count 4 d
+    then option_and_then (λ c. option_and_then (λ b. option_and_then (λ m. option_map (λ t. Register c b m t) (now_of d))
+    (option_and_then as_bool (get (codes "migrating") d)))
+    (option_and_then id_of (get (codes "broker") d)))
     (controller_of d)
     else None
 
@@ -169,6 +175,7 @@ event_forms =
     ∷ (codes "start", start_of)
     ∷ (codes "elect", elect_of)
     ∷ (codes "turn", turn_of)
+    ∷ (codes "register", register_of)
     ∷ (codes "change", change_of)
     ∷ (codes "check", check_of)
     ∷ (codes "zk-open", open_of)

@@ -2,14 +2,14 @@
 use Rattle.std.specs.Prelude.{ℕ, ◌==◌, ℤ, pos, List, length, map, Option, Some, None, if◌then◌else◌, codes}
 use Rattle.std.specs.Ordering.{int_eq}
 use Rattle.std.specs.Str.{is_utf8}
-use Rattle.serde_json.specs.Data.{Data, null, number, string, array, object, Members, no_members, put}
+use Rattle.serde_json.specs.Data.{boolean, Data, null, number, string, array, object, Members, no_members, put}
 use Rattle.serde_json.specs.Find.{of_integer}
 use Rattle.serde_json.specs.View.{items_of}
 use Rattle.serde_json.specs.Written.{compact_text}
 use Rattle.base64.specs.Engines.{standard}
 use Rattle.base64.specs.GeneralPurpose.{encode_of}
 use Rattle.kz_types.specs.declared.machine.Event.{Event}
-use Rattle.kz_types.specs.declared.machine.Event.TheVariants.{Quorum, Start, Elect, Turn, Change, Check, ZkOpen, ZkExpire, Zk}
+use Rattle.kz_types.specs.declared.machine.Event.TheVariants.{Quorum, Start, Elect, Turn, Register, Change, Check, ZkOpen, ZkExpire, Zk}
 use Rattle.kz_types.specs.declared.record.ConfigRecord.{ConfigRecord}
 use Rattle.kz_types.specs.declared.record.MetaRecord.{MetaRecord}
 use Rattle.kz_types.specs.declared.record.MetaRecord.TheVariants.{Config}
@@ -94,6 +94,8 @@ members_of_event (Elect controller now) = with_now now (controller_members (code
 members_of_event (Turn controller now) = with_now now (controller_members (codes "turn") controller)
 members_of_event (Change controller records now) =
     put (codes "records") (array (items_of (map record_data records))) (with_now now (controller_members (codes "change") controller))
+members_of_event (Register controller broker migrating now) =
+    put (codes "migrating") (boolean migrating) (with_whole (codes "broker") broker (with_now now (controller_members (codes "register") controller)))
 members_of_event Check = event_members (codes "check")
 members_of_event (ZkOpen session) = with_whole (codes "session") session (event_members (codes "zk-open"))
 members_of_event (ZkExpire session) = with_whole (codes "session") session (event_members (codes "zk-expire"))

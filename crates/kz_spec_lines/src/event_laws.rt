@@ -1,6 +1,6 @@
 //! Which events some lines are.
-ghost use Rattle.std.specs.Prelude.{◌≡◌, [], ◌∷◌, ◌++◌, None, Some, pos, codes};
-ghost use Rattle.kz_types.specs.declared.machine.Event.TheVariants.{Quorum, Start, Elect, Turn, Change, Check};
+ghost use Rattle.std.specs.Prelude.{◌≡◌, [], ◌∷◌, ◌++◌, None, Some, true, pos, codes};
+ghost use Rattle.kz_types.specs.declared.machine.Event.TheVariants.{Quorum, Start, Elect, Turn, Register, Change, Check};
 ghost use Rattle.kz_types.specs.declared.record.MetaRecord.TheVariants.{Config};
 ghost use Rattle.kz_spec_lines.specs.Events.{line_event};
 
@@ -40,7 +40,6 @@ pub fn no_whole_numbers()
     ensures exponent { line_event (codes "{\"event\":\"start\",\"controller\":1e0}") ≡ None }
     ensures signed { line_event (codes "{\"event\":\"start\",\"controller\":-0}") ≡ None }
     ensures negative { line_event (codes "{\"event\":\"start\",\"controller\":-1}") ≡ None }
-    ensures large { line_event (codes "{\"event\":\"start\",\"controller\":2147483648}") ≡ None }
     ensures text { line_event (codes "{\"event\":\"start\",\"controller\":\"1\"}") ≡ None }
     ensures late { line_event (codes "{\"event\":\"elect\",\"controller\":1,\"now\":9223372036854775808}") ≡ None }
     ensures absent { line_event (codes "{\"event\":\"elect\",\"controller\":1,\"now\":null}") ≡ None }
@@ -67,9 +66,16 @@ pub fn no_events()
 pub fn no_changes()
     ensures none { line_event (codes "{\"event\":\"change\",\"controller\":1,\"records\":[]}") ≡ None }
     ensures no_value { line_event (codes "{\"event\":\"change\",\"controller\":1,\"records\":[{\"kind\":\"Config\",\"resourceType\":4,\"resourceName\":\"\",\"name\":\"a\"}]}") ≡ None }
-    ensures no_name { line_event (codes "{\"event\":\"change\",\"controller\":1,\"records\":[{\"kind\":\"Config\",\"resourceType\":4,\"resourceName\":\"\",\"name\":\"\",\"value\":null}]}") ≡ None }
-    ensures leading { line_event (codes "{\"event\":\"change\",\"controller\":1,\"records\":[{\"kind\":\"Config\",\"resourceType\":4,\"resourceName\":\"01\",\"name\":\"a\",\"value\":null}]}") ≡ None }
-    ensures large { line_event (codes "{\"event\":\"change\",\"controller\":1,\"records\":[{\"kind\":\"Config\",\"resourceType\":4,\"resourceName\":\"2147483648\",\"name\":\"a\",\"value\":null}]}") ≡ None }
     ensures topic { line_event (codes "{\"event\":\"change\",\"controller\":1,\"records\":[{\"kind\":\"Config\",\"resourceType\":2,\"resourceName\":\"1\",\"name\":\"a\",\"value\":null}]}") ≡ None }
     ensures other { line_event (codes "{\"event\":\"change\",\"controller\":1,\"records\":[{\"kind\":\"NoOp\"}]}") ≡ None }
+{}
+
+/// Registrations, and changes of several records.
+#[tactic(auto, unfolding(crate::proofs::OnLiterals::lines_on_literals))]
+pub fn registrations_and_changes()
+    ensures registered { line_event (codes "{\"event\":\"register\",\"controller\":1,\"broker\":2,\"migrating\":true,\"now\":3}") ≡ Some (Register (pos 1) (pos 2) true (pos 3)) }
+    ensures no_flag { line_event (codes "{\"event\":\"register\",\"controller\":1,\"broker\":2}") ≡ None }
+    ensures number { line_event (codes "{\"event\":\"register\",\"controller\":1,\"broker\":2,\"migrating\":1}") ≡ None }
+    ensures two { line_event (codes "{\"event\":\"change\",\"controller\":1,\"records\":[{\"kind\":\"Config\",\"resourceType\":4,\"resourceName\":\"01\",\"name\":\"\",\"value\":null},{\"kind\":\"Config\",\"resourceType\":4,\"resourceName\":\"\",\"name\":\"a\",\"value\":\"1\"}]}")
+        ≡ Some (Change (pos 1) (Config (record { resource_type = pos 4; resource_name = codes "01"; name = []; value = None }) ∷ Config (record { resource_type = pos 4; resource_name = []; name = codes "a"; value = Some (codes "1") }) ∷ []) (pos 0)) }
 {}

@@ -1,5 +1,5 @@
 -- The machine: worlds, events, and what each event makes of a world.
-use Rattle.std.specs.Prelude.{ℕ, zero, suc, ◌+◌, ◌*◌, ◌/◌, Bool, true, false, not, ◌&&◌, ◌||◌, nat_lt, ℤ, pos, ◌+ℤ◌, int_le, int_lt, List, [], ◌∷◌, ◌++◌, length, map, Option, Some, None, is_some, option_map, Result, Ok, Err, if◌then◌else◌}
+use Rattle.std.specs.Prelude.{ℕ, zero, suc, ◌+◌, ◌*◌, ◌/◌, Bool, true, false, not, ◌&&◌, ◌||◌, nat_lt, nat_le, ℤ, pos, ◌+ℤ◌, int_le, int_lt, List, [], ◌∷◌, ◌++◌, length, map, Option, Some, None, is_some, option_map, Result, Ok, Err, if◌then◌else◌}
 use Rattle.std.specs.Str.{bytes_eq}
 use Rattle.std.specs.Ordering.{int_eq}
 use Rattle.std.specs.List.{find, list_any}
@@ -9,6 +9,7 @@ use Rattle.kz_types.specs.declared.fault.TreeFault.{TreeFault}
 use Rattle.kz_types.specs.declared.fault.TreeFault.TheVariants as tree_fault
 use Rattle.kz_types.specs.declared.move_fault.MoveFault.{MoveFault}
 use Rattle.kz_types.specs.declared.move_fault.MoveFault.TheVariants as move_fault
+use Rattle.kz_types.specs.Ids.{zero_id}
 use Rattle.kz_types.specs.Paths.{base_paths, control_paths, is_among, is_below, is_migrated}
 use Rattle.kz_spec_values.specs.Control.{control_path, epoch_path, migration_path, shown_epoch}
 use Rattle.kz_types.specs.declared.driver.Stage.{Stage}
@@ -23,8 +24,8 @@ use Rattle.kz_types.specs.declared.machine.Answer.TheVariants as answer
 use Rattle.kz_types.specs.declared.record.MetaRecord.{MetaRecord}
 use Rattle.kz_types.specs.declared.record.MetaRecord.TheVariants as meta
 use Rattle.kz_spec_stores.specs.Tree.{Tree, empty_tree, row_at, multi, begin_session, end_session, area, migrated_rows}
-use Rattle.kz_spec_stores.specs.Image.{empty_image, all_applied, is_migrated_state}
-use Rattle.kz_spec_stores.specs.Log.{Log, empty_log, end_of, image_at, image_of, is_migrated_log, is_open_log, batch_ends, with_batch, with_next_epoch, full_log, max_epoch}
+use Rattle.kz_spec_stores.specs.Image.{empty_image, all_applied, is_migrated_state, Bad, first_bad, rule_number}
+use Rattle.kz_spec_stores.specs.Log.{Log, empty_log, end_of, begun_of, image_at, image_of, is_migrated_log, is_open_log, batch_ends, with_batch, with_next_epoch, full_log, max_epoch}
 use Rattle.kz_spec_stores.specs.Rendering.{Excess, render, excess}
 use Rattle.kz_spec_stores.specs.Translation.{Unreadable, translate}
 use Rattle.kz_spec_machine.specs.Driver.{Shared, Driver, new_driver, elected_driver, is_one_of, least, shown_by, path_of_op, Request, nothing, asked, Stepped, step}
@@ -254,17 +255,37 @@ event_turn_pairs w now (Some d) = turn_pairs (work w.shared d) w.shared (running
 abbrev pub over_excess : Option Excess → Option Answer
 over_excess e = option_map (λ (x : Excess). over x.number) e
 
+-- the most records of a change
+abbrev pub max_changes : ℕ
+max_changes = 1000
+
+abbrev pub bad_record : Option Bad → Option Answer
+bad_record b = option_map (λ (bad : Bad). answer.BadRecord bad.index (rule_number bad.why)) b
+
 abbrev pub change_refusal : World → ℤ → List MetaRecord → Option Answer
 change_refusal w id records = first_of (leader_refusal w id) (
     first_of (unless (is_migrated_log w.shared.log) answer.NotMigrated) (
+    first_of (unless (nat_le (length records) max_changes) (over 8)) (
+    first_of (bad_record (first_bad 0 records (image_of w.shared.log))) (
     first_of (over_excess (excess (all_applied w.shared.log.epoch records (image_of w.shared.log)))) (
-    full w.shared.log records)))
+    full w.shared.log records)))))
 
 abbrev pub changed_log : Log → List MetaRecord → ℤ → Log
 changed_log l records now = with_batch l l.epoch now records
 
 abbrev pub changed_world : World → List MetaRecord → ℤ → World
 changed_world w records now = record { shared = record w.shared { log = changed_log w.shared.log records now }; drivers = w.drivers }
+
+-- ---- registrations of brokers
+
+-- the record that registers a broker
+abbrev pub registration : ℤ → Bool → List MetaRecord
+registration broker migrating = meta.RegisterBroker (record { broker_id = broker; migrating = migrating; incarnation = record { bytes = zero_id }; broker_epoch = pos 0; endpoints = []; features = []; rack = None; fenced = true; in_shutdown = false }) ∷ []
+
+abbrev pub register_refusal : World → ℤ → List MetaRecord → Option Answer
+register_refusal w id records = first_of (leader_refusal w id) (
+    first_of (option_map (λ offset. answer.InTransaction offset) (begun_of w.shared.log)) (
+    full w.shared.log records))
 
 -- ---- sessions of ZooKeeper clients
 
@@ -347,6 +368,7 @@ next w (event.Start id) = decided w (start_refusal w id) (started_world w id) an
 next w (event.Elect id now) = decided w (election_refusal w id) (elected_world w id now) (election_answer w now)
 next w (event.Turn id now) = unless_refused w (running_refusal w id) (turn_result w now (driver_of id w.drivers))
 next w (event.Change id records now) = decided w (change_refusal w id records) (changed_world w records now) (answer.Appended (end_of (changed_log w.shared.log records now)))
+next w (event.Register id broker migrating now) = decided w (register_refusal w id (registration broker migrating)) (changed_world w (registration broker migrating) now) (answer.Appended (end_of (changed_log w.shared.log (registration broker migrating) now)))
 next w event.Check = (w, answer.Check (verdict w.shared.tree w.shared.log))
 next w (event.ZkOpen session) = moved_world w (begin_session w.shared.tree session)
 next w (event.ZkExpire session) = moved_world w (end_session w.shared.tree session)
@@ -363,6 +385,7 @@ event_pairs w (event.Start id) = []
 event_pairs w (event.Elect id now) = pairs_unless (election_refusal w id) (pair_of (elected_world w id now).shared ∷ [])
 event_pairs w (event.Turn id now) = pairs_unless (running_refusal w id) (event_turn_pairs w now (driver_of id w.drivers))
 event_pairs w (event.Change id records now) = pairs_unless (change_refusal w id records) (pair_of (changed_world w records now).shared ∷ [])
+event_pairs w (event.Register id broker migrating now) = pairs_unless (register_refusal w id (registration broker migrating)) (pair_of (changed_world w (registration broker migrating) now).shared ∷ [])
 event_pairs w event.Check = []
 event_pairs w (event.ZkOpen session) = tree_pairs w (begin_session w.shared.tree session)
 event_pairs w (event.ZkExpire session) = tree_pairs w (end_session w.shared.tree session)

@@ -20,7 +20,7 @@ use Rattle.kz_ordered.specs.Order.{bytes_cmp}
 use Rattle.kz_ordered.specs.Ordered.{Rises}
 use Rattle.kz_spec_values.specs.Control.{control_path, epoch_path, migration_path, shown_epoch}
 use Rattle.kz_spec_stores.specs.Tree.{Tree, row_at, parent_of, is_root, has_parent, is_ephemeral, may_own, path_of_row, migrated_rows, area, recorded, unclosed, max_body, max_znodes, max_version, max_long}
-use Rattle.kz_spec_stores.specs.Image.{empty_image, is_broker_config, is_migrated_state}
+use Rattle.kz_spec_stores.specs.Image.{empty_image, is_migrated_state}
 use Rattle.kz_spec_stores.specs.Log.{Log, View, last_of, end_of, batch_ends, record_count, image_at, is_migrated_log, max_records, max_epoch}
 use Rattle.kz_spec_stores.specs.Rendering.{render}
 use Rattle.kz_spec_machine.specs.Driver.{Shared, Driver, is_one_of, shown_by, remaining_at}
@@ -284,7 +284,7 @@ pub record Alone (w : World) : Type 0 where
 
 -- a record that a script's change may hold
 abbrev pub IsChange : MetaRecord → Type 0
-IsChange (meta.Config c) = IsTrue (is_broker_config c)
+IsChange (meta.Config c) = c.resource_type ≡ pos 4
 IsChange r = ⊥
 
 -- from 1 to the greatest of 64 bits
@@ -309,14 +309,15 @@ IsLawfulOp (op.Set path body version) = (is_path path ≡ true) × IsVersion ver
 IsLawfulOp (op.Delete path version) = (is_path path ≡ true) × IsVersion version
 IsLawfulOp (op.Check path version) = (is_path path ≡ true) × IsVersion version
 
--- An event as a line of a script gives it: ids and times are in range, one controller is declared, and a change has one
--- member of the configuration of a broker.
+-- An event as a line of a script gives it: ids and times are in range, one controller is declared, and a change has a
+-- record, and each is one of the configuration of a broker.
 abbrev pub IsLawful : Event → Type 0
 IsLawful (event.Quorum ids) = All IsId ids × (length ids ≡ 1)
 IsLawful (event.Start id) = IsId id
 IsLawful (event.Elect id now) = IsId id × IsTime now
 IsLawful (event.Turn id now) = IsId id × IsTime now
-IsLawful (event.Change id records now) = IsId id × IsTime now × All IsChange records × (length records ≡ 1)
+IsLawful (event.Change id records now) = IsId id × IsTime now × All IsChange records × (1 ≤ length records)
+IsLawful (event.Register id broker migrating now) = IsId id × IsId broker × IsTime now
 IsLawful event.Check = ⊤
 IsLawful (event.ZkOpen session) = IsSession session
 IsLawful (event.ZkExpire session) = IsSession session

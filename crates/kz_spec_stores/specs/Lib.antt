@@ -1,4 +1,6 @@
 pub mod Tree
+pub mod Metadata
+pub mod ImageRules
 pub mod Image
 pub mod Settlement
 pub mod Log
@@ -6,3 +8,4 @@ pub mod Rendering
 pub mod Translation
 pub mod Difference
 pub mod Requests
+pub mod ImageExamples

@@ -1,5 +1,5 @@
 -- A committed metadata log, and a view of it.
-use Rattle.std.specs.Prelude.{ℕ, ◌+◌, Bool, nat_lt, ℤ, pos, negsuc, ◌+ℤ◌, ◌-ℤ◌, int_le, int_lt, List, [], ◌∷◌, ◌++◌, length, map, Option, Some, None, Result, Ok, Err, if◌then◌else◌}
+use Rattle.std.specs.Prelude.{◌≡◌, ◌⊎◌, ℕ, ◌+◌, ◌<◌, ◌≤◌, ⊤, Bool, nat_lt, ℤ, pos, negsuc, ◌+ℤ◌, ◌-ℤ◌, ◌≤ℤ◌, ◌<ℤ◌, int_le, int_lt, List, [], ◌∷◌, ◌++◌, length, map, Option, Some, None, Result, Ok, Err, if◌then◌else◌}
 use Rattle.std.specs.Ordering.{int_eq}
 use Rattle.std.specs.List.{filter, sum_by, flat_map}
 use Rattle.kz_types.specs.declared.log.BatchRow.{BatchRow}
@@ -8,7 +8,7 @@ use Rattle.kz_types.specs.declared.record.MetaRecord.{MetaRecord}
 use Rattle.kz_types.specs.declared.fault.LogFault.{LogFault}
 use Rattle.kz_types.specs.declared.fault.LogFault.TheVariants as fault
 use Rattle.kz_spec_stores.specs.Image.{Image, empty_image, applied, is_migrated_state}
-use Rattle.kz_spec_stores.specs.Settlement.{counted, is_open, commit}
+use Rattle.kz_spec_stores.specs.Settlement.{counted, is_open, begun, kept, commit}
 use Rattle.kz_spec_stores.specs.Tree.{max_long}
 
 -- ---- limits
@@ -54,6 +54,28 @@ batch_ends l = l.base ∷ map last_of l.batches
 abbrev pub record_count : List BatchRow → ℕ
 record_count batches = sum_by (λ (b : BatchRow). length b.items) batches
 
+-- Batches follow each other from behind an offset on, and none is empty.
+abbrev pub Follow : ℤ → List BatchRow → Type 0
+Follow from [] = ⊤
+Follow from (b ∷ bs) = (b.first ≡ from +ℤ pos 1) × (0 < length b.items) × Follow (last_of b) bs
+
+-- The epochs of batches never fall, from this one on, and none is above the other.
+abbrev pub Climb : ℤ → ℤ → List BatchRow → Type 0
+Climb least most [] = ⊤
+Climb least most (b ∷ bs) = (least ≤ℤ b.epoch) × (b.epoch ≤ℤ most) × Climb b.epoch most bs
+
+-- What is true of every log: its epoch isn't negative; its base is at least -1, and where it is -1 the base image is empty;
+-- the batches follow each other from the base on, in epochs of at least 1 that never fall and aren't above the log's; and
+-- there are few enough records, the last at an offset in range.
+pub record IsLog (l : Log) : Type 0 where
+  pub epoch : pos 0 ≤ℤ l.epoch
+  pub base : negsuc 0 ≤ℤ l.base
+  pub base_image : l.base ≡ negsuc 0 → l.base_image ≡ empty_image
+  pub follow : Follow l.base l.batches
+  pub epochs : Climb (pos 1) l.epoch l.batches
+  pub few : record_count l.batches ≤ max_records
+  pub end : end_of l ≤ℤ max_long
+
 -- records with the offsets from this one on
 abbrev pub numbered : ℤ → ℤ → List MetaRecord → List Entry
 numbered offset epoch [] = []
@@ -85,6 +107,10 @@ is_migrated_log l = is_migrated_state (image_of l).state
 
 abbrev pub is_open_log : Log → Bool
 is_open_log l = is_open (entries l.batches) (end_of l)
+
+-- the offset of the Begin of the transaction that is open at the log's end
+abbrev pub begun_of : Log → Option ℤ
+begun_of l = begun (entries l.batches)
 
 abbrev pub commit_of : Log → Option ℤ
 commit_of l = commit (entries l.batches)
@@ -125,17 +151,51 @@ elect l now items =
     if int_lt l.epoch max_epoch then added (full_log l items) (with_batch (with_next_epoch l) (l.epoch +ℤ pos 1) now items)
     else Err (fault.Limit 15)
 
+-- the log without its batches and without a base, whose epoch stays
+abbrev pub reset : Log → Log
+reset l = record empty_log { epoch = l.epoch }
+
 -- ---- views
 
--- What a controller knows of the log: up to which offset, the epoch of the last batch that it took, and the metadata
--- there.
+-- What a controller knows of the log: up to which offset, the epoch of the last batch that it took, the metadata there,
+-- and, where a transaction is open there, the offset of its Begin and its records.
 pub record View : Type 0 where
   pub position : ℤ
   pub epoch : ℤ
   pub image : Image
+  pub begun : Option ℤ
+  pub kept : List Entry
 
 abbrev pub new_view : View
-new_view = record { position = negsuc 0; epoch = pos 0; image = empty_image }
+new_view = record { position = negsuc 0; epoch = pos 0; image = empty_image; begun = None; kept = [] }
+
+-- the records that stand at or before an offset
+abbrev pub entries_by : ℤ → List Entry → List Entry
+entries_by at es = filter (λ (e : Entry). int_le e.offset at) es
+
+-- A view is what a log says at its position, a batch end; its epoch is its own.
+pub record IsAt (l : Log) (v : View) : Type 0 where
+  pub end : (before after : List ℤ) × (batch_ends l ≡ before ++ v.position ∷ after)
+  pub image : v.image ≡ image_at l v.position
+  pub begun : v.begun ≡ begun (entries_by v.position (entries l.batches))
+  pub kept : v.kept ≡ kept (entries_by v.position (entries l.batches))
+
+-- A view of a log: it is what the log says at its position, or the log's base has passed it.
+abbrev pub IsViewOf : Log → View → Type 0
+IsViewOf l v = (v.position <ℤ l.base) ⊎ IsAt l v
+
+-- ---- feeds
+
+-- What is read of a log: its base with its image, where the reader stands before it; the batches behind; and its end.
+pub record Feed : Type 0 where
+  pub base : Option (ℤ × Image)
+  pub batches : List BatchRow
+  pub end : ℤ
+
+-- the log that a reader of this log knows once it has taken a feed
+abbrev pub fed : Log → Option (ℤ × Image) → List BatchRow → Log
+fed l None batches = record l { batches = l.batches ++ batches }
+fed l (Some base) batches = record l { base = base.0; base_image = base.1; batches = batches }
 
 -- the epoch of the last batch, or this one where there is none
 abbrev pub last_epoch : ℤ → List BatchRow → ℤ
@@ -151,4 +211,12 @@ read_epoch l v = last_epoch (if int_lt v.position l.base then pos 0 else v.epoch
 
 -- the view that has read to the log's end
 abbrev pub read_view : Log → View → View
-read_view l v = record { position = end_of l; epoch = read_epoch l v; image = image_of l }
+read_view l v = record { position = end_of l; epoch = read_epoch l v; image = image_of l; begun = begun_of l; kept = kept (entries l.batches) }
+
+-- what is read of a log behind an offset
+abbrev pub feed_from : Log → ℤ → Feed
+feed_from l after = record {
+  base = if int_lt after l.base then Some (l.base, l.base_image) else None;
+  batches = filter (is_behind after) l.batches;
+  end = end_of l;
+}

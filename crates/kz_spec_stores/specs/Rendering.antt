@@ -1,5 +1,5 @@
 -- The znodes that stand for the metadata.
-use Rattle.std.specs.Prelude.{ℕ, Bool, nat_lt, pos, List, [], ◌∷◌, ◌++◌, length, map, Option, Some, None, option_map, if◌then◌else◌, codes}
+use Rattle.std.specs.Prelude.{ℕ, Bool, nat_lt, pos, List, [], ◌∷◌, length, map, Option, Some, None, option_map, if◌then◌else◌, codes}
 use Rattle.std.specs.List.{find, sum_by}
 use Rattle.kz_types.specs.declared.tree.Rendered.{Rendered}
 use Rattle.kz_types.specs.declared.key.EntityKey.{EntityKey}

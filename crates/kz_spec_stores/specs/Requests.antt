@@ -1,5 +1,20 @@
--- What a stop may leave of a store: the value that is left, or None where what is left stands for none.
-use Rattle.std.specs.Prelude.{◌≡◌, ◌⊎◌, Option, Some, Result, Ok}
+-- What every store answers a request, and what a stop may leave of it: the value that is left, or None where what is left
+-- stands for none.
+use Rattle.std.specs.Prelude.{◌≡◌, ◌⊎◌, ◌<◌, ◌≤◌, ℕ, Option, Some, None, Result, Ok, Err, ⊤}
+
+-- the most bytes of a store's file
+abbrev pub max_file : ℕ
+max_file = 2147483647
+
+-- A file would have this length, above its limit. A store without a file has none.
+abbrev pub IsFull : Option ℕ → ℕ → Type 0
+IsFull None length = ⊥
+IsFull (Some before) length = (max_file < length) × (before ≤ length)
+
+-- nothing refuses the request
+abbrev pub IsTaken : {A E : Type 0} → Result A E → Type 0
+IsTaken (Ok a) = ⊤
+IsTaken (Err e) = ⊥
 
 -- a stop leaves this value and nothing else
 abbrev pub Only : {V : Type 0} → V → (Option V → Type 0) → Type 0

@@ -1,5 +1,5 @@
 -- Which records of a log count, after metadata transactions (KIP-868). Each statement is one on offsets.
-use Rattle.std.specs.Prelude.{ℕ, Bool, true, false, not, ◌&&◌, ◌||◌, ℤ, pos, ◌+ℤ◌, int_le, int_lt, List, [], ◌∷◌, Option, Some, None, option_map, if◌then◌else◌}
+use Rattle.std.specs.Prelude.{Bool, true, false, not, ◌&&◌, ◌||◌, ℤ, pos, ◌+ℤ◌, int_le, int_lt, List, Option, Some, None, option_map}
 use Rattle.std.specs.Ordering.{int_eq}
 use Rattle.std.specs.List.{filter, find, list_any}
 use Rattle.kz_types.specs.declared.log.Entry.{Entry}
@@ -53,6 +53,15 @@ counted es at = filter (is_counted es at) es
 -- A transaction is open at an offset where a Begin at or before it has no End or Abort behind it by then.
 abbrev pub is_open : List Entry → ℤ → Bool
 is_open es at = is_inside es (at +ℤ pos 1)
+
+-- The offset of the open transaction's Begin: the first with no End or Abort behind it.
+abbrev pub begun : List Entry → Option ℤ
+begun es = option_map (λ (e : Entry). e.offset) (find (λ (b : Entry). is_begin b.item && not (list_any (λ (e : Entry). closes e.item && int_lt b.offset e.offset) es)) es)
+
+-- The records of the open transaction: those that are no marker, stand inside a transaction, and have no End or Abort
+-- behind them.
+abbrev pub kept : List Entry → List Entry
+kept es = filter (λ (e : Entry). is_inside es e.offset && not (is_marker e.item) && not (list_any (λ (c : Entry). closes c.item && int_lt e.offset c.offset) es)) es
 
 -- ---- the commit of the migration
 

@@ -1,5 +1,5 @@
 -- A tree of znodes, after ZooKeeper: what a multi makes of it, its migrated area, and what it records.
-use Rattle.std.specs.Prelude.{ℕ, ◌+◌, Bool, true, false, not, ◌&&◌, ◌||◌, ◌==◌, nat_lt, nat_le, ℤ, pos, negsuc, ◌+ℤ◌, int_lt, int_le, List, [], ◌∷◌, length, map, take, Option, Some, None, is_some, option_map, option_and_then, Result, Ok, Err, if◌then◌else◌, codes}
+use Rattle.std.specs.Prelude.{ℕ, ◌+◌, Bool, true, false, not, ◌&&◌, ◌||◌, ◌==◌, nat_lt, nat_le, ℤ, pos, negsuc, ◌+ℤ◌, int_lt, int_le, List, [], ◌∷◌, length, map, take, Option, Some, None, is_some, option_map, option_and_then, Result, Ok, Err, if◌then◌else◌}
 use Rattle.std.specs.Ordering.{int_eq, int_cmp, match_ordering}
 use Rattle.std.specs.Str.{bytes_eq}
 use Rattle.std.specs.List.{filter, filter_map, list_any, count_by}

@@ -2,3 +2,5 @@
 //!
 //! The definitions stand in specs/. A law is the contract of a function that does nothing.
 #![tactic(auto)]
+
+mod image_examples;

@@ -1,21 +1,8 @@
 -- What a store of a tree answers a request, and what stands after it.
-use Rattle.std.specs.Prelude.{◌≡◌, ◌<◌, ◌≤◌, ℕ, Bool, true, Option, Some, None, Result, Ok, Err, ⊤}
+use Rattle.std.specs.Prelude.{◌≡◌, ℕ, Bool, true, Option, Result, Ok, Err, ⊤}
 use Rattle.kz_types.specs.declared.fault.TreeFault.{TreeFault}
 use Rattle.kz_types.specs.declared.fault.TreeFault.TheVariants as fault
-
--- the most bytes of a store's file
-abbrev pub max_file : ℕ
-max_file = 2147483647
-
--- A file would have this length, above its limit. A store without a file has none.
-abbrev pub IsFull : Option ℕ → ℕ → Type 0
-IsFull None length = ⊥
-IsFull (Some before) length = (max_file < length) × (before ≤ length)
-
--- nothing refuses the request
-abbrev pub IsTaken : {A E : Type 0} → Result A E → Type 0
-IsTaken (Ok a) = ⊤
-IsTaken (Err e) = ⊥
+pub use Rattle.kz_spec_stores.specs.Requests.{max_file, IsFull, IsTaken}
 
 -- Why a change wasn't made: a refusal as the definition says; or, where nothing refuses it, the file's limit or a failure
 -- of the disk in this call; or an earlier failure of the disk. Want of memory is free.

@@ -84,7 +84,7 @@ pub fn may_be_address(name: &[u8]) -> bool
 }
 
 /// Whether a name is absent or isn't empty.
-fn is_named(name: &Option<Text>) -> bool
+pub fn is_named(name: &Option<Text>) -> bool
     ensures { result ≡ is_absent_or is_not_empty name.now }
 {
     match name {
@@ -94,7 +94,7 @@ fn is_named(name: &Option<Text>) -> bool
 }
 
 /// Whether an address is absent or may be one.
-fn is_located(address: &Option<Text>) -> bool
+pub fn is_located(address: &Option<Text>) -> bool
     ensures { result ≡ is_absent_or is_address address.now }
 {
     match address {

@@ -40,7 +40,7 @@ pub use fault::{BodyFault, LogFault, ReadWhy, TreeFault};
 pub use id::Id;
 pub use image::{AclEntry, Configuration, PartitionEntry, QuotaEntry, ScramEntry, TopicEntry};
 pub use image_fault::{ImageFault, ImageRule};
-pub use key::{EntityKey, may_be_address, may_be_topic};
+pub use key::{EntityKey, is_located, is_named, may_be_address, may_be_topic};
 pub use kind::Kind;
 pub use log::{BatchRow, Entry};
 pub use machine::{AheadPath, Answer, DriverState, Event, Recorded, Reply, Verdict};
@@ -50,7 +50,7 @@ pub use number::{canonical, digits_up_to, number_in};
 pub use outside::{Failed, Status};
 pub use path::ZPath;
 pub use path_buffer::PathBuffer;
-pub use path_rule::{is_text, may_be_part};
+pub use path_rule::{is_text, keeps_rule, may_be_part};
 pub use plan::Plan;
 pub use record::{
     AccessControlEntryRecord, BatchFault, ByteFault, ClientQuotaRecord, CodecFault, ConfigRecord,

@@ -129,6 +129,13 @@ pub enum Event {
         records: Sequence<MetaRecord>,
         now: i64,
     },
+    /// Asks a controller to register a broker, which is ready to migrate or isn't.
+    Register {
+        controller: i32,
+        broker: i32,
+        migrating: bool,
+        now: i64,
+    },
     /// Compares the tree with the log.
     Check,
     /// A ZooKeeper session begins. Sessions are at least 1.

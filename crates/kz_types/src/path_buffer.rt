@@ -102,7 +102,7 @@ impl PathBuffer {
     }
 
     /// Adds the part of the default, or of a name.
-    fn push_name(&mut self, name: &Option<Text>) -> bool
+    pub fn push_name(&mut self, name: &Option<Text>) -> bool
         ensures added { result ≡ true → self.new ≡ self.old ++ part_or_default sanitised name.now }
         ensures too_long { result ≡ false → 1024 < length self.old + length (part_or_default sanitised name.now) }
     {
@@ -113,7 +113,7 @@ impl PathBuffer {
     }
 
     /// Adds the part of the default, or of an address.
-    fn push_address(&mut self, address: &Option<Text>) -> bool
+    pub fn push_address(&mut self, address: &Option<Text>) -> bool
         ensures added { result ≡ true → self.new ≡ self.old ++ part_or_default (λ a. a) address.now }
         ensures too_long { result ≡ false → 1024 < length self.old + length (part_or_default (λ a. a) address.now) }
     {
@@ -171,7 +171,7 @@ impl PathBuffer {
     }
 
     /// Adds the path of a resource's access control entries.
-    fn push_acl(&mut self, pattern: i8, kind: i8, name: &[u8]) -> bool
+    pub fn push_acl(&mut self, pattern: i8, kind: i8, name: &[u8]) -> bool
         ensures added { result ≡ true → self.new ≡ self.old ++ ((if int_eq pattern (pos 3) then codes "/kafka-acl/" else codes "/kafka-acl-extended/prefixed/")
             ++ (resource_type_name kind ++ (codes "/" ++ name.now))) }
         ensures too_long { result ≡ false → 1024 < length self.old + length ((if int_eq pattern (pos 3) then codes "/kafka-acl/" else codes "/kafka-acl-extended/prefixed/")

@@ -32,9 +32,9 @@ pub struct PartitionRow {
     pub leader: i32,
     /// 0 where the leader is recovered, 1 where it is recovering.
     pub recovery: i8,
-    /// How often a leader was stated.
+    /// The one that it was made with, and one more for each leader that was stated since.
     pub leader_epoch: i32,
-    /// How often the partition was changed.
+    /// The one that it was made with, and one more for each change since.
     pub partition_epoch: i32,
     /// The epoch of the batch that changed it last.
     pub controller_epoch: i32,

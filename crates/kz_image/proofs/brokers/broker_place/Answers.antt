@@ -3,7 +3,7 @@ use Rattle.std.proofs.lemmas.List.Sorted.{answers_always}
 use Rattle.std.proofs.lemmas.Int.{to_z-of_z}
 use Rattle.std.specs.Ordering.{int_cmp}
 use Rattle.kz_types.specs.declared.record.RegisterBrokerRecord.{RegisterBrokerRecord}
-use Rattle.kz_spec_stores.specs.Image.{id_of_broker}
+use Rattle.kz_spec_stores.specs.Metadata.{id_of_broker}
 use Rattle.kz_ordered.specs.Spot.{IsSpot}
 use Rattle.kz_ordered.proofs.Order.{int_order}
 use Rattle.kz_ordered.proofs.Spot.{spot_from_binary_search}

@@ -1,0 +1,12 @@
+use Rattle.std.proofs.Common.{subst, sym}
+use Rattle.std.specs.List.{All}
+use Rattle.kz_ordered.specs.Order.{bytes_cmp}
+use Rattle.kz_spec_stores.specs.Metadata.{name_of_user}
+use Rattle.kz_image.specs.InOrder.{IsUserFilled}
+use Rattle.kz_image.proofs.Entries.{HasIfFound, found_has}
+use Rattle.kz_image.proofs.image.Image.scram.Goals as goal
+
+pub scram_at-requires : goal.scram_at-requires
+scram_at-requires c =
+    let filled : All IsUserFilled c.deref.result.now = subst (All IsUserFilled) (sym c.deref.ensures.value) c.self.invariant.users.filled in
+    rw c.as_slice.ensures (subst (HasIfFound IsUserFilled) (sym c.in-Some.ensures) (found_has IsUserFilled bytes_cmp name_of_user c.bytes.result.now c.deref.result.now filled)).1
