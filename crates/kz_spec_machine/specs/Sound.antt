@@ -309,8 +309,8 @@ IsLawfulOp (op.Set path body version) = (is_path path ≡ true) × IsVersion ver
 IsLawfulOp (op.Delete path version) = (is_path path ≡ true) × IsVersion version
 IsLawfulOp (op.Check path version) = (is_path path ≡ true) × IsVersion version
 
--- An event as a line of a script gives it: ids and times are in range, one controller is declared, and a change has a
--- record, and each is one of the configuration of a broker.
+-- An event as a line of a script gives it: ids, times and sessions are in range; one controller is declared; a change has a
+-- record, and each is one of the configuration of a broker; and a client's multi has an operation, and each is lawful.
 abbrev pub IsLawful : Event → Type 0
 IsLawful (event.Quorum ids) = All IsId ids × (length ids ≡ 1)
 IsLawful (event.Start id) = IsId id
