@@ -1,3 +1,5 @@
-pub mod Kept
-pub mod Faults
+pub mod Requests
+pub mod Views
+pub mod ViewLaws
+pub mod Rows
 pub mod Reading

@@ -1,15 +1,16 @@
-//! A committed metadata log in memory, and what a controller knows of it.
+//! A committed metadata log, in memory or behind a trait of stores, and what a controller knows of it.
 #![tactic(auto)]
 
-mod cursor;
-mod ends;
-mod log;
-mod pass;
+mod laws;
+mod reading;
+mod rows;
+mod store;
 mod view;
 
+pub use kz_image::Feed;
 pub use kz_types::{BatchRow, LogFault};
-pub use log::{Elected, MAX_EPOCH, MAX_RECORDS, MemoryLog};
+pub use laws::views_stay;
+pub use reading::{read_all, read_to_end};
+pub use rows::{LogRows, MAX_EPOCH, MAX_RECORDS};
+pub use store::{Elected, MetaLog};
 pub use view::View;
-
-#[cfg(test)]
-mod tests;

@@ -1,25 +1,35 @@
 //! What a controller knows of a log.
-ghost use Rattle.std.specs.Prelude.{◌≡◌, IfOk};
-ghost use Rattle.kz_spec_stores.specs.Log.{View as ViewValue, new_view};
+ghost use Rattle.std.specs.Prelude.{◌≡◌, ℕ, None, Option, OnOk, OnErr, IfOk};
+ghost use Rattle.kz_spec_stores.specs.Log.{Log, View as ViewValue, new_view, IsLog, IsAt, IsViewOf, fed, feed_from, last_epoch, read_view};
+ghost use Rattle.kz_log.specs.Requests.{IsFeed};
+ghost use Rattle.kz_log.specs.Views.{Fits, GoesOn, known_epoch};
 
-use kz_image::Image;
-use kz_types::{Duplicate, NoMemory};
+use kz_image::{Feed, Image};
+use kz_settle::{Settled, Settler};
+use kz_types::{BatchRow, Entry, NoMemory};
 use std::alloc::Global;
 use std::marker::Model;
 
-/// What a controller knows of a log: up to which offset, the epoch of the last batch that it took, and the metadata
-/// there.
+/// What a controller knows of a log: up to which offset, the epoch of the last batch that it took, the metadata there, and,
+/// where a transaction is open there, the offset of its Begin and its records.
 #[derive(Drop)]
 pub struct View {
+    alloc: Global,
     position: i64,
     epoch: i32,
     image: Image,
+    settler: Settler,
 }
 
 impl Model for View {
+    ghost use Rattle.std.specs.Prelude.{◌≡◌, []};
+    ghost use Rattle.kz_spec_stores.specs.Log.{View as ViewValue};
+
     ghost Value = { ViewValue };
 
-    ghost view = { λ v. record { position = v.position; epoch = v.epoch; image = v.image } };
+    ghost view = { λ v. record { position = v.position; epoch = v.epoch; image = v.image; begun = v.settler.begun; kept = v.settler.kept } };
+
+    ghost invariant = { λ v. v.settler.released ≡ [] };
 }
 
 impl View {
@@ -28,20 +38,11 @@ impl View {
         ensures { result ≡ new_view }
     {
         View {
+            alloc,
             position: -1,
             epoch: 0,
             image: Image::new(alloc),
-        }
-    }
-
-    /// A view with these parts.
-    pub fn from_parts(position: i64, epoch: i32, image: Image) -> Self
-        ensures { result ≡ record { position = position; epoch = epoch; image = image } }
-    {
-        View {
-            position,
-            epoch,
-            image,
+            settler: Settler::new(alloc),
         }
     }
 
@@ -65,14 +66,29 @@ impl View {
     {
         &self.image
     }
-}
 
-impl Duplicate for View {
-    fn copy(&self, alloc: Global) -> Result<Self, NoMemory> {
-        Ok(View {
-            position: self.position,
-            epoch: self.epoch,
-            image: self.image.copy(alloc)?,
-        })
+    /// The offset of the Begin of the transaction that is open at the position, if one is.
+    pub fn begun(&self) -> Option<i64>
+        ensures { result ≡ self.now.begun }
+    {
+        self.settler.begun()
+    }
+
+    /// Takes what was read of a log: all of a log from its base on, or the batches behind the position. At `Err` the view is
+    /// as it was.
+    pub fn advance(&mut self, feed: Feed) -> Result<(), NoMemory>
+        requires { Fits self.old feed }
+        ensures position { OnOk result (self.new.position ≡ feed.end) }
+        ensures epoch { OnOk result (self.new.epoch ≡ last_epoch (known_epoch feed.base self.old.epoch) feed.batches) }
+
+        // A view of a log's end becomes one of the log with these batches behind it, and with a base it becomes one of the
+        // log from that base on.
+        ensures is_at { OnOk result ((l : Log) → GoesOn l self.old feed.base → IsAt (fed l feed.base feed.batches) self.new) }
+
+        // What is read behind a view of a log makes it the view of the log's end.
+        ensures reads { OnOk result ((l : Log) → IsLog l → IsViewOf l self.old → IsFeed (feed_from l self.old.position) feed → self.new ≡ read_view l self.old) }
+        ensures err { OnErr result (self.new ≡ self.old) }
+    {
+        Err(NoMemory)
     }
 }

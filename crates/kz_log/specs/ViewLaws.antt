@@ -1,0 +1,27 @@
+-- Laws of views of a log.
+use Rattle.std.specs.Prelude.{◌≡◌, ℤ, List, is_some, Ok}
+use Rattle.kz_types.specs.declared.record.MetaRecord.{MetaRecord}
+use Rattle.kz_image.specs.declared.feed.Feed.{Feed}
+use Rattle.kz_spec_stores.specs.Log.{Log, View, new_view, IsLog, IsViewOf, is_open_log, begun_of, feed_from, append, elect}
+use Rattle.kz_log.specs.Requests.{IsFeed}
+use Rattle.kz_log.specs.Views.{Fits}
+
+-- What is known before the first read is a view of every log.
+abbrev pub NewIsView : Type 0
+NewIsView = (l : Log) → IsLog l → IsViewOf l new_view
+
+-- What is read behind a view of a log can be taken by it.
+abbrev pub FeedFits : Type 0
+FeedFits = (l : Log) (v : View) (f : Feed) → IsLog l → IsViewOf l v → IsFeed (feed_from l v.position) f → Fits v f
+
+-- A batch that is appended leaves each view of the log a view of it.
+abbrev pub AppendLeavesViews : Type 0
+AppendLeavesViews = (l new : Log) (v : View) (epoch now : ℤ) (items : List MetaRecord) → IsLog l → IsViewOf l v → append l epoch now items ≡ Ok new → IsViewOf new v
+
+-- So does an election.
+abbrev pub ElectLeavesViews : Type 0
+ElectLeavesViews = (l new : Log) (v : View) (now : ℤ) (items : List MetaRecord) → IsLog l → IsViewOf l v → elect l now items ≡ Ok new → IsViewOf new v
+
+-- A transaction is open at the log's end exactly where one has begun there.
+abbrev pub OpenIsBegun : Type 0
+OpenIsBegun = (l : Log) → IsLog l → is_open_log l ≡ is_some (begun_of l)
