@@ -51,6 +51,7 @@ event_leaves w (event.Start id) of_client sound held = absurd of_client
 event_leaves w (event.Elect id now) of_client sound held = absurd of_client
 event_leaves w (event.Turn id now) of_client sound held = absurd of_client
 event_leaves w (event.Change id records now) of_client sound held = absurd of_client
+event_leaves w (event.Register id broker migrating now) of_client sound held = absurd of_client
 event_leaves w event.Check of_client sound held = absurd of_client
 event_leaves w (event.ZkOpen session) of_client sound held =
     moved_leaves w (begin_session w.shared.tree session) (λ t is. (begin_leaves w.shared.tree t session is sound.kept.tree).1)
