@@ -104,23 +104,8 @@ turn_lawful d = where_true IsLawful (member_count d == timed_count 2 d) _ (λ fe
 
 -- of every other record the test is false
 change_is : (r : MetaRecord) → is_changeable r ≡ true → IsChange r
-change_is (meta.RegisterBroker b) is = absurd (cc)
-change_is (meta.Topic t) is = absurd (cc)
-change_is (meta.Partition p) is = absurd (cc)
 change_is (meta.Config c) is = (Decides-int_eq c.resource_type (pos 4)).0 is
-change_is (meta.PartitionChange p) is = absurd (cc)
-change_is (meta.RemoveTopic id) is = absurd (cc)
-change_is (meta.UserScramCredential r) is = absurd (cc)
-change_is (meta.ClientQuota r) is = absurd (cc)
-change_is (meta.ProducerIds r) is = absurd (cc)
-change_is (meta.AccessControlEntry r) is = absurd (cc)
-change_is (meta.RemoveAccessControlEntry id) is = absurd (cc)
-change_is meta.NoOp is = absurd (cc)
-change_is (meta.ZkMigrationState s) is = absurd (cc)
-change_is (meta.RemoveUserScramCredential name mechanism) is = absurd (cc)
-change_is (meta.BeginTransaction name) is = absurd (cc)
-change_is meta.EndTransaction is = absurd (cc)
-change_is (meta.AbortTransaction reason) is = absurd (cc)
+change_is r is = absurd (cc)
 
 changeable_is : (d : Data) → OfSome IsChange (changeable_of d)
 changeable_is d = after (λ (x : MetaRecord). ⊤) IsChange (λ r. if is_changeable r then Some r else None) (record_of d) (anything (record_of d)) (λ r t. where_true IsChange (is_changeable r) (Some r) (change_is r))

@@ -289,23 +289,9 @@ changed_one s l (d ∷ []) kept grows one = record { fine = fine_grown s l d kep
 changed_one s l (d ∷ e ∷ ds) kept grows one = one
 
 change_plain : (r : MetaRecord) → IsChange r → IsPlain r
-change_plain (meta.RegisterBroker b) is = absurd is
-change_plain (meta.Topic t) is = absurd is
-change_plain (meta.Partition p) is = absurd is
-change_plain (meta.Config c) is = tt
-change_plain (meta.PartitionChange p) is = absurd is
-change_plain (meta.RemoveTopic id) is = absurd is
-change_plain (meta.UserScramCredential r) is = absurd is
-change_plain (meta.ClientQuota r) is = absurd is
-change_plain (meta.ProducerIds r) is = absurd is
-change_plain (meta.AccessControlEntry r) is = absurd is
-change_plain (meta.RemoveAccessControlEntry id) is = absurd is
-change_plain meta.NoOp is = absurd is
-change_plain (meta.ZkMigrationState s) is = absurd is
-change_plain (meta.RemoveUserScramCredential name mechanism) is = absurd is
-change_plain (meta.BeginTransaction name) is = absurd is
 change_plain meta.EndTransaction is = absurd is
-change_plain (meta.AbortTransaction reason) is = absurd is
+change_plain (meta.ZkMigrationState s) is = absurd is
+change_plain r is = tt
 
 -- one batch more of plain records, of the log's epoch
 plain_kept : (w : World) (records : List MetaRecord) (now : ℤ) → All IsPlain records → full_log w.shared.log records ≡ None → Lone w → Lone (changed_world w records now)

@@ -57,49 +57,21 @@ not_after : (a b : ℤ) → a ≤ℤ b → int_le a b ≡ true
 not_after a b low = grind (arith, ints)
 
 no_end : (r : MetaRecord) → IsPlain r → is_end r ≡ false
-no_end (meta.RegisterBroker b) plain = refl
-no_end (meta.Topic t) plain = refl
-no_end (meta.Partition p) plain = refl
-no_end (meta.Config c) plain = refl
-no_end (meta.PartitionChange p) plain = refl
-no_end (meta.RemoveTopic id) plain = refl
-no_end (meta.UserScramCredential r) plain = refl
-no_end (meta.ClientQuota r) plain = refl
-no_end (meta.ProducerIds r) plain = refl
-no_end (meta.AccessControlEntry r) plain = refl
-no_end (meta.RemoveAccessControlEntry id) plain = refl
-no_end meta.NoOp plain = refl
-no_end (meta.ZkMigrationState s) plain = refl
-no_end (meta.RemoveUserScramCredential name mechanism) plain = refl
-no_end (meta.BeginTransaction name) plain = refl
 no_end meta.EndTransaction plain = absurd plain
-no_end (meta.AbortTransaction reason) plain = refl
+no_end r plain = refl
 
 either_state : (b : Bool) (i j k : Image) → j.state ≡ i.state → k.state ≡ i.state → (if b then j else k).state ≡ i.state
 either_state true i j k one other = one
 either_state false i j k one other = other
 
 effect_leaves : (epoch : ℤ) (r : MetaRecord) (i : Image) → IsPlain r → (effect epoch r i).state ≡ i.state
-effect_leaves epoch (meta.RegisterBroker b) i plain = refl
-effect_leaves epoch (meta.Topic t) i plain = refl
-effect_leaves epoch (meta.Partition p) i plain = refl
 effect_leaves epoch (meta.Config c) i plain = either_state (int_eq c.resource_type (pos 2)) i
     (record i { topics = with_changed (topic_configured c) (topic_named c.resource_name i) i.topics })
     (record i { broker_configs = configured c i.broker_configs })
     refl refl
-effect_leaves epoch (meta.PartitionChange p) i plain = refl
-effect_leaves epoch (meta.RemoveTopic id) i plain = refl
-effect_leaves epoch (meta.UserScramCredential r) i plain = refl
-effect_leaves epoch (meta.ClientQuota r) i plain = refl
-effect_leaves epoch (meta.ProducerIds r) i plain = refl
-effect_leaves epoch (meta.AccessControlEntry r) i plain = refl
-effect_leaves epoch (meta.RemoveAccessControlEntry id) i plain = refl
-effect_leaves epoch meta.NoOp i plain = refl
 effect_leaves epoch (meta.ZkMigrationState s) i plain = absurd plain
-effect_leaves epoch (meta.RemoveUserScramCredential name mechanism) i plain = refl
-effect_leaves epoch (meta.BeginTransaction name) i plain = refl
 effect_leaves epoch meta.EndTransaction i plain = absurd plain
-effect_leaves epoch (meta.AbortTransaction reason) i plain = refl
+effect_leaves epoch r i plain = refl
 
 -- a record that breaks a rule leaves all
 unless_broken_leaves : (b : Option ImageRule) (made i : Image) → made.state ≡ i.state → (unless_broken b made i).state ≡ i.state
