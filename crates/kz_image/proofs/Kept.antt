@@ -1,5 +1,5 @@
 -- What a record that breaks no rule makes of a metadata in order is in order.
-use Rattle.std.proofs.Common.{◌≡◌, ℕ, ◌&&◌, ◌||◌, not, Bool, true, false, cond, ℤ, pos, negsuc, List, Option, Some, None, refl, sym, ap, ◌∙◌}
+use Rattle.std.proofs.Common.{◌≡◌, ℕ, ◌&&◌, ◌||◌, not, Bool, true, false, cond, ℤ, pos, negsuc, List, None, refl}
 use Rattle.std.specs.Prelude.{int_le, int_lt, is_some}
 use Rattle.std.specs.Ordering.{int_cmp, int_eq}
 use Rattle.std.specs.List.{All}
@@ -13,11 +13,11 @@ use Rattle.kz_types.specs.declared.record.ConfigRecord.{ConfigRecord}
 use Rattle.kz_types.specs.Paths.{is_topic_name}
 use Rattle.kz_types.specs.Quotas.{is_quota}
 use Rattle.kz_ordered.specs.Order.{bytes_cmp}
-use Rattle.kz_ordered.specs.Ordered.{put, without, Rises}
+use Rattle.kz_ordered.specs.Ordered.{without, Rises}
 use Rattle.kz_ordered.proofs.Order.{bytes_order, int_order}
 use Rattle.kz_ordered.proofs.Lookup.{Rises-put, Rises-without}
 use Rattle.kz_spec_stores.specs.Metadata.{Image, id_of_acl, id_of_broker, topic_named, topic_with}
-use Rattle.kz_spec_stores.specs.ImageRules.{is_empty, is_zero, is_broker_name, is_mechanism, is_user, are_codes, is_resource, is_row, new_row, is_epoch, is_operation, is_permission, is_epoch_or_none, is_below_next, max_next, broken, is_misnamed, is_misvalued, quota_key}
+use Rattle.kz_spec_stores.specs.ImageRules.{is_empty, is_zero, is_broker_name, is_mechanism, is_user, are_codes, is_resource, is_row, new_row, is_epoch, is_operation, is_permission, is_epoch_or_none, is_below_next, max_next, broken, quota_key}
 use Rattle.kz_spec_stores.specs.Image.{acl_row, topic_configured, with_changed, configured, without_topic, scram_removed, effect}
 use Rattle.kz_image.specs.Legal.{AreTopics, IsScramEntry, IsAcl, IsBroker}
 use Rattle.kz_image.specs.InOrder.{AreTopicsInOrder, AreUsersInOrder, IsInOrder}

@@ -1,8 +1,8 @@
 -- What a record makes of a metadata whose entries are legal has legal entries.
-use Rattle.std.proofs.Common.{◌≡◌, ◌≢◌, ℕ, zero, suc, ◌+◌, ◌<◌, ◌&&◌, ◌||◌, ℤ, pos, Bool, true, false, not, cond, filter, List, [], ◌∷◌, Option, Some, None, Ok, Ordering, Less, Equal, Greater, length, get_or, set, refl, sym, ap, ◌∙◌, subst, arith, codes, inl, inr}
+use Rattle.std.proofs.Common.{◌≡◌, ◌≢◌, ℕ, zero, suc, ◌<◌, ◌&&◌, ℤ, pos, Bool, true, false, not, cond, List, [], ◌∷◌, Option, Some, None, Ok, Ordering, Less, Equal, Greater, length, get_or, set, refl, sym, ap, ◌∙◌, subst, arith, inl, inr}
 use Rattle.std.specs.Prelude.{int_le, option_map, option_and_then, slice_index, ◌==◌, if◌then◌else◌}
-use Rattle.std.specs.Ordering.{int_cmp, int_eq, match_ordering}
-use Rattle.std.specs.List.{All, AllPairs, Contains, find as find_by}
+use Rattle.std.specs.Ordering.{int_cmp, match_ordering}
+use Rattle.std.specs.List.{All, Contains, find as find_by}
 use Rattle.std.proofs.lemmas.Bool.{false≢true, cases_Bool}
 use Rattle.std.proofs.lemmas.Slice.Eq.{bytes_eq-Decides}
 use Rattle.std.proofs.lemmas.List.{length-set}

@@ -1,9 +1,9 @@
 -- What a change of a topic makes of the topics, at its place, and that they stay in order.
-use Rattle.std.proofs.Common.{◌≡◌, ℕ, ◌<◌, ℤ, Bool, true, false, not, cond, filter, List, [], ◌∷◌, Option, Some, None, Ok, length, get_or, set, refl, sym, ap, ◌∙◌}
+use Rattle.std.proofs.Common.{◌≡◌, ℕ, ◌<◌, ℤ, true, not, List, Option, Some, None, Ok, length, get_or, set, refl, sym, ap, ◌∙◌}
 use Rattle.std.proofs.lemmas.List.{get_or_default}
 use Rattle.std.proofs.lemmas.List.Elements.{All-filter}
 use Rattle.std.specs.Prelude.{option_and_then}
-use Rattle.std.specs.List.{All, find as find_by}
+use Rattle.std.specs.List.{find as find_by}
 use Rattle.kz_types.specs.declared.id.Id.{Id}
 use Rattle.kz_types.specs.declared.row.PartitionRow.{PartitionRow}
 use Rattle.kz_types.specs.declared.image.TopicEntry.{TopicEntry}
