@@ -387,7 +387,7 @@ static KEPT: [Step; 12] = [
 
 fn image(rt: &impl Abort, alloc: Global, steps: &[Step]) -> Image {
     let mut image = Image::new(alloc);
-    made(rt, image.apply_all(alloc, 7, &records(rt, alloc, steps)));
+    made(rt, image.apply_all(7, &records(rt, alloc, steps)));
     image
 }
 
@@ -482,17 +482,17 @@ fn partitions_are_changed(rt: HostRuntime) {
     assert!(rt; is_row(image.partition(id(1), 0), &[1, 2], [1, 4, 0, 7]));
     made(
         &rt,
-        image.apply(alloc, 8, &record(&rt, alloc, &Step::Isr(1, 0, &[2]))),
+        image.apply(8, &record(&rt, alloc, &Step::Isr(1, 0, &[2]))),
     );
     assert!(rt; is_row(image.partition(id(1), 0), &[2], [1, 4, 1, 8]));
     made(
         &rt,
-        image.apply(alloc, 9, &record(&rt, alloc, &Step::Leader(1, 0, 2))),
+        image.apply(9, &record(&rt, alloc, &Step::Leader(1, 0, 2))),
     );
     assert!(rt; is_row(image.partition(id(1), 0), &[2], [2, 5, 2, 9]));
     made(
         &rt,
-        image.apply(alloc, 9, &record(&rt, alloc, &Step::Leader(1, 1, 2))),
+        image.apply(9, &record(&rt, alloc, &Step::Leader(1, 1, 2))),
     );
     assert!(rt; is_row(image.partition(id(1), 1), &[1, 2], [1, 2147483647, 0, 7]));
     assert!(rt; image.partition(id(1), 2).is_none());
@@ -536,10 +536,7 @@ fn user(rt: &impl Abort, alloc: Global, name: &str) -> EntityKey {
 fn each_kind_of_record_is_taken_in(rt: HostRuntime) {
     let alloc = rt.alloc();
     let mut first = image(&rt, alloc, &BEFORE);
-    made(
-        &rt,
-        first.apply_all(alloc, 7, &records(&rt, alloc, &MEMBERS)),
-    );
+    made(&rt, first.apply_all(7, &records(&rt, alloc, &MEMBERS)));
     let image = made(&rt, first.copy(alloc));
     assert!(rt; counts(&image) == [1, 1, 1, 1, 1, 1]);
     assert!(rt; image.topic(&text(&rt, alloc, "t")) == Some(id(1)));
@@ -572,18 +569,12 @@ static REMOVALS: [Step; 6] = [
 fn what_is_removed_leaves_nothing(rt: HostRuntime) {
     let alloc = rt.alloc();
     let mut image = image(&rt, alloc, &BEFORE);
-    made(
-        &rt,
-        image.apply_all(alloc, 7, &records(&rt, alloc, &MEMBERS)),
-    );
-    made(
-        &rt,
-        image.apply_all(alloc, 7, &records(&rt, alloc, &REMOVALS)),
-    );
+    made(&rt, image.apply_all(7, &records(&rt, alloc, &MEMBERS)));
+    made(&rt, image.apply_all(7, &records(&rt, alloc, &REMOVALS)));
     assert!(rt; counts(&image) == [0, 0, 0, 0, 0, 1]);
     made(
         &rt,
-        image.apply(alloc, 7, &record(&rt, alloc, &Step::Topic("t", 1))),
+        image.apply(7, &record(&rt, alloc, &Step::Topic("t", 1))),
     );
     assert!(rt; image.configs(2, &text(&rt, alloc, "t")).is_none());
     assert!(rt; image.partition(id(1), 0).is_none());
