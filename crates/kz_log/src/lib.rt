@@ -17,3 +17,6 @@ pub use rows::{LogRows, MAX_EPOCH, MAX_RECORDS};
 pub use store::{Elected, MetaLog};
 pub use view::View;
 pub use wire::{LogWire, LogWireFault};
+
+#[cfg(test)]
+mod tests;

@@ -106,7 +106,12 @@ impl<L> LogWire<L> {
 
 impl<L: MetaLog> LogWire<L> {
     /// A controller of this epoch appends a batch, and is told its last offset; by the plan.
-    pub fn append(&mut self, epoch: i32, now: i64, items: &[MetaRecord]) -> Result<i64, LogWireFault>
+    pub fn append(
+        &mut self,
+        epoch: i32,
+        now: i64,
+        items: &[MetaRecord],
+    ) -> Result<i64, LogWireFault>
         requires some { 0 < length items.now }
         requires elected { pos 1 ≤ℤ epoch }
         ensures ok { IfOk result (λ end. (logs.append (L.log self.old.inner) epoch now items.now ≡ Ok (L.log self.new.inner)) × (end ≡ end_of (L.log self.new.inner))) }
