@@ -1,16 +1,11 @@
 -- What a store of a log answers a request.
-use Rattle.std.specs.Prelude.{◌≡◌, ◌<◌, ℕ, Bool, true, List, length, Option, Result, Ok, Err, ⊤}
+use Rattle.std.specs.Prelude.{◌≡◌, ℕ, ℤ, Bool, true, Option, Result, Ok, Err, ⊤}
 use Rattle.kz_image.specs.declared.feed.Feed.{Feed}
-use Rattle.kz_types.specs.declared.record.MetaRecord.{MetaRecord}
 use Rattle.kz_types.specs.declared.fault.LogFault.{LogFault}
 use Rattle.kz_types.specs.declared.fault.LogFault.TheVariants as fault
 use Rattle.kz_spec_stores.specs.Log.{Log, Feed as FeedOf, end_of, reset}
 use Rattle.kz_spec_stores.specs.Requests.{IsFull, IsTaken}
 use Rattle.kz_log.specs.declared.store.Elected.{Elected}
-
--- a batch has a record
-abbrev pub IsBatch : List MetaRecord → Type 0
-IsBatch items = 0 < length items
 
 -- the epoch and the last offset of a log
 pub record IsElected (l : Log) (e : Elected) : Type 0 where

@@ -1,16 +1,22 @@
 //! A committed metadata log, in memory or behind a trait of stores, and what a controller knows of it.
 #![tactic(auto)]
 
-mod laws;
-mod reading;
+mod cursor;
+mod ends;
+mod memory;
+mod pass;
 mod rows;
 mod store;
 mod view;
+mod wire;
 
 pub use kz_image::Feed;
 pub use kz_types::{BatchRow, LogFault};
-pub use laws::views_stay;
-pub use reading::{read_all, read_to_end};
+pub use memory::MemoryLog;
 pub use rows::{LogRows, MAX_EPOCH, MAX_RECORDS};
 pub use store::{Elected, MetaLog};
 pub use view::View;
+pub use wire::{LogWire, LogWireFault};
+
+#[cfg(test)]
+mod tests;
