@@ -41,6 +41,11 @@ long_path_not_found k xs order fails = path_not_found is_path k xs (λ i d withi
 pub other_path_not_found : (k : List ℕ) (xs : List QuotaEntry) → AreQuotasInOrder xs → is_below_quota_root k ≡ false → find bytes_cmp path_of_quotas k xs ≡ None
 other_path_not_found k xs order fails = path_not_found is_below_quota_root k xs (λ i d within. (order.filled i d within).3) fails
 
+-- what isn't found isn't found where it is looked for only under a condition
+pub none_guarded : {A : Type 0} (b : Bool) (found : Option A) → found ≡ None → cond b found None ≡ None
+none_guarded true found h = h
+none_guarded false found h = refl
+
 acl_path_is_other : (literal : Bool) (rest : List ℕ) → is_below_quota_root (cond literal (codes "/kafka-acl/") (codes "/kafka-acl-extended/prefixed/") ++ rest) ≡ false
 acl_path_is_other true rest = refl
 acl_path_is_other false rest = refl

@@ -1,13 +1,13 @@
 //! The metadata.
-ghost use Rattle.std.specs.Prelude.{ℕ, ◌≡◌, ◌&&◌, true, None, pos, option_map, IfOk, OnOk, OnErr, IfErr, take};
+ghost use Rattle.std.specs.Prelude.{ℕ, ◌≡◌, ◌&&◌, true, None, Some, pos, int_le, option_map, IfOk, OnOk, OnErr, IfErr, take, if◌then◌else◌};
 ghost use Rattle.std.specs.Ordering.{int_cmp, int_eq};
 ghost use Rattle.std.specs.List.{list_any};
 ghost use Rattle.kz_ordered.specs.Order.{bytes_cmp};
-ghost use Rattle.kz_ordered.specs.Ordered.{Rises};
+ghost use Rattle.kz_ordered.specs.Ordered.{put as put_in, without as without_in, Rises};
 ghost use Rattle.kz_types.specs.declared.record.MetaRecord.TheVariants as meta;
 ghost use Rattle.kz_spec_stores.specs.Metadata.{empty_image, topic_named, id_of_acl, id_of_broker, topic_id_of, topic_name_of, partition_of, configs_of, quotas_of, scram_of, acl_of};
 ghost use Rattle.kz_spec_stores.specs.ImageRules.{broken, quota_key, has_quota, leaves_row};
-ghost use Rattle.kz_spec_stores.specs.Image.{acl_row, configured, topic_configured, with_changed, effect, applied, all_applied, first_bad};
+ghost use Rattle.kz_spec_stores.specs.Image.{acl_row, configured, topic_configured, with_changed, put_topic, new_topic, without_topic, scram_set, scram_removed, quota_changed, effect, applied, all_applied, first_bad};
 ghost use Rattle.kz_image.specs.InOrder.{AreTopicsInOrder, AreInOrder, AreQuotasInOrder, AreUsersInOrder};
 ghost use Rattle.kz_image.specs.Faults.{IsFirstBad};
 
@@ -44,6 +44,7 @@ pub type Brokers = Sequence<RegisterBrokerRecord>;
 /// registered brokers, the next producer id, and the state of the migration.
 #[derive(Drop)]
 pub struct Image {
+    alloc: Global,
     topics: Vec<TopicEntry>,
     broker_configs: Vec<Configuration>,
     quotas: Vec<QuotaEntry>,
@@ -109,6 +110,7 @@ impl Image {
         ensures { result ≡ empty_image }
     {
         Image {
+            alloc,
             topics: Vec::new(alloc),
             broker_configs: Vec::new(alloc),
             quotas: Vec::new(alloc),
@@ -287,83 +289,59 @@ impl Image {
 
     // ---- changes
 
-    fn register_broker(
-        &mut self,
-        alloc: Global,
-        epoch: i32,
-        change: &RegisterBrokerRecord,
-    ) -> Result<(), NoMemory>
-        ensures ok { OnOk result (self.new ≡ effect epoch (meta.RegisterBroker change.now) self.old) }
+    fn register_broker(&mut self, change: &RegisterBrokerRecord) -> Result<(), NoMemory>
+        ensures ok { OnOk result (self.new ≡ record self.old { brokers = put_in int_cmp id_of_broker change.now self.old.brokers }) }
         ensures err { OnErr result (self.new ≡ self.old) }
     {
-        let _ = epoch;
-        register(alloc, &mut self.brokers, change)?;
+        register(self.alloc, &mut self.brokers, change)?;
         Ok(())
     }
 
-    fn make_topic(
-        &mut self,
-        alloc: Global,
-        epoch: i32,
-        change: &TopicRecord,
-    ) -> Result<(), NoMemory>
-        ensures ok { OnOk result (self.new ≡ effect epoch (meta.Topic change.now) self.old) }
+    fn make_topic(&mut self, change: &TopicRecord) -> Result<(), NoMemory>
+        ensures ok { OnOk result (self.new ≡ record self.old { topics = put_topic (new_topic change.now) self.old.topics }) }
         ensures err { OnErr result (self.new ≡ self.old) }
     {
-        let _ = epoch;
-        make_topic(alloc, &mut self.topics, change)?;
+        make_topic(self.alloc, &mut self.topics, change)?;
         Ok(())
     }
 
-    fn make_partition(
-        &mut self,
-        alloc: Global,
-        epoch: i32,
-        change: &PartitionRecord,
-    ) -> Result<(), NoMemory>
+    fn make_partition(&mut self, epoch: i32, change: &PartitionRecord) -> Result<(), NoMemory>
         ensures ok { OnOk result (self.new ≡ effect epoch (meta.Partition change.now) self.old) }
         ensures err { OnErr result (self.new ≡ self.old) }
     {
-        make_partition(alloc, epoch, &mut self.topics, change)?;
+        make_partition(self.alloc, epoch, &mut self.topics, change)?;
         Ok(())
     }
 
-    fn configure_topic(&mut self, alloc: Global, change: &ConfigRecord) -> Result<(), NoMemory>
+    fn configure_topic(&mut self, change: &ConfigRecord) -> Result<(), NoMemory>
         ensures ok { OnOk result (self.new ≡ record self.old { topics = with_changed (topic_configured change.now) (topic_named change.now.resource_name self.old) self.old.topics }) }
         ensures err { OnErr result (self.new ≡ self.old) }
     {
-        configure_topic(alloc, &mut self.topics, change)?;
+        configure_topic(self.alloc, &mut self.topics, change)?;
         Ok(())
     }
 
-    fn configure_broker(&mut self, alloc: Global, change: &ConfigRecord) -> Result<(), NoMemory>
+    fn configure_broker(&mut self, change: &ConfigRecord) -> Result<(), NoMemory>
         ensures ok { OnOk result (self.new ≡ record self.old { broker_configs = configured change.now self.old.broker_configs }) }
         ensures err { OnErr result (self.new ≡ self.old) }
     {
-        configure(alloc, &mut self.broker_configs, change)?;
+        configure(self.alloc, &mut self.broker_configs, change)?;
         Ok(())
     }
 
-    fn configure(
-        &mut self,
-        alloc: Global,
-        epoch: i32,
-        change: &ConfigRecord,
-    ) -> Result<(), NoMemory>
-        ensures ok { OnOk result (self.new ≡ effect epoch (meta.Config change.now) self.old) }
+    fn configure(&mut self, change: &ConfigRecord) -> Result<(), NoMemory>
+        ensures ok { OnOk result (self.new ≡ (if int_eq change.now.resource_type (pos 2) then record self.old { topics = with_changed (topic_configured change.now) (topic_named change.now.resource_name self.old) self.old.topics } else record self.old { broker_configs = configured change.now self.old.broker_configs })) }
         ensures err { OnErr result (self.new ≡ self.old) }
     {
-        let _ = epoch;
         if change.resource_type == 2 {
-            self.configure_topic(alloc, change)
+            self.configure_topic(change)
         } else {
-            self.configure_broker(alloc, change)
+            self.configure_broker(change)
         }
     }
 
     fn change_partition(
         &mut self,
-        alloc: Global,
         epoch: i32,
         change: &PartitionChangeRecord,
     ) -> Result<(), NoMemory>
@@ -371,124 +349,101 @@ impl Image {
         ensures ok { OnOk result (self.new ≡ effect epoch (meta.PartitionChange change.now) self.old) }
         ensures err { OnErr result (self.new ≡ self.old) }
     {
-        change_partition(alloc, epoch, &mut self.topics, change)?;
+        change_partition(self.alloc, epoch, &mut self.topics, change)?;
         Ok(())
     }
 
-    fn remove_topic(&mut self, epoch: i32, topic_id: Id)
-        ensures { self.new ≡ effect epoch (meta.RemoveTopic topic_id) self.old }
+    fn remove_topic(&mut self, topic_id: Id)
+        ensures { self.new ≡ record self.old { topics = without_topic topic_id self.old.topics } }
     {
-        let _ = epoch;
         remove_topic(&mut self.topics, topic_id);
     }
 
-    fn set_scram(
-        &mut self,
-        alloc: Global,
-        epoch: i32,
-        change: &UserScramCredentialRecord,
-    ) -> Result<(), NoMemory>
-        ensures ok { OnOk result (self.new ≡ effect epoch (meta.UserScramCredential change.now) self.old) }
+    fn set_scram(&mut self, change: &UserScramCredentialRecord) -> Result<(), NoMemory>
+        ensures ok { OnOk result (self.new ≡ record self.old { users = scram_set change.now self.old.users }) }
         ensures err { OnErr result (self.new ≡ self.old) }
     {
-        let _ = epoch;
-        set_scram(alloc, &mut self.users, change)?;
+        set_scram(self.alloc, &mut self.users, change)?;
         Ok(())
     }
 
-    fn remove_scram(&mut self, alloc: Global, epoch: i32, name: &Text, mechanism: i8)
-        ensures { self.new ≡ effect epoch (meta.RemoveUserScramCredential name.now mechanism) self.old }
+    fn remove_scram(&mut self, name: &Text, mechanism: i8)
+        ensures { self.new ≡ record self.old { users = scram_removed name.now mechanism self.old.users } }
     {
-        let _ = epoch;
-        remove_scram(alloc, &mut self.users, name, mechanism);
+        remove_scram(self.alloc, &mut self.users, name, mechanism);
     }
 
-    fn change_quota(
-        &mut self,
-        alloc: Global,
-        epoch: i32,
-        change: &ClientQuotaRecord,
-    ) -> Result<(), NoMemory>
+    fn change_quota(&mut self, change: &ClientQuotaRecord) -> Result<(), NoMemory>
         requires { has_quota (quota_key change.now.entity) change.now.key ≡ true }
-        ensures ok { OnOk result (self.new ≡ effect epoch (meta.ClientQuota change.now) self.old) }
+        ensures ok { OnOk result (self.new ≡ record self.old { quotas = quota_changed change.now (quota_key change.now.entity) self.old.quotas }) }
         ensures err { OnErr result (self.new ≡ self.old) }
     {
-        let _ = epoch;
-        change_quota(alloc, &mut self.quotas, change)?;
+        change_quota(self.alloc, &mut self.quotas, change)?;
         Ok(())
     }
 
-    fn make_acl(
-        &mut self,
-        alloc: Global,
-        epoch: i32,
-        change: &AccessControlEntryRecord,
-    ) -> Result<(), NoMemory>
-        ensures ok { OnOk result (self.new ≡ effect epoch (meta.AccessControlEntry change.now) self.old) }
+    fn make_acl(&mut self, change: &AccessControlEntryRecord) -> Result<(), NoMemory>
+        ensures ok { OnOk result (self.new ≡ record self.old { acls = put_in bytes_cmp id_of_acl (record { id = change.now.id; row = acl_row change.now }) self.old.acls }) }
         ensures err { OnErr result (self.new ≡ self.old) }
     {
-        let _ = epoch;
-        let entry = acl_entry(alloc, change)?;
+        let entry = acl_entry(self.alloc, change)?;
         put(&mut self.acls, entry)?;
         Ok(())
     }
 
-    fn remove_acl(&mut self, epoch: i32, id: Id)
-        ensures { self.new ≡ effect epoch (meta.RemoveAccessControlEntry id) self.old }
+    fn remove_acl(&mut self, id: Id)
+        ensures { self.new ≡ record self.old { acls = without_in bytes_cmp id_of_acl id.bytes self.old.acls } }
     {
-        let _ = epoch;
         without(&mut self.acls, &id.bytes);
     }
 
-    fn set_next_producer(&mut self, epoch: i32, change: &ProducerIdsRecord)
-        ensures { self.new ≡ effect epoch (meta.ProducerIds change.now) self.old }
+    fn set_next_producer(&mut self, change: &ProducerIdsRecord)
+        ensures { self.new ≡ record self.old { next_producer = Some change.now.next } }
     {
-        let _ = epoch;
         self.next_producer = Some(change.next);
     }
 
-    fn set_state(&mut self, epoch: i32, state: i8)
-        ensures { self.new ≡ effect epoch (meta.ZkMigrationState state) self.old }
+    fn set_state(&mut self, state: i8)
+        ensures { self.new ≡ (if int_le (pos 0) state && int_le state (pos 3) then record self.old { state = state } else self.old) }
     {
-        let _ = epoch;
         if 0 <= state && state <= 3 {
             self.state = state;
         }
     }
 
     // Takes in a record that breaks no rule.
-    fn take_in(&mut self, alloc: Global, epoch: i32, item: &MetaRecord) -> Result<(), NoMemory>
+    fn take_in(&mut self, epoch: i32, item: &MetaRecord) -> Result<(), NoMemory>
         requires { broken self.old item.now ≡ None }
         ensures ok { OnOk result (self.new ≡ effect epoch item.now self.old) }
         ensures err { OnErr result (self.new ≡ self.old) }
     {
         match item {
-            MetaRecord::RegisterBroker(change) => self.register_broker(alloc, epoch, change),
-            MetaRecord::Topic(change) => self.make_topic(alloc, epoch, change),
-            MetaRecord::Partition(change) => self.make_partition(alloc, epoch, change),
-            MetaRecord::Config(change) => self.configure(alloc, epoch, change),
-            MetaRecord::PartitionChange(change) => self.change_partition(alloc, epoch, change),
+            MetaRecord::RegisterBroker(change) => self.register_broker(change),
+            MetaRecord::Topic(change) => self.make_topic(change),
+            MetaRecord::Partition(change) => self.make_partition(epoch, change),
+            MetaRecord::Config(change) => self.configure(change),
+            MetaRecord::PartitionChange(change) => self.change_partition(epoch, change),
             MetaRecord::RemoveTopic { topic_id } => {
-                self.remove_topic(epoch, *topic_id);
+                self.remove_topic(*topic_id);
                 Ok(())
             }
-            MetaRecord::UserScramCredential(change) => self.set_scram(alloc, epoch, change),
-            MetaRecord::ClientQuota(change) => self.change_quota(alloc, epoch, change),
+            MetaRecord::UserScramCredential(change) => self.set_scram(change),
+            MetaRecord::ClientQuota(change) => self.change_quota(change),
             MetaRecord::ProducerIds(change) => {
-                self.set_next_producer(epoch, change);
+                self.set_next_producer(change);
                 Ok(())
             }
-            MetaRecord::AccessControlEntry(change) => self.make_acl(alloc, epoch, change),
+            MetaRecord::AccessControlEntry(change) => self.make_acl(change),
             MetaRecord::RemoveAccessControlEntry { id } => {
-                self.remove_acl(epoch, *id);
+                self.remove_acl(*id);
                 Ok(())
             }
             MetaRecord::ZkMigrationState { state } => {
-                self.set_state(epoch, *state);
+                self.set_state(*state);
                 Ok(())
             }
             MetaRecord::RemoveUserScramCredential { name, mechanism } => {
-                self.remove_scram(alloc, epoch, name, *mechanism);
+                self.remove_scram(name, *mechanism);
                 Ok(())
             }
             MetaRecord::NoOp
@@ -499,28 +454,23 @@ impl Image {
     }
 
     /// Takes in a record of a batch of this epoch. One that breaks a rule changes nothing. At `Err` nothing has changed.
-    pub fn apply(&mut self, alloc: Global, epoch: i32, item: &MetaRecord) -> Result<(), NoMemory>
+    pub fn apply(&mut self, epoch: i32, item: &MetaRecord) -> Result<(), NoMemory>
         ensures ok { OnOk result (self.new ≡ applied epoch item.now self.old) }
         ensures err { OnErr result (self.new ≡ self.old) }
     {
         match broken(self, item) {
             Some(_) => Ok(()),
-            None => self.take_in(alloc, epoch, item),
+            None => self.take_in(epoch, item),
         }
     }
 
     /// Takes in the records of a batch of this epoch, one after another. At `Err` the first few were taken in.
-    pub fn apply_all(
-        &mut self,
-        alloc: Global,
-        epoch: i32,
-        items: &[MetaRecord],
-    ) -> Result<(), NoMemory>
+    pub fn apply_all(&mut self, epoch: i32, items: &[MetaRecord]) -> Result<(), NoMemory>
         ensures ok { OnOk result (self.new ≡ all_applied epoch items.now self.old) }
         ensures err { OnErr result ((n : ℕ) × (self.new ≡ all_applied epoch (take n items.now) self.old)) }
     {
         for item in items {
-            self.apply(alloc, epoch, item)?;
+            self.apply(epoch, item)?;
         }
         Ok(())
     }
@@ -529,6 +479,7 @@ impl Image {
 impl Duplicate for Image {
     fn copy(&self, alloc: Global) -> Result<Self, NoMemory> {
         Ok(Image {
+            alloc,
             topics: copy_all(alloc, &self.topics)?,
             broker_configs: copy_all(alloc, &self.broker_configs)?,
             quotas: copy_all(alloc, &self.quotas)?,
@@ -556,7 +507,7 @@ pub fn valid(alloc: Global, image: &Image, items: &[MetaRecord]) -> Result<(), I
         if let Some(why) = refused(&after, &items[index]) {
             return Err(ImageFault::BadRecord { index, why });
         }
-        if after.apply(alloc, 0, &items[index]).is_err() {
+        if after.apply(0, &items[index]).is_err() {
             return Err(ImageFault::NoMemory);
         }
     }

@@ -8,7 +8,6 @@ mod feed;
 mod image;
 mod names;
 mod partitions;
-mod path_rule;
 mod paths;
 mod presence;
 mod quota_keys;

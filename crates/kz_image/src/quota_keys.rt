@@ -1,14 +1,13 @@
 //! Whom a quota speaks of.
 ghost use Rattle.std.specs.Prelude.{◌≡◌, ◌<◌, ◌+◌, ◌&&◌, ◌∷◌, [], true, false, ◌++◌, length, option_map, MatchOption};
 ghost use Rattle.kz_types.specs.PathRule.{is_path};
-ghost use Rattle.kz_types.specs.Paths.{is_absent_or, is_not_empty, is_address, is_legal, path_of, has_path, is_among};
+ghost use Rattle.kz_types.specs.Paths.{is_legal, path_of, has_path, is_among};
 ghost use Rattle.kz_spec_values.specs.Credentials.{quota_keys};
 ghost use Rattle.kz_spec_stores.specs.ImageRules.{quota_key, has_quota};
 ghost use Rattle.kz_image.specs.QuotaKeys.{entity_of};
 
-use crate::path_rule::keeps_rule;
-use crate::paths::{push_located, push_named};
-use kz_types::{PathBuffer, QuotaEntity, Text, may_be_address};
+use crate::paths::push_named;
+use kz_types::{PathBuffer, QuotaEntity, Text, is_located, is_named, keeps_rule};
 
 /// Whom a quota speaks of. A name that is absent is the default one.
 #[derive(Clone, Copy)]
@@ -53,26 +52,6 @@ pub fn quota_key(parts: &[QuotaEntity]) -> Option<QuotaKey<'_>>
     }
 }
 
-// Whether a name is absent or isn't empty.
-fn is_named(name: &Option<Text>) -> bool
-    ensures { result ≡ is_absent_or is_not_empty name.now }
-{
-    match name {
-        Some(name) => !name.bytes().is_empty(),
-        None => true,
-    }
-}
-
-// Whether an address is absent or may be one.
-fn is_located(address: &Option<Text>) -> bool
-    ensures { result ≡ is_absent_or is_address address.now }
-{
-    match address {
-        Some(address) => may_be_address(address.bytes()),
-        None => true,
-    }
-}
-
 // Whether these are the names of an entity.
 #[tactic(auto, unfolding(kz_types::specs::Paths::is_legal))]
 fn is_legal(key: &QuotaKey<'_>) -> bool
@@ -98,7 +77,7 @@ fn push_path(path: &mut PathBuffer, key: &QuotaKey<'_>) -> bool
         QuotaKey::UserClient(user, client) => {
             push_named(path, b"/config/users/", user) && push_named(path, b"/clients/", client)
         }
-        QuotaKey::Ip(address) => push_located(path, b"/config/ips/", address),
+        QuotaKey::Ip(address) => path.push(b"/config/ips/") && path.push_address(address),
     }
 }
 

@@ -1,6 +1,6 @@
 //! The quotas of clients, users and addresses, by the rising path of their znode.
-ghost use Rattle.std.specs.Prelude.{◌≡◌, ◌≢◌, List, [], ◌∷◌, true, None, Some, Ok, IfOk, OnOk, OnErr, option_map};
-ghost use Rattle.kz_types.specs.Paths.{path_of};
+ghost use Rattle.std.specs.Prelude.{◌≡◌, ◌≢◌, List, [], ◌∷◌, true, None, Some, Ok, IfOk, OnOk, OnErr, option_map, if◌then◌else◌};
+ghost use Rattle.kz_types.specs.Paths.{path_of, is_legal};
 ghost use Rattle.kz_types.specs.PathRule.{is_path};
 ghost use Rattle.kz_types.specs.declared.bodies.QuotaRow.{QuotaRow};
 ghost use Rattle.kz_ordered.specs.Order.{bytes_cmp};
@@ -48,11 +48,14 @@ fn quotas_of_key<'a>(
     }
 }
 
-/// The quotas of an entity.
+/// The quotas of an entity. What is no entity has none.
 pub fn quotas_of<'a>(entries: &'a [QuotaEntry], key: &EntityKey) -> Option<&'a Sequence<QuotaRow>>
     requires { AreQuotasInOrder entries.now }
-    ensures { option_map (λ quotas. quotas.now) result ≡ option_map (λ q. q.quotas) (find_in bytes_cmp path_of_quotas (path_of key.now) entries.entry.now) }
+    ensures { option_map (λ quotas. quotas.now) result ≡ (if is_legal key.now then option_map (λ q. q.quotas) (find_in bytes_cmp path_of_quotas (path_of key.now) entries.entry.now) else None) }
 {
+    if !key.is_legal() {
+        return None;
+    }
     match key {
         EntityKey::Client { client } => quotas_of_key(entries, &QuotaKey::Client(client)),
         EntityKey::User { user } => quotas_of_key(entries, &QuotaKey::User(user)),

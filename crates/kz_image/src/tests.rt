@@ -37,6 +37,13 @@ fn list(rt: &impl Abort, alloc: Global, ids: &[i32]) -> Sequence<i32> {
     list
 }
 
+fn list_if(rt: &impl Abort, alloc: Global, ids: Option<&[i32]>) -> Option<Sequence<i32>> {
+    match ids {
+        Some(ids) => Some(list(rt, alloc, ids)),
+        None => None,
+    }
+}
+
 // The id whose last byte is this one.
 fn id(last: u8) -> Id {
     let mut bytes = [0; 16];
@@ -53,8 +60,8 @@ enum Step {
     Partition(u8, i32, &'static [i32], &'static [i32], i32, i32),
     // A topic's id, a number, those in sync.
     Isr(u8, i32, &'static [i32]),
-    // A topic's id, a number, the leader.
-    Leader(u8, i32, i32),
+    // A topic's id, a number, those in sync where they are stated, the leader.
+    Leader(u8, i32, Option<&'static [i32]>, i32),
     RemoveTopic(u8),
     // A type, a resource, a name, and a value.
     Config(i8, &'static str, &'static str, Option<&'static str>),
@@ -194,7 +201,9 @@ fn record(rt: &impl Abort, alloc: Global, step: &Step) -> MetaRecord {
             partition(rt, alloc, (topic, number, replicas, isr, leader, epoch))
         }
         Step::Isr(topic, number, isr) => change(topic, number, Some(list(rt, alloc, isr)), -2),
-        Step::Leader(topic, number, leader) => change(topic, number, None, leader),
+        Step::Leader(topic, number, isr, leader) => {
+            change(topic, number, list_if(rt, alloc, isr), leader)
+        }
         Step::RemoveTopic(last) => MetaRecord::RemoveTopic { topic_id: id(last) },
         Step::Config(kind, resource, name, value) => {
             config(rt, alloc, (kind, resource, name, value))
@@ -325,8 +334,8 @@ static ALONE: [(Step, ImageRule); 61] = [
         ImageRule::BadValue,
     ),
     (Step::Isr(1, 0, &[1, 3]), ImageRule::BadValue),
-    (Step::Leader(1, 0, 3), ImageRule::BadValue),
-    (Step::Leader(1, 1, 2), ImageRule::BadValue),
+    (Step::Leader(1, 0, None, 3), ImageRule::BadValue),
+    (Step::Leader(1, 1, None, 2), ImageRule::BadValue),
     (Step::Config(3, "1", "a", None), ImageRule::BadValue),
     (Step::Scram("a", 3, 1), ImageRule::BadValue),
     (Step::Scram("a", 1, 0), ImageRule::BadValue),
@@ -368,7 +377,7 @@ static KEPT: [Step; 12] = [
     Step::Topic("u", 2),
     Step::Partition(2, 7, &[3, 4], &[4], -1, 0),
     Step::Isr(1, 1, &[]),
-    Step::Leader(1, 0, -1),
+    Step::Leader(1, 0, None, -1),
     Step::Config(2, "t", "a", None),
     Step::Config(4, "", "a", None),
     Step::Scram("a b", 2, 1),
@@ -387,7 +396,7 @@ static KEPT: [Step; 12] = [
 
 fn image(rt: &impl Abort, alloc: Global, steps: &[Step]) -> Image {
     let mut image = Image::new(alloc);
-    made(rt, image.apply_all(alloc, 7, &records(rt, alloc, steps)));
+    made(rt, image.apply_all(7, &records(rt, alloc, steps)));
     image
 }
 
@@ -457,6 +466,26 @@ fn each_record_is_judged_after_those_before_it(rt: HostRuntime) {
     assert!(rt; is_judged(&rt, alloc, &ANEW, Ok(())));
 }
 
+// Whether these records are told to break this rule at this index, where nothing is there before.
+fn first_breaks(
+    rt: &impl Abort,
+    alloc: Global,
+    steps: &[Step],
+    index: usize,
+    why: ImageRule,
+) -> bool {
+    let verdict = Err(ImageFault::BadRecord { index, why });
+    valid(alloc, &Image::new(alloc), &records(rt, alloc, steps)) == verdict
+}
+
+#[test]
+fn the_first_bad_record_is_told(rt: HostRuntime) {
+    let alloc = rt.alloc();
+    let topics = [Step::Topic("t", 1), Step::Topic("t", 2), Step::Topic("", 0)];
+    assert!(rt; first_breaks(&rt, alloc, &topics, 1, ImageRule::Exists));
+    assert!(rt; first_breaks(&rt, alloc, &[Step::RemoveTopic(1)], 0, ImageRule::Absent));
+}
+
 // ---- effects
 
 // Those in sync, the leader, and the epochs of the leader, the partition and the controller.
@@ -482,17 +511,17 @@ fn partitions_are_changed(rt: HostRuntime) {
     assert!(rt; is_row(image.partition(id(1), 0), &[1, 2], [1, 4, 0, 7]));
     made(
         &rt,
-        image.apply(alloc, 8, &record(&rt, alloc, &Step::Isr(1, 0, &[2]))),
+        image.apply(8, &record(&rt, alloc, &Step::Isr(1, 0, &[1]))),
     );
-    assert!(rt; is_row(image.partition(id(1), 0), &[2], [1, 4, 1, 8]));
+    assert!(rt; is_row(image.partition(id(1), 0), &[1], [1, 4, 1, 8]));
     made(
         &rt,
-        image.apply(alloc, 9, &record(&rt, alloc, &Step::Leader(1, 0, 2))),
+        image.apply(9, &record(&rt, alloc, &Step::Leader(1, 0, Some(&[2]), 2))),
     );
     assert!(rt; is_row(image.partition(id(1), 0), &[2], [2, 5, 2, 9]));
     made(
         &rt,
-        image.apply(alloc, 9, &record(&rt, alloc, &Step::Leader(1, 1, 2))),
+        image.apply(9, &record(&rt, alloc, &Step::Leader(1, 1, None, 2))),
     );
     assert!(rt; is_row(image.partition(id(1), 1), &[1, 2], [1, 2147483647, 0, 7]));
     assert!(rt; image.partition(id(1), 2).is_none());
@@ -536,10 +565,7 @@ fn user(rt: &impl Abort, alloc: Global, name: &str) -> EntityKey {
 fn each_kind_of_record_is_taken_in(rt: HostRuntime) {
     let alloc = rt.alloc();
     let mut first = image(&rt, alloc, &BEFORE);
-    made(
-        &rt,
-        first.apply_all(alloc, 7, &records(&rt, alloc, &MEMBERS)),
-    );
+    made(&rt, first.apply_all(7, &records(&rt, alloc, &MEMBERS)));
     let image = made(&rt, first.copy(alloc));
     assert!(rt; counts(&image) == [1, 1, 1, 1, 1, 1]);
     assert!(rt; image.topic(&text(&rt, alloc, "t")) == Some(id(1)));
@@ -572,18 +598,12 @@ static REMOVALS: [Step; 6] = [
 fn what_is_removed_leaves_nothing(rt: HostRuntime) {
     let alloc = rt.alloc();
     let mut image = image(&rt, alloc, &BEFORE);
-    made(
-        &rt,
-        image.apply_all(alloc, 7, &records(&rt, alloc, &MEMBERS)),
-    );
-    made(
-        &rt,
-        image.apply_all(alloc, 7, &records(&rt, alloc, &REMOVALS)),
-    );
+    made(&rt, image.apply_all(7, &records(&rt, alloc, &MEMBERS)));
+    made(&rt, image.apply_all(7, &records(&rt, alloc, &REMOVALS)));
     assert!(rt; counts(&image) == [0, 0, 0, 0, 0, 1]);
     made(
         &rt,
-        image.apply(alloc, 7, &record(&rt, alloc, &Step::Topic("t", 1))),
+        image.apply(7, &record(&rt, alloc, &Step::Topic("t", 1))),
     );
     assert!(rt; image.configs(2, &text(&rt, alloc, "t")).is_none());
     assert!(rt; image.partition(id(1), 0).is_none());

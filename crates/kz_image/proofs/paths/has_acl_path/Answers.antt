@@ -7,7 +7,7 @@ use Rattle.kz_types.proofs.PathBuffers.{no_long_path}
 use Rattle.kz_image.proofs.paths.has_acl_path.Goals as goal
 
 pub returns-else-push_acl : goal.returns-else-push_acl
-unfolding has_path
+unfolding has_path path_of
 returns-else-push_acl c =
     let pattern = c.args.pattern in
     let kind = c.args.kind in

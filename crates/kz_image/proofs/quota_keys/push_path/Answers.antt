@@ -13,6 +13,8 @@ returns-then-push_named-clause-added c = λ ok.
     joined c.args.path.now (codes "/config/users/" ++ user) (codes "/clients/" ++ client) _ _ (c.push_named-in-UserClient.ensures.added c.if-push_named.true) (c.push_named-then-push_named.ensures.added ok)
     ∙ ap (λ l. c.args.path.now ++ l) (append_assoc (codes "/config/users/") user (codes "/clients/" ++ client)) ∙ ap (λ key. c.args.path.now ++ path_of (entity_of key)) (sym c.in-UserClient.is)
 
-pub returns-in-Ip-clause-added : goal.returns-in-Ip-clause-added
+pub returns-then-push-clause-added : goal.returns-then-push-clause-added
 unfolding path_of
-returns-in-Ip-clause-added c = λ ok. c.push_located.ensures.added ok ∙ ap (λ key. c.args.path.now ++ path_of (entity_of key)) (sym c.in-Ip.is)
+returns-then-push-clause-added c = λ ok.
+    joined c.args.path.now (codes "/config/ips/") (part_or_default (λ a. a) c.in-Ip.address.now) _ _ (c.push.ensures.added c.if-push.true) (c.push_address.ensures.added ok)
+    ∙ ap (λ key. c.args.path.now ++ path_of (entity_of key)) (sym c.in-Ip.is)
