@@ -8,7 +8,7 @@ use Rattle.kz_types.specs.declared.log.Entry.{Entry}
 use Rattle.kz_ordered.specs.Ordered.{Rises}
 use Rattle.kz_ordered.proofs.Order.{int_order}
 use Rattle.kz_ordered.proofs.Append.{all_from_rises_above, below_split, above_split, Rises_left}
-use Rattle.kz_spec_stores.specs.Settlement.{is_begin, is_end, closes, is_marker, is_inside, is_ended_by}
+use Rattle.kz_spec_stores.specs.Settlement.{is_begin, is_end, closes, is_marker, is_inside, is_ended_by, begun, kept}
 use Rattle.kz_settle.specs.Settling.{offset_of, closes_entry, opened, open_after, ends_by, passed}
 use Rattle.kz_types.specs.declared.record.MetaRecord.{MetaRecord}
 use Rattle.kz_types.specs.declared.record.MetaRecord.TheVariants as meta
@@ -17,8 +17,8 @@ use Rattle.kz_settle.specs.declared.settled.Settled.TheVariants as settled
 use Rattle.kz_settle.specs.declared.marks.Marker.{Marker}
 use Rattle.kz_settle.specs.declared.marks.Marker.TheVariants as marker
 use Rattle.kz_settle.specs.Steps.{IsMarkerOf, finished, finished_answer, begun_at, kept_too, kept_answer, turned, turned_answer}
-use Rattle.kz_settle.specs.Stands.{Settling, Stands, is_closed_after, begun_of, kept_of, AllBy, handed}
-use Rattle.kz_settle.proofs.Passing.{counted_is_passed, any_close, open_among_is, open_after_is, record_inside, lt_from_less, lt_back, lt_itself, any_none, any_same, any-append, find_same, or_false, and_true, and_false, open_after-append}
+use Rattle.kz_settle.specs.Stands.{Settling, Stands, AllBy, handed}
+use Rattle.kz_settle.proofs.Passing.{counted_is_passed, any_close, closed_after, open_among_is, open_after_is, record_inside, lt_from_less, lt_back, lt_itself, any_none, any_same, any-append, find_same, or_false, and_true, and_false, open_after-append}
 
 -- ---- one more entry, and the first End or Abort
 
@@ -176,7 +176,7 @@ passed_end at inside (x ∷ xs) e h ended under all =
 -- ---- the records that wait, by offsets
 
 -- behind a record of a log whose offsets rise, the End and Abort records are those of the records behind it
-closed_after_record : (done : List Entry) (e : Entry) (rest : List Entry) → Rises int_cmp offset_of (done ++ e ∷ rest) → is_closed_after (done ++ e ∷ rest) e.offset ≡ any_close rest
+closed_after_record : (done : List Entry) (e : Entry) (rest : List Entry) → Rises int_cmp offset_of (done ++ e ∷ rest) → closed_after (done ++ e ∷ rest) e.offset ≡ any_close rest
 closed_after_record done e rest h =
     let test : Entry → Bool = λ (c : Entry). closes c.item && int_lt e.offset c.offset in
     let under = below_split int_order offset_of done e rest h in
@@ -187,17 +187,17 @@ closed_after_record done e rest h =
     ∙ any_same test closes_entry rest (λ k d lt. and_true (closes (get_or rest k d).item) _ (lt_from_less e.offset (get_or rest k d).offset (over k d lt)))
 
 kept_from : (whole done rest : List Entry) → whole ≡ done ++ rest → Rises int_cmp offset_of whole
-    → filter (λ (e : Entry). is_inside whole e.offset && not (is_marker e.item) && not (is_closed_after whole e.offset)) rest ≡ pending (open_after false done) rest
+    → filter (λ (e : Entry). is_inside whole e.offset && not (is_marker e.item) && not (closed_after whole e.offset)) rest ≡ pending (open_after false done) rest
 unfolding pending
 kept_from whole done [] is h = refl
 kept_from whole done (e ∷ rest) is h =
     let rising = subst (λ es. Rises int_cmp offset_of es) is h in
     let inside : is_inside whole e.offset ≡ open_after false done = ap (λ es. is_inside es e.offset) is ∙ record_inside done e rest rising in
-    let behind : is_closed_after whole e.offset ≡ any_close rest = ap (λ es. is_closed_after es e.offset) is ∙ closed_after_record done e rest rising in
+    let behind : closed_after whole e.offset ≡ any_close rest = ap (λ es. closed_after es e.offset) is ∙ closed_after_record done e rest rising in
     let next = kept_from whole (done ++ e ∷ []) rest (is ∙ sym (append_assoc done (e ∷ []) rest)) h ∙ ap (λ o. pending o rest) (open_after-append false done (e ∷ [])) in
     rw (inside, behind, next) refl
 
-kept_is_pending : (es : List Entry) → Rises int_cmp offset_of es → kept_of es ≡ pending false es
+kept_is_pending : (es : List Entry) → Rises int_cmp offset_of es → kept es ≡ pending false es
 kept_is_pending es h = kept_from es [] es refl h
 
 -- ---- the Begin of the open transaction
@@ -214,9 +214,9 @@ is_some-map : (r : Option Entry) → is_some (option_map (λ (e : Entry). e.offs
 is_some-map None = refl
 is_some-map (Some e) = refl
 
-pub is_begun : (es : List Entry) → Rises int_cmp offset_of es → is_some (begun_of es) ≡ open_after false es
+pub is_begun : (es : List Entry) → Rises int_cmp offset_of es → is_some (begun es) ≡ open_after false es
 is_begun es h =
-    let test : Entry → Bool = λ (b : Entry). is_begin b.item && not (is_closed_after es b.offset) in
+    let test : Entry → Bool = λ (b : Entry). is_begin b.item && not (closed_after es b.offset) in
     is_some-map (find test es) ∙ found_any test es ∙ open_among_is es h
 
 find_or_by : (t : Bool) (x : Entry) (a b c : Option Entry) → a ≡ option_or b c → cond t (Some x) a ≡ option_or (cond t (Some x) b) c
@@ -227,13 +227,13 @@ find_or : (p : Entry → Bool) (xs : List Entry) (e : Entry) → find p (xs ++ e
 find_or p [] e = refl
 find_or p (x ∷ xs) e = find_or_by (p x) x (find p (xs ++ e ∷ [])) (find p xs) (cond (p e) (Some e) None) (find_or p xs e)
 
-closed_more : (es : List Entry) (e : Entry) (off : ℤ) → is_closed_after (es ++ e ∷ []) off ≡ is_closed_after es off || (closes e.item && int_lt off e.offset)
+closed_more : (es : List Entry) (e : Entry) (off : ℤ) → closed_after (es ++ e ∷ []) off ≡ closed_after es off || (closes e.item && int_lt off e.offset)
 closed_more es e off =
     let test : Entry → Bool = λ (c : Entry). closes c.item && int_lt off c.offset in
     any-append test es (e ∷ []) ∙ ap (λ b. list_any test es || b) (or_false (closes e.item && int_lt off e.offset))
 
-closed_more_plain : (es : List Entry) (e : Entry) (off : ℤ) → closes e.item ≡ false → is_closed_after (es ++ e ∷ []) off ≡ is_closed_after es off
-closed_more_plain es e off h = closed_more es e off ∙ ap (λ c. is_closed_after es off || (c && int_lt off e.offset)) h ∙ or_false (is_closed_after es off)
+closed_more_plain : (es : List Entry) (e : Entry) (off : ℤ) → closes e.item ≡ false → closed_after (es ++ e ∷ []) off ≡ closed_after es off
+closed_more_plain es e off h = closed_more es e off ∙ ap (λ c. closed_after es off || (c && int_lt off e.offset)) h ∙ or_false (closed_after es off)
 
 map_or : (r : Option Entry) (e : Entry) → option_map (λ (x : Entry). x.offset) (option_or r (Some e)) ≡ option_or (option_map (λ (x : Entry). x.offset) r) (Some e.offset)
 map_or None e = refl
@@ -244,40 +244,40 @@ or_none None = refl
 or_none (Some x) = refl
 
 begun_plain_found : (es : List Entry) (e : Entry) → closes e.item ≡ false
-    → find (λ (b : Entry). is_begin b.item && not (is_closed_after (es ++ e ∷ []) b.offset)) es ≡ find (λ (b : Entry). is_begin b.item && not (is_closed_after es b.offset)) es
+    → find (λ (b : Entry). is_begin b.item && not (closed_after (es ++ e ∷ []) b.offset)) es ≡ find (λ (b : Entry). is_begin b.item && not (closed_after es b.offset)) es
 begun_plain_found es e h =
-    find_same (λ (b : Entry). is_begin b.item && not (is_closed_after (es ++ e ∷ []) b.offset)) (λ (b : Entry). is_begin b.item && not (is_closed_after es b.offset)) es
+    find_same (λ (b : Entry). is_begin b.item && not (closed_after (es ++ e ∷ []) b.offset)) (λ (b : Entry). is_begin b.item && not (closed_after es b.offset)) es
     (λ k d lt. ap (λ c. is_begin (get_or es k d).item && not c) (closed_more_plain es e (get_or es k d).offset h))
 
-pub begun_begin : (es : List Entry) (e : Entry) → Rises int_cmp offset_of (es ++ e ∷ []) → is_begin e.item ≡ true → closes e.item ≡ false → begun_of (es ++ e ∷ []) ≡ option_or (begun_of es) (Some e.offset)
+pub begun_begin : (es : List Entry) (e : Entry) → Rises int_cmp offset_of (es ++ e ∷ []) → is_begin e.item ≡ true → closes e.item ≡ false → begun (es ++ e ∷ []) ≡ option_or (begun es) (Some e.offset)
 begun_begin es e h begins plain =
-    let test : Entry → Bool = λ (b : Entry). is_begin b.item && not (is_closed_after (es ++ e ∷ []) b.offset) in
-    let old : Option Entry = find (λ (b : Entry). is_begin b.item && not (is_closed_after es b.offset)) es in
+    let test : Entry → Bool = λ (b : Entry). is_begin b.item && not (closed_after (es ++ e ∷ []) b.offset) in
+    let old : Option Entry = find (λ (b : Entry). is_begin b.item && not (closed_after es b.offset)) es in
     let here : test e ≡ true = rw (begins, closed_after_record es e [] h) refl in
     ap (option_map (λ (x : Entry). x.offset)) (find_or test es e ∙ ap (λ r. option_or r (cond (test e) (Some e) None)) (begun_plain_found es e plain) ∙ ap (λ t. option_or old (cond t (Some e) None)) here)
     ∙ map_or old e
 
-pub begun_plain : (es : List Entry) (e : Entry) → is_begin e.item ≡ false → closes e.item ≡ false → begun_of (es ++ e ∷ []) ≡ begun_of es
+pub begun_plain : (es : List Entry) (e : Entry) → is_begin e.item ≡ false → closes e.item ≡ false → begun (es ++ e ∷ []) ≡ begun es
 begun_plain es e quiet plain =
-    let test : Entry → Bool = λ (b : Entry). is_begin b.item && not (is_closed_after (es ++ e ∷ []) b.offset) in
-    let here : test e ≡ false = ap (λ b. b && not (is_closed_after (es ++ e ∷ []) e.offset)) quiet in
+    let test : Entry → Bool = λ (b : Entry). is_begin b.item && not (closed_after (es ++ e ∷ []) b.offset) in
+    let here : test e ≡ false = ap (λ b. b && not (closed_after (es ++ e ∷ []) e.offset)) quiet in
     ap (option_map (λ (x : Entry). x.offset)) (find_or test es e ∙ ap (λ r. option_or r (cond (test e) (Some e) None)) (begun_plain_found es e plain)
-    ∙ ap (λ t. option_or (find (λ (b : Entry). is_begin b.item && not (is_closed_after es b.offset)) es) (cond t (Some e) None)) here
-    ∙ or_none (find (λ (b : Entry). is_begin b.item && not (is_closed_after es b.offset)) es))
+    ∙ ap (λ t. option_or (find (λ (b : Entry). is_begin b.item && not (closed_after es b.offset)) es) (cond t (Some e) None)) here
+    ∙ or_none (find (λ (b : Entry). is_begin b.item && not (closed_after es b.offset)) es))
 
 find_none : (p : Entry → Bool) (xs : List Entry) → All (λ x. p x ≡ false) xs → find p xs ≡ None
 find_none p [] h = refl
 find_none p (x ∷ xs) h = rw (All-head (λ y. p y ≡ false) x xs h) (find_none p xs (All-tail (λ y. p y ≡ false) x xs h))
 
-pub begun_closing : (es : List Entry) (e : Entry) → Rises int_cmp offset_of (es ++ e ∷ []) → is_begin e.item ≡ false → closes e.item ≡ true → begun_of (es ++ e ∷ []) ≡ None
+pub begun_closing : (es : List Entry) (e : Entry) → Rises int_cmp offset_of (es ++ e ∷ []) → is_begin e.item ≡ false → closes e.item ≡ true → begun (es ++ e ∷ []) ≡ None
 begun_closing es e h quiet closing =
-    let test : Entry → Bool = λ (b : Entry). is_begin b.item && not (is_closed_after (es ++ e ∷ []) b.offset) in
+    let test : Entry → Bool = λ (b : Entry). is_begin b.item && not (closed_after (es ++ e ∷ []) b.offset) in
     let under = below_split int_order offset_of es e [] h in
-    let here : test e ≡ false = ap (λ b. b && not (is_closed_after (es ++ e ∷ []) e.offset)) quiet in
+    let here : test e ≡ false = ap (λ b. b && not (closed_after (es ++ e ∷ []) e.offset)) quiet in
     let all : find test es ≡ None = find_none test es (λ k d lt.
     let b : Entry = get_or es k d in
-    and_false (is_begin b.item) (not (is_closed_after (es ++ e ∷ []) b.offset))
-    (ap not (closed_more es e b.offset ∙ or_true (is_closed_after es b.offset) (closes e.item && int_lt b.offset e.offset) (rw closing (lt_from_less b.offset e.offset (under k d lt)))))) in
+    and_false (is_begin b.item) (not (closed_after (es ++ e ∷ []) b.offset))
+    (ap not (closed_more es e b.offset ∙ or_true (closed_after es b.offset) (closes e.item && int_lt b.offset e.offset) (rw closing (lt_from_less b.offset e.offset (under k d lt)))))) in
     ap (option_map (λ (x : Entry). x.offset)) (find_or test es e ∙ ap (λ r. option_or r (cond (test e) (Some e) None)) all ∙ ap (λ t. cond t (Some e) None) here)
 
 -- ---- a settler after one more entry
@@ -341,7 +341,7 @@ module _ (pushed given : List Entry) (e : Entry) (old : Settling) (h : Rises int
       sym (append-nil given) ∙ ap (λ r. given ++ r) (sym popped) ∙ s.counted at (all_left (λ (x : Entry). x.offset ≤ℤ at) pushed (e ∷ []) by) ∙ counted_is_passed pushed at rises
 
   -- from the records that wait and those that count, as one pass finds them
-  stands_by : (more : List Entry) (new : Settling) → new.begun ≡ begun_of (pushed ++ e ∷ []) → new.kept ≡ pending false (pushed ++ e ∷ [])
+  stands_by : (more : List Entry) (new : Settling) → new.begun ≡ begun (pushed ++ e ∷ []) → new.kept ≡ pending false (pushed ++ e ∷ [])
       → ((at : ℤ) → AllBy at (pushed ++ e ∷ []) → (given ++ more) ++ new.released ≡ passed at false (pushed ++ e ∷ [])) → Stands (pushed ++ e ∷ []) (given ++ more) new
   stands_by more new b k c = record {
     begun = b;

@@ -1,8 +1,7 @@
 -- What a settler holds after entries were pushed.
-use Rattle.std.specs.Prelude.{◌≡◌, Bool, not, ◌&&◌, ℤ, ◌≤ℤ◌, int_lt, List, [], ◌∷◌, ◌++◌, Option, option_map, All, ⊤, if◌then◌else◌}
-use Rattle.std.specs.List.{filter, find, list_any}
+use Rattle.std.specs.Prelude.{◌≡◌, Bool, ◌&&◌, ℤ, ◌≤ℤ◌, List, [], ◌∷◌, ◌++◌, Option, All, ⊤, if◌then◌else◌}
 use Rattle.kz_types.specs.declared.log.Entry.{Entry}
-use Rattle.kz_spec_stores.specs.Settlement.{is_begin, is_end, closes, is_marker, is_inside, counted}
+use Rattle.kz_spec_stores.specs.Settlement.{is_begin, is_end, closes, counted, begun, kept}
 use Rattle.kz_settle.specs.declared.settled.Settled.{Settled}
 use Rattle.kz_settle.specs.declared.settled.Settled.TheVariants as settled
 
@@ -13,19 +12,6 @@ pub record Settling : Type 0 where
   pub kept : List Entry
   pub released : List Entry
 
--- whether an End or Abort stands behind an offset
-abbrev pub is_closed_after : List Entry → ℤ → Bool
-is_closed_after es from = list_any (λ (e : Entry). closes e.item && int_lt from e.offset) es
-
--- The offset of the open transaction's Begin: the first with no End or Abort behind it.
-abbrev pub begun_of : List Entry → Option ℤ
-begun_of es = option_map (λ (e : Entry). e.offset) (find (λ (b : Entry). is_begin b.item && not (is_closed_after es b.offset)) es)
-
--- The records of the open transaction: those that are no marker, stand inside a transaction, and have no End or Abort
--- behind them.
-abbrev pub kept_of : List Entry → List Entry
-kept_of es = filter (λ (e : Entry). is_inside es e.offset && not (is_marker e.item) && not (is_closed_after es e.offset)) es
-
 -- Every entry stands at or before an offset.
 abbrev pub AllBy : ℤ → List Entry → Type 0
 AllBy at es = All (λ (e : Entry). e.offset ≤ℤ at) es
@@ -33,8 +19,8 @@ AllBy at es = All (λ (e : Entry). e.offset ≤ℤ at) es
 -- After these entries were pushed, and these were handed out, a settler has this open transaction and these records of it,
 -- and the records that count are those handed out and then those still to be popped.
 pub record Stands (pushed given : List Entry) (s : Settling) : Type 0 where
-  pub begun : s.begun ≡ begun_of pushed
-  pub kept : s.kept ≡ kept_of pushed
+  pub begun : s.begun ≡ begun pushed
+  pub kept : s.kept ≡ kept pushed
   pub counted : (at : ℤ) → AllBy at pushed → given ++ s.released ≡ counted pushed at
 
 -- the entries that an answer hands out

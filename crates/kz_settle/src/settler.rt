@@ -10,7 +10,7 @@ ghost use Rattle.kz_settle.specs.Steps.{finished, finished_answer, begun_at, kep
 use crate::Settled;
 use crate::marker_of::marker_of;
 use crate::marks::Marker;
-use kz_types::{Entry, NoMemory};
+use kz_types::{Duplicate, Entry, NoMemory};
 use std::alloc::Global;
 use std::collections::VecDeque;
 use std::marker::Model;
@@ -32,6 +32,26 @@ impl Model for Settler {
 
 // Lets an entry go.
 fn forget(_e: Entry) {}
+
+fn copy_entry(e: &Entry, alloc: Global) -> Result<Entry, NoMemory>
+    ensures { IfOk result (λ made. made ≡ e.now) }
+{
+    Ok(Entry {
+        offset: e.offset,
+        epoch: e.epoch,
+        item: e.item.copy(alloc)?,
+    })
+}
+
+fn copy_entries(entries: &VecDeque<Entry>, alloc: Global) -> Result<VecDeque<Entry>, NoMemory>
+    ensures { IfOk result (λ made. made.items ≡ entries.now.items) }
+{
+    let mut copies = VecDeque::new(alloc);
+    for e in entries {
+        copies.push_back(copy_entry(e, alloc)?)?;
+    }
+    Ok(copies)
+}
 
 impl Settler {
     /// A settler to which nothing was pushed.
@@ -138,5 +158,15 @@ impl Settler {
         ensures stands { (pushed given : List EntryValue) → Stands pushed given self.old → Stands pushed (given ++ option_to_list result) self.new }
     {
         self.released.pop_front()
+    }
+}
+
+impl Duplicate for Settler {
+    fn copy(&self, alloc: Global) -> Result<Self, NoMemory> {
+        Ok(Settler {
+            begun: self.begun,
+            kept: copy_entries(&self.kept, alloc)?,
+            released: copy_entries(&self.released, alloc)?,
+        })
     }
 }

@@ -1,5 +1,5 @@
 use super::{Entry, Settled, Settler, closes, is_abort, is_begin, is_end};
-use kz_types::{ConfigRecord, MetaRecord, NoMemory, Text};
+use kz_types::{ConfigRecord, Duplicate, MetaRecord, NoMemory, Text};
 use std::alloc::Global;
 use std::test::Fail;
 
@@ -64,6 +64,32 @@ fn an_aborted_transaction_is_dropped_and_an_ended_one_released(
     };
     assert_eq!(rt; released.offset, 5);
     assert!(rt; settler.pop().is_none());
+    Ok(())
+}
+
+#[test]
+fn a_copy_holds_the_same_records(rt: HostRuntime) -> Result<(), Fail> {
+    let alloc = rt.alloc();
+    let mut settler = Settler::new(alloc);
+    let Settled::Kept = settler.push(entry(0, MetaRecord::BeginTransaction { name: None }))? else {
+        assert!(rt; false);
+        return Ok(());
+    };
+    let Settled::Kept = settler.push(entry(1, config(alloc)?))? else {
+        assert!(rt; false);
+        return Ok(());
+    };
+    let mut copy = settler.copy(alloc)?;
+    assert_eq!(rt; copy.begun(), Some(0));
+    let Settled::Released = settler.push(entry(2, MetaRecord::EndTransaction))? else {
+        assert!(rt; false);
+        return Ok(());
+    };
+    assert_eq!(rt; copy.begun(), Some(0));
+    let mut released = settler.copy(alloc)?;
+    assert_eq!(rt; released.pop().map(|e| e.offset), Some(1));
+    assert_eq!(rt; settler.pop().map(|e| e.offset), Some(1));
+    assert!(rt; copy.pop().is_none());
     Ok(())
 }
 
