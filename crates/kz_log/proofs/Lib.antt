@@ -1,1 +1,4 @@
 pub mod Batches
+pub mod Building
+pub mod Cuts
+pub mod Views

@@ -1,6 +1,7 @@
 //! A committed metadata log, in memory or behind a trait of stores, and what a controller knows of it.
 #![tactic(auto)]
 
+mod builder;
 mod laws;
 mod reading;
 mod rows;
