@@ -1,3 +1,4 @@
+pub mod Building
 pub mod Requests
 pub mod Views
 pub mod ViewLaws

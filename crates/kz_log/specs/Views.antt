@@ -1,5 +1,5 @@
 -- What a view takes of a log.
-use Rattle.std.specs.Prelude.{◌≡◌, ℤ, pos, List, Option, Some, None, ⊤}
+use Rattle.std.specs.Prelude.{◌≡◌, ℤ, pos, Option, Some, None, ⊤}
 use Rattle.kz_image.specs.declared.feed.Feed.{Feed}
 use Rattle.kz_spec_stores.specs.Image.{Image}
 use Rattle.kz_spec_stores.specs.Log.{Log, View, Follow, IsAt, last_end, end_of}

@@ -1,12 +1,14 @@
 //! What a controller knows of a log.
-ghost use Rattle.std.specs.Prelude.{◌≡◌, ℕ, None, Option, OnOk, OnErr, IfOk};
-ghost use Rattle.kz_spec_stores.specs.Log.{Log, View as ViewValue, new_view, IsLog, IsAt, IsViewOf, fed, feed_from, last_epoch, read_view};
+ghost use Rattle.std.specs.Prelude.{◌≡◌, [], OnOk, OnErr, IfOk};
+ghost use Rattle.kz_spec_stores.specs.Log.{Log, new_view, IsLog, IsAt, IsViewOf, entries, fed, feed_from, last_epoch, read_view};
+ghost use Rattle.kz_log.specs.Building.{started, view_of, Took};
 ghost use Rattle.kz_log.specs.Requests.{IsFeed};
 ghost use Rattle.kz_log.specs.Views.{Fits, GoesOn, known_epoch};
 
+use crate::builder::Builder;
 use kz_image::{Feed, Image};
-use kz_settle::{Settled, Settler};
-use kz_types::{BatchRow, Entry, NoMemory};
+use kz_settle::Settler;
+use kz_types::{Duplicate, NoMemory};
 use std::alloc::Global;
 use std::marker::Model;
 
@@ -89,6 +91,75 @@ impl View {
         ensures reads { OnOk result ((l : Log) → IsLog l → IsViewOf l self.old → IsFeed (feed_from l self.old.position) feed → self.new ≡ read_view l self.old) }
         ensures err { OnErr result (self.new ≡ self.old) }
     {
-        Err(NoMemory)
+        if feed.base.is_none() && feed.batches.len() == 0 {
+            return Ok(());
+        }
+        let builder = self.build(feed)?;
+        self.put(builder);
+        Ok(())
+    }
+
+    // What a view is built on: the base of a feed, or a copy of the view.
+    fn start(&self, base: Option<(i64, Image)>) -> Result<Builder, NoMemory>
+        ensures { IfOk result (λ builder. builder ≡ started base self.now) }
+    {
+        match base {
+            Some((position, image)) => Ok(Builder {
+                position,
+                epoch: 0,
+                image,
+                settler: Settler::new(self.alloc),
+            }),
+            None => Ok(Builder {
+                position: self.position,
+                epoch: self.epoch,
+                image: self.image.copy(self.alloc)?,
+                settler: self.settler.copy(self.alloc)?,
+            }),
+        }
+    }
+
+    // What the view and a feed lead to.
+    fn build(&self, feed: Feed) -> Result<Builder, NoMemory>
+        requires { Fits self.now feed }
+        ensures { IfOk result (λ builder. Took (entries feed.batches) feed.end (last_epoch (known_epoch feed.base self.now.epoch) feed.batches) (started feed.base self.now) builder) }
+    {
+        let Feed {
+            base,
+            batches,
+            end: _,
+        } = feed;
+        let mut builder = self.start(base)?;
+        builder.take_all(batches.into_vec())?;
+        Ok(builder)
+    }
+
+    // Puts in place what was built.
+    fn put(&mut self, builder: Builder)
+        requires { builder.settling.released ≡ [] }
+        ensures { self.new ≡ view_of builder }
+    {
+        let Builder {
+            position,
+            epoch,
+            image,
+            settler,
+        } = builder;
+        self.position = position;
+        self.epoch = epoch;
+        self.image = image;
+        self.settler = settler;
+    }
+}
+
+impl Duplicate for View {
+    fn copy(&self, alloc: Global) -> Result<Self, NoMemory> {
+        Ok(View {
+            alloc,
+            position: self.position,
+            epoch: self.epoch,
+            image: self.image.copy(alloc)?,
+            settler: self.settler.copy(alloc)?,
+        })
     }
 }

@@ -1,0 +1,42 @@
+-- What a view is built of, as records are taken one after another.
+use Rattle.std.specs.Prelude.{◌≡◌, ℤ, pos, List, [], ◌++◌, Option, Some, None}
+use Rattle.std.specs.Ordering.{int_cmp}
+use Rattle.kz_types.specs.declared.log.Entry.{Entry}
+use Rattle.kz_ordered.specs.Ordered.{Rises}
+use Rattle.kz_spec_stores.specs.Image.{Image}
+use Rattle.kz_spec_stores.specs.Log.{View, all_entries_applied}
+use Rattle.kz_settle.specs.Settling.{offset_of}
+use Rattle.kz_settle.specs.Stands.{Settling, Stands}
+
+-- The last offset that was taken, the epoch of its batch, the metadata, and what the settler holds.
+pub record Building : Type 0 where
+  pub position : ℤ
+  pub epoch : ℤ
+  pub image : Image
+  pub settling : Settling
+
+-- a view before further records are taken
+abbrev pub building_of : View → Building
+building_of v = record { position = v.position; epoch = v.epoch; image = v.image; settling = record { begun = v.begun; kept = v.kept; released = [] } }
+
+-- what a view's records are taken on: the base, or the view as it stands
+abbrev pub started : Option (ℤ × Image) → View → Building
+started None v = building_of v
+started (Some base) v = record { position = base.0; epoch = pos 0; image = base.1; settling = record { begun = None; kept = []; released = [] } }
+
+-- the view that is built where nothing is still to be popped
+abbrev pub view_of : Building → View
+view_of b = record { position = b.position; epoch = b.epoch; image = b.image; begun = b.settling.begun; kept = b.settling.kept }
+
+-- Taking these entries led from one state to another: whatever entries were pushed before, the settler stands behind all of
+-- them, and what was handed out since was applied.
+abbrev pub Takes : List Entry → Building → Building → Type 0
+Takes es old new = (pushed given : List Entry) → Rises int_cmp offset_of (pushed ++ es) → Stands pushed given old.settling
+    → (more : List Entry) × Stands (pushed ++ es) (given ++ more) new.settling × (new.image ≡ all_entries_applied more old.image)
+
+-- So, and everything that was released was popped; the position is the last offset, and the epoch that of the last batch.
+pub record Took (es : List Entry) (last writer : ℤ) (old new : Building) : Type 0 where
+  pub takes : Takes es old new
+  pub popped : new.settling.released ≡ []
+  pub position : new.position ≡ last
+  pub epoch : new.epoch ≡ writer
