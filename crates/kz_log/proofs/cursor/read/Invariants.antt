@@ -1,4 +1,4 @@
-use Rattle.std.proofs.Common.{◌≡◌, ◌∷◌, length}
+use Rattle.std.proofs.Common.{◌≡◌, length}
 use Rattle.kz_log.specs.Reading.{remaining, unread}
 use Rattle.kz_log.proofs.cursor.read.Given as goal
 

@@ -1,4 +1,4 @@
-use Rattle.std.proofs.Common.{◌≡◌, ◌-◌, ap, sym, subst, suc, drop, filter, to_z, of_z, w64, rules, arith}
+use Rattle.std.proofs.Common.{◌≡◌, ◌-◌, sym, subst, suc, drop, filter, to_z, of_z, w64, rules, arith}
 use Rattle.std.proofs.lemmas.Int.{to_z-of_z}
 use mir.Val.{SFits}
 use Rattle.kz_spec_stores.specs.Log.{Log, is_behind}
