@@ -1,5 +1,5 @@
 -- Taking records one after another, and the view that they lead to.
-use Rattle.std.proofs.Common.{◌≡◌, Bool, true, false, cond, ℤ, pos, ◌+ℤ◌, ◌≤ℤ◌, ◌+◌, suc, int_lt, int_cmp, List, [], ◌∷◌, ◌++◌, length, Option, Some, None, Result, Ok, Err, OnOk, refl, sym, ap, ◌∙◌, subst, append_assoc, append-nil, filter, arith}
+use Rattle.std.proofs.Common.{◌≡◌, Bool, true, false, cond, ℤ, pos, ◌+ℤ◌, ◌≤ℤ◌, ◌+◌, int_lt, int_cmp, List, [], ◌∷◌, ◌++◌, length, Option, Some, None, Result, Ok, Err, OnOk, refl, sym, ap, ◌∙◌, subst, append_assoc, append-nil, filter, arith}
 use Rattle.std.proofs.lemmas.Int.{ints}
 use Rattle.std.proofs.lemmas.List.{length-append}
 use Rattle.kz_types.specs.declared.log.BatchRow.{BatchRow}
@@ -23,15 +23,12 @@ use Rattle.kz_log.proofs.Views.{le_of, at_of, behind_base, behind_cut, based, ba
 
 -- ---- one after another
 
-pub applied-append : (xs ys : List Entry) (i : Image) → all_entries_applied (xs ++ ys) i ≡ all_entries_applied ys (all_entries_applied xs i)
+applied-append : (xs ys : List Entry) (i : Image) → all_entries_applied (xs ++ ys) i ≡ all_entries_applied ys (all_entries_applied xs i)
 applied-append [] ys i = refl
 applied-append (x ∷ xs) ys i = applied-append xs ys _
 
 stands_as : (pushed others given more : List Entry) (s : Settling) → pushed ≡ others → given ≡ more → Stands pushed given s → Stands others more s
 stands_as pushed others given more s is same h = subst (λ p. Stands p more s) is (subst (λ g. Stands pushed g s) same h)
-
-takes_none : (b : Building) → Takes [] b b
-takes_none b pushed given rises s = ([], stands_as pushed (pushed ++ []) given (given ++ []) b.settling (sym (append-nil pushed)) (sym (append-nil given)) s, refl)
 
 takes_then : (es fs : List Entry) (a b c : Building) → Takes es a b → Takes fs b c → Takes (es ++ fs) a c
 takes_then es fs a b c t u pushed given rises s =
@@ -44,10 +41,7 @@ takes_then es fs a b c t u pushed given rises s =
       second.2 ∙ ap (all_entries_applied second.0) first.2 ∙ sym (applied-append first.0 second.0 a.image),
     )
 
-pub took_none : (b : Building) → b.settling.released ≡ [] → Took [] b.position b.epoch b b
-took_none b popped = record { takes = takes_none b; popped = popped; position = refl; epoch = refl }
-
-pub took_then : (es fs : List Entry) (a b c : Building) (p q e f : ℤ) → Took es p e a b → Took fs q f b c → Took (es ++ fs) q f a c
+took_then : (es fs : List Entry) (a b c : Building) (p q e f : ℤ) → Took es p e a b → Took fs q f b c → Took (es ++ fs) q f a c
 took_then es fs a b c p q e f t u = record { takes = takes_then es fs a b c t.takes u.takes; popped = u.popped; position = u.position; epoch = u.epoch }
 
 -- ---- one entry
@@ -75,14 +69,14 @@ took_push e out old new mid stands settled image position epoch = record {
 
 -- ---- the records of a batch, and batches
 
-pub numbered-append : (offset epoch : ℤ) (xs ys : List MetaRecord) → numbered offset epoch (xs ++ ys) ≡ numbered offset epoch xs ++ numbered (offset +ℤ pos (length xs)) epoch ys
+numbered-append : (offset epoch : ℤ) (xs ys : List MetaRecord) → numbered offset epoch (xs ++ ys) ≡ numbered offset epoch xs ++ numbered (offset +ℤ pos (length xs)) epoch ys
 numbered-append offset epoch [] ys = let same : offset ≡ offset +ℤ pos 0 = omega (arith, ints) in ap (λ o. numbered o epoch ys) same
 numbered-append offset epoch (x ∷ xs) ys =
     let e : Entry = record { offset = offset; epoch = epoch; item = x } in
     let same : (offset +ℤ pos 1) +ℤ pos (length xs) ≡ offset +ℤ pos (length (x ∷ xs)) = omega (arith, ints) in
     ap (λ es. e ∷ es) (numbered-append (offset +ℤ pos 1) epoch xs ys) ∙ ap (λ o. e ∷ (numbered (offset +ℤ pos 1) epoch xs ++ numbered o epoch ys)) same
 
-pub last_epoch-push : (epoch : ℤ) (bs : List BatchRow) (b : BatchRow) → last_epoch epoch (bs ++ b ∷ []) ≡ b.epoch
+last_epoch-push : (epoch : ℤ) (bs : List BatchRow) (b : BatchRow) → last_epoch epoch (bs ++ b ∷ []) ≡ b.epoch
 last_epoch-push epoch [] b = refl
 last_epoch-push epoch (x ∷ bs) b = last_epoch-push x.epoch bs b
 
@@ -118,13 +112,6 @@ batch_more b old mid new done x writer first by h next =
     (ap (λ o. numbered b.first b.epoch done ++ row o writer ∷ []) here ∙ ap (λ e. numbered b.first b.epoch done ++ row (b.first +ℤ pos (length done)) e ∷ []) by
     ∙ sym (numbered-append b.first b.epoch done (x ∷ []))) last h.epoch
     (took_then (numbered b.first b.epoch done) (row (mid.position +ℤ pos 1) writer ∷ []) old mid new (old.position +ℤ pos (length done)) (mid.position +ℤ pos 1) b.epoch mid.epoch h next)
-
-pub batch_room : (b : BatchRow) (from at most : ℤ) (done rest : List MetaRecord) (x : MetaRecord) → b.first ≡ from +ℤ pos 1 → last_of b ≤ℤ most → done ++ x ∷ rest ≡ b.items → at ≡ from +ℤ pos (length done)
-    → (at +ℤ pos 1) ≤ℤ most
-batch_room b from at most done rest x first room is here =
-    let count : length (done ++ x ∷ rest) ≡ length done + suc (length rest) = length-append done (x ∷ rest) in
-    let same : length (done ++ x ∷ rest) ≡ length b.items = ap length is in
-    omega (arith, ints, first, room, count, same, here)
 
 pub batch_done : (b : BatchRow) (old new : Building) (done : List MetaRecord) → b.first ≡ old.position +ℤ pos 1 → done ≡ b.items
     → Took (numbered b.first b.epoch done) (old.position +ℤ pos (length done)) b.epoch old new → Took (entries_of_batch b) (last_of b) b.epoch old new
@@ -190,7 +177,7 @@ stands_at l v chain is at =
       counted = λ to k. append-nil (counted (entries l.batches) v.position) ∙ counted_same v.position to (entries l.batches) (entries_rise l.base l.batches chain) by k;
     }
 
-pub is_at_of : (l : Log) (v : View) (base : Option (ℤ × Image)) (batches : List BatchRow) (b : Building) (epoch : ℤ) → GoesOn l v base → Follow (start_of v base) batches
+is_at_of : (l : Log) (v : View) (base : Option (ℤ × Image)) (batches : List BatchRow) (b : Building) (epoch : ℤ) → GoesOn l v base → Follow (start_of v base) batches
     → Took (entries batches) (last_end (start_of v base) batches) epoch (started base v) b → IsAt (fed l base batches) (view_of b)
 unfolding image_at
 is_at_of l v None batches b epoch on follow took =

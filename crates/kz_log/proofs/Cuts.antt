@@ -65,7 +65,7 @@ numbered_consecutive from offset epoch (x ∷ items) es at h =
     let same : from +ℤ pos (length (x ∷ items)) ≡ (from +ℤ pos 1) +ℤ pos (length items) = omega (arith, ints) in
     (at, numbered_consecutive (from +ℤ pos 1) (offset +ℤ pos 1) epoch items es (ap (λ n. n +ℤ pos 1) at) (subst (λ n. Consecutive n es) same h))
 
-pub entries_consecutive : (from : ℤ) (bs : List BatchRow) → Chain from bs → Consecutive from (entries bs)
+entries_consecutive : (from : ℤ) (bs : List BatchRow) → Chain from bs → Consecutive from (entries bs)
 entries_consecutive from [] h = tt
 entries_consecutive from (b ∷ bs) h =
     numbered_consecutive from b.first b.epoch b.items (entries bs) h.0 (subst (λ n. Consecutive n (entries bs)) (last_of_is from b h.0) (entries_consecutive (last_of b) bs h.1))

@@ -1,5 +1,5 @@
 -- What counts at an offset is decided by the records that stand at or before it.
-use Rattle.std.proofs.Common.{◌≡◌, Bool, true, false, not, ◌&&◌, ◌||◌, cond, ℤ, ◌≤ℤ◌, int_le, int_cmp, List, [], ◌∷◌, ◌++◌, Some, refl, sym, ap, ◌∙◌, get_or, arith}
+use Rattle.std.proofs.Common.{◌≡◌, Bool, true, false, cond, ℤ, ◌≤ℤ◌, int_le, int_cmp, List, [], ◌∷◌, ◌++◌, Some, refl, sym, ap, ◌∙◌, arith}
 use Rattle.std.proofs.lemmas.Int.{ints}
 use Rattle.std.specs.List.{filter, find, All}
 use Rattle.std.proofs.lemmas.List.Elements.{All-head, All-tail}
@@ -7,7 +7,7 @@ use Rattle.kz_types.specs.declared.log.Entry.{Entry}
 use Rattle.kz_ordered.specs.Ordered.{Rises}
 use Rattle.kz_ordered.proofs.Order.{int_order}
 use Rattle.kz_ordered.proofs.Append.{Rises_left}
-use Rattle.kz_spec_stores.specs.Settlement.{closes, is_end, is_marker, is_ended_by, counted}
+use Rattle.kz_spec_stores.specs.Settlement.{closes, is_end, is_ended_by, counted}
 use Rattle.kz_settle.specs.Settling.{offset_of, closes_entry, opened, ends_by, passed}
 use Rattle.kz_settle.specs.Stands.{AllBy}
 use Rattle.kz_settle.proofs.Passing.{counted_is_passed, and_false}
@@ -16,7 +16,7 @@ use Rattle.kz_settle.proofs.Passing.{counted_is_passed, and_false}
 abbrev pub AllBehind : ℤ → List Entry → Type 0
 AllBehind at es = All (λ (e : Entry). int_le e.offset at ≡ false) es
 
-pub le_true : (x y : ℤ) → x ≤ℤ y → int_le x y ≡ true
+le_true : (x y : ℤ) → x ≤ℤ y → int_le x y ≡ true
 le_true x y h = grind (arith, ints)
 
 module _ (at : ℤ) where
