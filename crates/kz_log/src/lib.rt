@@ -25,3 +25,5 @@ pub use wire::{LogWire, LogWireFault};
 
 #[cfg(test)]
 mod tests;
+#[cfg(test)]
+mod view_tests;
