@@ -46,9 +46,10 @@ change_disk : {A : Type 0} (told : StepFault → StoreFault) (failure : StepFaul
     → OnOk r (IsCalm faults now_faults down now_down) → IfErr r (λ f. StopsChange file faults now_faults down now_down left (told f))
     → DiskHasCause r failure faults now_faults down now_down left × (IsErrOf r other → ⊥)
 change_disk told failure fails only other silent (Ok a) file faults now_faults down now_down left calm failed = (calm_disk (Ok a) failure faults now_faults down now_down left (λ e. absurd (cc)) calm.0 calm.1, λ e. absurd (cc))
-change_disk {A = A} told failure fails only other silent (Err f) file faults now_faults down now_down left calm failed =
-    (by_said A told failure fails only f (told f) refl file faults now_faults down now_down left failed,
-    λ e. subst (StopsChange file faults now_faults down now_down left) (ap (λ x. told (error_of f x)) e ∙ silent) failed)
+change_disk {A = A} told failure fails only other silent (Err f) file faults now_faults down now_down left calm failed = (
+  by_said A told failure fails only f (told f) refl file faults now_faults down now_down left failed,
+  λ e. subst (StopsChange file faults now_faults down now_down left) (ap (λ x. told (error_of f x)) e ∙ silent) failed,
+)
 
 -- a read is a change that never fails
 read_stops : (file : Option ℕ) (faults now_faults : ℕ) (down now_down : Bool) (left : Type 0) (said : StoreFault) → IsCalm faults now_faults down now_down → StopsRead down said → StopsChange file faults now_faults down now_down left said
@@ -112,9 +113,10 @@ pub tree_step : {A : Type 0} (r : Result A StepFault) (tree_file : Option ℕ) (
 tree_step r tree_file tree_faults tree_now tree_down tree_now_down tree_left log_file log_faults log_now log_down log_now_down log_left calm failed log_calm =
     let own = change_disk of_tree (Tree tree.Device) refl tree_only (Log log.Failed) refl r tree_file tree_faults tree_now tree_down tree_now_down tree_left calm failed in
     record {
-    cause = weaker (IsChangeStepFault tree_file tree_faults tree_now tree_down tree_now_down tree_left) (IsStepFault tree_file tree_down log_file log_down) (tree_why tree_file tree_faults tree_now tree_down tree_now_down tree_left log_file log_down) r failed;
-    tree_disk = own.0;
-    log_disk = calm_disk r (Log log.Failed) log_faults log_now log_down log_now_down log_left own.1 log_calm.0 log_calm.1 }
+      cause = weaker (IsChangeStepFault tree_file tree_faults tree_now tree_down tree_now_down tree_left) (IsStepFault tree_file tree_down log_file log_down) (tree_why tree_file tree_faults tree_now tree_down tree_now_down tree_left log_file log_down) r failed;
+      tree_disk = own.0;
+      log_disk = calm_disk r (Log log.Failed) log_faults log_now log_down log_now_down log_left own.1 log_calm.0 log_calm.1;
+    }
 
 -- a step that asks the log leaves the tree's disk as it was
 pub log_step : {A : Type 0} (r : Result A StepFault) (tree_file : Option ℕ) (tree_faults tree_now : ℕ) (tree_down tree_now_down : Bool) (tree_left : Type 0) (log_file : Option ℕ) (log_faults log_now : ℕ) (log_down log_now_down : Bool) (log_left : Type 0)
@@ -124,9 +126,10 @@ pub log_step : {A : Type 0} (r : Result A StepFault) (tree_file : Option ℕ) (t
 log_step r tree_file tree_faults tree_now tree_down tree_now_down tree_left log_file log_faults log_now log_down log_now_down log_left calm failed tree_calm =
     let own = change_disk of_log (Log log.Failed) refl log_only (Tree tree.Device) refl r log_file log_faults log_now log_down log_now_down log_left calm failed in
     record {
-    cause = weaker (IsChangeLogFault log_file log_faults log_now log_down log_now_down log_left) (IsStepFault tree_file tree_down log_file log_down) (log_why tree_file tree_down log_file log_faults log_now log_down log_now_down log_left) r failed;
-    tree_disk = calm_disk r (Tree tree.Device) tree_faults tree_now tree_down tree_now_down tree_left own.1 tree_calm.0 tree_calm.1;
-    log_disk = own.0 }
+      cause = weaker (IsChangeLogFault log_file log_faults log_now log_down log_now_down log_left) (IsStepFault tree_file tree_down log_file log_down) (log_why tree_file tree_down log_file log_faults log_now log_down log_now_down log_left) r failed;
+      tree_disk = calm_disk r (Tree tree.Device) tree_faults tree_now tree_down tree_now_down tree_left own.1 tree_calm.0 tree_calm.1;
+      log_disk = own.0;
+    }
 
 -- ---- reads
 

@@ -90,11 +90,7 @@ fn after_rest(alloc: Global, row: &mut DriverRow, view: View) -> Result<Reply, N
 }
 
 /// DUAL_WRITE, no write under way. At `Err` nothing has changed.
-pub fn rest<L: MetaLog>(
-    alloc: Global,
-    row: &mut DriverRow,
-    log: &mut L,
-) -> Result<Reply, StepFault>
+pub fn rest<L: MetaLog>(alloc: Global, row: &mut DriverRow, log: &mut L) -> Result<Reply, StepFault>
     requires { IsViewOf (L.log log.old) row.old.view }
     ensures ok { IfOk result (λ told. after_rest row.old.view.image (having_read (L.log log.old) (driver_of row.old)) ≡ (driver_of row.new, told)) }
     ensures kept { IsKept row.old.epoch row.old.view.position row.old.stage → row.old.stage ≡ stage.Rest → IsKept row.new.epoch row.new.view.position row.new.stage }

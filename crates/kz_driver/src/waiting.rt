@@ -101,10 +101,7 @@ fn after_read(row: &mut DriverRow) -> Reply
 }
 
 /// WAIT_FOR_BROKERS, before the log is read
-pub fn wait_for_brokers<L: MetaLog>(
-    row: &mut DriverRow,
-    log: &mut L,
-) -> Result<Reply, StepFault>
+pub fn wait_for_brokers<L: MetaLog>(row: &mut DriverRow, log: &mut L) -> Result<Reply, StepFault>
     requires { IsViewOf (L.log log.old) row.old.view }
     ensures ok { IfOk result (λ told. unless_finalised (having_read (L.log log.old) (driver_of row.old)) (at_stage stage.CompareBrokers (having_read (L.log log.old) (driver_of row.old)), reply.Looked) ≡ (driver_of row.new, told)) }
     ensures view { IsViewOf (L.log log.new) row.new.view }

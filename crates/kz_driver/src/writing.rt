@@ -5,7 +5,7 @@ ghost use Rattle.kz_types.specs.declared.fault.TreeFault.TheVariants.{Limit};
 ghost use Rattle.kz_types.specs.declared.machine.Recorded.{Recorded as RecordedValue};
 ghost use Rattle.kz_spec_stores.specs.Requests.{Either};
 ghost use Rattle.kz_spec_stores.specs.Tree.{multi, area};
-ghost use Rattle.kz_spec_stores.specs.Log.{IsViewOf, image_at};
+ghost use Rattle.kz_spec_stores.specs.Log.{IsViewOf};
 ghost use Rattle.kz_spec_stores.specs.Rendering.{render};
 ghost use Rattle.kz_spec_stores.specs.Difference.{diff};
 ghost use Rattle.kz_spec_machine.specs.Driver.{begins_again, remaining_at, write_ops, writes};
