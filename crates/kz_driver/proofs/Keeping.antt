@@ -22,15 +22,15 @@ use Rattle.kz_driver.specs.declared.claim.Claimed.{Claimed}
 use Rattle.kz_driver.specs.declared.claim.Claimed.TheVariants.{Done, Refused, Stopped}
 use Rattle.kz_driver.specs.Claims.{after_claimed}
 use Rattle.kz_driver.specs.Stops.{StageCanClaim}
-use Rattle.kz_driver.specs.Drivers.{IsElected, IsElectedOrNone, HasEpoch, HasRisen, IsKept}
+use Rattle.kz_driver.specs.Drivers.{IsElected, IsElectedOrNone, HasEpoch, HasRisen, IsAtTarget, IsKept}
 
 -- the driver after a step keeps what it has to hold
 abbrev pub Keeps : Driver × Reply → Type 0
-Keeps x = IsKept x.0.epoch x.0.stage
+Keeps x = IsKept x.0.epoch x.0.view.position x.0.stage
 
 -- a stage that asks for an epoch alone
-abbrev pub IsFree : Stage → Type 0
-IsFree s = StageCanClaim s × HasRisen s
+abbrev pub IsFree : ℤ → Stage → Type 0
+IsFree position s = StageCanClaim s × HasRisen s × IsAtTarget position s
 
 elected_or_none : (e : Option ℤ) → IsElected e → IsElectedOrNone e
 elected_or_none None h = tt
@@ -54,11 +54,11 @@ elected_at e stage.InformBrokers h = h
 elected_at e stage.Rest h = h
 elected_at e (stage.WriteChange target ops) h = h
 
-pub free_kept : (e : Option ℤ) (s : Stage) → IsElected e → IsFree s → IsKept e s
-free_kept e s h free = record { elected = elected_at e s h; can_claim = free.0; risen = free.1 }
+pub free_kept : (e : Option ℤ) (position : ℤ) (s : Stage) → IsElected e → IsFree position s → IsKept e position s
+free_kept e position s h free = record { elected = elected_at e s h; can_claim = free.0; risen = free.1; at_target = free.2 }
 
 pub resigned_kept : (d : Driver) (told : Reply) → Keeps (resigned d, told)
-resigned_kept d told = record { elected = tt; can_claim = tt; risen = tt }
+resigned_kept d told = record { elected = tt; can_claim = tt; risen = tt; at_target = tt }
 
 pub chosen : (P : Driver × Reply → Type 0) (b : Bool) (x y : Driver × Reply) → P x → P y → P (if b then x else y)
 chosen P true x y h k = h
@@ -71,67 +71,70 @@ chosen_stage P false x y h k = k
 pub finalised_keeps : (d : Driver) (rest : Driver × Reply) → Keeps rest → Keeps (unless_finalised d rest)
 finalised_keeps d rest k = chosen Keeps (int_eq d.view.image.state (pos 3)) (resigned d, reply.Moved state.Inactive) rest (resigned_kept d (reply.Moved state.Inactive)) k
 
-wait_keeps : (o : Option ℤ) (d : Driver) → IsElected d.epoch → IsKept d.epoch d.stage → Keeps (wait_or_move o d)
+wait_keeps : (o : Option ℤ) (d : Driver) → IsElected d.epoch → IsKept d.epoch d.view.position d.stage → Keeps (wait_or_move o d)
 wait_keeps (Some id) d h k = k
-wait_keeps None d h k = free_kept d.epoch stage.WaitForBrokers h (tt, tt)
+wait_keeps None d h k = free_kept d.epoch d.view.position stage.WaitForBrokers h (tt, tt, tt)
 
-pub quorum_keeps : (declared running : List ℤ) (d : Driver) → IsElected d.epoch → IsKept d.epoch d.stage → Keeps (after_quorum declared running d)
+pub quorum_keeps : (declared running : List ℤ) (d : Driver) → IsElected d.epoch → IsKept d.epoch d.view.position d.stage → Keeps (after_quorum declared running d)
 quorum_keeps declared running d h k =
     let later = wait_or_move (missing_controller declared running) d in
     let look : Driver × Reply = (at_stage stage.Look d, reply.Moved state.BecomeController) in
     finalised_keeps d (if int_eq d.view.image.state (pos 2) then look else later)
-    (chosen Keeps (int_eq d.view.image.state (pos 2)) look later (free_kept d.epoch stage.Look h (tt, tt)) (wait_keeps (missing_controller declared running) d h k))
+    (chosen Keeps (int_eq d.view.image.state (pos 2)) look later (free_kept d.epoch d.view.position stage.Look h (tt, tt, tt)) (wait_keeps (missing_controller declared running) d h k))
 
 pub brokers_keep : (o : Option ℤ) (d : Driver) → IsElected d.epoch → Keeps (after_brokers o d)
-brokers_keep (Some id) d h = free_kept d.epoch stage.WaitForBrokers h (tt, tt)
-brokers_keep None d h = free_kept d.epoch stage.Look h (tt, tt)
+brokers_keep (Some id) d h = free_kept d.epoch d.view.position stage.WaitForBrokers h (tt, tt, tt)
+brokers_keep None d h = free_kept d.epoch d.view.position stage.Look h (tt, tt, tt)
 
 -- ---- the look
 
--- the driver has its epoch, and the znodes that it has read rise
+-- a driver has its epoch, the znodes that it has read rise, and its view is at its target
+abbrev pub IsAlive : Driver → Type 0
+IsAlive d = HasEpoch d.epoch d.stage × HasRisen d.stage × IsAtTarget d.view.position d.stage
+
 abbrev pub Lives : Driver × Reply → Type 0
-Lives x = HasEpoch x.0.epoch x.0.stage × HasRisen x.0.stage
+Lives x = IsAlive x.0
 
 fenced_lives : (o : Option ℤ) (d : Driver) (rest : Driver × Reply) → Lives rest → Lives (unless_fenced o d rest)
 fenced_lives None d rest h = h
-fenced_lives (Some e) d rest h = chosen Lives (int_lt (epoch_or_zero d.epoch) e) (resigned d, reply.FencedEpoch e) rest (tt, tt) h
+fenced_lives (Some e) d rest h = chosen Lives (int_lt (epoch_or_zero d.epoch) e) (resigned d, reply.FencedEpoch e) rest (tt, tt, tt) h
 
-full_epoch_lives : (r : Result ℤ BodyFault) (version : ℤ) (d : Driver) (rest : Driver × Reply) → HasEpoch d.epoch d.stage × HasRisen d.stage → Lives rest → Lives (unless_full_epoch r version d rest)
+full_epoch_lives : (r : Result ℤ BodyFault) (version : ℤ) (d : Driver) (rest : Driver × Reply) → IsAlive d → Lives rest → Lives (unless_full_epoch r version d rest)
 full_epoch_lives (Err e) version d rest here h = here
 full_epoch_lives (Ok number) version d rest here h = chosen Lives (int_eq number max_version || int_eq version max_version) (d, reply.Limit epoch_path) rest here h
 
-bad_epoch_lives : (o : Option Row) (d : Driver) (rest : Driver × Reply) → HasEpoch d.epoch d.stage × HasRisen d.stage → Lives rest → Lives (unless_bad_epoch o d rest)
+bad_epoch_lives : (o : Option Row) (d : Driver) (rest : Driver × Reply) → IsAlive d → Lives rest → Lives (unless_bad_epoch o d rest)
 bad_epoch_lives None d rest here h = h
 bad_epoch_lives (Some r) d rest here h = full_epoch_lives (read_epoch r.body) r.version d rest here h
 
-full_record_lives : (o : Option Row) (d : Driver) (rest : Driver × Reply) → HasEpoch d.epoch d.stage × HasRisen d.stage → Lives rest → Lives (unless_full_record o d rest)
+full_record_lives : (o : Option Row) (d : Driver) (rest : Driver × Reply) → IsAlive d → Lives rest → Lives (unless_full_record o d rest)
 full_record_lives None d rest here h = h
 full_record_lives (Some r) d rest here h = chosen Lives (not (views_migrated d) && int_eq r.version max_version) (d, reply.Limit migration_path) rest here h
 
-pub look_lives : (seen : ClaimSeen) (d : Driver) → IsElected d.epoch → IsKept d.epoch d.stage → Lives (looked seen d)
+pub look_lives : (seen : ClaimSeen) (d : Driver) → IsElected d.epoch → IsKept d.epoch d.view.position d.stage → Lives (looked seen d)
 look_lives seen d h k =
-    let here : HasEpoch d.epoch d.stage × HasRisen d.stage = (k.elected, k.risen) in
+    let here : IsAlive d = (k.elected, k.risen, k.at_target) in
     let end : Driver × Reply = (at_stage (stage.Claim seen) d, reply.Looked) in
     let record_checked = unless_full_record seen.migration d end in
     let epoch_checked = unless_bad_epoch seen.epoch d record_checked in
-    fenced_lives (shown_by seen.control) d epoch_checked (bad_epoch_lives seen.epoch d record_checked here (full_record_lives seen.migration d end here (h, tt)))
+    fenced_lives (shown_by seen.control) d epoch_checked (bad_epoch_lives seen.epoch d record_checked here (full_record_lives seen.migration d end here (h, tt, tt)))
 
 -- ---- the claim
 
-pub claimed_keeps : (c : Claimed) (d : Driver) → IsElected d.epoch → IsKept d.epoch d.stage → Keeps (after_claimed c d)
-claimed_keeps (Done number version) d h k = free_kept d.epoch (if views_migrated d then stage.ReadLog else stage.ReadSource []) h (chosen_stage IsFree (views_migrated d) stage.ReadLog (stage.ReadSource []) (tt, tt) (tt, tt))
-claimed_keeps Refused d h k = free_kept d.epoch stage.Look h (tt, tt)
+pub claimed_keeps : (c : Claimed) (d : Driver) → IsElected d.epoch → IsKept d.epoch d.view.position d.stage → Keeps (after_claimed c d)
+claimed_keeps (Done number version) d h k = free_kept d.epoch d.view.position (if views_migrated d then stage.ReadLog else stage.ReadSource []) h (chosen_stage (IsFree d.view.position) (views_migrated d) stage.ReadLog (stage.ReadSource []) (tt, tt, tt) (tt, tt, tt))
+claimed_keeps Refused d h k = free_kept d.epoch d.view.position stage.Look h (tt, tt, tt)
 claimed_keeps (Stopped told) d h k = k
 
 -- ---- pages and appends
 
-pub page_keeps : (rows page : List Row) (more last : List Row → Stage) (d : Driver) → IsElected d.epoch → IsFree (more (rows ++ page)) → IsFree (last (rows ++ page)) → Keeps (after_page rows page more last d)
+pub page_keeps : (rows page : List Row) (more last : List Row → Stage) (d : Driver) → IsElected d.epoch → IsFree d.view.position (more (rows ++ page)) → IsFree d.view.position (last (rows ++ page)) → Keeps (after_page rows page more last d)
 page_keeps rows page more last d h goes_on ends =
-    free_kept d.epoch (if nat_lt (length page) page_size then last (rows ++ page) else more (rows ++ page)) h
-    (chosen_stage IsFree (nat_lt (length page) page_size) (last (rows ++ page)) (more (rows ++ page)) ends goes_on)
+    free_kept d.epoch d.view.position (if nat_lt (length page) page_size then last (rows ++ page) else more (rows ++ page)) h
+    (chosen_stage (IsFree d.view.position) (nat_lt (length page) page_size) (last (rows ++ page)) (more (rows ++ page)) ends goes_on)
 
-pub append_keeps : (next : Stage) (d : Driver) (r : Result Log LogFault) → IsElected d.epoch → IsFree next → IsKept d.epoch d.stage → Keeps (after_append next d r)
-append_keeps next d (Ok l) h free k = free_kept d.epoch next h free
+pub append_keeps : (next : Stage) (d : Driver) (r : Result Log LogFault) → IsElected d.epoch → IsFree d.view.position next → IsKept d.epoch d.view.position d.stage → Keeps (after_append next d r)
+append_keeps next d (Ok l) h free k = free_kept d.epoch d.view.position next h free
 append_keeps next d (Err (log_fault.Stale epoch)) h free k = resigned_kept d (reply.Stale epoch)
 append_keeps next d (Err (log_fault.Limit number)) h free k = k
 append_keeps next d (Err log_fault.Failed) h free k = k
@@ -139,10 +142,10 @@ append_keeps next d (Err log_fault.NoMemory) h free k = k
 append_keeps next d (Err log_fault.Down) h free k = k
 append_keeps next d (Err (log_fault.Full length)) h free k = k
 
-pub translation_keeps : (s : Shared) (now : ℤ) (d : Driver) (r : Result (List MetaRecord) Unreadable) → IsElected d.epoch → IsKept d.epoch d.stage → Keeps (after_translation s now d r)
-translation_keeps s now d (Err e) h k = free_kept d.epoch (stage.ReadSource []) h (tt, tt)
-translation_keeps s now d (Ok records) h k = append_keeps (stage.Fill records) d (append s.log (epoch_or_zero d.epoch) now (begin_record ∷ [])) h (tt, tt) k
+pub translation_keeps : (s : Shared) (now : ℤ) (d : Driver) (r : Result (List MetaRecord) Unreadable) → IsElected d.epoch → IsKept d.epoch d.view.position d.stage → Keeps (after_translation s now d r)
+translation_keeps s now d (Err e) h k = free_kept d.epoch d.view.position (stage.ReadSource []) h (tt, tt, tt)
+translation_keeps s now d (Ok records) h k = append_keeps (stage.Fill records) d (append s.log (epoch_or_zero d.epoch) now (begin_record ∷ [])) h (tt, tt, tt) k
 
-pub records_free : (records : List MetaRecord) → IsFree (after_records records)
-records_free [] = (tt, tt)
-records_free (r ∷ rs) = (tt, tt)
+pub records_free : (position : ℤ) (records : List MetaRecord) → IsFree position (after_records records)
+records_free position [] = (tt, tt, tt)
+records_free position (r ∷ rs) = (tt, tt, tt)

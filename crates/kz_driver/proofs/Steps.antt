@@ -13,7 +13,7 @@ use Rattle.kz_types.specs.declared.fault.TreeFault.{TreeFault}
 use Rattle.kz_types.specs.declared.fault.TreeFault.TheVariants as fault
 use Rattle.kz_types.specs.declared.fault.LogFault.{LogFault}
 use Rattle.kz_spec_stores.specs.Tree.{Tree, multi}
-use Rattle.kz_spec_stores.specs.Log.{Log, append}
+use Rattle.kz_spec_stores.specs.Log.{Log, View, append}
 use Rattle.kz_spec_stores.specs.Translation.{Unreadable}
 use Rattle.kz_spec_machine.specs.Driver.{Shared, Driver, epoch_or_zero, asked, made, with_tree, with_log, begin_request, write_request, write_ops, answered, after_claim, step, begin_record, after_page, page_size}
 use Rattle.kz_driver.specs.declared.row.DriverRow.{DriverRow}
@@ -22,7 +22,7 @@ use Rattle.kz_driver.specs.Appends.{log_after, log_begun}
 use Rattle.kz_driver.specs.Claims.{claimed_by, after_claimed, tree_after}
 use Rattle.kz_driver.specs.Writes.{tree_written}
 use Rattle.kz_driver.specs.Stops.{StageCanClaim}
-use Rattle.kz_driver.specs.Drivers.{shared_of, IsElected, HasEpoch, HasRisen, IsKept}
+use Rattle.kz_driver.specs.Drivers.{shared_of, IsElected, HasEpoch, HasRisen, IsAtTarget, IsKept}
 use Rattle.kz_driver.proofs.Keeping.{Keeps, Lives, chosen_stage}
 
 pub stepped : (s new : Shared) (running : List ℤ) (now : ℤ) (d e : Driver) (told : Reply) (at : Stage) → d.stage ≡ at
@@ -53,31 +53,37 @@ first_same A B (Err f) h = h.0
 
 -- a driver keeps what it holds through a step, and through one that memory stops
 pub kept_step : {E : Type 0} (r : Result Reply E) (old new : DriverRow) (x : Driver × Reply) → IfOk r (λ told. x ≡ (driver_of new, told)) → OnErr r (new ≡ old)
-    → IsKept old.epoch old.stage → Keeps x → IsKept new.epoch new.stage
+    → IsKept old.epoch old.view.position old.stage → Keeps x → IsKept new.epoch new.view.position new.stage
 kept_step (Ok told) old new x is same k after = subst Keeps is after
-kept_step (Err f) old new x is same k after = subst (λ (d : DriverRow). IsKept d.epoch d.stage) (sym same) k
+kept_step (Err f) old new x is same k after = subst (λ (d : DriverRow). IsKept d.epoch d.view.position d.stage) (sym same) k
+
+-- what holds of the view after a step, and of the one before where memory stops it
+pub view_kept : {E : Type 0} (r : Result Reply E) (old new : DriverRow) (x : Driver × Reply) (P : View → Type 0) → IfOk r (λ told. x ≡ (driver_of new, told)) → OnErr r (new ≡ old)
+    → P old.view → P x.0.view → P new.view
+view_kept (Ok told) old new x P is same before after = subst (λ (y : Driver × Reply). P y.0.view) is after
+view_kept (Err f) old new x P is same before after = subst (λ (d : DriverRow). P d.view) (sym same) before
 
 -- after a look, what was seen can rise where the claim comes next
 pub look_kept : {E : Type 0} (r : Result Reply E) (old new : DriverRow) (x : Driver × Reply) → IfOk r (λ told. x ≡ (driver_of new, told)) → IfOk r (λ told. StageCanClaim new.stage)
-    → OnErr r (new ≡ old) → IsKept old.epoch old.stage → Lives x → IsKept new.epoch new.stage
+    → OnErr r (new ≡ old) → IsKept old.epoch old.view.position old.stage → Lives x → IsKept new.epoch new.view.position new.stage
 look_kept (Ok told) old new x is can same k lives =
     let now : Lives (driver_of new, told) = subst Lives is lives in
-    record { elected = now.0; can_claim = can; risen = now.1 }
-look_kept (Err f) old new x is can same k lives = subst (λ (d : DriverRow). IsKept d.epoch d.stage) (sym same) k
+    record { elected = now.0; can_claim = can; risen = now.1; at_target = now.2 }
+look_kept (Err f) old new x is can same k lives = subst (λ (d : DriverRow). IsKept d.epoch d.view.position d.stage) (sym same) k
 
 abbrev IsReady : Driver × Reply → Type 0
-IsReady x = HasEpoch x.0.epoch x.0.stage × StageCanClaim x.0.stage
+IsReady x = HasEpoch x.0.epoch x.0.stage × StageCanClaim x.0.stage × IsAtTarget x.0.view.position x.0.stage
 
 -- after a page of the area, the znodes that were read rise
 pub area_kept : {E : Type 0} (r : Result Reply E) (old new : DriverRow) (rows page : List Row) (target : Recorded) (ops : List Row → List Op)
     → IfOk r (λ told. after_page rows page (λ all. stage.ReadArea target all) (λ all. stage.WriteAll target (ops all)) (driver_of old) ≡ (driver_of new, told)) → HasRisen new.stage
-    → OnErr r (new ≡ old) → IsKept old.epoch old.stage → IsElected old.epoch → IsKept new.epoch new.stage
-area_kept (Ok told) old new rows page target ops is risen same k h =
+    → OnErr r (new ≡ old) → IsKept old.epoch old.view.position old.stage → IsElected old.epoch → target.offset ≡ old.view.position → IsKept new.epoch new.view.position new.stage
+area_kept (Ok told) old new rows page target ops is risen same k h at =
     let ready : IsReady (after_page rows page (λ all. stage.ReadArea target all) (λ all. stage.WriteAll target (ops all)) (driver_of old)) =
-    chosen_stage (λ s. HasEpoch old.epoch s × StageCanClaim s) (nat_lt (length page) page_size) (stage.WriteAll target (ops (rows ++ page))) (stage.ReadArea target (rows ++ page)) (h, tt) (h, tt) in
+    chosen_stage (λ s. HasEpoch old.epoch s × StageCanClaim s × IsAtTarget old.view.position s) (nat_lt (length page) page_size) (stage.WriteAll target (ops (rows ++ page))) (stage.ReadArea target (rows ++ page)) (h, tt, at) (h, tt, at) in
     let now : IsReady (driver_of new, told) = subst IsReady is ready in
-    record { elected = now.0; can_claim = now.1; risen = risen }
-area_kept (Err f) old new rows page target ops is risen same k h = subst (λ (d : DriverRow). IsKept d.epoch d.stage) (sym same) k
+    record { elected = now.0; can_claim = now.1; risen = risen; at_target = now.2 }
+area_kept (Err f) old new rows page target ops is risen same k h at = subst (λ (d : DriverRow). IsKept d.epoch d.view.position d.stage) (sym same) k
 
 -- ---- what requests make of the tree and the log
 

@@ -2,7 +2,6 @@
 use Rattle.std.proofs.Common.{◌≡◌, ℤ, Bool, true, false, cond, List, Option, Some, Result, Ok, Err, drop, length, refl, sym, ap, ◌∙◌}
 use Rattle.kz_types.specs.declared.tree.Op.{Op}
 use Rattle.kz_types.specs.declared.driver.Stage.{Stage}
-use Rattle.kz_types.specs.declared.driver.Stage.TheVariants as stage
 use Rattle.kz_types.specs.declared.machine.Recorded.{Recorded}
 use Rattle.kz_types.specs.declared.fault.TreeFault.{TreeFault}
 use Rattle.kz_types.specs.declared.fault.TreeFault.TheVariants as fault
@@ -34,15 +33,3 @@ writes_is t held claim ops target more last d w end by told after =
     ap (λ h. writes t h ops target more last d) by
     ∙ (sym (written_is claim ops target more last d (multi t (write_ops claim ops target)))
     ∙ (ap (λ v. after_written v target more last d) (sym told) ∙ after))
-
--- what a driver that writes will record
-abbrev target_or : Recorded → Stage → Recorded
-target_or d (stage.WriteAll target ops) = target
-target_or d (stage.WriteChange target ops) = target
-target_or d other = d
-
-pub all_targets : (s : Stage) (x : Recorded) (a : List Op) (y : Recorded) (b : List Op) → s ≡ stage.WriteAll x a → s ≡ stage.WriteAll y b → x ≡ y
-all_targets s x a y b left right = ap (target_or x) (sym left ∙ right)
-
-pub change_targets : (s : Stage) (x : Recorded) (a : List Op) (y : Recorded) (b : List Op) → s ≡ stage.WriteChange x a → s ≡ stage.WriteChange y b → x ≡ y
-change_targets s x a y b left right = ap (target_or x) (sym left ∙ right)

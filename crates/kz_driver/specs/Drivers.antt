@@ -1,5 +1,5 @@
 -- A driver as the code holds it.
-use Rattle.std.specs.Prelude.{Bool, true, false, ℤ, pos, ◌≤ℤ◌, ⊤, List, Option, Some, None}
+use Rattle.std.specs.Prelude.{◌≡◌, Bool, true, false, ℤ, pos, ◌≤ℤ◌, ⊤, List, Option, Some, None}
 use Rattle.kz_types.specs.declared.driver.Stage.{Stage}
 use Rattle.kz_types.specs.declared.driver.Stage.TheVariants as stage
 use Rattle.kz_ordered.specs.Order.{bytes_cmp}
@@ -37,6 +37,13 @@ abbrev pub HasRisen : Stage → Type 0
 HasRisen (stage.ReadArea target rows) = Rises bytes_cmp path_of_row rows
 HasRisen s = ⊤
 
+-- What a driver that writes will record is the offset of its view.
+abbrev pub IsAtTarget : ℤ → Stage → Type 0
+IsAtTarget position (stage.ReadArea target rows) = target.offset ≡ position
+IsAtTarget position (stage.WriteAll target ops) = target.offset ≡ position
+IsAtTarget position (stage.WriteChange target ops) = target.offset ≡ position
+IsAtTarget position s = ⊤
+
 -- whether a driver at this stage asks the tree
 abbrev pub asks_tree : Stage → Bool
 asks_tree stage.CompareBrokers = true
@@ -48,11 +55,12 @@ asks_tree (stage.WriteAll target ops) = true
 asks_tree (stage.WriteChange target ops) = true
 asks_tree s = false
 
--- what a driver holds at a stage
-pub record IsKept (epoch : Option ℤ) (s : Stage) : Type 0 where
+-- what a driver holds at a stage, where its view has read up to this position
+pub record IsKept (epoch : Option ℤ) (position : ℤ) (s : Stage) : Type 0 where
   pub elected : HasEpoch epoch s
   pub can_claim : StageCanClaim s
   pub risen : HasRisen s
+  pub at_target : IsAtTarget position s
 
 -- a driver that begins, and waits to be elected
 abbrev pub started : Driver → Driver × Reply

@@ -1,17 +1,20 @@
 //! Requests of the log.
-ghost use Rattle.std.specs.Prelude.{◌≡◌, ◌<◌, ◌≤ℤ◌, IfOk, OnErr, Ok, Err, Result, length, pos, drop};
+ghost use Rattle.std.specs.Prelude.{◌≡◌, ◌<◌, ◌≤ℤ◌, Bool, IfOk, OnOk, IfErr, OnErr, Ok, Err, Result, length, pos, drop};
 ghost use Rattle.kz_types.specs.declared.driver.Stage.{Stage as StageValue};
 ghost use Rattle.kz_types.specs.declared.fault.LogFault.{LogFault as LogFaultValue};
-ghost use Rattle.kz_spec_stores.specs.Log.{Log, append, end_of};
+ghost use Rattle.kz_spec_stores.specs.Requests.{Either};
+ghost use Rattle.kz_spec_stores.specs.Log.{Log, View as ViewValue, IsViewOf, append, end_of, read_view};
 ghost use Rattle.kz_spec_machine.specs.Driver.{epoch_or_zero, after_append};
+ghost use Rattle.kz_log.specs.Requests.{IsReadFault};
 ghost use Rattle.kz_driver.specs.Rows.{driver_of};
 ghost use Rattle.kz_driver.specs.Appends.{IsSaid, log_after};
+ghost use Rattle.kz_driver.specs.Faults.{IsCalm, IsReadLogFault, IsChangeLogFault};
 
+use crate::fault::StepFault;
 use crate::row::DriverRow;
 use crate::waiting::resign;
-use kz_log::MemoryLog;
-use kz_types::{LogFault, MetaRecord, NoMemory, Reply, Stage};
-use std::alloc::Global;
+use kz_log::{MetaLog, View, read_to_end};
+use kz_types::{LogFault, MetaRecord, Reply, Stage};
 
 // The epoch of a driver, 0 where it has none.
 fn epoch_of(driver: &DriverRow) -> i32
@@ -20,30 +23,67 @@ fn epoch_of(driver: &DriverRow) -> i32
     driver.epoch.unwrap_or(0)
 }
 
-/// A driver appends records, and is told the last offset or the fault.
-pub fn add(
-    alloc: Global,
-    log: &mut MemoryLog,
+/// Why a read of the log has no answer.
+pub fn log_fault(fault: LogFault) -> StepFault
+    ensures { (down : Bool) → IsReadFault down fault → IsReadLogFault down result }
+{
+    match fault {
+        LogFault::NoMemory => StepFault::NoMemory,
+        other => StepFault::Log(other),
+    }
+}
+
+/// Brings a view to the log's end. At `Err` it is as it was.
+pub fn read<L: MetaLog>(view: &mut View, log: &mut L) -> Result<(), StepFault>
+    requires { IsViewOf (L.log log.old) view.old }
+    ensures ok { OnOk result (view.new ≡ read_view (L.log log.old) view.old) }
+    ensures view { IsViewOf (L.log log.new) view.new }
+    ensures err { OnErr result (view.new ≡ view.old) }
+    ensures failed { IfErr result (IsReadLogFault (L.down log.old)) }
+    ensures same { L.log log.new ≡ L.log log.old }
+    ensures calm { L.faults log.new ≡ L.faults log.old }
+    ensures up { L.down log.new ≡ L.down log.old }
+{
+    match read_to_end(view, log) {
+        Ok(()) => Ok(()),
+        Err(fault) => Err(log_fault(fault)),
+    }
+}
+
+/// A driver appends records, and is told the last offset or the refusal. At `Err` the log is as it was.
+pub fn add<L: MetaLog>(
+    log: &mut L,
     driver: &DriverRow,
     now: i64,
     items: &[MetaRecord],
-) -> Result<Result<i64, LogFault>, NoMemory>
+) -> Result<Result<i64, LogFault>, StepFault>
     requires some { 0 < length items.now }
     requires elected { pos 1 ≤ℤ epoch_or_zero driver.now.epoch }
-    ensures said { IfOk result (IsSaid (append log.old (epoch_or_zero driver.now.epoch) now items.now)) }
-    ensures log { IfOk result (λ said. log.new ≡ log_after (append log.old (epoch_or_zero driver.now.epoch) now items.now) log.old) }
-    ensures err { OnErr result (log.new ≡ log.old) }
+    ensures said { IfOk result (IsSaid (append (L.log log.old) (epoch_or_zero driver.now.epoch) now items.now)) }
+    ensures log { IfOk result (λ said. L.log log.new ≡ log_after (append (L.log log.old) (epoch_or_zero driver.now.epoch) now items.now) (L.log log.old)) }
+    ensures views { (v : ViewValue) → IsViewOf (L.log log.old) v → IsViewOf (L.log log.new) v }
+    ensures err { OnErr result (L.log log.new ≡ L.log log.old) }
+    ensures calm { OnOk result (IsCalm (L.faults log.old) (L.faults log.new) (L.down log.old) (L.down log.new)) }
+    ensures failed { IfErr result (IsChangeLogFault (L.length log.old) (L.faults log.old) (L.faults log.new) (L.down log.old) (L.down log.new)
+        (Either (L.log log.old) (log_after (append (L.log log.old) (epoch_or_zero driver.now.epoch) now items.now) (L.log log.old)) (L.left log.new))) }
 {
-    match log.append(alloc, epoch_of(driver), now, items) {
+    // The store promises here that its log is one as defined.
+    log.epoch();
+    match log.append(epoch_of(driver), now, items) {
         Ok(end) => Ok(Ok(end)),
-        Err(LogFault::NoMemory) => Err(NoMemory),
-        Err(fault) => Ok(Err(fault)),
+        Err(LogFault::Stale { epoch }) => Ok(Err(LogFault::Stale { epoch })),
+        Err(LogFault::Limit { number }) => Ok(Err(LogFault::Limit { number })),
+        Err(LogFault::NoMemory) => Err(StepFault::NoMemory),
+        Err(LogFault::Failed) => Err(StepFault::Log(LogFault::Failed)),
+        Err(LogFault::Down) => Err(StepFault::Log(LogFault::Down)),
+        Err(LogFault::Full { length }) => Err(StepFault::Log(LogFault::Full { length })),
     }
 }
 
 /// The driver after an append: in this stage, or where it was, or resigned where another controller leads.
 pub fn after_append(row: &mut DriverRow, next: Stage, said: Result<i64, LogFault>) -> Reply
-    ensures { (r : Result Log LogFaultValue) → IsSaid r said → after_append next (driver_of row.old) r ≡ (driver_of row.new, result) }
+    ensures view { row.new.view ≡ row.old.view }
+    ensures driver { (r : Result Log LogFaultValue) → IsSaid r said → after_append next (driver_of row.old) r ≡ (driver_of row.new, result) }
 {
     match said {
         Ok(offset) => {

@@ -129,7 +129,8 @@ fn ask_claim<T: ZTree>(
 
 // The driver after a claim.
 fn after_claimed(alloc: Global, row: &mut DriverRow, claimed: Claimed) -> Reply
-    ensures { after_claimed claimed (driver_of row.old) ≡ (driver_of row.new, result) }
+    ensures view { row.new.view ≡ row.old.view }
+    ensures driver { after_claimed claimed (driver_of row.old) ≡ (driver_of row.new, result) }
 {
     match claimed {
         Claimed::Done { number, version } => {
@@ -184,6 +185,7 @@ pub fn claim<T: ZTree>(
         after_claimed (claimed_by seen (claim_ops seen (driver_of row.old) now) (multi (T.tree tree.old) (claim_ops seen (driver_of row.old) now))) (driver_of row.old) ≡ (driver_of row.new, told)) }
     ensures tree { (seen : ClaimSeenValue) → row.old.stage ≡ stage.Claim seen → IfOk result (λ told.
         T.tree tree.new ≡ tree_after (multi (T.tree tree.old) (claim_ops seen (driver_of row.old) now)) (T.tree tree.old)) }
+    ensures view { row.new.view ≡ row.old.view }
     ensures err { OnErr result ((row.new ≡ row.old) × (T.tree tree.new ≡ T.tree tree.old)) }
     ensures calm { OnOk result (IsCalm (T.faults tree.old) (T.faults tree.new) (T.down tree.old) (T.down tree.new)) }
     ensures failed { (seen : ClaimSeenValue) → row.old.stage ≡ stage.Claim seen → IfErr result (IsChangeStepFault (T.length tree.old) (T.faults tree.old) (T.faults tree.new) (T.down tree.old) (T.down tree.new)

@@ -137,6 +137,7 @@ fn higher_epoch(driver: &DriverRow, shown: Option<i32>) -> Option<i32>
 fn after_look(alloc: Global, row: &mut DriverRow, seen: ClaimSeen) -> Result<Reply, NoMemory>
     ensures ok { IfOk result (λ told. looked seen (driver_of row.old) ≡ (driver_of row.new, told)) }
     ensures can { row.old.stage ≡ stage.Look → IfOk result (λ told. StageCanClaim row.new.stage) }
+    ensures view { row.new.view ≡ row.old.view }
     ensures err { OnErr result (row.new ≡ row.old) }
 {
     let shown = shown_by(alloc, seen.control.as_ref())?;
@@ -158,6 +159,7 @@ fn after_look(alloc: Global, row: &mut DriverRow, seen: ClaimSeen) -> Result<Rep
 pub fn look<T: ZTree>(alloc: Global, row: &mut DriverRow, tree: &mut T) -> Result<Reply, StepFault>
     ensures ok { IfOk result (λ told. looked (seen_in (T.tree tree.old)) (driver_of row.old) ≡ (driver_of row.new, told)) }
     ensures can { row.old.stage ≡ stage.Look → IfOk result (λ told. StageCanClaim row.new.stage) }
+    ensures view { row.new.view ≡ row.old.view }
     ensures err { OnErr result (row.new ≡ row.old) }
     ensures failed { IfErr result (IsReadStepFault (T.down tree.old)) }
     ensures same { T.tree tree.new ≡ T.tree tree.old }

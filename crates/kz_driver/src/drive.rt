@@ -1,12 +1,12 @@
 //! The driver of a controller.
-ghost use Rattle.std.specs.Prelude.{◌≡◌, ◌≤ℤ◌, pos, true, false, IfOk, IfErr, IfSome, OnErr, IsErrOf};
+ghost use Rattle.std.specs.Prelude.{◌≡◌, ◌≤ℤ◌, pos, true, false, IfOk, IfErr, IfSome, OnOk, OnErr, IsErrOf};
 ghost use Rattle.kz_types.specs.Causes.{Rose};
 ghost use Rattle.kz_spec_stores.specs.Requests.{Either};
 ghost use Rattle.kz_spec_stores.specs.Tree.{Tree};
 ghost use Rattle.kz_spec_stores.specs.Log.{View as ViewValue, IsViewOf};
 ghost use Rattle.kz_spec_machine.specs.Driver.{Driver as DriverValue, new_driver, elected_driver, step};
 ghost use Rattle.kz_driver.specs.Drivers.{IsKept, asks_tree, shared_of, started, informed};
-ghost use Rattle.kz_driver.specs.Faults.{IsStepFault, StepHasCause};
+ghost use Rattle.kz_driver.specs.Faults.{IsStepFault, IsCalm, IsChangeLogFault, StepHasCause};
 ghost use Rattle.kz_driver.specs.Rows.{driver_of};
 
 use crate::area::read_area;
@@ -20,10 +20,10 @@ use crate::row::DriverRow;
 use crate::source::read_source;
 use crate::targets::begin_sync;
 use crate::waiting::{compare_brokers, wait_for_brokers, wait_for_quorum};
-use crate::writing::{write_all, write_change};
+use crate::writing::{Scope, write};
 use kz_log::{MetaLog, View};
 use kz_tree::ZTree;
-use kz_types::{DriverState, LogFault, NoMemory, Reply, Stage, TreeFault};
+use kz_types::{DriverState, LogFault, Reply, Stage, TreeFault};
 use std::alloc::Global;
 use std::marker::Model;
 
@@ -39,7 +39,7 @@ impl Model for Driver {
 
     ghost view = { λ d. driver_of d.row };
 
-    ghost invariant = { λ d. IsKept d.row.epoch d.row.stage };
+    ghost invariant = { λ d. IsKept d.row.epoch d.row.view.position d.row.stage };
 }
 
 impl Driver {
@@ -152,25 +152,31 @@ fn inform_brokers(row: &mut DriverRow) -> Reply
 }
 
 // One step of a driver that asks nothing of the tree: the same over every tree. At `Err` nothing has changed.
-fn step_aside(
+fn step_aside<L: MetaLog>(
     alloc: Global,
     row: &mut DriverRow,
-    log: &mut MemoryLog,
+    log: &mut L,
     peers: &Peers,
     now: i64,
-) -> Result<Reply, NoMemory>
-    requires kept { IsKept row.old.epoch row.old.stage }
+) -> Result<Reply, StepFault>
+    requires kept { IsKept row.old.epoch row.old.view.position row.old.stage }
     requires aside { asks_tree row.old.stage ≡ false }
-    ensures ok { (t : Tree) → IfOk result (λ told. step (shared_of t log.old peers.now.declared) peers.now.running now (driver_of row.old)
-        ≡ record { shared = shared_of t log.new peers.now.declared; driver = driver_of row.new; reply = told }) }
-    ensures kept { IsKept row.new.epoch row.new.stage }
-    ensures err { OnErr result ((row.new ≡ row.old) × (log.new ≡ log.old)) }
+    requires view { IsViewOf (L.log log.old) row.old.view }
+    ensures ok { (t : Tree) → IfOk result (λ told. step (shared_of t (L.log log.old) peers.now.declared) peers.now.running now (driver_of row.old)
+        ≡ record { shared = shared_of t (L.log log.new) peers.now.declared; driver = driver_of row.new; reply = told }) }
+    ensures kept { IsKept row.new.epoch row.new.view.position row.new.stage }
+    ensures view { IsViewOf (L.log log.new) row.new.view }
+    ensures views { (v : ViewValue) → IsViewOf (L.log log.old) v → IsViewOf (L.log log.new) v }
+    ensures err { OnErr result ((row.new ≡ row.old) × (L.log log.new ≡ L.log log.old)) }
+    ensures calm { OnOk result (IsCalm (L.faults log.old) (L.faults log.new) (L.down log.old) (L.down log.new)) }
+    ensures failed { (t : Tree) → IfErr result (IsChangeLogFault (L.length log.old) (L.faults log.old) (L.faults log.new) (L.down log.old) (L.down log.new)
+        (Either (L.log log.old) (step (shared_of t (L.log log.old) peers.now.declared) peers.now.running now (driver_of row.old)).shared.log (L.left log.new))) }
 {
     match &row.stage {
         Stage::Uninitialized => Ok(start(row)),
         Stage::Inactive => Ok(Reply::Idle),
-        Stage::WaitForQuorum => wait_for_quorum(alloc, row, log, peers),
-        Stage::WaitForBrokers => wait_for_brokers(alloc, row, log),
+        Stage::WaitForQuorum => wait_for_quorum(row, log, peers),
+        Stage::WaitForBrokers => wait_for_brokers(row, log),
         Stage::Begin { .. } => begin(alloc, row, log, now),
         Stage::Fill { .. } => fill(alloc, row, log, now),
         Stage::ReadLog => begin_sync(alloc, row, log),
@@ -181,21 +187,27 @@ fn step_aside(
 }
 
 // One step of the driver with these parts. At `Err` nothing has changed.
-fn step_row<T: ZTree>(
+fn step_row<T: ZTree, L: MetaLog>(
     alloc: Global,
     row: &mut DriverRow,
     tree: &mut T,
-    log: &mut MemoryLog,
+    log: &mut L,
     peers: &Peers,
     now: i64,
 ) -> Result<Reply, StepFault>
-    requires { IsKept row.old.epoch row.old.stage }
-    ensures ok { IfOk result (λ told. step (shared_of (T.tree tree.old) log.old peers.now.declared) peers.now.running now (driver_of row.old)
-        ≡ record { shared = shared_of (T.tree tree.new) log.new peers.now.declared; driver = driver_of row.new; reply = told }) }
-    ensures kept { IsKept row.new.epoch row.new.stage }
-    ensures err { OnErr result ((row.new ≡ row.old) × (T.tree tree.new ≡ T.tree tree.old) × (log.new ≡ log.old)) }
-    ensures store { StepHasCause result (T.length tree.old) (T.faults tree.old) (T.faults tree.new) (T.down tree.old) (T.down tree.new)
-        (Either (T.tree tree.old) (step (shared_of (T.tree tree.old) log.old peers.now.declared) peers.now.running now (driver_of row.old)).shared.tree (T.left tree.new)) }
+    requires kept { IsKept row.old.epoch row.old.view.position row.old.stage }
+    requires view { IsViewOf (L.log log.old) row.old.view }
+    ensures ok { IfOk result (λ told. step (shared_of (T.tree tree.old) (L.log log.old) peers.now.declared) peers.now.running now (driver_of row.old)
+        ≡ record { shared = shared_of (T.tree tree.new) (L.log log.new) peers.now.declared; driver = driver_of row.new; reply = told }) }
+    ensures kept { IsKept row.new.epoch row.new.view.position row.new.stage }
+    ensures view { IsViewOf (L.log log.new) row.new.view }
+    ensures views { (v : ViewValue) → IsViewOf (L.log log.old) v → IsViewOf (L.log log.new) v }
+    ensures err { OnErr result ((row.new ≡ row.old) × (T.tree tree.new ≡ T.tree tree.old) × (L.log log.new ≡ L.log log.old)) }
+    ensures stores { StepHasCause result
+        (T.length tree.old) (T.faults tree.old) (T.faults tree.new) (T.down tree.old) (T.down tree.new)
+        (Either (T.tree tree.old) (step (shared_of (T.tree tree.old) (L.log log.old) peers.now.declared) peers.now.running now (driver_of row.old)).shared.tree (T.left tree.new))
+        (L.length log.old) (L.faults log.old) (L.faults log.new) (L.down log.old) (L.down log.new)
+        (Either (L.log log.old) (step (shared_of (T.tree tree.old) (L.log log.old) peers.now.declared) peers.now.running now (driver_of row.old)).shared.log (L.left log.new)) }
 {
     match &row.stage {
         Stage::CompareBrokers => compare_brokers(row, tree),
@@ -203,11 +215,14 @@ fn step_row<T: ZTree>(
         Stage::Claim { .. } => claim(alloc, row, tree, now),
         Stage::ReadSource { .. } => read_source(row, tree),
         Stage::ReadArea { .. } => read_area(alloc, row, tree),
-        Stage::WriteAll { .. } => write_all(alloc, row, tree, log),
-        Stage::WriteChange { .. } => write_change(alloc, row, tree, log),
-        _ => match step_aside(alloc, row, log, peers, now) {
-            Ok(told) => Ok(told),
-            Err(NoMemory) => Err(StepFault::NoMemory),
-        },
+        Stage::WriteAll { target, .. } => {
+            let target = *target;
+            write(alloc, row, Scope::All, target, tree, log)
+        }
+        Stage::WriteChange { target, .. } => {
+            let target = *target;
+            write(alloc, row, Scope::Change, target, tree, log)
+        }
+        _ => step_aside(alloc, row, log, peers, now),
     }
 }

@@ -1,21 +1,24 @@
 //! ZK_MIGRATION: the translated records are appended in a transaction.
-ghost use Rattle.std.specs.Prelude.{◌≡◌, ◌<◌, ◌≤ℤ◌, IfOk, OnErr, Ok, Err, List, ℤ, Result, length, pos, [], ◌∷◌};
+ghost use Rattle.std.specs.Prelude.{◌≡◌, ◌<◌, ◌≤ℤ◌, IfOk, OnOk, IfErr, OnErr, Ok, Err, List, ℤ, Result, length, pos, [], ◌∷◌};
 ghost use Rattle.kz_types.specs.declared.record.MetaRecord.{MetaRecord as MetaRecordValue};
 ghost use Rattle.kz_types.specs.declared.tree.Row.{Row as RowValue};
 ghost use Rattle.kz_types.specs.declared.driver.Stage.TheVariants as stage;
 ghost use Rattle.kz_types.specs.declared.fault.LogFault.{LogFault as LogFaultValue};
 ghost use Rattle.kz_spec_stores.specs.Tree.{Tree};
-ghost use Rattle.kz_spec_stores.specs.Log.{Log, append};
+ghost use Rattle.kz_spec_stores.specs.Requests.{Either};
+ghost use Rattle.kz_spec_stores.specs.Log.{Log, View as ViewValue, IsViewOf, append};
 ghost use Rattle.kz_spec_stores.specs.Translation.{translate};
 ghost use Rattle.kz_spec_machine.specs.Driver.{epoch_or_zero, begin_record, commit_records, next_records, after_records, after_append, after_translation};
+ghost use Rattle.kz_driver.specs.Faults.{IsCalm, IsChangeLogFault};
 ghost use Rattle.kz_driver.specs.Rows.{driver_of};
 ghost use Rattle.kz_driver.specs.Appends.{IsSaid, log_after, log_begun};
 ghost use Rattle.kz_driver.specs.Drivers.{shared_of};
 
 use crate::appending::{add, after_append, drop_first};
+use crate::fault::StepFault;
 use crate::row::DriverRow;
 use crate::waiting::resign;
-use kz_log::MemoryLog;
+use kz_log::MetaLog;
 use kz_reader::{ReadFault, translate};
 use kz_types::{LogFault, MetaRecord, NoMemory, Reply, Sequence, Stage, Text};
 use std::alloc::Global;
@@ -54,41 +57,50 @@ fn first_records(records: &[MetaRecord]) -> &[MetaRecord]
 }
 
 /// Appends the next batch, of these records or of those that commit. At `Err` nothing has changed.
-pub fn add_next(
+pub fn add_next<L: MetaLog>(
     alloc: Global,
-    log: &mut MemoryLog,
+    log: &mut L,
     driver: &DriverRow,
     now: i64,
     records: &[MetaRecord],
-) -> Result<Result<i64, LogFault>, NoMemory>
+) -> Result<Result<i64, LogFault>, StepFault>
     requires { pos 1 ≤ℤ epoch_or_zero driver.now.epoch }
-    ensures said { IfOk result (IsSaid (append log.old (epoch_or_zero driver.now.epoch) now (next_records records.now))) }
-    ensures log { IfOk result (λ said. log.new ≡ log_after (append log.old (epoch_or_zero driver.now.epoch) now (next_records records.now)) log.old) }
-    ensures err { OnErr result (log.new ≡ log.old) }
+    ensures said { IfOk result (IsSaid (append (L.log log.old) (epoch_or_zero driver.now.epoch) now (next_records records.now))) }
+    ensures log { IfOk result (λ said. L.log log.new ≡ log_after (append (L.log log.old) (epoch_or_zero driver.now.epoch) now (next_records records.now)) (L.log log.old)) }
+    ensures views { (v : ViewValue) → IsViewOf (L.log log.old) v → IsViewOf (L.log log.new) v }
+    ensures err { OnErr result (L.log log.new ≡ L.log log.old) }
+    ensures calm { OnOk result (IsCalm (L.faults log.old) (L.faults log.new) (L.down log.old) (L.down log.new)) }
+    ensures failed { IfErr result (IsChangeLogFault (L.length log.old) (L.faults log.old) (L.faults log.new) (L.down log.old) (L.down log.new)
+        (Either (L.log log.old) (log_after (append (L.log log.old) (epoch_or_zero driver.now.epoch) now (next_records records.now)) (L.log log.old)) (L.left log.new))) }
 {
     if records.is_empty() {
         let last = commit_records(alloc)?;
-        add(alloc, log, driver, now, &last)
+        add(log, driver, now, &last)
     } else {
-        add(alloc, log, driver, now, first_records(records))
+        add(log, driver, now, first_records(records))
     }
 }
 
 // Begins the transaction of these records. At `Err` nothing has changed.
-fn begin_with(
+fn begin_with<L: MetaLog>(
     alloc: Global,
     row: &mut DriverRow,
-    log: &mut MemoryLog,
+    log: &mut L,
     now: i64,
     records: Vec<MetaRecord>,
-) -> Result<Reply, NoMemory>
+) -> Result<Reply, StepFault>
     requires { pos 1 ≤ℤ epoch_or_zero row.old.epoch }
-    ensures driver { IfOk result (λ told. after_append (stage.Fill records.items) (driver_of row.old) (append log.old (epoch_or_zero row.old.epoch) now (begin_record ∷ [])) ≡ (driver_of row.new, told)) }
-    ensures log { IfOk result (λ told. log.new ≡ log_after (append log.old (epoch_or_zero row.old.epoch) now (begin_record ∷ [])) log.old) }
-    ensures err { OnErr result ((row.new ≡ row.old) × (log.new ≡ log.old)) }
+    ensures driver { IfOk result (λ told. after_append (stage.Fill records.items) (driver_of row.old) (append (L.log log.old) (epoch_or_zero row.old.epoch) now (begin_record ∷ [])) ≡ (driver_of row.new, told)) }
+    ensures log { IfOk result (λ told. L.log log.new ≡ log_after (append (L.log log.old) (epoch_or_zero row.old.epoch) now (begin_record ∷ [])) (L.log log.old)) }
+    ensures view { row.new.view ≡ row.old.view }
+    ensures views { (v : ViewValue) → IsViewOf (L.log log.old) v → IsViewOf (L.log log.new) v }
+    ensures err { OnErr result ((row.new ≡ row.old) × (L.log log.new ≡ L.log log.old)) }
+    ensures calm { OnOk result (IsCalm (L.faults log.old) (L.faults log.new) (L.down log.old) (L.down log.new)) }
+    ensures failed { IfErr result (IsChangeLogFault (L.length log.old) (L.faults log.old) (L.faults log.new) (L.down log.old) (L.down log.new)
+        (Either (L.log log.old) (log_after (append (L.log log.old) (epoch_or_zero row.old.epoch) now (begin_record ∷ [])) (L.log log.old)) (L.left log.new))) }
 {
     let first = begin_records(alloc)?;
-    let said = add(alloc, log, row, now, &first)?;
+    let said = add(log, row, now, &first)?;
     let next = Stage::Fill {
         records: Sequence::from_vec(records),
     };
@@ -97,18 +109,23 @@ fn begin_with(
 
 /// ZK_MIGRATION, beginning: the znodes are translated, and where they can be, the transaction begins. At `Err` nothing has
 /// changed.
-pub fn begin(
+pub fn begin<L: MetaLog>(
     alloc: Global,
     row: &mut DriverRow,
-    log: &mut MemoryLog,
+    log: &mut L,
     now: i64,
-) -> Result<Reply, NoMemory>
+) -> Result<Reply, StepFault>
     requires { pos 1 ≤ℤ epoch_or_zero row.old.epoch }
     ensures driver { (rows : List RowValue) → row.old.stage ≡ stage.Begin rows → (t : Tree) (ids : List ℤ) → IfOk result (λ told.
-        after_translation (shared_of t log.old ids) now (driver_of row.old) (translate rows) ≡ (driver_of row.new, told)) }
+        after_translation (shared_of t (L.log log.old) ids) now (driver_of row.old) (translate rows) ≡ (driver_of row.new, told)) }
     ensures log { (rows : List RowValue) → row.old.stage ≡ stage.Begin rows → IfOk result (λ told.
-        log.new ≡ log_begun log.old (epoch_or_zero row.old.epoch) now (translate rows)) }
-    ensures err { OnErr result ((row.new ≡ row.old) × (log.new ≡ log.old)) }
+        L.log log.new ≡ log_begun (L.log log.old) (epoch_or_zero row.old.epoch) now (translate rows)) }
+    ensures view { row.new.view ≡ row.old.view }
+    ensures views { (v : ViewValue) → IsViewOf (L.log log.old) v → IsViewOf (L.log log.new) v }
+    ensures err { OnErr result ((row.new ≡ row.old) × (L.log log.new ≡ L.log log.old)) }
+    ensures calm { OnOk result (IsCalm (L.faults log.old) (L.faults log.new) (L.down log.old) (L.down log.new)) }
+    ensures failed { (rows : List RowValue) → row.old.stage ≡ stage.Begin rows → IfErr result (IsChangeLogFault (L.length log.old) (L.faults log.old) (L.faults log.new) (L.down log.old) (L.down log.new)
+        (Either (L.log log.old) (log_begun (L.log log.old) (epoch_or_zero row.old.epoch) now (translate rows)) (L.left log.new))) }
 {
     let Stage::Begin { rows } = &row.stage else {
         return Ok(Reply::Idle);
@@ -121,7 +138,7 @@ pub fn begin(
             };
             Ok(Reply::Untranslatable { path, why })
         }
-        Err(ReadFault::NoMemory) => Err(NoMemory),
+        Err(ReadFault::NoMemory) => Err(StepFault::NoMemory),
     }
 }
 
@@ -146,7 +163,8 @@ fn behind_batch(old: Stage) -> Stage
 
 // The driver after a batch.
 fn after_batch(row: &mut DriverRow, said: Result<i64, LogFault>) -> Reply
-    ensures { (records : List MetaRecordValue) → row.old.stage ≡ stage.Fill records → (r : Result Log LogFaultValue) → IsSaid r said → after_append (after_records records) (driver_of row.old) r ≡ (driver_of row.new, result) }
+    ensures view { row.new.view ≡ row.old.view }
+    ensures driver { (records : List MetaRecordValue) → row.old.stage ≡ stage.Fill records → (r : Result Log LogFaultValue) → IsSaid r said → after_append (after_records records) (driver_of row.old) r ≡ (driver_of row.new, result) }
 {
     match said {
         Ok(offset) => {
@@ -162,18 +180,23 @@ fn after_batch(row: &mut DriverRow, said: Result<i64, LogFault>) -> Reply
 }
 
 /// ZK_MIGRATION, filling: the next batch, or the one that commits. At `Err` nothing has changed.
-pub fn fill(
+pub fn fill<L: MetaLog>(
     alloc: Global,
     row: &mut DriverRow,
-    log: &mut MemoryLog,
+    log: &mut L,
     now: i64,
-) -> Result<Reply, NoMemory>
+) -> Result<Reply, StepFault>
     requires { pos 1 ≤ℤ epoch_or_zero row.old.epoch }
     ensures driver { (records : List MetaRecordValue) → row.old.stage ≡ stage.Fill records → IfOk result (λ told.
-        after_append (after_records records) (driver_of row.old) (append log.old (epoch_or_zero row.old.epoch) now (next_records records)) ≡ (driver_of row.new, told)) }
+        after_append (after_records records) (driver_of row.old) (append (L.log log.old) (epoch_or_zero row.old.epoch) now (next_records records)) ≡ (driver_of row.new, told)) }
     ensures log { (records : List MetaRecordValue) → row.old.stage ≡ stage.Fill records → IfOk result (λ told.
-        log.new ≡ log_after (append log.old (epoch_or_zero row.old.epoch) now (next_records records)) log.old) }
-    ensures err { OnErr result ((row.new ≡ row.old) × (log.new ≡ log.old)) }
+        L.log log.new ≡ log_after (append (L.log log.old) (epoch_or_zero row.old.epoch) now (next_records records)) (L.log log.old)) }
+    ensures view { row.new.view ≡ row.old.view }
+    ensures views { (v : ViewValue) → IsViewOf (L.log log.old) v → IsViewOf (L.log log.new) v }
+    ensures err { OnErr result ((row.new ≡ row.old) × (L.log log.new ≡ L.log log.old)) }
+    ensures calm { OnOk result (IsCalm (L.faults log.old) (L.faults log.new) (L.down log.old) (L.down log.new)) }
+    ensures failed { (records : List MetaRecordValue) → row.old.stage ≡ stage.Fill records → IfErr result (IsChangeLogFault (L.length log.old) (L.faults log.old) (L.faults log.new) (L.down log.old) (L.down log.new)
+        (Either (L.log log.old) (log_after (append (L.log log.old) (epoch_or_zero row.old.epoch) now (next_records records)) (L.log log.old)) (L.left log.new))) }
 {
     let Stage::Fill { records } = &row.stage else {
         return Ok(Reply::Idle);

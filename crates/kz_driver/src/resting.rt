@@ -1,22 +1,40 @@
 //! DUAL_WRITE, no write under way: the log is read, and what has changed will be written.
-ghost use Rattle.std.specs.Prelude.{◌≡◌, IfOk, OnErr};
+ghost use Rattle.std.specs.Prelude.{◌≡◌, IfOk, OnOk, IfErr, OnErr};
 ghost use Rattle.kz_types.specs.declared.driver.Stage.TheVariants as stage;
 ghost use Rattle.kz_spec_stores.specs.Difference.{diff};
-ghost use Rattle.kz_spec_stores.specs.Log.{Log, read_view};
+ghost use Rattle.kz_spec_stores.specs.Log.{Log, IsViewOf, read_view};
 ghost use Rattle.kz_spec_stores.specs.Rendering.{render};
 ghost use Rattle.kz_spec_machine.specs.Driver.{at_stage, target_of, having_read, is_recorded_at, after_rest};
 ghost use Rattle.kz_driver.specs.Drivers.{IsElected, IsKept};
+ghost use Rattle.kz_driver.specs.Faults.{IsReadLogFault};
 ghost use Rattle.kz_driver.specs.Rows.{driver_of};
 
+use crate::appending::read;
+use crate::fault::StepFault;
 use crate::row::DriverRow;
 use crate::targets::target_of;
 use crate::waiting::resign;
 use kz_image::Image;
-use kz_log::{MemoryLog, View};
+use kz_log::{MetaLog, View};
 use kz_render::render;
-use kz_types::{DriverState, NoMemory, Op, Reply, Sequence, Stage};
+use kz_types::{DriverState, Duplicate, NoMemory, Op, Reply, Sequence, Stage};
 use kz_writer::diff_renderings;
 use std::alloc::Global;
+
+// The view that has read to the log's end. The one before it stays.
+fn view_at_end<L: MetaLog>(alloc: Global, view: &View, log: &mut L) -> Result<View, StepFault>
+    requires { IsViewOf (L.log log.old) view.now }
+    ensures ok { IfOk result (λ made. made ≡ read_view (L.log log.old) view.now) }
+    ensures view { IfOk result (λ made. IsViewOf (L.log log.new) made) }
+    ensures failed { IfErr result (IsReadLogFault (L.down log.old)) }
+    ensures same { L.log log.new ≡ L.log log.old }
+    ensures calm { L.faults log.new ≡ L.faults log.old }
+    ensures up { L.down log.new ≡ L.down log.old }
+{
+    let mut made = view.copy(alloc)?;
+    read(&mut made, log)?;
+    Ok(made)
+}
 
 // The operations that make the znodes of some metadata those of other metadata.
 fn change(alloc: Global, before: &Image, after: &Image) -> Result<Vec<Op>, NoMemory>
@@ -40,7 +58,8 @@ fn is_recorded_at(recorded: Option<i64>, offset: i64) -> bool
 // The driver that has read the log will write these operations.
 fn begin_change(row: &mut DriverRow, view: View, ops: Vec<Op>)
     ensures driver { (l : Log) → view ≡ read_view l row.old.view → at_stage (stage.WriteChange (target_of (having_read l (driver_of row.old))) ops.items) (having_read l (driver_of row.old)) ≡ driver_of row.new }
-    ensures kept { IsElected row.old.epoch → IsKept row.new.epoch row.new.stage }
+    ensures view { row.new.view ≡ view }
+    ensures kept { IsElected row.old.epoch → IsKept row.new.epoch row.new.view.position row.new.stage }
 {
     row.view = view;
     row.stage = Stage::WriteChange {
@@ -49,13 +68,13 @@ fn begin_change(row: &mut DriverRow, view: View, ops: Vec<Op>)
     };
 }
 
-/// DUAL_WRITE, no write under way. At `Err` nothing has changed.
-pub fn rest(alloc: Global, row: &mut DriverRow, log: &MemoryLog) -> Result<Reply, NoMemory>
-    ensures ok { IfOk result (λ told. after_rest row.old.view.image (having_read log.now (driver_of row.old)) ≡ (driver_of row.new, told)) }
-    ensures kept { IsKept row.old.epoch row.old.stage → row.old.stage ≡ stage.Rest → IsKept row.new.epoch row.new.stage }
+// What follows a read of the log to its end. At `Err` nothing has changed.
+fn after_rest(alloc: Global, row: &mut DriverRow, view: View) -> Result<Reply, NoMemory>
+    ensures ok { (l : Log) → view ≡ read_view l row.old.view → IfOk result (λ told. after_rest row.old.view.image (having_read l (driver_of row.old)) ≡ (driver_of row.new, told)) }
+    ensures view { OnOk result (row.new.view ≡ view) }
+    ensures kept { IsKept row.old.epoch row.old.view.position row.old.stage → row.old.stage ≡ stage.Rest → IsKept row.new.epoch row.new.view.position row.new.stage }
     ensures err { OnErr result (row.new ≡ row.old) }
 {
-    let view = log.read(alloc, &row.view)?;
     if view.image().state() == 3 {
         row.view = view;
         resign(row);
@@ -68,4 +87,20 @@ pub fn rest(alloc: Global, row: &mut DriverRow, log: &MemoryLog) -> Result<Reply
     let ops = change(alloc, row.view.image(), view.image())?;
     begin_change(row, view, ops);
     Ok(Reply::Looked)
+}
+
+/// DUAL_WRITE, no write under way. At `Err` nothing has changed.
+pub fn rest<L: MetaLog>(alloc: Global, row: &mut DriverRow, log: &mut L) -> Result<Reply, StepFault>
+    requires { IsViewOf (L.log log.old) row.old.view }
+    ensures ok { IfOk result (λ told. after_rest row.old.view.image (having_read (L.log log.old) (driver_of row.old)) ≡ (driver_of row.new, told)) }
+    ensures kept { IsKept row.old.epoch row.old.view.position row.old.stage → row.old.stage ≡ stage.Rest → IsKept row.new.epoch row.new.view.position row.new.stage }
+    ensures view { IsViewOf (L.log log.new) row.new.view }
+    ensures err { OnErr result (row.new ≡ row.old) }
+    ensures failed { IfErr result (IsReadLogFault (L.down log.old)) }
+    ensures same { L.log log.new ≡ L.log log.old }
+    ensures calm { L.faults log.new ≡ L.faults log.old }
+    ensures up { L.down log.new ≡ L.down log.old }
+{
+    let view = view_at_end(alloc, &row.view, log)?;
+    Ok(after_rest(alloc, row, view)?)
 }

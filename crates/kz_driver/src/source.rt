@@ -58,6 +58,7 @@ pub fn add_page<T: ZTree>(rows: &mut Vec<Row>, tree: &mut T) -> Result<usize, St
 pub fn read_source<T: ZTree>(row: &mut DriverRow, tree: &mut T) -> Result<Reply, StepFault>
     ensures ok { (rows : List RowValue) → row.old.stage ≡ stage.ReadSource rows → IfOk result (λ told.
         after_page rows (scan (T.tree tree.old) (last_path rows) page_size) (λ all. stage.ReadSource all) (λ all. stage.Begin all) (driver_of row.old) ≡ (driver_of row.new, told)) }
+    ensures view { row.new.view ≡ row.old.view }
     ensures err { OnErr result (row.new ≡ row.old) }
     ensures failed { IfErr result (IsReadStepFault (T.down tree.old)) }
     ensures same { T.tree tree.new ≡ T.tree tree.old }

@@ -1,14 +1,17 @@
 //! SYNC_KRAFT_TO_ZK, before the log is read: what the writes will record.
-ghost use Rattle.std.specs.Prelude.{◌≡◌, IfOk, OnErr};
+ghost use Rattle.std.specs.Prelude.{◌≡◌, IfOk, IfErr, OnErr};
 ghost use Rattle.kz_types.specs.declared.driver.Stage.TheVariants as stage;
+ghost use Rattle.kz_spec_stores.specs.Log.{IsViewOf};
 ghost use Rattle.kz_spec_machine.specs.Driver.{target_of, having_read, after_log};
 ghost use Rattle.kz_driver.specs.Drivers.{IsElected, IsKept};
+ghost use Rattle.kz_driver.specs.Faults.{IsReadLogFault};
 ghost use Rattle.kz_driver.specs.Rows.{driver_of};
 
+use crate::fault::StepFault;
 use crate::row::DriverRow;
 use crate::waiting::{is_finalised, read_log, resign};
-use kz_log::MemoryLog;
-use kz_types::{DriverState, NoMemory, Recorded, Reply, Sequence, Stage};
+use kz_log::MetaLog;
+use kz_types::{DriverState, Recorded, Reply, Sequence, Stage};
 use std::alloc::Global;
 
 /// What will be recorded after a read of the log: its end, and the epoch of the last batch that was read, or the driver's
@@ -28,7 +31,8 @@ pub fn target_of(row: &DriverRow) -> Recorded
 
 fn after_log(alloc: Global, row: &mut DriverRow) -> Reply
     ensures ok { after_log (driver_of row.old) ≡ (driver_of row.new, result) }
-    ensures kept { IsElected row.old.epoch → IsKept row.new.epoch row.new.stage }
+    ensures view { row.new.view ≡ row.old.view }
+    ensures kept { IsElected row.old.epoch → IsKept row.new.epoch row.new.view.position row.new.stage }
 {
     if is_finalised(row) {
         resign(row);
@@ -42,11 +46,21 @@ fn after_log(alloc: Global, row: &mut DriverRow) -> Reply
 }
 
 /// SYNC_KRAFT_TO_ZK, before the log is read. At `Err` nothing has changed.
-pub fn begin_sync(alloc: Global, row: &mut DriverRow, log: &MemoryLog) -> Result<Reply, NoMemory>
-    ensures ok { IfOk result (λ told. after_log (having_read log.now (driver_of row.old)) ≡ (driver_of row.new, told)) }
-    ensures kept { IsKept row.old.epoch row.old.stage → row.old.stage ≡ stage.ReadLog → IsKept row.new.epoch row.new.stage }
+pub fn begin_sync<L: MetaLog>(
+    alloc: Global,
+    row: &mut DriverRow,
+    log: &mut L,
+) -> Result<Reply, StepFault>
+    requires { IsViewOf (L.log log.old) row.old.view }
+    ensures ok { IfOk result (λ told. after_log (having_read (L.log log.old) (driver_of row.old)) ≡ (driver_of row.new, told)) }
+    ensures kept { IsKept row.old.epoch row.old.view.position row.old.stage → row.old.stage ≡ stage.ReadLog → IsKept row.new.epoch row.new.view.position row.new.stage }
+    ensures view { IsViewOf (L.log log.new) row.new.view }
     ensures err { OnErr result (row.new ≡ row.old) }
+    ensures failed { IfErr result (IsReadLogFault (L.down log.old)) }
+    ensures same { L.log log.new ≡ L.log log.old }
+    ensures calm { L.faults log.new ≡ L.faults log.old }
+    ensures up { L.down log.new ≡ L.down log.old }
 {
-    read_log(alloc, row, log)?;
+    read_log(row, log)?;
     Ok(after_log(alloc, row))
 }

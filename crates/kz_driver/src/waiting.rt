@@ -4,18 +4,19 @@ ghost use Rattle.std.specs.Ordering.{int_eq};
 ghost use Rattle.kz_types.specs.declared.driver.Stage.TheVariants as stage;
 ghost use Rattle.kz_types.specs.declared.machine.Reply.TheVariants as reply;
 ghost use Rattle.kz_spec_stores.specs.Tree.{broker_ids};
+ghost use Rattle.kz_spec_stores.specs.Log.{IsViewOf};
 ghost use Rattle.kz_spec_machine.specs.Driver.{having_read, after_quorum, after_brokers, missing_broker, unless_finalised, at_stage, resigned};
-ghost use Rattle.kz_driver.specs.Faults.{IsReadStepFault};
+ghost use Rattle.kz_driver.specs.Faults.{IsReadStepFault, IsReadLogFault};
 ghost use Rattle.kz_driver.specs.Rows.{driver_of};
 
+use crate::appending::read;
 use crate::asking::broker_ids;
 use crate::fault::StepFault;
 use crate::peers::{Peers, missing_broker, missing_controller};
 use crate::row::DriverRow;
-use kz_log::MemoryLog;
+use kz_log::MetaLog;
 use kz_tree::ZTree;
-use kz_types::{DriverState, NoMemory, Reply, Stage};
-use std::alloc::Global;
+use kz_types::{DriverState, Reply, Stage};
 
 /// The driver has no epoch and no claim from now on, and does nothing until it is elected anew.
 pub fn resign(row: &mut DriverRow)
@@ -26,13 +27,18 @@ pub fn resign(row: &mut DriverRow)
     row.stage = Stage::Inactive;
 }
 
-/// Reads the log to its end.
-pub fn read_log(alloc: Global, row: &mut DriverRow, log: &MemoryLog) -> Result<(), NoMemory>
-    ensures ok { OnOk result (driver_of row.new ≡ having_read log.now (driver_of row.old)) }
+/// Reads the log to its end. At `Err` the driver is as it was.
+pub fn read_log<L: MetaLog>(row: &mut DriverRow, log: &mut L) -> Result<(), StepFault>
+    requires { IsViewOf (L.log log.old) row.old.view }
+    ensures ok { OnOk result (driver_of row.new ≡ having_read (L.log log.old) (driver_of row.old)) }
+    ensures view { IsViewOf (L.log log.new) row.new.view }
     ensures err { OnErr result (row.new ≡ row.old) }
+    ensures failed { IfErr result (IsReadLogFault (L.down log.old)) }
+    ensures same { L.log log.new ≡ L.log log.old }
+    ensures calm { L.faults log.new ≡ L.faults log.old }
+    ensures up { L.down log.new ≡ L.down log.old }
 {
-    row.view = log.read(alloc, &row.view)?;
-    Ok(())
+    read(&mut row.view, log)
 }
 
 /// Whether the log says that the migration is over.
@@ -43,7 +49,8 @@ pub fn is_finalised(row: &DriverRow) -> bool
 }
 
 fn after_quorum(row: &mut DriverRow, peers: &Peers) -> Reply
-    ensures { after_quorum peers.now.declared peers.now.running (driver_of row.old) ≡ (driver_of row.new, result) }
+    ensures view { row.new.view ≡ row.old.view }
+    ensures driver { after_quorum peers.now.declared peers.now.running (driver_of row.old) ≡ (driver_of row.new, result) }
 {
     if is_finalised(row) {
         resign(row);
@@ -63,21 +70,27 @@ fn after_quorum(row: &mut DriverRow, peers: &Peers) -> Reply
 }
 
 /// WAIT_FOR_CONTROLLER_QUORUM
-pub fn wait_for_quorum(
-    alloc: Global,
+pub fn wait_for_quorum<L: MetaLog>(
     row: &mut DriverRow,
-    log: &MemoryLog,
+    log: &mut L,
     peers: &Peers,
-) -> Result<Reply, NoMemory>
-    ensures ok { IfOk result (λ told. after_quorum peers.now.declared peers.now.running (having_read log.now (driver_of row.old)) ≡ (driver_of row.new, told)) }
+) -> Result<Reply, StepFault>
+    requires { IsViewOf (L.log log.old) row.old.view }
+    ensures ok { IfOk result (λ told. after_quorum peers.now.declared peers.now.running (having_read (L.log log.old) (driver_of row.old)) ≡ (driver_of row.new, told)) }
+    ensures view { IsViewOf (L.log log.new) row.new.view }
     ensures err { OnErr result (row.new ≡ row.old) }
+    ensures failed { IfErr result (IsReadLogFault (L.down log.old)) }
+    ensures same { L.log log.new ≡ L.log log.old }
+    ensures calm { L.faults log.new ≡ L.faults log.old }
+    ensures up { L.down log.new ≡ L.down log.old }
 {
-    read_log(alloc, row, log)?;
+    read_log(row, log)?;
     Ok(after_quorum(row, peers))
 }
 
 fn after_read(row: &mut DriverRow) -> Reply
-    ensures { unless_finalised (driver_of row.old) (at_stage stage.CompareBrokers (driver_of row.old), reply.Looked) ≡ (driver_of row.new, result) }
+    ensures view { row.new.view ≡ row.old.view }
+    ensures driver { unless_finalised (driver_of row.old) (at_stage stage.CompareBrokers (driver_of row.old), reply.Looked) ≡ (driver_of row.new, result) }
 {
     if is_finalised(row) {
         resign(row);
@@ -88,21 +101,24 @@ fn after_read(row: &mut DriverRow) -> Reply
 }
 
 /// WAIT_FOR_BROKERS, before the log is read
-pub fn wait_for_brokers(
-    alloc: Global,
-    row: &mut DriverRow,
-    log: &MemoryLog,
-) -> Result<Reply, NoMemory>
-    ensures ok { IfOk result (λ told. unless_finalised (having_read log.now (driver_of row.old)) (at_stage stage.CompareBrokers (having_read log.now (driver_of row.old)), reply.Looked) ≡ (driver_of row.new, told)) }
+pub fn wait_for_brokers<L: MetaLog>(row: &mut DriverRow, log: &mut L) -> Result<Reply, StepFault>
+    requires { IsViewOf (L.log log.old) row.old.view }
+    ensures ok { IfOk result (λ told. unless_finalised (having_read (L.log log.old) (driver_of row.old)) (at_stage stage.CompareBrokers (having_read (L.log log.old) (driver_of row.old)), reply.Looked) ≡ (driver_of row.new, told)) }
+    ensures view { IsViewOf (L.log log.new) row.new.view }
     ensures err { OnErr result (row.new ≡ row.old) }
+    ensures failed { IfErr result (IsReadLogFault (L.down log.old)) }
+    ensures same { L.log log.new ≡ L.log log.old }
+    ensures calm { L.faults log.new ≡ L.faults log.old }
+    ensures up { L.down log.new ≡ L.down log.old }
 {
-    read_log(alloc, row, log)?;
+    read_log(row, log)?;
     Ok(after_read(row))
 }
 
 /// WAIT_FOR_BROKERS, before the brokers are listed. At `Err` nothing has changed.
 pub fn compare_brokers<T: ZTree>(row: &mut DriverRow, tree: &mut T) -> Result<Reply, StepFault>
     ensures ok { IfOk result (λ told. after_brokers (missing_broker (broker_ids (T.tree tree.old)) row.old.view.image) (driver_of row.old) ≡ (driver_of row.new, told)) }
+    ensures view { row.new.view ≡ row.old.view }
     ensures err { OnErr result (row.new ≡ row.old) }
     ensures failed { IfErr result (IsReadStepFault (T.down tree.old)) }
     ensures same { T.tree tree.new ≡ T.tree tree.old }

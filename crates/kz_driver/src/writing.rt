@@ -1,25 +1,28 @@
 //! The writes of SYNC_KRAFT_TO_ZK and DUAL_WRITE.
-ghost use Rattle.std.specs.Prelude.{◌≡◌, ◌<◌, ℕ, ℤ, List, length, Ok, Err, Option, IfOk, OnOk, IfErr, OnErr};
+ghost use Rattle.std.specs.Prelude.{◌≡◌, ◌<◌, ℕ, ℤ, List, length, Err, Option, IfOk, OnOk, IfErr, OnErr};
 ghost use Rattle.kz_types.specs.declared.tree.Op.{Op as OpValue};
-ghost use Rattle.kz_types.specs.declared.driver.Stage.TheVariants as stage;
 ghost use Rattle.kz_types.specs.declared.fault.TreeFault.TheVariants.{Limit};
 ghost use Rattle.kz_types.specs.declared.machine.Recorded.{Recorded as RecordedValue};
 ghost use Rattle.kz_spec_stores.specs.Requests.{Either};
-ghost use Rattle.kz_spec_stores.specs.Tree.{multi};
+ghost use Rattle.kz_spec_stores.specs.Tree.{multi, area};
+ghost use Rattle.kz_spec_stores.specs.Log.{IsViewOf};
+ghost use Rattle.kz_spec_stores.specs.Rendering.{render};
+ghost use Rattle.kz_spec_stores.specs.Difference.{diff};
 ghost use Rattle.kz_spec_machine.specs.Driver.{begins_again, remaining_at, write_ops, writes};
 ghost use Rattle.kz_driver.specs.Claims.{tree_after};
 ghost use Rattle.kz_driver.specs.Drivers.{IsElected, IsKept};
-ghost use Rattle.kz_driver.specs.Faults.{IsCalm, IsChangeStepFault};
+ghost use Rattle.kz_driver.specs.Faults.{IsCalm, IsReadLogFault, IsChangeStepFault, StepHasCause};
 ghost use Rattle.kz_driver.specs.Rows.{driver_of};
 ghost use Rattle.kz_driver.specs.Writes.{more_of, last_of, taken_of, refused_of, written_by, after_written, tree_written};
 
-use crate::appending::drop_first;
+use crate::appending::{drop_first, log_fault};
 use crate::asking::{ask, path_at};
 use crate::fault::StepFault;
 use crate::fence::{is_last_write, write_ops};
 use crate::row::DriverRow;
 use crate::waiting::resign;
-use kz_log::MemoryLog;
+use kz_image::Image;
+use kz_log::{MetaLog, View, read_all};
 use kz_render::render;
 use kz_tree::{Tree, ZTree};
 use kz_types::{DriverState, NoMemory, Op, Recorded, Reply, Sequence, Stage, TreeFault};
@@ -50,19 +53,52 @@ pub enum Written {
     Stopped { told: Reply },
 }
 
-// What remains to be written of the metadata at an offset.
-fn remaining_at(
-    alloc: Global,
-    tree: &Tree,
-    log: &MemoryLog,
-    offset: i64,
-) -> Result<Vec<Op>, NoMemory>
-    ensures { IfOk result (λ ops. ops.items ≡ remaining_at tree.now log.now offset) }
+// What remains to be written of this metadata.
+fn remaining(alloc: Global, tree: &Tree, image: &Image) -> Result<Vec<Op>, NoMemory>
+    ensures { IfOk result (λ ops. ops.items ≡ diff (area tree.now) (render image.now)) }
 {
     let have = tree.area()?;
-    let image = log.image_at(alloc, offset)?;
-    let want = render(alloc, &image)?;
+    let want = render(alloc, image)?;
     diff_renderings(alloc, &have, &want)
+}
+
+// What remains to be written of the metadata at an offset of a log that is read whole.
+fn remaining_in<L: MetaLog>(
+    alloc: Global,
+    tree: &Tree,
+    offset: i64,
+    log: &mut L,
+) -> Result<Vec<Op>, StepFault>
+    ensures ok { IfOk result (λ ops. ops.items ≡ remaining_at tree.now (L.log log.old) offset) }
+    ensures failed { IfErr result (IsReadLogFault (L.down log.old)) }
+    ensures same { L.log log.new ≡ L.log log.old }
+    ensures calm { L.faults log.new ≡ L.faults log.old }
+    ensures up { L.down log.new ≡ L.down log.old }
+{
+    match read_all(alloc, log) {
+        Ok(rows) => Ok(remaining(alloc, tree, &rows.image_at(alloc, offset)?)?),
+        Err(fault) => Err(log_fault(fault)),
+    }
+}
+
+// What remains to be written of the metadata at a view's position. Where the log's base has passed it, the log is read whole.
+fn remaining_at<L: MetaLog>(
+    alloc: Global,
+    tree: &Tree,
+    view: &View,
+    log: &mut L,
+) -> Result<Vec<Op>, StepFault>
+    requires { IsViewOf (L.log log.old) view.now }
+    ensures ok { IfOk result (λ ops. ops.items ≡ remaining_at tree.now (L.log log.old) view.now.position) }
+    ensures failed { IfErr result (IsReadLogFault (L.down log.old)) }
+    ensures same { L.log log.new ≡ L.log log.old }
+    ensures calm { L.faults log.new ≡ L.faults log.old }
+    ensures up { L.down log.new ≡ L.down log.old }
+{
+    if view.position() < log.base() {
+        return remaining_in(alloc, tree, view.position(), log);
+    }
+    Ok(remaining(alloc, tree, view.image())?)
 }
 
 // What became of a write of these operations that the tree took. It takes no memory.
@@ -135,7 +171,7 @@ fn ask_write<T: ZTree>(
 // The stage while operations remain to be written.
 fn more_of(scope: Scope, target: Recorded, ops: Sequence<Op>) -> Stage
     ensures stage { result ≡ more_of scope target ops }
-    ensures kept { (epoch : Option ℤ) → IsElected epoch → IsKept epoch result }
+    ensures kept { (epoch : Option ℤ) → IsElected epoch → IsKept epoch target.offset result }
 {
     match scope {
         Scope::All => Stage::WriteAll { target, ops },
@@ -146,7 +182,7 @@ fn more_of(scope: Scope, target: Recorded, ops: Sequence<Op>) -> Stage
 // The stage after the last write.
 fn last_of(scope: Scope) -> Stage
     ensures stage { result ≡ last_of scope }
-    ensures kept { (epoch : Option ℤ) → IsElected epoch → IsKept epoch result }
+    ensures kept { (epoch : Option ℤ) (position : ℤ) → IsElected epoch → IsKept epoch position result }
 {
     match scope {
         Scope::All => Stage::InformBrokers,
@@ -165,7 +201,8 @@ fn begin_again(row: &mut DriverRow)
 // The driver after a write.
 fn after_written(row: &mut DriverRow, scope: Scope, target: Recorded, written: Written) -> Reply
     ensures driver { after_written written target (λ rest. more_of scope target rest) (last_of scope) (driver_of row.old) ≡ (driver_of row.new, result) }
-    ensures kept { IsKept row.old.epoch row.old.stage → IsElected row.old.epoch → IsKept row.new.epoch row.new.stage }
+    ensures view { row.new.view ≡ row.old.view }
+    ensures kept { IsKept row.old.epoch row.old.view.position row.old.stage → IsElected row.old.epoch → target.offset ≡ row.old.view.position → IsKept row.new.epoch row.new.view.position row.new.stage }
 {
     match written {
         Written::Last => {
@@ -191,76 +228,34 @@ fn after_written(row: &mut DriverRow, scope: Scope, target: Recorded, written: W
     }
 }
 
-// Writes what remains. At `Err` nothing has changed.
-fn write_next<T: ZTree>(
+/// The next write of SYNC_KRAFT_TO_ZK or DUAL_WRITE: of what remains at the driver's target. At `Err` nothing has changed.
+pub fn write<T: ZTree, L: MetaLog>(
     alloc: Global,
     row: &mut DriverRow,
     scope: Scope,
     target: Recorded,
     tree: &mut T,
-    log: &MemoryLog,
+    log: &mut L,
 ) -> Result<Reply, StepFault>
-    ensures driver { IfOk result (λ told. writes (T.tree tree.old) row.old.claim (remaining_at (T.tree tree.old) log.now target.offset) target (λ rest. more_of scope target rest) (last_of scope) (driver_of row.old) ≡ (driver_of row.new, told)) }
-    ensures tree { IfOk result (λ told. T.tree tree.new ≡ tree_written (T.tree tree.old) row.old.claim (remaining_at (T.tree tree.old) log.now target.offset) target) }
-    ensures kept { IsKept row.old.epoch row.old.stage → IsElected row.old.epoch → IsKept row.new.epoch row.new.stage }
+    requires view { IsViewOf (L.log log.old) row.old.view }
+    requires target { target.offset ≡ row.old.view.position }
+    ensures driver { IfOk result (λ told. writes (T.tree tree.old) row.old.claim (remaining_at (T.tree tree.old) (L.log log.old) target.offset) target (λ rest. more_of scope target rest) (last_of scope) (driver_of row.old) ≡ (driver_of row.new, told)) }
+    ensures tree { IfOk result (λ told. T.tree tree.new ≡ tree_written (T.tree tree.old) row.old.claim (remaining_at (T.tree tree.old) (L.log log.old) target.offset) target) }
+    ensures kept { IsKept row.old.epoch row.old.view.position row.old.stage → IsElected row.old.epoch → IsKept row.new.epoch row.new.view.position row.new.stage }
+    ensures view { row.new.view ≡ row.old.view }
     ensures err { OnErr result ((row.new ≡ row.old) × (T.tree tree.new ≡ T.tree tree.old)) }
-    ensures calm { OnOk result (IsCalm (T.faults tree.old) (T.faults tree.new) (T.down tree.old) (T.down tree.new)) }
-    ensures failed { IfErr result (IsChangeStepFault (T.length tree.old) (T.faults tree.old) (T.faults tree.new) (T.down tree.old) (T.down tree.new)
-        (Either (T.tree tree.old) (tree_written (T.tree tree.old) row.old.claim (remaining_at (T.tree tree.old) log.now target.offset) target) (T.left tree.new))) }
+    ensures same { L.log log.new ≡ L.log log.old }
+    ensures cause { StepHasCause result
+        (T.length tree.old) (T.faults tree.old) (T.faults tree.new) (T.down tree.old) (T.down tree.new)
+        (Either (T.tree tree.old) (tree_written (T.tree tree.old) row.old.claim (remaining_at (T.tree tree.old) (L.log log.old) target.offset) target) (T.left tree.new))
+        (L.length log.old) (L.faults log.old) (L.faults log.new) (L.down log.old) (L.down log.new)
+        (Either (L.log log.old) (L.log log.old) (L.left log.new)) }
 {
     let Some(claim) = row.claim else {
         begin_again(row);
         return Ok(Reply::Moved(DriverState::BecomeController));
     };
-    let ops = remaining_at(alloc, tree.tree(), log, target.offset)?;
+    let ops = remaining_at(alloc, tree.tree(), &row.view, log)?;
     let written = ask_write(alloc, claim, ops, &target, tree)?;
     Ok(after_written(row, scope, target, written))
-}
-
-/// SYNC_KRAFT_TO_ZK, writing. At `Err` nothing has changed.
-pub fn write_all<T: ZTree>(
-    alloc: Global,
-    row: &mut DriverRow,
-    tree: &mut T,
-    log: &MemoryLog,
-) -> Result<Reply, StepFault>
-    ensures driver { (target : RecordedValue) (ops : List OpValue) → row.old.stage ≡ stage.WriteAll target ops → IfOk result (λ told.
-        writes (T.tree tree.old) row.old.claim (remaining_at (T.tree tree.old) log.now target.offset) target (λ rest. stage.WriteAll target rest) stage.InformBrokers (driver_of row.old) ≡ (driver_of row.new, told)) }
-    ensures tree { (target : RecordedValue) (ops : List OpValue) → row.old.stage ≡ stage.WriteAll target ops → IfOk result (λ told.
-        T.tree tree.new ≡ tree_written (T.tree tree.old) row.old.claim (remaining_at (T.tree tree.old) log.now target.offset) target) }
-    ensures kept { IsKept row.old.epoch row.old.stage → IsKept row.new.epoch row.new.stage }
-    ensures err { OnErr result ((row.new ≡ row.old) × (T.tree tree.new ≡ T.tree tree.old)) }
-    ensures calm { OnOk result (IsCalm (T.faults tree.old) (T.faults tree.new) (T.down tree.old) (T.down tree.new)) }
-    ensures failed { (target : RecordedValue) (ops : List OpValue) → row.old.stage ≡ stage.WriteAll target ops → IfErr result (IsChangeStepFault (T.length tree.old) (T.faults tree.old) (T.faults tree.new) (T.down tree.old) (T.down tree.new)
-        (Either (T.tree tree.old) (tree_written (T.tree tree.old) row.old.claim (remaining_at (T.tree tree.old) log.now target.offset) target) (T.left tree.new))) }
-{
-    let Stage::WriteAll { target, .. } = &row.stage else {
-        return Ok(Reply::Idle);
-    };
-    let target = *target;
-    write_next(alloc, row, Scope::All, target, tree, log)
-}
-
-/// DUAL_WRITE, writing. At `Err` nothing has changed.
-pub fn write_change<T: ZTree>(
-    alloc: Global,
-    row: &mut DriverRow,
-    tree: &mut T,
-    log: &MemoryLog,
-) -> Result<Reply, StepFault>
-    ensures driver { (target : RecordedValue) (ops : List OpValue) → row.old.stage ≡ stage.WriteChange target ops → IfOk result (λ told.
-        writes (T.tree tree.old) row.old.claim (remaining_at (T.tree tree.old) log.now target.offset) target (λ rest. stage.WriteChange target rest) stage.Rest (driver_of row.old) ≡ (driver_of row.new, told)) }
-    ensures tree { (target : RecordedValue) (ops : List OpValue) → row.old.stage ≡ stage.WriteChange target ops → IfOk result (λ told.
-        T.tree tree.new ≡ tree_written (T.tree tree.old) row.old.claim (remaining_at (T.tree tree.old) log.now target.offset) target) }
-    ensures kept { IsKept row.old.epoch row.old.stage → IsKept row.new.epoch row.new.stage }
-    ensures err { OnErr result ((row.new ≡ row.old) × (T.tree tree.new ≡ T.tree tree.old)) }
-    ensures calm { OnOk result (IsCalm (T.faults tree.old) (T.faults tree.new) (T.down tree.old) (T.down tree.new)) }
-    ensures failed { (target : RecordedValue) (ops : List OpValue) → row.old.stage ≡ stage.WriteChange target ops → IfErr result (IsChangeStepFault (T.length tree.old) (T.faults tree.old) (T.faults tree.new) (T.down tree.old) (T.down tree.new)
-        (Either (T.tree tree.old) (tree_written (T.tree tree.old) row.old.claim (remaining_at (T.tree tree.old) log.now target.offset) target) (T.left tree.new))) }
-{
-    let Stage::WriteChange { target, .. } = &row.stage else {
-        return Ok(Reply::Idle);
-    };
-    let target = *target;
-    write_next(alloc, row, Scope::Change, target, tree, log)
 }

@@ -1,0 +1,25 @@
+use mir.Val.{SFits}
+use Rattle.std.proofs.Common.{rules, ◌≡◌, w32, to_z, of_z, sym, ap, ◌∙◌, subst}
+use Rattle.std.proofs.lemmas.Int.{to_z-of_z}
+use Rattle.kz_spec_stores.specs.Requests.{Either}
+use Rattle.kz_spec_stores.specs.Tree.{multi}
+use Rattle.kz_spec_machine.specs.Driver.{remaining_at, write_ops}
+use Rattle.kz_driver.specs.Claims.{tree_after}
+use Rattle.kz_driver.specs.Faults.{IsChangeStepFault}
+use Rattle.kz_driver.specs.Rows.{driver_of}
+use Rattle.kz_driver.specs.Writes.{more_of, last_of, written_by, tree_written}
+use Rattle.kz_driver.proofs.Writings.{writes_is}
+use Rattle.kz_driver.proofs.writing.write.Goals as goal
+
+pub returns-clause-driver : goal.returns-clause-driver
+returns-clause-driver g c =
+    let tree = g.T.ZTree.tree c.args.tree.now in
+    let row = c.args.row.now in
+    let target = c.args.target in
+    let claim = c.in-Some.claim in
+    let left = remaining_at tree (g.L.MetaLog.log c.args.log.now) target.offset in
+    let written = c.in_ok-written.written in
+    let said : written ≡ written_by claim left target (multi tree (write_ops claim left target)) = search rules in
+    writes_is tree row.claim claim left target (λ rest. more_of c.args.scope target rest) (last_of c.args.scope) (driver_of row)
+    written (driver_of c.after_written.new.row, c.after_written.result)
+    c.in-Some.is said c.after_written.ensures.driver
