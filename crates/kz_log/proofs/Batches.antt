@@ -1,25 +1,25 @@
 -- The batches of a log: their records, how many there are, and their offsets.
-use Rattle.std.proofs.Common.{◌≡◌, ℕ, zero, suc, ◌+◌, ◌<◌, ◌≤◌, Bool, true, false, not, ◌&&◌, ◌||◌, ◌==◌, cond, nat_lt, ℤ, pos, negsuc, ◌+ℤ◌, ◌-ℤ◌, ◌-◌, ◌≤ℤ◌, ◌<ℤ◌, int_le, int_lt, int_cmp, Less, List, [], ◌∷◌, ◌++◌, length, get_or, drop, Some, None, refl, sym, ap, ◌∙◌, subst, take, filter, map, arith}
+use Rattle.std.proofs.Common.{◌≡◌, ℕ, zero, suc, ◌+◌, ◌<◌, ◌≤◌, Bool, true, false, not, ◌&&◌, ◌||◌, cond, nat_lt, ℤ, pos, negsuc, ◌+ℤ◌, ◌≤ℤ◌, ◌<ℤ◌, int_le, int_lt, int_cmp, Less, List, [], ◌∷◌, ◌++◌, length, get_or, drop, Option, Some, None, refl, sym, ap, ◌∙◌, subst, take, filter, map, w64, to_z, of_z, arith}
 use Rattle.std.proofs.lemmas.Bool.{false≢true}
 use Rattle.std.proofs.lemmas.List.{take_more, map-append}
-use Rattle.std.proofs.lemmas.Int.{ints}
+use Rattle.std.proofs.lemmas.Int.{ints, to_z-of_z}
+use mir.Val.{SFits}
 use Rattle.std.proofs.lemmas.Bool.Decides.{nat_tests}
-use Rattle.std.specs.List.{All, find, list_any}
-use Rattle.std.proofs.lemmas.List.Elements.{All-nil, All-cons}
+use Rattle.std.specs.Cmp.{int_cmp_is}
+use Rattle.std.specs.List.{find}
 use Rattle.std.proofs.lemmas.List.Sums.{sum_by-cons, sum_by_push, sum_by_more, sum_by_more_le}
 use Rattle.kz_types.specs.declared.log.BatchRow.{BatchRow}
 use Rattle.kz_types.specs.declared.log.Entry.{Entry}
 use Rattle.kz_types.specs.declared.record.MetaRecord.{MetaRecord}
 use Rattle.kz_types.specs.declared.record.MetaRecord.TheVariants as meta
 use Rattle.kz_ordered.specs.Ordered.{Rises, RisesAbove}
-use Rattle.kz_spec_stores.specs.Image.{Image, applied, empty_image}
-use Rattle.kz_spec_stores.specs.Log.{Log, last_epoch, is_behind, end_of, image_at, is_open_log, full_log, with_batch, max_records, last_of, last_end, record_count, numbered, entries, all_entries_applied}
-use Rattle.kz_spec_stores.specs.Settlement.{counted, is_inside, is_begin, closes, is_marker, is_end, is_ended_by}
-use Rattle.kz_settle.specs.Settling.{offset_of, closes_entry, opened, open_after, passed, ends_by}
+use Rattle.kz_spec_stores.specs.Image.{Image, applied}
+use Rattle.kz_spec_stores.specs.Log.{Log, IsLog, Follow, Climb, is_behind, end_of, image_at, full_log, with_batch, max_records, last_of, last_end, record_count, numbered, entries, all_entries_applied}
+use Rattle.kz_spec_stores.specs.Settlement.{counted, is_begin, closes, is_marker, is_end, is_ended_by}
 use Rattle.kz_spec_stores.specs.Tree.{max_long}
-use Rattle.kz_settle.proofs.Passing.{counted_is_passed, is_inside_behind}
-use Rattle.kz_log.specs.Kept.{Follow, IsKept}
-use Rattle.kz_log.specs.Reading.{placed, remaining, IsLimit, image_after, open_behind, open_behind_all}
+use Rattle.kz_settle.specs.Settling.{offset_of, closes_entry, opened, passed, ends_by}
+use Rattle.kz_settle.proofs.Passing.{counted_is_passed}
+use Rattle.kz_log.specs.Reading.{placed, remaining, image_after}
 
 -- ---- how many records there are, and the last offset
 
@@ -44,113 +44,129 @@ pub last_end-push : (from : ℤ) (bs : List BatchRow) (b : BatchRow) → last_en
 last_end-push from [] b = refl
 last_end-push from (x ∷ bs) b = last_end-push (last_of x) bs b
 
+pub Climb-push : (least most more : ℤ) (bs : List BatchRow) (b : BatchRow) → Climb least most bs → most ≤ℤ more → least ≤ℤ b.epoch → most ≤ℤ b.epoch → b.epoch ≤ℤ more → Climb least more (bs ++ b ∷ [])
+Climb-push least most more [] b h rise low above high = (low, high, tt)
+Climb-push least most more (x ∷ bs) b h rise low above high =
+    let under = h.1 in
+    (h.0, omega (arith, ints, under, rise), Climb-push x.epoch most more bs b h.2 rise (omega (arith, ints, under, above)) above high)
+
 -- ---- the records with their offsets
 
-pub entries_placed : (from : ℤ) (place : ℕ) (bs : List BatchRow) → from +ℤ pos 1 ≡ pos place → Follow from bs → entries bs ≡ placed place bs
-entries_placed from place [] at h = refl
-entries_placed from place (b ∷ bs) at h =
-    let next : last_of b +ℤ pos 1 ≡ pos (place + length b.items) = let last = last_of_is from b h.0 in omega (arith, ints, last, at) in
-    ap (λ es. numbered b.first b.epoch b.items ++ es) (entries_placed (last_of b) (place + length b.items) bs next h.2)
-    ∙ ap (λ o. numbered o b.epoch b.items ++ placed (place + length b.items) bs) (h.0 ∙ at)
+pub entries_placed : (from : ℤ) (bs : List BatchRow) → Follow from bs → entries bs ≡ placed from bs
+entries_placed from [] h = refl
+entries_placed from (b ∷ bs) h =
+    ap (λ es. numbered b.first b.epoch b.items ++ es) (entries_placed (last_of b) bs h.2 ∙ ap (λ o. placed o bs) (last_of_is from b h.0))
+    ∙ ap (λ o. numbered o b.epoch b.items ++ placed (from +ℤ pos (length b.items)) bs) h.0
 
--- offsets that follow each other from this one on
-abbrev pub Consecutive : ℕ → List Entry → Type 0
-Consecutive place [] = Unit {0}
-Consecutive place (e ∷ es) = (e.offset ≡ pos place) × Consecutive (place + 1) es
+-- offsets that follow each other from behind this one on
+abbrev pub Consecutive : ℤ → List Entry → Type 0
+Consecutive from [] = Unit {0}
+Consecutive from (e ∷ es) = (e.offset ≡ from +ℤ pos 1) × Consecutive (from +ℤ pos 1) es
 
-pub numbered_consecutive : (place : ℕ) (epoch : ℤ) (items : List MetaRecord) (es : List Entry) → Consecutive (place + length items) es → Consecutive place (numbered (pos place) epoch items ++ es)
-numbered_consecutive place epoch [] es h = let at : place + 0 ≡ place = omega arith in subst (λ n. Consecutive n es) at h
-numbered_consecutive place epoch (x ∷ items) es h =
-    let at : place + suc (length items) ≡ place + 1 + length items = omega arith in
-    (refl, numbered_consecutive (place + 1) epoch items es (subst (λ n. Consecutive n es) at h))
+pub numbered_consecutive : (from epoch : ℤ) (items : List MetaRecord) (es : List Entry) → Consecutive (from +ℤ pos (length items)) es → Consecutive from (numbered (from +ℤ pos 1) epoch items ++ es)
+numbered_consecutive from epoch [] es h = let at : from +ℤ pos 0 ≡ from = omega (arith, ints) in subst (λ o. Consecutive o es) at h
+numbered_consecutive from epoch (x ∷ items) es h =
+    let at : from +ℤ pos (suc (length items)) ≡ (from +ℤ pos 1) +ℤ pos (length items) = omega (arith, ints) in
+    (refl, numbered_consecutive (from +ℤ pos 1) epoch items es (subst (λ o. Consecutive o es) at h))
 
-pub placed_consecutive : (place : ℕ) (bs : List BatchRow) → Consecutive place (placed place bs)
-placed_consecutive place [] = tt
-placed_consecutive place (b ∷ bs) = numbered_consecutive place b.epoch b.items (placed (place + length b.items) bs) (placed_consecutive (place + length b.items) bs)
+pub placed_consecutive : (from : ℤ) (bs : List BatchRow) → Consecutive from (placed from bs)
+placed_consecutive from [] = tt
+placed_consecutive from (b ∷ bs) = numbered_consecutive from b.epoch b.items (placed (from +ℤ pos (length b.items)) bs) (placed_consecutive (from +ℤ pos (length b.items)) bs)
 
-pub remaining_consecutive : (place : ℕ) (epoch : ℤ) (items : List MetaRecord) (rest : List BatchRow) → Consecutive place (remaining place epoch items rest)
-remaining_consecutive place epoch items rest = numbered_consecutive place epoch items (placed (place + length items) rest) (placed_consecutive (place + length items) rest)
+pub remaining_consecutive : (from epoch : ℤ) (items : List MetaRecord) (rest : List BatchRow) → Consecutive from (remaining from epoch items rest)
+remaining_consecutive from epoch items rest = numbered_consecutive from epoch items (placed (from +ℤ pos (length items)) rest) (placed_consecutive (from +ℤ pos (length items)) rest)
 
-below : (m n : ℕ) → m < n → int_cmp (pos m) (pos n) ≡ Less
-below m n h = let t : nat_lt m n ≡ true = grind (arith, nat_tests) in rw t refl
+below : (x y : ℤ) → x <ℤ y → int_cmp x y ≡ Less
+below x y h = sym (int_cmp_is x y Less h)
 
-rises_above : (k place : ℕ) (es : List Entry) → k < place → Consecutive place es → RisesAbove int_cmp offset_of (pos k) es
-rises_above k place [] lt h = tt
-rises_above k place (e ∷ es) lt h = (
-  subst (λ o. int_cmp (pos k) o ≡ Less) (sym h.0) (below k place lt),
-  subst (λ o. RisesAbove int_cmp offset_of o es) (sym h.0) (rises_above place (place + 1) es (omega arith) h.1),
+rises_above : (k from : ℤ) (es : List Entry) → k ≤ℤ from → Consecutive from es → RisesAbove int_cmp offset_of k es
+rises_above k from [] le h = tt
+rises_above k from (e ∷ es) le h = (
+  subst (λ o. int_cmp k o ≡ Less) (sym h.0) (below k (from +ℤ pos 1) (omega (arith, ints, le))),
+  subst (λ o. RisesAbove int_cmp offset_of o es) (sym h.0) (rises_above (from +ℤ pos 1) (from +ℤ pos 1) es (omega (arith, ints)) h.1),
 )
 
-pub consecutive_rises : (place : ℕ) (es : List Entry) → Consecutive place es → Rises int_cmp offset_of es
-consecutive_rises place [] h = tt
-consecutive_rises place (e ∷ es) h = subst (λ o. RisesAbove int_cmp offset_of o es) (sym h.0) (rises_above place (place + 1) es (omega arith) h.1)
-
-pub consecutive_below : (place end : ℕ) (es : List Entry) → Consecutive place es → place + length es ≤ end → All (λ (e : Entry). int_lt e.offset (pos end) ≡ true) es
-consecutive_below place end [] h room = All-nil (λ (e : Entry). int_lt e.offset (pos end) ≡ true)
-consecutive_below place end (e ∷ es) h room =
-    let t : nat_lt place end ≡ true = let lt : place < end = omega arith in grind (arith, nat_tests) in
-    All-cons (λ (x : Entry). int_lt x.offset (pos end) ≡ true) e es (subst (λ o. int_lt o (pos end) ≡ true) (sym h.0) t) (consecutive_below (place + 1) end es h.1 (omega arith))
-
-length-numbered : (o epoch : ℤ) (items : List MetaRecord) (es : List Entry) → length (numbered o epoch items ++ es) ≡ length items + length es
-length-numbered o epoch [] es = omega arith
-length-numbered o epoch (x ∷ items) es = omega (arith, length-numbered (o +ℤ pos 1) epoch items es)
-
-pub length-placed : (place : ℕ) (bs : List BatchRow) → length (placed place bs) ≡ record_count bs
-length-placed place [] = refl
-length-placed place (b ∷ bs) = length-numbered (pos place) b.epoch b.items (placed (place + length b.items) bs) ∙ ap (λ n. length b.items + n) (length-placed (place + length b.items) bs) ∙ sym (record_count-cons b bs)
+pub consecutive_rises : (from : ℤ) (es : List Entry) → Consecutive from es → Rises int_cmp offset_of es
+consecutive_rises from [] h = tt
+consecutive_rises from (e ∷ es) h = subst (λ o. RisesAbove int_cmp offset_of o es) (sym h.0) (rises_above (from +ℤ pos 1) (from +ℤ pos 1) es (omega (arith, ints)) h.1)
 
 -- ---- a record read
 
-pub read_item : (place : ℕ) (epoch : ℤ) (items : List MetaRecord) (rest : List BatchRow) (x : MetaRecord) → 0 < length items → x ≡ get_or items 0 x
-    → remaining place epoch items rest ≡ record { offset = pos place; epoch = epoch; item = x } ∷ remaining (place + 1) epoch (drop 1 items) rest
-read_item place epoch [] rest x some is = absurd (omega arith)
-read_item place epoch (y ∷ items) rest x some is =
-    let at : place + suc (length items) ≡ place + 1 + length items = omega arith in
-    let e : MetaRecord → Entry = λ z. record { offset = pos place; epoch = epoch; item = z } in
-    ap (λ z. e z ∷ (numbered (pos (place + 1)) epoch items ++ placed (place + suc (length items)) rest)) (sym is)
-    ∙ ap (λ n. e x ∷ (numbered (pos (place + 1)) epoch items ++ placed n rest)) at
+pub read_item : (from epoch : ℤ) (items : List MetaRecord) (rest : List BatchRow) (x : MetaRecord) → 0 < length items → x ≡ get_or items 0 x
+    → remaining from epoch items rest ≡ record { offset = from +ℤ pos 1; epoch = epoch; item = x } ∷ remaining (from +ℤ pos 1) epoch (drop 1 items) rest
+read_item from epoch [] rest x some is = absurd (omega arith)
+read_item from epoch (y ∷ items) rest x some is =
+    let at : from +ℤ pos (suc (length items)) ≡ (from +ℤ pos 1) +ℤ pos (length items) = omega (arith, ints) in
+    let e : MetaRecord → Entry = λ z. record { offset = from +ℤ pos 1; epoch = epoch; item = z } in
+    ap (λ z. e z ∷ (numbered ((from +ℤ pos 1) +ℤ pos 1) epoch items ++ placed (from +ℤ pos (suc (length items))) rest)) (sym is)
+    ∙ ap (λ o. e x ∷ (numbered ((from +ℤ pos 1) +ℤ pos 1) epoch items ++ placed o rest)) at
 
-pub read_batch : (place : ℕ) (epoch : ℤ) (items : List MetaRecord) (rest : List BatchRow) (b : BatchRow) → length items ≡ 0 → 0 < length rest → b ≡ get_or rest 0 b
-    → remaining place epoch items rest ≡ remaining place b.epoch b.items (drop 1 rest)
-read_batch place epoch (x ∷ items) rest b none some is = absurd (omega arith)
-read_batch place epoch [] [] b none some is = absurd (omega arith)
-read_batch place epoch [] (y ∷ rest) b none some is =
-    let at : place + 0 ≡ place = omega arith in
-    ap (λ n. placed n (y ∷ rest)) at ∙ ap (λ (z : BatchRow). placed place (z ∷ rest)) (sym is)
+pub read_batch : (from epoch : ℤ) (items : List MetaRecord) (rest : List BatchRow) (b : BatchRow) → length items ≡ 0 → 0 < length rest → b ≡ get_or rest 0 b
+    → remaining from epoch items rest ≡ remaining from b.epoch b.items (drop 1 rest)
+read_batch from epoch (x ∷ items) rest b none some is = absurd (omega arith)
+read_batch from epoch [] [] b none some is = absurd (omega arith)
+read_batch from epoch [] (y ∷ rest) b none some is =
+    let at : from +ℤ pos 0 ≡ from = omega (arith, ints) in
+    ap (λ o. placed o (y ∷ rest)) at ∙ ap (λ (z : BatchRow). placed from (z ∷ rest)) (sym is)
 
 pub read_count : (rest : List BatchRow) (b : BatchRow) → 0 < length rest → b ≡ get_or rest 0 b → record_count rest ≡ length b.items + record_count (drop 1 rest)
 read_count [] b some is = absurd (omega arith)
 read_count (y ∷ rest) b some is = record_count-cons y rest ∙ ap (λ (z : BatchRow). length z.items + record_count rest) (sym is)
 
-pub read_none : (place : ℕ) (epoch : ℤ) (items : List MetaRecord) (rest : List BatchRow) → length items ≡ 0 → length rest ≡ 0 → remaining place epoch items rest ≡ []
-read_none place epoch [] [] none last = refl
-read_none place epoch [] (y ∷ rest) none last = absurd (omega arith)
-read_none place epoch (x ∷ items) rest none last = absurd (omega arith)
+pub read_none : (from epoch : ℤ) (items : List MetaRecord) (rest : List BatchRow) → length items ≡ 0 → length rest ≡ 0 → remaining from epoch items rest ≡ []
+read_none from epoch [] [] none last = refl
+read_none from epoch [] (y ∷ rest) none last = absurd (omega arith)
+read_none from epoch (x ∷ items) rest none last = absurd (omega arith)
 
--- ---- what the records from a place on do to the metadata
+-- ---- what the records behind an offset do to the metadata
+
+lt_true : (x y : ℤ) → x <ℤ y → int_lt x y ≡ true
+lt_true x y h = grind (arith, ints)
+
+of_lt : (x y : ℤ) → int_lt x y ≡ true → x <ℤ y
+of_lt x y h = grind (arith, ints)
+
+not_lt : (x y : ℤ) → y ≤ℤ x → int_lt x y ≡ false
+not_lt x y h = grind (arith, ints)
+
+of_not_lt : (x y : ℤ) → int_lt x y ≡ false → y ≤ℤ x
+of_not_lt x y h = grind (arith, ints)
+
+of_le : (x y : ℤ) → int_le x y ≡ true → x ≤ℤ y
+of_le x y h = grind (arith, ints)
+
+-- what tests of an offset in range say
+pub is_before : (x y : ℤ) → SFits w64 x → int_lt (to_z w64 (of_z w64 x)) y ≡ true → x <ℤ y
+is_before x y f test = subst (λ z. z <ℤ y) (to_z-of_z w64 x f) (of_lt (to_z w64 (of_z w64 x)) y test)
+
+pub is_not_before : (x y : ℤ) → SFits w64 x → int_lt (to_z w64 (of_z w64 x)) y ≡ false → y ≤ℤ x
+is_not_before x y f test = subst (λ z. y ≤ℤ z) (to_z-of_z w64 x f) (of_not_lt (to_z w64 (of_z w64 x)) y test)
+
+pub is_at_most : (x y : ℤ) → SFits w64 x → int_le (to_z w64 (of_z w64 x)) y ≡ true → x ≤ℤ y
+is_at_most x y f test = subst (λ z. z ≤ℤ y) (to_z-of_z w64 x f) (of_le (to_z w64 (of_z w64 x)) y test)
 
 and_false : (a : Bool) → a && false ≡ false
 and_false true = refl
 and_false false = refl
 
-module _ (at : ℤ) (limit : ℕ) (is : IsLimit at limit) where
-  past : (place : ℕ) (e : Entry) → e.offset ≡ pos place → limit ≤ place → int_le e.offset at ≡ false
-  past place e h over = let t : nat_lt place limit ≡ false = grind (arith, nat_tests) in ap (λ o. int_le o at) h ∙ is.within place ∙ t
+module _ (at : ℤ) where
+  past : (from : ℤ) (e : Entry) → e.offset ≡ from +ℤ pos 1 → at ≤ℤ from → int_le e.offset at ≡ false
+  past from e h over = grind (arith, ints)
 
-  pub within : (place : ℕ) (e : Entry) → e.offset ≡ pos place → place < limit → int_le e.offset at ≡ true
-  within place e h under = let t : nat_lt place limit ≡ true = grind (arith, nat_tests) in ap (λ o. int_le o at) h ∙ is.within place ∙ t
+  pub within : (from : ℤ) (e : Entry) → e.offset ≡ from +ℤ pos 1 → from <ℤ at → int_le e.offset at ≡ true
+  within from e h under = grind (arith, ints)
 
-  pub passed_none : (place : ℕ) (inside : Bool) (es : List Entry) → Consecutive place es → limit ≤ place → passed at inside es ≡ []
-  passed_none place inside [] h over = refl
-  passed_none place inside (e ∷ es) h over = rw (past place e h.0 over) (passed_none (place + 1) (opened inside e.item) es h.1 (omega arith))
+  pub passed_none : (from : ℤ) (inside : Bool) (es : List Entry) → Consecutive from es → at ≤ℤ from → passed at inside es ≡ []
+  passed_none from inside [] h over = refl
+  passed_none from inside (e ∷ es) h over = rw (past from e h.0 over) (passed_none (from +ℤ pos 1) (opened inside e.item) es h.1 (omega (arith, ints, over)))
 
-  ends_none_by : (b : Bool) (place : ℕ) (e : Entry) (es : List Entry) → e.offset ≡ pos place → limit ≤ place → ends_by at es ≡ false → is_ended_by at (cond b (Some e) (find closes_entry es)) ≡ false
-  ends_none_by true place e es h over rest = rw (past place e h over) (and_false (is_end e.item))
-  ends_none_by false place e es h over rest = rest
+  ends_none_by : (b : Bool) (from : ℤ) (e : Entry) (es : List Entry) → e.offset ≡ from +ℤ pos 1 → at ≤ℤ from → ends_by at es ≡ false → is_ended_by at (cond b (Some e) (find closes_entry es)) ≡ false
+  ends_none_by true from e es h over rest = rw (past from e h over) (and_false (is_end e.item))
+  ends_none_by false from e es h over rest = rest
 
-  pub ends_none : (place : ℕ) (es : List Entry) → Consecutive place es → limit ≤ place → ends_by at es ≡ false
-  ends_none place [] h over = refl
-  ends_none place (e ∷ es) h over = ends_none_by (closes e.item) place e es h.0 over (ends_none (place + 1) es h.1 (omega arith))
+  pub ends_none : (from : ℤ) (es : List Entry) → Consecutive from es → at ≤ℤ from → ends_by at es ≡ false
+  ends_none from [] h over = refl
+  ends_none from (e ∷ es) h over = ends_none_by (closes e.item) from e es h.0 over (ends_none (from +ℤ pos 1) es h.1 (omega (arith, ints, over)))
 
 -- ---- one record
 
@@ -244,146 +260,106 @@ opened_plain inside r h k = rw (h, k) refl
 pub plain_is_no_marker : (r : MetaRecord) → is_begin r ≡ false → closes r ≡ false → is_marker r ≡ false
 plain_is_no_marker r h k = not_marked (is_begin r) (closes r) h k
 
-not_lt : (x y : ℤ) → y ≤ℤ x → int_lt x y ≡ false
-not_lt x y h = grind (arith, ints)
-
 -- ---- the log
 
-pub end_is : (l : Log) → IsKept l → end_of l ≡ pos (record_count l.batches) -ℤ pos 1
-end_is l k =
-    let e = last_end_is (negsuc 0) l.batches k.follow in
-    let base : last_end l.base l.batches ≡ last_end (negsuc 0) l.batches = ap (λ b. last_end b l.batches) k.base in
-    base ∙ omega (arith, ints, e)
+pub end_is : (l : Log) → IsLog l → end_of l ≡ l.base +ℤ pos (record_count l.batches)
+end_is l k = last_end_is l.base l.batches k.follow
 
-entries_are : (l : Log) → IsKept l → entries l.batches ≡ placed 0 l.batches
-entries_are l k = entries_placed (negsuc 0) 0 l.batches refl k.follow
+-- all offsets are in range
+pub end_low : (l : Log) → IsLog l → negsuc 0 ≤ℤ end_of l
+end_low l k = let e = end_is l k in let base = k.base in omega (arith, ints, e, base)
 
-placed_rises : (bs : List BatchRow) → Rises int_cmp offset_of (placed 0 bs)
-placed_rises bs = consecutive_rises 0 (placed 0 bs) (placed_consecutive 0 bs)
+pub end_high : (l : Log) → IsLog l → (l.base +ℤ pos (record_count l.batches)) ≤ℤ max_long
+end_high l k = subst (λ o. o ≤ℤ max_long) (end_is l k) k.end
 
-pub image_at_is : (l : Log) → IsKept l → (at : ℤ) → image_at l at ≡ image_after at false (placed 0 l.batches) empty_image
+pub image_at_is : (l : Log) → IsLog l → (at : ℤ) → image_at l at ≡ image_after at false (placed l.base l.batches) l.base_image
 unfolding image_at
 image_at_is l k at =
-    ap (λ es. all_entries_applied (counted es at) l.base_image) (entries_are l k)
-    ∙ ap (λ es. all_entries_applied es l.base_image) (counted_is_passed (placed 0 l.batches) at (placed_rises l.batches))
-    ∙ ap (all_entries_applied (passed at false (placed 0 l.batches))) k.base_image
+    ap (λ es. all_entries_applied (counted es at) l.base_image) (entries_placed l.base l.batches k.follow)
+    ∙ ap (λ es. all_entries_applied es l.base_image)
+    (counted_is_passed (placed l.base l.batches) at (consecutive_rises l.base (placed l.base l.batches) (placed_consecutive l.base l.batches)))
 
-pub is_open_is : (l : Log) → IsKept l → is_open_log l ≡ open_after false (placed 0 l.batches)
-is_open_is l k =
-    let behind : end_of l +ℤ pos 1 ≡ pos (record_count l.batches) = let e = end_is l k in omega (arith, ints, e) in
-    let count = length-placed 0 l.batches in
-    ap (λ o. is_inside (entries l.batches) o) behind
-    ∙ ap (λ es. is_inside es (pos (record_count l.batches))) (entries_are l k)
-    ∙ is_inside_behind (placed 0 l.batches) (pos (record_count l.batches)) (placed_rises l.batches) (consecutive_below 0 (record_count l.batches) (placed 0 l.batches) (placed_consecutive 0 l.batches) (omega (arith, count)))
+-- ---- a batch more
 
-pub full_none : (l : Log) (items : List MetaRecord) → IsKept l → record_count l.batches + length items ≤ max_records → None ≡ full_log l items
-full_none l items k room =
-    let few : nat_lt max_records (record_count l.batches + length items) ≡ false = grind (arith, nat_tests) in
-    let low : int_lt max_long (end_of l +ℤ pos (length items)) ≡ false = let e = end_is l k in not_lt max_long (end_of l +ℤ pos (length items)) (omega (arith, ints, e, room)) in
-    rw (few, low) refl
+few_enough : (count : ℕ) → count ≤ max_records → nat_lt max_records count ≡ false
+few_enough count h = grind (arith, nat_tests)
 
-pub kept_added : (l : Log) (b : BatchRow) (epoch : ℤ) → IsKept l → pos 0 ≤ℤ epoch → b.first ≡ pos (record_count l.batches) → 0 < length b.items → record_count l.batches + length b.items ≤ max_records
-    → IsKept (record l { epoch = epoch; batches = l.batches ++ b ∷ [] })
-kept_added l b epoch k sign first some room =
-    let e = last_end_is (negsuc 0) l.batches k.follow in
-    let count = record_count-push l.batches b in
+pub full_none : (l : Log) (items : List MetaRecord) → record_count l.batches + length items ≤ max_records → (end_of l +ℤ pos (length items)) ≤ℤ max_long → None ≡ full_log l items
+full_none l items room near =
+    rw (few_enough (record_count l.batches + length items) room, not_lt max_long (end_of l +ℤ pos (length items)) near) refl
+
+pub full_end : (l : Log) (items : List MetaRecord) → record_count l.batches + length items ≤ max_records → max_long <ℤ (end_of l +ℤ pos (length items)) → Some 17 ≡ full_log l items
+full_end l items room far =
+    rw (few_enough (record_count l.batches + length items) room, lt_true max_long (end_of l +ℤ pos (length items)) far) refl
+
+room_by : (many far : Bool) → cond {A = Option ℕ} many (Some 7) (cond far (Some 17) None) ≡ None → (many ≡ false) × (far ≡ false)
+room_by true far h = cc
+room_by false true h = cc
+room_by false false h = (refl, refl)
+
+of_few : (count : ℕ) → nat_lt max_records count ≡ false → count ≤ max_records
+of_few count h = grind (arith, nat_tests)
+
+-- what isn't full has room
+pub room_for : (l : Log) (items : List MetaRecord) → full_log l items ≡ None → (record_count l.batches + length items ≤ max_records) × ((end_of l +ℤ pos (length items)) ≤ℤ max_long)
+room_for l items h =
+    let both = room_by (nat_lt max_records (record_count l.batches + length items)) (int_lt max_long (end_of l +ℤ pos (length items))) h in
+    (of_few (record_count l.batches + length items) both.0, of_not_lt max_long (end_of l +ℤ pos (length items)) both.1)
+
+pub is_log_added : (l : Log) (epoch now : ℤ) (items : List MetaRecord) → IsLog l → pos 1 ≤ℤ epoch → l.epoch ≤ℤ epoch → 0 < length items → full_log l items ≡ None → IsLog (with_batch l epoch now items)
+is_log_added l epoch now items k elected climbs some free =
+    let b : BatchRow = record { first = end_of l +ℤ pos 1; epoch = epoch; time = now; items = items } in
+    let room = room_for l items free in
+    let last : last_end l.base (l.batches ++ b ∷ []) ≡ end_of l +ℤ pos (length items) = last_end-push l.base l.batches b ∙ last_of_is (end_of l) b refl in
     record {
-      epoch = sign;
+      epoch = omega (arith, ints, elected);
       base = k.base;
       base_image = k.base_image;
-      follow = Follow-push (negsuc 0) l.batches b k.follow (omega (arith, ints, e, first)) some;
-      few = omega (arith, count, room);
+      follow = Follow-push l.base l.batches b k.follow refl some;
+      epochs = Climb-push (pos 1) l.epoch epoch l.batches b k.epochs climbs elected climbs (omega (arith, ints));
+      few = subst (λ n. n ≤ max_records) (sym (record_count-push l.batches b)) room.0;
+      end = subst (λ o. o ≤ℤ max_long) (sym last) room.1;
     }
 
 -- the log with this batch, where its parts are those of the definition
-pub added_is : (l : Log) (b : BatchRow) (epoch now : ℤ) (items : List MetaRecord) → IsKept l → b.first ≡ pos (record_count l.batches) → b.epoch ≡ epoch → b.time ≡ now → b.items ≡ items
+pub added_is : (l : Log) (b : BatchRow) (epoch now : ℤ) (items : List MetaRecord) → b.first ≡ end_of l +ℤ pos 1 → b.epoch ≡ epoch → b.time ≡ now → b.items ≡ items
     → ◌≡◌ {A = Log} (record l { epoch = epoch; batches = l.batches ++ b ∷ [] }) (with_batch l epoch now items)
-added_is l b epoch now items k first e t is =
+added_is l b epoch now items first e t is =
     let row : ℤ → ℤ → ℤ → List MetaRecord → BatchRow = λ f x y rs. record { first = f; epoch = x; time = y; items = rs } in
-    let end = end_is l k in
-    let start : b.first ≡ end_of l +ℤ pos 1 = omega (arith, ints, first, end) in
     let same : b ≡ row (end_of l +ℤ pos 1) epoch now items =
-    ap (λ f. row f b.epoch b.time b.items) start ∙ ap (λ x. row (end_of l +ℤ pos 1) x b.time b.items) e
+    ap (λ f. row f b.epoch b.time b.items) first ∙ ap (λ x. row (end_of l +ℤ pos 1) x b.time b.items) e
     ∙ ap (λ y. row (end_of l +ℤ pos 1) epoch y b.items) t ∙ ap (row (end_of l +ℤ pos 1) epoch now) is in
     ap (λ (x : BatchRow). record l { epoch = epoch; batches = l.batches ++ x ∷ [] }) same
 
--- ---- whether a transaction is open
+-- ---- the batches behind an offset
 
-pub open_behind-push : (inside : Bool) (rs : List MetaRecord) (r : MetaRecord) → open_behind inside (rs ++ r ∷ []) ≡ opened (open_behind inside rs) r
-open_behind-push inside [] r = refl
-open_behind-push inside (x ∷ rs) r = open_behind-push (opened inside x) rs r
+-- one more, from the end
+pub behind_more : (after : ℤ) (bs : List BatchRow) (i : ℕ) (b : BatchRow) → i < length bs → b ≡ get_or bs i b → after <ℤ b.first
+    → drop (suc i) bs ≡ filter (is_behind after) (drop (suc i) bs) → drop i bs ≡ filter (is_behind after) (drop i bs)
+behind_more after [] i b h is lt rest = absurd (omega arith)
+behind_more after (x ∷ bs) zero b h is lt rest =
+    let t : is_behind after x ≡ true = ap (λ (y : BatchRow). is_behind after y) (sym is) ∙ lt_true after b.first lt in
+    rw t (ap (λ ys. x ∷ ys) rest)
+behind_more after (x ∷ bs) (suc i) b h is lt rest = behind_more after bs i b (omega arith) is lt rest
 
-pub open_behind_more : (inside : Bool) (rs : List MetaRecord) (i : ℕ) (r : MetaRecord) → i < length rs → r ≡ get_or rs i r → open_behind inside (take (i + 1) rs) ≡ opened (open_behind inside (take i rs)) r
-open_behind_more inside rs i r h is =
-    ap (open_behind inside) (take_more rs i r h ∙ ap (λ x. take i rs ++ x ∷ []) (sym is)) ∙ open_behind-push inside (take i rs) r
-
-open_behind_all-push : (inside : Bool) (bs : List BatchRow) (b : BatchRow) → open_behind_all inside (bs ++ b ∷ []) ≡ open_behind (open_behind_all inside bs) b.items
-open_behind_all-push inside [] b = refl
-open_behind_all-push inside (x ∷ bs) b = open_behind_all-push (open_behind inside x.items) bs b
-
-pub open_behind_all_more : (inside : Bool) (bs : List BatchRow) (i : ℕ) (b : BatchRow) → i < length bs → b ≡ get_or bs i b → open_behind_all inside (take (i + 1) bs) ≡ open_behind (open_behind_all inside (take i bs)) b.items
-open_behind_all_more inside bs i b h is =
-    ap (open_behind_all inside) (take_more bs i b h ∙ ap (λ x. take i bs ++ x ∷ []) (sym is)) ∙ open_behind_all-push inside (take i bs) b
-
-open_after-numbered : (inside : Bool) (o epoch : ℤ) (rs : List MetaRecord) (es : List Entry) → open_after inside (numbered o epoch rs ++ es) ≡ open_after (open_behind inside rs) es
-open_after-numbered inside o epoch [] es = refl
-open_after-numbered inside o epoch (r ∷ rs) es = open_after-numbered (opened inside r) (o +ℤ pos 1) epoch rs es
-
-pub open_after-placed : (inside : Bool) (place : ℕ) (bs : List BatchRow) → open_after inside (placed place bs) ≡ open_behind_all inside bs
-open_after-placed inside place [] = refl
-open_after-placed inside place (b ∷ bs) =
-    open_after-numbered inside (pos place) b.epoch b.items (placed (place + length b.items) bs) ∙ open_after-placed (open_behind inside b.items) (place + length b.items) bs
-
--- ---- the epoch of the last batch behind a position
-
-pub lt_true : (x y : ℤ) → x <ℤ y → int_lt x y ≡ true
-lt_true x y h = grind (arith, ints)
-
-pub of_lt : (x y : ℤ) → int_lt x y ≡ true → x <ℤ y
-of_lt x y h = grind (arith, ints)
-
--- the last batch begins behind the offset that all follow
-last_is_behind : (from : ℤ) (bs : List BatchRow) (b : BatchRow) → Follow from bs → 0 < length bs → b ≡ get_or bs (length bs - 1) b → from <ℤ b.first
-last_is_behind from [] b h some is = absurd (omega arith)
-last_is_behind from (x ∷ []) b h some is = let e = ap (λ (y : BatchRow). y.first) is ∙ h.0 in omega (arith, ints, e)
-last_is_behind from (x ∷ y ∷ bs) b h some is =
-    let i : length (x ∷ y ∷ bs) - 1 ≡ suc (length (y ∷ bs) - 1) = omega arith in
-    let rest = last_is_behind (last_of x) (y ∷ bs) b h.2 (omega arith) (is ∙ ap (λ n. get_or (x ∷ y ∷ bs) n b) i) in
+first_behind : (from : ℤ) (bs : List BatchRow) (i : ℕ) (b : BatchRow) → Follow from bs → i < length bs → b ≡ get_or bs i b → from <ℤ b.first
+first_behind from [] i b h lt is = absurd (omega arith)
+first_behind from (x ∷ bs) zero b h lt is = let e = ap (λ (y : BatchRow). y.first) is ∙ h.0 in omega (arith, ints, e)
+first_behind from (x ∷ bs) (suc i) b h lt is =
+    let rest = first_behind (last_of x) bs i b h.2 (omega arith) is in
     let last = last_of_is from x h.0 in omega (arith, ints, rest, last)
 
-epoch_by : (t : Bool) (epoch : ℤ) (b : BatchRow) (bs : List BatchRow) → last_epoch epoch (cond t (b ∷ bs) bs) ≡ last_epoch (cond t b.epoch epoch) bs
-epoch_by true epoch b bs = refl
-epoch_by false epoch b bs = refl
-
-pub last_epoch_behind : (from : ℤ) (bs : List BatchRow) (b : BatchRow) (position epoch : ℤ) → Follow from bs → 0 < length bs → b ≡ get_or bs (length bs - 1) b → position <ℤ b.first
-    → last_epoch epoch (filter (is_behind position) bs) ≡ b.epoch
-last_epoch_behind from [] b position epoch h some is lt = absurd (omega arith)
-last_epoch_behind from (x ∷ []) b position epoch h some is lt =
-    let t : int_lt position x.first ≡ true = ap (λ (y : BatchRow). int_lt position y.first) (sym is) ∙ lt_true position b.first lt in
-    rw t (ap (λ (y : BatchRow). y.epoch) (sym is))
-last_epoch_behind from (x ∷ y ∷ bs) b position epoch h some is lt =
-    let i : length (x ∷ y ∷ bs) - 1 ≡ suc (length (y ∷ bs) - 1) = omega arith in
-    epoch_by (int_lt position x.first) epoch x (filter (is_behind position) (y ∷ bs))
-    ∙ last_epoch_behind (last_of x) (y ∷ bs) b position (cond (int_lt position x.first) x.epoch epoch) h.2 (omega arith) (is ∙ ap (λ n. get_or (x ∷ y ∷ bs) n b) i) lt
-
-pub last_epoch_not_behind : (from : ℤ) (bs : List BatchRow) (b : BatchRow) (position epoch : ℤ) → Follow from bs → 0 < length bs → b ≡ get_or bs (length bs - 1) b → b.first ≤ℤ position
-    → last_epoch epoch (filter (is_behind position) bs) ≡ epoch
-last_epoch_not_behind from [] b position epoch h some is le = absurd (omega arith)
-last_epoch_not_behind from (x ∷ []) b position epoch h some is le =
-    let t : int_lt position x.first ≡ false = ap (λ (y : BatchRow). int_lt position y.first) (sym is) ∙ not_lt position b.first le in
-    rw t refl
-last_epoch_not_behind from (x ∷ y ∷ bs) b position epoch h some is le =
-    let i : length (x ∷ y ∷ bs) - 1 ≡ suc (length (y ∷ bs) - 1) = omega arith in
-    let at = is ∙ ap (λ n. get_or (x ∷ y ∷ bs) n b) i in
-    let behind = last_is_behind (last_of x) (y ∷ bs) b h.2 (omega arith) at in
-    let first : x.first ≤ℤ position = let last = last_of_is from x h.0 in let f = h.0 in omega (arith, ints, behind, last, f, le) in
-    rw (not_lt position x.first first) (last_epoch_not_behind (last_of x) (y ∷ bs) b position epoch h.2 (omega arith) at le)
-
-pub of_not_lt : (x y : ℤ) → int_lt x y ≡ false → y ≤ℤ x
-of_not_lt x y h = grind (arith, ints)
-
-pub some_length : (bs : List BatchRow) → false ≡ (length bs == 0) → 0 < length bs
-some_length bs h = grind (arith, nat_tests)
+-- none of those before one that isn't
+pub none_behind : (from after : ℤ) (bs : List BatchRow) (i : ℕ) (b : BatchRow) → Follow from bs → i < length bs → b ≡ get_or bs i b → b.first ≤ℤ after
+    → drop (suc i) bs ≡ filter (is_behind after) (drop (suc i) bs) → drop (suc i) bs ≡ filter (is_behind after) bs
+none_behind from after [] i b h lt is le rest = absurd (omega arith)
+none_behind from after (x ∷ bs) zero b h lt is le rest =
+    let t : is_behind after x ≡ false = ap (λ (y : BatchRow). is_behind after y) (sym is) ∙ not_lt after b.first le in
+    rw t rest
+none_behind from after (x ∷ bs) (suc i) b h lt is le rest =
+    let later = first_behind (last_of x) bs i b h.2 (omega arith) is in
+    let first : x.first ≤ℤ after = let last = last_of_is from x h.0 in let f = h.0 in omega (arith, ints, later, last, f, le) in
+    rw (not_lt after x.first first) (none_behind (last_of x) after bs i b h.2 (omega arith) is le rest)
 
 -- ---- the ends of batches
 
@@ -405,31 +381,3 @@ last_at from (x ∷ bs) (suc i) b h lt is =
 
 pub ends_more : (bs : List BatchRow) (i : ℕ) (b : BatchRow) → i < length bs → b ≡ get_or bs i b → map last_of (take (i + 1) bs) ≡ map last_of (take i bs) ++ last_of b ∷ []
 ends_more bs i b h is = ap (map last_of) (take_more bs i b h ∙ ap (λ x. take i bs ++ x ∷ []) (sym is)) ∙ map-append last_of (take i bs) (b ∷ [])
-
-or_assoc : (a b c : Bool) → (a || b) || c ≡ a || (b || c)
-or_assoc true b c = refl
-or_assoc false b c = refl
-
-or_false : (a : Bool) → a || false ≡ a
-or_false true = refl
-or_false false = refl
-
-any-append : (p : ℤ → Bool) (xs ys : List ℤ) → list_any p (xs ++ ys) ≡ list_any p xs || list_any p ys
-any-append p [] ys = refl
-any-append p (x ∷ xs) ys = rw (any-append p xs ys) (sym (or_assoc (p x) (list_any p xs) (list_any p ys)))
-
-pub any_none_more : (p : ℤ → Bool) (xs : List ℤ) (x : ℤ) → list_any p xs ≡ false → p x ≡ false → list_any p (xs ++ x ∷ []) ≡ false
-any_none_more p xs x none miss = any-append p xs (x ∷ []) ∙ rw (none, miss) refl
-
-any_by : (t : Bool) (p : ℤ → Bool) (xs : List ℤ) (x : ℤ) → p x ≡ true → (list_any p xs ≡ true) → t || list_any p xs ≡ true
-any_by true p xs x h k = refl
-any_by false p xs x h k = k
-
-here_any : (t r : Bool) → t ≡ true → t || r ≡ true
-here_any true r h = refl
-here_any false r h = cc
-
-pub any_end : (p : ℤ → Bool) (bs : List BatchRow) (i : ℕ) (b : BatchRow) → i < length bs → b ≡ get_or bs i b → p (last_of b) ≡ true → list_any p (map last_of bs) ≡ true
-any_end p [] i b h is t = absurd (omega arith)
-any_end p (x ∷ bs) zero b h is t = here_any (p (last_of x)) (list_any p (map last_of bs)) (ap (λ (y : BatchRow). p (last_of y)) (sym is) ∙ t)
-any_end p (x ∷ bs) (suc i) b h is t = any_by (p (last_of x)) p (map last_of bs) (last_of b) t (any_end p bs i b (omega arith) is t)

@@ -2,3 +2,4 @@ pub mod Batches
 pub mod Building
 pub mod Cuts
 pub mod Views
+pub mod Wires

@@ -4,3 +4,5 @@ pub mod Views
 pub mod ViewLaws
 pub mod Rows
 pub mod Reading
+pub mod Wires
+pub mod Lending

@@ -1,15 +1,16 @@
 //! Reading the records of a log one after another.
-ghost use Rattle.std.specs.Prelude.{◌≡◌, ◌+◌, ◌≤◌, ◌∷◌, [], length, pos, MatchOption, IfSome};
-ghost use Rattle.kz_spec_stores.specs.Log.{record_count, max_records};
-ghost use Rattle.kz_log.specs.Reading.{placed, remaining};
+ghost use Rattle.std.specs.Prelude.{◌≡◌, ◌+◌, ◌+ℤ◌, ◌≤ℤ◌, ◌∷◌, [], pos, MatchOption, IfSome};
+ghost use Rattle.kz_spec_stores.specs.Log.{record_count};
+ghost use Rattle.kz_spec_stores.specs.Tree.{max_long};
+ghost use Rattle.kz_log.specs.Reading.{placed, remaining, unread};
 
 use kz_types::{BatchRow, MetaRecord};
 
 /// A place in a log, with the records from there on.
 #[derive(Clone, Copy)]
 pub struct Cursor<'a> {
-    /// How many records stand before.
-    pub place: usize,
+    /// The offset before the next record.
+    pub position: i64,
     /// The epoch of the batch that is being read.
     pub epoch: i32,
     /// What is left of that batch.
@@ -26,14 +27,14 @@ pub struct Found<'a> {
     pub next: Cursor<'a>,
 }
 
-/// The place before the first record.
-pub fn start<'a>(batches: &'a [BatchRow]) -> Cursor<'a>
-    ensures place { result.place ≡ 0 }
-    ensures records { remaining result.place result.epoch result.items.now result.rest.now ≡ placed 0 batches.entry.now }
-    ensures room { result.place + length result.items.now + record_count result.rest.now ≡ record_count batches.entry.now }
+/// The place before the first record behind a base.
+pub fn start<'a>(base: i64, batches: &'a [BatchRow]) -> Cursor<'a>
+    ensures place { result.position ≡ base }
+    ensures records { remaining result.position result.epoch result.items.now result.rest.now ≡ placed base batches.entry.now }
+    ensures room { unread result.items.now result.rest.now ≡ record_count batches.entry.now }
 {
     Cursor {
-        place: 0,
+        position: base,
         epoch: 0,
         items: &[],
         rest: batches,
@@ -42,13 +43,13 @@ pub fn start<'a>(batches: &'a [BatchRow]) -> Cursor<'a>
 
 /// Reads a record.
 pub fn read<'a>(cursor: Cursor<'a>) -> Option<Found<'a>>
-    requires { cursor.place + length cursor.items.now + record_count cursor.rest.now ≤ max_records }
+    requires { (cursor.position +ℤ pos (unread cursor.items.now cursor.rest.now)) ≤ℤ max_long }
     ensures record { MatchOption result
-        (remaining cursor.entry.place cursor.entry.epoch cursor.entry.items.now cursor.entry.rest.now ≡ [])
-        (λ r. remaining cursor.entry.place cursor.entry.epoch cursor.entry.items.now cursor.entry.rest.now
-        ≡ record { offset = pos cursor.entry.place; epoch = r.epoch; item = r.item.now } ∷ remaining r.next.place r.next.epoch r.next.items.now r.next.rest.now) }
-    ensures place { IfSome result (λ r. r.next.place ≡ cursor.entry.place + 1) }
-    ensures room { IfSome result (λ r. r.next.place + length r.next.items.now + record_count r.next.rest.now ≤ max_records) }
+        (remaining cursor.entry.position cursor.entry.epoch cursor.entry.items.now cursor.entry.rest.now ≡ [])
+        (λ r. remaining cursor.entry.position cursor.entry.epoch cursor.entry.items.now cursor.entry.rest.now
+        ≡ record { offset = cursor.entry.position +ℤ pos 1; epoch = r.epoch; item = r.item.now } ∷ remaining r.next.position r.next.epoch r.next.items.now r.next.rest.now) }
+    ensures place { IfSome result (λ r. r.next.position ≡ cursor.entry.position +ℤ pos 1) }
+    ensures room { IfSome result (λ r. unread cursor.entry.items.now cursor.entry.rest.now ≡ unread r.next.items.now r.next.rest.now + 1) }
 {
     let mut epoch = cursor.epoch;
     let mut items = cursor.items;
@@ -66,7 +67,7 @@ pub fn read<'a>(cursor: Cursor<'a>) -> Option<Found<'a>>
         epoch,
         item: &items[0],
         next: Cursor {
-            place: cursor.place + 1,
+            position: cursor.position + 1,
             epoch,
             items: &items[1..],
             rest,

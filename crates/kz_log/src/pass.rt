@@ -1,31 +1,24 @@
 //! The metadata at an offset, in one pass over the records.
-ghost use Rattle.std.specs.Prelude.{◌≡◌, ◌+◌, ◌<◌, ◌≤◌, ◌∷◌, false, true, nat_lt, int_le, pos, length, is_some, ℕ, ℤ, IfOk, List};
+ghost use Rattle.std.specs.Prelude.{◌≡◌, ◌+ℤ◌, ◌≤ℤ◌, ◌∷◌, false, true, int_le, pos, is_some, IfOk, List};
 ghost use Rattle.kz_types.specs.declared.log.Entry.{Entry};
-ghost use Rattle.kz_spec_stores.specs.Image.{Image as ImageValue, empty_image};
-ghost use Rattle.kz_spec_stores.specs.Log.{record_count, max_records};
-ghost use Rattle.kz_settle.specs.Settling.{opened, ends_by, open_after};
-ghost use Rattle.kz_log.specs.Reading.{placed, remaining, IsLimit, Knows, image_after, open_behind};
+ghost use Rattle.kz_spec_stores.specs.Log.{record_count};
+ghost use Rattle.kz_spec_stores.specs.Tree.{max_long};
+ghost use Rattle.kz_settle.specs.Settling.{opened, ends_by};
+ghost use Rattle.kz_log.specs.Reading.{placed, remaining, unread, Knows, image_after};
 
 use crate::cursor::{Cursor, read, start};
 use kz_image::Image;
 use kz_settle::{closes, is_begin, is_end};
-use kz_types::{BatchRow, MetaRecord, NoMemory};
+use kz_types::{BatchRow, Duplicate, MetaRecord, NoMemory};
 use std::alloc::Global;
 
-/// How many records stand at or before an offset, where the first has offset 0 and none is missing.
-pub fn limit_of(offset: i64) -> usize
-    ensures { IsLimit offset result }
-{
-    if offset < 0 { 0 } else { offset as usize + 1 }
-}
-
-// Whether the open transaction ends within the limit.
-fn ends(cursor: Cursor<'_>, limit: usize) -> bool
-    requires { cursor.place + length cursor.items.now + record_count cursor.rest.now ≤ max_records }
-    ensures { (at : ℤ) → IsLimit at limit → result ≡ ends_by at (remaining cursor.entry.place cursor.entry.epoch cursor.entry.items.now cursor.entry.rest.now) }
+// Whether the open transaction ends at or before an offset.
+fn ends(cursor: Cursor<'_>, at: i64) -> bool
+    requires { (cursor.position +ℤ pos (unread cursor.items.now cursor.rest.now)) ≤ℤ max_long }
+    ensures { result ≡ ends_by at (remaining cursor.entry.position cursor.entry.epoch cursor.entry.items.now cursor.entry.rest.now) }
 {
     let mut here = cursor;
-    while here.place < limit {
+    while here.position < at {
         match read(here) {
             None => return false,
             Some(r) => {
@@ -40,25 +33,23 @@ fn ends(cursor: Cursor<'_>, limit: usize) -> bool
 }
 
 // Takes in a record where it counts. What is known of the open transaction, before the record and then behind it: that
-// there is none, or whether it ends within the limit.
+// there is none, or whether it ends at or before the offset.
 fn take(
-    alloc: Global,
     image: &mut Image,
     known: Option<bool>,
     epoch: i32,
     item: &MetaRecord,
     next: Cursor<'_>,
-    limit: usize,
+    at: i64,
 ) -> Result<Option<bool>, NoMemory>
-    requires room { next.place + length next.items.now + record_count next.rest.now ≤ max_records }
-    requires within { next.place ≤ limit }
-    ensures { IfOk result (λ then. (at : ℤ) (es : List Entry) (e : Entry) → IsLimit at limit → es ≡ remaining next.entry.place next.entry.epoch next.entry.items.now next.entry.rest.now
+    requires { (next.position +ℤ pos (unread next.items.now next.rest.now)) ≤ℤ max_long }
+    ensures { IfOk result (λ then. (es : List Entry) (e : Entry) → es ≡ remaining next.entry.position next.entry.epoch next.entry.items.now next.entry.rest.now
         → e.epoch ≡ epoch → e.item ≡ item.now → int_le e.offset at ≡ true → Knows at known (e ∷ es)
         → Knows at then es × (is_some then ≡ opened (is_some known) e.item) × (image_after at (is_some known) (e ∷ es) image.old ≡ image_after at (is_some then) es image.new)) }
 {
     if is_begin(item) {
         match known {
-            None => Ok(Some(ends(next, limit))),
+            None => Ok(Some(ends(next, at))),
             Some(ends) => Ok(Some(ends)),
         }
     } else if closes(item) {
@@ -66,63 +57,34 @@ fn take(
     } else {
         match known {
             Some(false) => {}
-            _ => image.apply(alloc, epoch, item)?,
+            _ => image.apply(epoch, item)?,
         }
         Ok(known)
     }
 }
 
-/// What the first so many records make of the empty metadata, of those that count.
-pub fn image_of_first(alloc: Global, batches: &[BatchRow], limit: usize) -> Result<Image, NoMemory>
-    requires { record_count batches.now ≤ max_records }
-    ensures { IfOk result (λ image. (at : ℤ) → IsLimit at limit → image ≡ image_after at false (placed 0 batches.now) empty_image) }
+/// What the records behind a base make of the metadata there, of those that count at an offset.
+pub fn image_behind(
+    alloc: Global,
+    base: i64,
+    image: &Image,
+    batches: &[BatchRow],
+    at: i64,
+) -> Result<Image, NoMemory>
+    requires { (base +ℤ pos (record_count batches.now)) ≤ℤ max_long }
+    ensures { IfOk result (λ made. made ≡ image_after at false (placed base batches.now) image.now) }
 {
-    let mut image = Image::new(alloc);
+    let mut made = image.copy(alloc)?;
     let mut known = None;
-    let mut here = start(batches);
-    while here.place < limit {
+    let mut here = start(base, batches);
+    while here.position < at {
         match read(here) {
-            None => return Ok(image),
+            None => return Ok(made),
             Some(r) => {
                 here = r.next;
-                known = take(alloc, &mut image, known, r.epoch, r.item, r.next, limit)?;
+                known = take(&mut made, known, r.epoch, r.item, r.next, at)?;
             }
         }
     }
-    Ok(image)
-}
-
-// Whether a transaction is open behind a record.
-fn opened(inside: bool, item: &MetaRecord) -> bool
-    ensures { result ≡ opened inside item.now }
-{
-    if is_begin(item) {
-        true
-    } else if closes(item) {
-        false
-    } else {
-        inside
-    }
-}
-
-// Whether a transaction is open behind these records.
-fn open_after_items(before: bool, items: &[MetaRecord]) -> bool
-    ensures { result ≡ open_behind before items.now }
-{
-    let mut inside = before;
-    for item in items {
-        inside = opened(inside, item);
-    }
-    inside
-}
-
-/// Whether a transaction is open behind all records.
-pub fn open_after_all(batches: &[BatchRow]) -> bool
-    ensures { result ≡ open_after false (placed 0 batches.now) }
-{
-    let mut inside = false;
-    for batch in batches {
-        inside = open_after_items(inside, batch.items.as_slice());
-    }
-    inside
+    Ok(made)
 }

@@ -1,14 +1,15 @@
 //! A log that is held whole.
-ghost use Rattle.std.specs.Prelude.{◌≡◌, ◌≤◌, ◌<◌, ◌≤ℤ◌, pos, ℕ, List, length, IfOk, OnOk, OnErr};
-ghost use Rattle.std.specs.Ordering.{int_eq};
-ghost use Rattle.std.specs.List.{list_any};
+ghost use Rattle.std.specs.Prelude.{◌≡◌, ◌≤◌, ◌<◌, ◌≤ℤ◌, pos, None, List, length, drop, IfOk, OnOk, OnErr};
+ghost use Rattle.std.specs.List.{filter};
 ghost use Rattle.kz_types.specs.declared.record.MetaRecord.{MetaRecord as MetaRecordValue};
-ghost use Rattle.kz_spec_stores.specs.Log.{Log, IsLog, empty_log, end_of, batch_ends, record_count, image_at, full_log, with_batch, feed_from, max_records};
+ghost use Rattle.kz_spec_stores.specs.Log.{IsLog, empty_log, end_of, batch_ends, image_at, full_log, with_batch, is_behind, feed_from, reset};
 ghost use Rattle.kz_log.specs.Requests.{IsFeed};
 ghost use Rattle.kz_log.specs.Rows.{log_of};
 
+use crate::ends::{all_ends, count_of, offset_behind};
+use crate::pass::image_behind;
 use kz_image::{Feed, Image};
-use kz_types::{BatchRow, NoMemory};
+use kz_types::{BatchRow, Duplicate, MetaRecord, NoMemory, Sequence, copy_all};
 use std::alloc::Global;
 use std::marker::Model;
 
@@ -58,7 +59,19 @@ impl LogRows {
         requires { IsLog (log_of epoch feed) }
         ensures { IfOk result (λ rows. rows ≡ log_of epoch feed) }
     {
-        Err(NoMemory)
+        let batches = feed.batches.into_vec();
+        let count = count_of(&batches);
+        let (base, base_image) = match feed.base {
+            Some(base) => base,
+            None => (-1, Image::new(alloc)),
+        };
+        Ok(LogRows {
+            epoch,
+            base,
+            base_image,
+            count,
+            batches,
+        })
     }
 
     /// The epoch of the controller that was elected last, or 0.
@@ -69,17 +82,122 @@ impl LogRows {
         self.epoch
     }
 
+    /// The offset up to which the log is metadata alone, or -1 where it begins with its first record.
+    pub fn base(&self) -> i64
+        ensures { result ≡ self.now.base }
+    {
+        self.base
+    }
+
+    /// The last offset, or the base where there is no record behind it.
+    pub fn end(&self) -> i64
+        ensures { result ≡ end_of self.now }
+    {
+        offset_behind(self.base, self.count)
+    }
+
     /// The base and the last offset of each batch, which rise.
     pub fn batch_ends(&self, alloc: Global) -> Result<Vec<i64>, NoMemory>
         ensures { IfOk result (λ ends. ends.items ≡ batch_ends self.now) }
     {
-        Err(NoMemory)
+        all_ends(alloc, self.base, &self.batches)
     }
 
     /// The metadata at an offset: what the records that count there make of the base image.
     pub fn image_at(&self, alloc: Global, offset: i64) -> Result<Image, NoMemory>
         ensures { IfOk result (λ image. image ≡ image_at self.now offset) }
     {
-        Err(NoMemory)
+        image_behind(alloc, self.base, &self.base_image, &self.batches, offset)
+    }
+
+    /// Which limit so many further records would pass, if any: 7 where the log would have more than 1,000,000 records behind
+    /// its base, else 17 where its last offset would be above 9,223,372,036,854,775,807.
+    pub fn full(&self, count: usize) -> Option<u8>
+        ensures { (items : List MetaRecordValue) → length items ≡ count → result ≡ full_log self.now items }
+    {
+        if MAX_RECORDS - self.count < count {
+            Some(7)
+        } else if i64::MAX - (count as i64) < self.end() {
+            Some(17)
+        } else {
+            None
+        }
+    }
+
+    /// Adds a batch of this epoch, which is the log's from then on. At `Err` the log is as it was.
+    pub fn add(
+        &mut self,
+        alloc: Global,
+        epoch: i32,
+        now: i64,
+        items: &[MetaRecord],
+    ) -> Result<(), NoMemory>
+        requires some { 0 < length items.now }
+        requires room { full_log self.old items.now ≡ None }
+        requires elected { pos 1 ≤ℤ epoch }
+        requires climbs { self.old.epoch ≤ℤ epoch }
+        ensures ok { OnOk result (self.new ≡ with_batch self.old epoch now items.now) }
+        ensures err { OnErr result (self.new ≡ self.old) }
+    {
+        let copies = copy_all(alloc, items)?;
+        let batch = BatchRow {
+            first: self.end() + 1,
+            epoch,
+            time: now,
+            items: Sequence::from_vec(copies),
+        };
+        self.batches.push(batch)?;
+        self.count += items.len();
+        self.epoch = epoch;
+        Ok(())
+    }
+
+    // The place of the first batch behind an offset.
+    fn place_behind(&self, after: i64) -> usize
+        ensures low { result ≤ length self.now.batches }
+        ensures place { drop result self.now.batches ≡ filter (is_behind after) self.now.batches }
+    {
+        let mut place = self.batches.len();
+        while 0 < place {
+            if self.batches[place - 1].first <= after {
+                return place;
+            }
+            place -= 1;
+        }
+        0
+    }
+
+    // The base with its metadata, where an offset is below it.
+    fn base_behind(&self, alloc: Global, after: i64) -> Result<Option<(i64, Image)>, NoMemory>
+        ensures { IfOk result (λ base. base ≡ (feed_from self.now after).base) }
+    {
+        if after < self.base {
+            Ok(Some((self.base, self.base_image.copy(alloc)?)))
+        } else {
+            Ok(None)
+        }
+    }
+
+    /// The batches behind an offset, and, where the offset is below the base, the base with its metadata.
+    pub fn read_from(&self, alloc: Global, after: i64) -> Result<Feed, NoMemory>
+        ensures { IfOk result (λ feed. IsFeed (feed_from self.now after) feed) }
+    {
+        let base = self.base_behind(alloc, after)?;
+        let batches = copy_all(alloc, &self.batches[self.place_behind(after)..])?;
+        Ok(Feed {
+            base,
+            batches: Sequence::from_vec(batches),
+            end: self.end(),
+        })
+    }
+
+    /// Drops all batches and the base. The epoch stays.
+    pub fn reset(&mut self, alloc: Global)
+        ensures { self.new ≡ reset self.old }
+    {
+        self.base = -1;
+        self.base_image = Image::new(alloc);
+        self.count = 0;
+        self.batches = Vec::new(alloc);
     }
 }

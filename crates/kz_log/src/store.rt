@@ -1,5 +1,5 @@
 //! A store that holds a metadata log.
-ghost use Rattle.std.specs.Prelude.{◌≡◌, ◌<◌, ◌≤ℤ◌, ℕ, Bool, true, false, Option, pos, length, IfOk, IfErr, OnOk, OnErr, IsErrOf, Ok};
+ghost use Rattle.std.specs.Prelude.{◌≡◌, ◌<◌, ◌≤ℤ◌, ℕ, Bool, true, false, Option, pos, length as len, IfOk, IfErr, OnOk, OnErr, IsErrOf, Ok};
 ghost use Rattle.kz_types.specs.Causes.{Rose};
 ghost use Rattle.kz_spec_stores.specs.Log as logs;
 ghost use Rattle.kz_spec_stores.specs.Log.{Log, IsLog, end_of, feed_from};
@@ -54,7 +54,7 @@ pub trait MetaLog {
     /// its base; `Limit` 17 where its last offset would be above 9,223,372,036,854,775,807. `Full`: the file would have that
     /// length.
     fn append(&mut self, epoch: i32, now: i64, items: &[MetaRecord]) -> Result<i64, LogFault>
-        requires some { 0 < length items.now }
+        requires some { 0 < len items.now }
         requires elected { pos 1 ≤ℤ epoch }
         ensures ok { IfOk result (λ end. (logs.append (log self.old) epoch now items.now ≡ Ok (log self.new)) × (end ≡ end_of (log self.new))) }
         ensures err { IfErr result (IsChangeFault (logs.append (log self.old) epoch now items.now) (length self.old) (down self.old)) }
@@ -69,7 +69,7 @@ pub trait MetaLog {
     /// A controller is elected: the epoch rises by one, and a batch of that epoch is appended. Refused are, in this order:
     /// `Limit` 15 where the epoch is 2,147,483,647; `Limit` 7 and `Limit` 17 as in an append.
     fn elect(&mut self, now: i64, items: &[MetaRecord]) -> Result<Elected, LogFault>
-        requires { 0 < length items.now }
+        requires { 0 < len items.now }
         ensures ok { IfOk result (λ elected. (logs.elect (log self.old) now items.now ≡ Ok (log self.new)) × IsElected (log self.new) elected) }
         ensures err { IfErr result (IsChangeFault (logs.elect (log self.old) now items.now) (length self.old) (down self.old)) }
         ensures same { OnErr result (log self.new ≡ log self.old) }

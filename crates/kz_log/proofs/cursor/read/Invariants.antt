@@ -1,12 +1,11 @@
-use Rattle.std.proofs.Common.{◌≡◌, ◌+◌, ◌≤◌, length}
-use Rattle.kz_spec_stores.specs.Log.{record_count, max_records}
-use Rattle.kz_log.specs.Reading.{remaining}
+use Rattle.std.proofs.Common.{◌≡◌, length}
+use Rattle.kz_log.specs.Reading.{remaining, unread}
 use Rattle.kz_log.proofs.cursor.read.Given as goal
 
 abbrev pub invariant-loop-items : goal.invariant-loop-items
 invariant-loop-items l = record {
-  same : remaining l.cursor.place l.cursor.epoch l.cursor.items.now l.cursor.rest.now ≡ remaining l.cursor.place l.epoch l.items l.rest;
-  room : l.cursor.place + length l.items + record_count l.rest ≤ max_records;
+  same : remaining l.cursor.position l.cursor.epoch l.cursor.items.now l.cursor.rest.now ≡ remaining l.cursor.position l.epoch l.items l.rest;
+  room : unread l.cursor.items.now l.cursor.rest.now ≡ unread l.items l.rest;
 }
 
 abbrev pub decreases-loop-items : goal.decreases-loop-items
