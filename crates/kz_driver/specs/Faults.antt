@@ -2,14 +2,17 @@
 use Rattle.std.specs.Prelude.{◌≡◌, ℕ, Bool, true, false, ⊤, Option, Result, IfErr, IsErrOf}
 use Rattle.kz_types.specs.Causes.{Rose}
 use Rattle.kz_types.specs.declared.fault.TreeFault.TheVariants as fault
-use Rattle.kz_tree.specs.Requests.{IsFull, IsStoreFault}
+use Rattle.kz_spec_stores.specs.Requests.{IsFull}
+use Rattle.kz_tree.specs.Requests.{IsStoreFault}
+use Rattle.kz_log.specs.Requests.{IsStoreFault as IsLogStoreFault}
 use Rattle.kz_driver.specs.declared.fault.StepFault.{StepFault}
-use Rattle.kz_driver.specs.declared.fault.StepFault.TheVariants.{Tree, NoMemory}
+use Rattle.kz_driver.specs.declared.fault.StepFault.TheVariants.{Tree, Log, NoMemory}
 
--- a fault of the store itself, and no refusal of the tree, or want of memory
-abbrev pub IsStepFault : Option ℕ → Bool → StepFault → Type 0
-IsStepFault file down (Tree f) = IsStoreFault file down f
-IsStepFault file down NoMemory = ⊤
+-- a fault of a store itself, and no refusal of the tree or the log, or want of memory
+abbrev pub IsStepFault : Option ℕ → Bool → Option ℕ → Bool → StepFault → Type 0
+IsStepFault tree_file tree_down log_file log_down (Tree f) = IsStoreFault tree_file tree_down f
+IsStepFault tree_file tree_down log_file log_down (Log f) = IsLogStoreFault log_file log_down f
+IsStepFault tree_file tree_down log_file log_down NoMemory = ⊤
 
 -- why a step that reads the tree has no reply: an earlier failure of the disk, or want of memory
 abbrev pub IsReadStepFault : Bool → StepFault → Type 0

@@ -3,6 +3,7 @@ ghost use Rattle.std.specs.Prelude.{◌≡◌, ◌≤ℤ◌, pos, true, false, I
 ghost use Rattle.kz_types.specs.Causes.{Rose};
 ghost use Rattle.kz_spec_stores.specs.Requests.{Either};
 ghost use Rattle.kz_spec_stores.specs.Tree.{Tree};
+ghost use Rattle.kz_spec_stores.specs.Log.{View as ViewValue, IsViewOf};
 ghost use Rattle.kz_spec_machine.specs.Driver.{Driver as DriverValue, new_driver, elected_driver, step};
 ghost use Rattle.kz_driver.specs.Drivers.{IsKept, asks_tree, shared_of, started, informed};
 ghost use Rattle.kz_driver.specs.Faults.{IsStepFault, StepHasCause};
@@ -20,9 +21,9 @@ use crate::source::read_source;
 use crate::targets::begin_sync;
 use crate::waiting::{compare_brokers, wait_for_brokers, wait_for_quorum};
 use crate::writing::{write_all, write_change};
-use kz_log::{MemoryLog, View};
+use kz_log::{MetaLog, View};
 use kz_tree::ZTree;
-use kz_types::{DriverState, NoMemory, Reply, Stage, TreeFault};
+use kz_types::{DriverState, LogFault, NoMemory, Reply, Stage, TreeFault};
 use std::alloc::Global;
 use std::marker::Model;
 
@@ -91,25 +92,44 @@ impl Driver {
         self.row.stage = Stage::WaitForQuorum;
     }
 
-    /// One step: at most one request of the tree or the log, and what follows its answer. At `Err` nothing has changed; where
-    /// the disk failed in this call, a stop leaves the tree from before or the one that the step would have made.
-    pub fn step<T: ZTree>(
+    /// Lends what it knows of the log.
+    pub fn view(&self) -> &View
+        ensures { result.now ≡ self.now.view }
+    {
+        &self.row.view
+    }
+
+    /// One step: at most one request of the tree or the log, and what follows its answer. The driver's view is one of the
+    /// log. At `Err` nothing has changed; where a disk failed in this call, a stop leaves the tree or the log from before, or
+    /// the one that the step would have made.
+    pub fn step<T: ZTree, L: MetaLog>(
         &mut self,
         tree: &mut T,
-        log: &mut MemoryLog,
+        log: &mut L,
         peers: &Peers,
         now: i64,
     ) -> Result<Reply, StepFault>
-        ensures ok { IfOk result (λ told. step (shared_of (T.tree tree.old) log.old peers.now.declared) peers.now.running now self.old
-            ≡ record { shared = shared_of (T.tree tree.new) log.new peers.now.declared; driver = self.new; reply = told }) }
-        ensures err { OnErr result ((self.new ≡ self.old) × (T.tree tree.new ≡ T.tree tree.old) × (log.new ≡ log.old)) }
-        ensures cause { IfErr result (IsStepFault (T.length tree.old) (T.down tree.old)) }
-        ensures device { IsErrOf result (StepFault.Tree TreeFault.Device) → Rose (T.faults tree.old) (T.faults tree.new) }
-        ensures falls { IsErrOf result (StepFault.Tree TreeFault.Device) → T.down tree.new ≡ true }
-        ensures calm { (IsErrOf result (StepFault.Tree TreeFault.Device) → ⊥) → T.faults tree.new ≡ T.faults tree.old }
-        ensures up { (IsErrOf result (StepFault.Tree TreeFault.Device) → ⊥) → T.down tree.new ≡ T.down tree.old }
-        ensures stop { IsErrOf result (StepFault.Tree TreeFault.Device) → T.down tree.old ≡ false
-            → Either (T.tree tree.old) (step (shared_of (T.tree tree.old) log.old peers.now.declared) peers.now.running now self.old).shared.tree (T.left tree.new) }
+        requires { IsViewOf (L.log log.old) self.old.view }
+        ensures ok { IfOk result (λ told. step (shared_of (T.tree tree.old) (L.log log.old) peers.now.declared) peers.now.running now self.old
+            ≡ record { shared = shared_of (T.tree tree.new) (L.log log.new) peers.now.declared; driver = self.new; reply = told }) }
+        ensures err { OnErr result ((self.new ≡ self.old) × (T.tree tree.new ≡ T.tree tree.old) × (L.log log.new ≡ L.log log.old)) }
+        ensures view { IsViewOf (L.log log.new) self.new.view }
+
+        // What others know of the log stays known.
+        ensures views { (v : ViewValue) → IsViewOf (L.log log.old) v → IsViewOf (L.log log.new) v }
+        ensures cause { IfErr result (IsStepFault (T.length tree.old) (T.down tree.old) (L.length log.old) (L.down log.old)) }
+        ensures tree_device { IsErrOf result (StepFault.Tree TreeFault.Device) → Rose (T.faults tree.old) (T.faults tree.new) }
+        ensures tree_falls { IsErrOf result (StepFault.Tree TreeFault.Device) → T.down tree.new ≡ true }
+        ensures tree_calm { (IsErrOf result (StepFault.Tree TreeFault.Device) → ⊥) → T.faults tree.new ≡ T.faults tree.old }
+        ensures tree_up { (IsErrOf result (StepFault.Tree TreeFault.Device) → ⊥) → T.down tree.new ≡ T.down tree.old }
+        ensures tree_stop { IsErrOf result (StepFault.Tree TreeFault.Device) → T.down tree.old ≡ false
+            → Either (T.tree tree.old) (step (shared_of (T.tree tree.old) (L.log log.old) peers.now.declared) peers.now.running now self.old).shared.tree (T.left tree.new) }
+        ensures log_device { IsErrOf result (StepFault.Log LogFault.Failed) → Rose (L.faults log.old) (L.faults log.new) }
+        ensures log_falls { IsErrOf result (StepFault.Log LogFault.Failed) → L.down log.new ≡ true }
+        ensures log_calm { (IsErrOf result (StepFault.Log LogFault.Failed) → ⊥) → L.faults log.new ≡ L.faults log.old }
+        ensures log_up { (IsErrOf result (StepFault.Log LogFault.Failed) → ⊥) → L.down log.new ≡ L.down log.old }
+        ensures log_stop { IsErrOf result (StepFault.Log LogFault.Failed) → L.down log.old ≡ false
+            → Either (L.log log.old) (step (shared_of (T.tree tree.old) (L.log log.old) peers.now.declared) peers.now.running now self.old).shared.log (L.left log.new) }
     {
         step_row(self.alloc, &mut self.row, tree, log, peers, now)
     }

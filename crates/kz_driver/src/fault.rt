@@ -1,11 +1,13 @@
 //! Why a step of a driver has no reply.
-use kz_types::{NoMemory, TreeFault};
+use kz_types::{LogFault, NoMemory, TreeFault};
 
 /// Why a step has no reply.
 #[derive(Clone, Copy, Debug, PartialEq, Eq)]
 pub enum StepFault {
     /// The store of the tree failed: its disk in this call or an earlier one, or its file is full.
     Tree(TreeFault),
+    /// The store of the log failed: its disk in this call or an earlier one, or its file is full.
+    Log(LogFault),
     /// Memory ran out.
     NoMemory,
 }

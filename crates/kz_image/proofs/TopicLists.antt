@@ -1,9 +1,9 @@
 -- What a change of a topic makes of the topics, at its place, and that they stay in order.
-use Rattle.std.proofs.Common.{◌≡◌, ℕ, ◌<◌, ℤ, Bool, true, false, not, cond, filter, List, [], ◌∷◌, Option, Some, None, Ok, length, get_or, set, refl, sym, ap, ◌∙◌}
+use Rattle.std.proofs.Common.{◌≡◌, ℕ, ◌<◌, ℤ, true, not, List, Option, Some, None, Ok, length, get_or, set, refl, sym, ap, ◌∙◌}
 use Rattle.std.proofs.lemmas.List.{get_or_default}
-use Rattle.std.proofs.lemmas.List.Elements.{All-cons, All-head, All-tail}
+use Rattle.std.proofs.lemmas.List.Elements.{All-filter}
 use Rattle.std.specs.Prelude.{option_and_then}
-use Rattle.std.specs.List.{All, find as find_by}
+use Rattle.std.specs.List.{find as find_by}
 use Rattle.kz_types.specs.declared.id.Id.{Id}
 use Rattle.kz_types.specs.declared.row.PartitionRow.{PartitionRow}
 use Rattle.kz_types.specs.declared.image.TopicEntry.{TopicEntry}
@@ -98,16 +98,8 @@ topic_configured_in_order c xs order =
     changed_in_order (topic_configured c) (find bytes_cmp name_of_topic c.resource_name xs) xs (λ t h. (h.0, member_rises c.name c.value t.pairs h.1))
     (found_has IsTopicInOrder bytes_cmp name_of_topic c.resource_name xs order.within) order
 
-kept : {A : Type 0} (P : A → Type 0) (test : A → Bool) (xs : List A) → All P xs → All P (filter test xs)
-kept P test [] h = h
-kept P test (x ∷ xs) h = kept_by P (test x) x (filter test xs) (All-head P x xs h) (kept P test xs (All-tail P x xs h))
-  where
-    kept_by : {A : Type 0} (P : A → Type 0) (b : Bool) (x : A) (ys : List A) → P x → All P ys → All P (cond b (x ∷ ys) ys)
-    kept_by P true x ys p h = All-cons P x ys p h
-    kept_by P false x ys p h = h
-
 pub topic_removed_in_order : (id : Id) (xs : List TopicEntry) → AreTopicsInOrder xs → AreTopicsInOrder (without_topic id xs)
 topic_removed_in_order id xs order = record {
   rising = Rises-filter bytes_order name_of_topic (λ (t : TopicEntry). not (same_id t.id id)) xs order.rising;
-  within = kept IsTopicInOrder (λ (t : TopicEntry). not (same_id t.id id)) xs order.within;
+  within = All-filter (λ (t : TopicEntry). not (same_id t.id id)) IsTopicInOrder xs order.within;
 }

@@ -1,4 +1,5 @@
--- What every metadata keeps: its lists rise, and those within its entries, and none of these that mustn't be empty is.
+-- What every metadata keeps: its lists rise, and those within its entries, none of these that mustn't be empty is, and its
+-- entries are legal.
 use Rattle.std.specs.Prelude.{◌≡◌, ◌<◌, true, List, length, All}
 use Rattle.std.specs.Ordering.{int_cmp}
 use Rattle.kz_types.specs.PathRule.{is_path}
@@ -10,6 +11,7 @@ use Rattle.kz_ordered.specs.Order.{bytes_cmp}
 use Rattle.kz_ordered.specs.Ordered.{Rises}
 use Rattle.kz_spec_stores.specs.Metadata.{Image, name_of_topic, number_of_partition, name_of_configuration, name_of_pair, path_of_quotas, key_of_quota, name_of_user, mechanism_of_pair, id_of_acl, id_of_broker}
 use Rattle.kz_image.specs.QuotaKeys.{is_below_quota_root}
+use Rattle.kz_image.specs.Legal.{IsLegal}
 
 -- A topic's partitions rise by number, and its members by name.
 abbrev pub IsTopicInOrder : TopicEntry → Type 0
@@ -47,7 +49,7 @@ pub record AreUsersInOrder (users : List ScramEntry) : Type 0 where
   pub rising : Rises bytes_cmp name_of_user users
   pub filled : All IsUserFilled users
 
--- Each list is in order, and the access control entries and brokers rise by id.
+-- Each list is in order, the access control entries and brokers rise by id, and each entry is legal.
 pub record IsInOrder (i : Image) : Type 0 where
   pub topics : AreTopicsInOrder i.topics
   pub configs : AreInOrder i.broker_configs
@@ -55,3 +57,4 @@ pub record IsInOrder (i : Image) : Type 0 where
   pub users : AreUsersInOrder i.users
   pub acls : Rises bytes_cmp id_of_acl i.acls
   pub brokers : Rises int_cmp id_of_broker i.brokers
+  pub legal : IsLegal i

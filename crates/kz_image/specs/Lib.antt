@@ -1,4 +1,5 @@
 pub mod QuotaKeys
+pub mod Legal
 pub mod InOrder
 pub mod Faults
 pub mod Places

@@ -1,14 +1,15 @@
 //! The metadata.
-ghost use Rattle.std.specs.Prelude.{ℕ, ◌≡◌, ◌&&◌, true, None, Some, pos, int_le, option_map, IfOk, OnOk, OnErr, IfErr, take, if◌then◌else◌};
+ghost use Rattle.std.specs.Prelude.{ℕ, ◌≡◌, ◌&&◌, true, false, All, None, Some, pos, int_le, option_map, IfOk, OnOk, OnErr, IfErr, take, if◌then◌else◌};
 ghost use Rattle.std.specs.Ordering.{int_cmp, int_eq};
 ghost use Rattle.std.specs.List.{list_any};
 ghost use Rattle.kz_ordered.specs.Order.{bytes_cmp};
 ghost use Rattle.kz_ordered.specs.Ordered.{put as put_in, without as without_in, Rises};
 ghost use Rattle.kz_types.specs.declared.record.MetaRecord.TheVariants as meta;
 ghost use Rattle.kz_spec_stores.specs.Metadata.{empty_image, topic_named, id_of_acl, id_of_broker, topic_id_of, topic_name_of, partition_of, configs_of, quotas_of, scram_of, acl_of};
-ghost use Rattle.kz_spec_stores.specs.ImageRules.{broken, quota_key, has_quota, leaves_row};
+ghost use Rattle.kz_spec_stores.specs.ImageRules.{broken, quota_key, is_broker_name, is_empty};
 ghost use Rattle.kz_spec_stores.specs.Image.{acl_row, configured, topic_configured, with_changed, put_topic, new_topic, without_topic, scram_set, scram_removed, quota_changed, effect, applied, all_applied, first_bad};
 ghost use Rattle.kz_image.specs.InOrder.{AreTopicsInOrder, AreInOrder, AreQuotasInOrder, AreUsersInOrder};
+ghost use Rattle.kz_image.specs.Legal.{AreTopics, IsConfiguration, IsQuotaEntry, IsScramEntry, IsAcl, IsBroker, IsNext};
 ghost use Rattle.kz_image.specs.Faults.{IsFirstBad};
 
 use crate::brokers::{is_migrating, register};
@@ -219,20 +220,23 @@ impl Image {
     pub fn brokers(&self) -> &Brokers
         ensures brokers { result.now ≡ self.now.brokers }
         ensures rising { Rises int_cmp id_of_broker self.now.brokers }
+        ensures legal { All IsBroker self.now.brokers }
     {
         &self.brokers
     }
 
     /// The first producer id that no broker has taken, where one has taken a block.
     pub fn next_producer(&self) -> Option<i64>
-        ensures { result ≡ self.now.next_producer }
+        ensures next { result ≡ self.now.next_producer }
+        ensures legal { IsNext self.now.next_producer }
     {
         self.next_producer
     }
 
     /// The state of the migration: 0 none, 1 pre-migration, 2 migration, 3 post-migration.
     pub fn state(&self) -> i8
-        ensures { result ≡ self.now.state }
+        ensures state { result ≡ self.now.state }
+        ensures legal { int_le (pos 0) self.now.state && int_le self.now.state (pos 3) ≡ true }
     {
         self.state
     }
@@ -250,6 +254,7 @@ impl Image {
     pub fn topics(&self) -> &[TopicEntry]
         ensures topics { result.now ≡ self.now.topics }
         ensures in_order { AreTopicsInOrder self.now.topics }
+        ensures legal { AreTopics self.now.topics }
     {
         self.topics.as_slice()
     }
@@ -259,6 +264,7 @@ impl Image {
     pub fn broker_configs(&self) -> &[Configuration]
         ensures configs { result.now ≡ self.now.broker_configs }
         ensures in_order { AreInOrder self.now.broker_configs }
+        ensures legal { All IsConfiguration self.now.broker_configs }
     {
         self.broker_configs.as_slice()
     }
@@ -267,6 +273,7 @@ impl Image {
     pub fn quota_entries(&self) -> &[QuotaEntry]
         ensures quotas { result.now ≡ self.now.quotas }
         ensures in_order { AreQuotasInOrder self.now.quotas }
+        ensures legal { All IsQuotaEntry self.now.quotas }
     {
         self.quotas.as_slice()
     }
@@ -275,6 +282,7 @@ impl Image {
     pub fn users(&self) -> &[ScramEntry]
         ensures users { result.now ≡ self.now.users }
         ensures in_order { AreUsersInOrder self.now.users }
+        ensures legal { All IsScramEntry self.now.users }
     {
         self.users.as_slice()
     }
@@ -283,6 +291,7 @@ impl Image {
     pub fn acls(&self) -> &[AclEntry]
         ensures acls { result.now ≡ self.now.acls }
         ensures rising { Rises bytes_cmp id_of_acl self.now.acls }
+        ensures legal { All IsAcl self.now.acls }
     {
         self.acls.as_slice()
     }
@@ -290,6 +299,7 @@ impl Image {
     // ---- changes
 
     fn register_broker(&mut self, change: &RegisterBrokerRecord) -> Result<(), NoMemory>
+        requires { broken self.old (meta.RegisterBroker change.now) ≡ None }
         ensures ok { OnOk result (self.new ≡ record self.old { brokers = put_in int_cmp id_of_broker change.now self.old.brokers }) }
         ensures err { OnErr result (self.new ≡ self.old) }
     {
@@ -298,6 +308,7 @@ impl Image {
     }
 
     fn make_topic(&mut self, change: &TopicRecord) -> Result<(), NoMemory>
+        requires { broken self.old (meta.Topic change.now) ≡ None }
         ensures ok { OnOk result (self.new ≡ record self.old { topics = put_topic (new_topic change.now) self.old.topics }) }
         ensures err { OnErr result (self.new ≡ self.old) }
     {
@@ -306,6 +317,7 @@ impl Image {
     }
 
     fn make_partition(&mut self, epoch: i32, change: &PartitionRecord) -> Result<(), NoMemory>
+        requires { broken self.old (meta.Partition change.now) ≡ None }
         ensures ok { OnOk result (self.new ≡ effect epoch (meta.Partition change.now) self.old) }
         ensures err { OnErr result (self.new ≡ self.old) }
     {
@@ -314,6 +326,7 @@ impl Image {
     }
 
     fn configure_topic(&mut self, change: &ConfigRecord) -> Result<(), NoMemory>
+        requires { is_empty change.now.name ≡ false }
         ensures ok { OnOk result (self.new ≡ record self.old { topics = with_changed (topic_configured change.now) (topic_named change.now.resource_name self.old) self.old.topics }) }
         ensures err { OnErr result (self.new ≡ self.old) }
     {
@@ -322,6 +335,8 @@ impl Image {
     }
 
     fn configure_broker(&mut self, change: &ConfigRecord) -> Result<(), NoMemory>
+        requires resource { is_broker_name change.now.resource_name ≡ true }
+        requires member { is_empty change.now.name ≡ false }
         ensures ok { OnOk result (self.new ≡ record self.old { broker_configs = configured change.now self.old.broker_configs }) }
         ensures err { OnErr result (self.new ≡ self.old) }
     {
@@ -330,6 +345,7 @@ impl Image {
     }
 
     fn configure(&mut self, change: &ConfigRecord) -> Result<(), NoMemory>
+        requires { broken self.old (meta.Config change.now) ≡ None }
         ensures ok { OnOk result (self.new ≡ (if int_eq change.now.resource_type (pos 2) then record self.old { topics = with_changed (topic_configured change.now) (topic_named change.now.resource_name self.old) self.old.topics } else record self.old { broker_configs = configured change.now self.old.broker_configs })) }
         ensures err { OnErr result (self.new ≡ self.old) }
     {
@@ -345,7 +361,7 @@ impl Image {
         epoch: i32,
         change: &PartitionChangeRecord,
     ) -> Result<(), NoMemory>
-        requires { leaves_row change.now (partition_of change.now.topic_id change.now.partition_id self.old) ≡ true }
+        requires { broken self.old (meta.PartitionChange change.now) ≡ None }
         ensures ok { OnOk result (self.new ≡ effect epoch (meta.PartitionChange change.now) self.old) }
         ensures err { OnErr result (self.new ≡ self.old) }
     {
@@ -360,6 +376,7 @@ impl Image {
     }
 
     fn set_scram(&mut self, change: &UserScramCredentialRecord) -> Result<(), NoMemory>
+        requires { broken self.old (meta.UserScramCredential change.now) ≡ None }
         ensures ok { OnOk result (self.new ≡ record self.old { users = scram_set change.now self.old.users }) }
         ensures err { OnErr result (self.new ≡ self.old) }
     {
@@ -374,7 +391,7 @@ impl Image {
     }
 
     fn change_quota(&mut self, change: &ClientQuotaRecord) -> Result<(), NoMemory>
-        requires { has_quota (quota_key change.now.entity) change.now.key ≡ true }
+        requires { broken self.old (meta.ClientQuota change.now) ≡ None }
         ensures ok { OnOk result (self.new ≡ record self.old { quotas = quota_changed change.now (quota_key change.now.entity) self.old.quotas }) }
         ensures err { OnErr result (self.new ≡ self.old) }
     {
@@ -383,6 +400,7 @@ impl Image {
     }
 
     fn make_acl(&mut self, change: &AccessControlEntryRecord) -> Result<(), NoMemory>
+        requires { broken self.old (meta.AccessControlEntry change.now) ≡ None }
         ensures ok { OnOk result (self.new ≡ record self.old { acls = put_in bytes_cmp id_of_acl (record { id = change.now.id; row = acl_row change.now }) self.old.acls }) }
         ensures err { OnErr result (self.new ≡ self.old) }
     {
@@ -398,6 +416,7 @@ impl Image {
     }
 
     fn set_next_producer(&mut self, change: &ProducerIdsRecord)
+        requires { broken self.old (meta.ProducerIds change.now) ≡ None }
         ensures { self.new ≡ record self.old { next_producer = Some change.now.next } }
     {
         self.next_producer = Some(change.next);
@@ -507,9 +526,9 @@ pub fn valid(alloc: Global, image: &Image, items: &[MetaRecord]) -> Result<(), I
         if let Some(why) = refused(&after, &items[index]) {
             return Err(ImageFault::BadRecord { index, why });
         }
-        if after.apply(0, &items[index]).is_err() {
+        let Ok(()) = after.apply(0, &items[index]) else {
             return Err(ImageFault::NoMemory);
-        }
+        };
     }
     Ok(())
 }

@@ -6,10 +6,10 @@ use Rattle.std.specs.Str.{is_utf8}
 use Rattle.json.proofs.Printed.Utf8.{are_ascii}
 use Rattle.base64.specs.Engines.{standard}
 use Rattle.base64.specs.GeneralPurpose.{encode_of}
-use Rattle.serde_json.specs.Data.{Data, string, object, array, Members, no_members, put}
+use Rattle.serde_json.specs.Data.{Data, boolean, string, object, array, Members, no_members, put}
 use Rattle.serde_json.specs.View.{items_of}
 use Rattle.kz_types.specs.declared.machine.Event.{Event}
-use Rattle.kz_types.specs.declared.machine.Event.TheVariants.{Quorum, Start, Elect, Turn, Change, Check, ZkOpen, ZkExpire, Zk}
+use Rattle.kz_types.specs.declared.machine.Event.TheVariants.{Quorum, Start, Elect, Turn, Register, Change, Check, ZkOpen, ZkExpire, Zk}
 use Rattle.kz_types.specs.declared.record.ConfigRecord.{ConfigRecord}
 use Rattle.kz_types.specs.declared.record.MetaRecord.{MetaRecord}
 use Rattle.kz_types.specs.declared.record.MetaRecord.TheVariants.{Config}
@@ -20,7 +20,7 @@ use Rattle.kz_laws_values.specs.Ranges.{IsLong}
 use Rattle.kz_laws_bodies.specs.Readable.{IsText}
 use Rattle.kz_laws_bodies.proofs.Plain.{IsPlain, ArePlainItems, ArePlainMembers, whole_is_plain, word}
 use Rattle.kz_laws_bodies.proofs.Members.{put_plain, Rise, put_rises, puts_same}
-use Rattle.kz_laws_lines.specs.Writable.{IsId, IsTime, IsSession, IsVersion, IsTextOrNull, IsConfigRecord, IsPath, IsOwner, IsOp, AreOps, AreSomeOps, IsEvent}
+use Rattle.kz_laws_lines.specs.Writable.{IsId, IsTime, IsSession, IsVersion, IsTextOrNull, IsConfigRecord, AreChanges, AreSomeChanges, IsPath, IsOwner, IsOp, AreOps, AreSomeOps, IsEvent}
 use Rattle.kz_laws_lines.proofs.Values.{long_id, long_time, long_session, long_version, long_byte, path_is_text, encoded_is_text}
 
 -- plain members that rise
@@ -77,6 +77,10 @@ record_fits : (n : ℕ) (c : ConfigRecord) → IsConfigRecord c → IsPlain (suc
 unfolding record_data
 record_fits n c h = fits_object n (config_members c) (config_fits n c h)
 
+records_fit : (n : ℕ) (rs : List MetaRecord) → AreChanges rs → ArePlainItems (suc n) (items_of (map record_data rs))
+records_fit n [] h = tt
+records_fit n (r ∷ rs) h = (subst (λ s. IsPlain (suc n) (record_data s)) (sym h.0.1) (record_fits n h.0.0 h.0.2), records_fit n rs h.1)
+
 -- ---- operations
 
 body_fits : (n : ℕ) (body : List ℕ) (ms : Members) → Fits n ms → Fits n (with_body body ms)
@@ -111,12 +115,11 @@ ops_fit n (o ∷ os) h = (op_fits n o h.0, ops_fit n os h.2)
 list_fits : (name k : List ℕ) (d : Data) → are_ascii name ≡ true → are_ascii k ≡ true → IsPlain 2 d → Fits 2 (put k d (event_members name))
 list_fits name k d h g plain = with_data 2 k d (event_members name) g plain (event_fits 2 name h)
 
-changes_fit : (c now : ℤ) (records : List MetaRecord) (r : ConfigRecord) → records ≡ Config r ∷ [] → IsId c → IsConfigRecord r → IsTime now
-    → Fits 2 (members_of_event (Change c records now))
-changes_fit c now records r is id config time =
-    subst (λ rs. Fits 2 (members_of_event (Change c rs now))) (sym is)
-    (with_data 2 (codes "records") (array (items_of (map record_data (Config r ∷ [])))) _ refl (record_fits 0 r config, tt)
-    (now_fits 2 now _ time (controller_fits 2 (codes "change") c refl id)))
+changes_fit : (c now : ℤ) (records : List MetaRecord) → IsId c → AreSomeChanges records → IsTime now → Fits 2 (members_of_event (Change c records now))
+changes_fit c now [] id h time = absurd h
+changes_fit c now (r ∷ rs) id h time =
+    with_data 2 (codes "records") (array (items_of (map record_data (r ∷ rs)))) _ refl (records_fit 0 (r ∷ rs) h)
+    (now_fits 2 now _ time (controller_fits 2 (codes "change") c refl id))
 
 zk_fits : (os : List Op) → AreSomeOps os → Fits 2 (members_of_event (Zk os))
 zk_fits [] h = absurd h
@@ -129,7 +132,10 @@ members_fit (Quorum ids) h =
 members_fit (Start c) h = controller_fits 2 (codes "start") c refl h
 members_fit (Elect c now) h = now_fits 2 now _ h.1 (controller_fits 2 (codes "elect") c refl h.0)
 members_fit (Turn c now) h = now_fits 2 now _ h.1 (controller_fits 2 (codes "turn") c refl h.0)
-members_fit (Change c records now) h = changes_fit c now records h.1.0 h.1.1 h.0 h.1.2 h.2
+members_fit (Register c broker migrating now) h =
+    with_data 2 (codes "migrating") (boolean migrating) _ refl tt
+    (with_a_whole 2 (codes "broker") broker _ refl (long_id broker h.1) (now_fits 2 now _ h.2 (controller_fits 2 (codes "register") c refl h.0)))
+members_fit (Change c records now) h = changes_fit c now records h.0 h.1 h.2
 members_fit Check h = event_fits 2 (codes "check") refl
 members_fit (ZkOpen s) h = session_fits 2 (codes "zk-open") s refl h
 members_fit (ZkExpire s) h = session_fits 2 (codes "zk-expire") s refl h

@@ -6,21 +6,22 @@ use Rattle.std.specs.Str.{is_utf8}
 use Rattle.std.proofs.lemmas.Bool.Decides.{Decides-int_eq}
 use Rattle.base64.specs.Engines.{standard}
 use Rattle.base64.specs.GeneralPurpose.{IsBytes, encode_of}
-use Rattle.serde_json.specs.Data.{object, array, put}
+use Rattle.serde_json.specs.Data.{boolean, object, array, put}
 use Rattle.serde_json.specs.View.{items_of}
 use Rattle.kz_types.specs.declared.machine.Event.{Event}
-use Rattle.kz_types.specs.declared.machine.Event.TheVariants.{Quorum, Start, Elect, Turn, Change, Check, ZkOpen, ZkExpire, Zk}
+use Rattle.kz_types.specs.declared.machine.Event.TheVariants.{Quorum, Start, Elect, Turn, Register, Change, Check, ZkOpen, ZkExpire, Zk}
 use Rattle.kz_types.specs.declared.record.ConfigRecord.{ConfigRecord}
+use Rattle.kz_types.specs.declared.record.MetaRecord.{MetaRecord}
 use Rattle.kz_types.specs.declared.record.MetaRecord.TheVariants.{Config}
 use Rattle.kz_types.specs.declared.tree.Op.{Op}
 use Rattle.kz_types.specs.declared.tree.Op.TheVariants as op
 use Rattle.kz_spec_lines.specs.Json.{whole_up_to, whole_within}
 use Rattle.kz_spec_lines.specs.Ops.{op_of}
 use Rattle.kz_spec_lines.specs.Records.{config_of, record_of}
-use Rattle.kz_spec_lines.specs.Events.{id_of, is_broker_config, is_open_op, open_op_of, ops_in, some_ops, event_of, line_event}
+use Rattle.kz_spec_lines.specs.Events.{id_of, changeable_of, records_in, some_records, is_open_op, open_op_of, ops_in, some_ops, event_of, line_event}
 use Rattle.kz_spec_lines.specs.Written.{whole_data, with_text, with_whole, controller_members, config_members, record_data, with_owner, op_members, op_data, members_of_event, written_event}
 use Rattle.kz_laws_bodies.proofs.Plain.{plain_is_read}
-use Rattle.kz_laws_lines.specs.Writable.{IsId, IsTime, IsVersion, IsConfigRecord, IsPath, IsOwner, IsOp, AreOps, AreSomeOps, IsEvent}
+use Rattle.kz_laws_lines.specs.Writable.{IsId, IsTime, IsVersion, IsConfigRecord, IsChange, AreChanges, AreSomeChanges, IsPath, IsOwner, IsOp, AreOps, AreSomeOps, IsEvent}
 use Rattle.kz_laws_lines.proofs.Values.{up_to_is, session_is, within_is, long_version, long_byte, decoded_is, no_bytes}
 use Rattle.kz_laws_lines.proofs.Plain.{event_is_plain}
 
@@ -35,6 +36,19 @@ config_with type resource name (Some text) h = rw (within_is (negsuc 127) (pos 1
 pub record_is_read : (c : ConfigRecord) → IsConfigRecord c → record_of (record_data (Config c)) ≡ Some (Config c)
 unfolding record_of record_data
 record_is_read c h = config_with c.resource_type c.resource_name c.name c.value h
+
+change_is_read : (r : MetaRecord) → IsChange r → changeable_of (record_data r) ≡ Some r
+change_is_read r h = subst (λ s. changeable_of (record_data s) ≡ Some s) (sym h.1) (rw (record_is_read h.0 h.2, h.3) refl)
+
+changes_are_read : (rs : List MetaRecord) → AreChanges rs → records_in (items_of (map record_data rs)) ≡ Some rs
+changes_are_read [] h = refl
+changes_are_read (r ∷ rs) h =
+    ap (option_and_then (λ s. option_map (λ ss. s ∷ ss) (records_in (items_of (map record_data rs))))) (change_is_read r h.0)
+    ∙ ap (option_map (λ ss. r ∷ ss)) (changes_are_read rs h.1)
+
+some_are_read : (rs : List MetaRecord) → AreSomeChanges rs → option_and_then some_records (records_in (items_of (map record_data rs))) ≡ Some rs
+some_are_read [] h = absurd h
+some_are_read (r ∷ rs) h = ap (option_and_then some_records) (changes_are_read (r ∷ rs) h)
 
 -- ---- operations
 
@@ -99,11 +113,17 @@ turn_by : (c now : ℤ) (zero : Bool) → int_eq now (pos 0) ≡ zero → IsId c
 turn_by c now true is id time = rw (id_is c id) (ap (λ t. Some (Turn c t)) (is_zero now is))
 turn_by c now false is id time = rw (id_is c id, time_is now time) refl
 
-change_by : (c now : ℤ) (r : ConfigRecord) (zero : Bool) → int_eq now (pos 0) ≡ zero → IsId c → IsConfigRecord r → is_broker_config r ≡ true → IsTime now
-    → event_of (object (put (codes "records") (array (items_of (map record_data (Config r ∷ [])))) (cond zero (controller_members (codes "change") c) (with_whole (codes "now") now (controller_members (codes "change") c)))))
-    ≡ Some (Change c (Config r ∷ []) now)
-change_by c now r true is id config broker time = rw (id_is c id, record_is_read r config, broker) (ap (λ t. Some (Change c (Config r ∷ []) t)) (is_zero now is))
-change_by c now r false is id config broker time = rw (id_is c id, record_is_read r config, broker, time_is now time) refl
+register_by : (c b now : ℤ) (m : Bool) (zero : Bool) → int_eq now (pos 0) ≡ zero → IsId c → IsId b → IsTime now
+    → event_of (object (put (codes "migrating") (boolean m) (with_whole (codes "broker") b (cond zero (controller_members (codes "register") c) (with_whole (codes "now") now (controller_members (codes "register") c))))))
+    ≡ Some (Register c b m now)
+register_by c b now m true is id broker time = rw (id_is c id, id_is b broker) (ap (λ t. Some (Register c b m t)) (is_zero now is))
+register_by c b now m false is id broker time = rw (id_is c id, id_is b broker, time_is now time) refl
+
+change_by : (c now : ℤ) (rs : List MetaRecord) (zero : Bool) → int_eq now (pos 0) ≡ zero → IsId c → AreSomeChanges rs → IsTime now
+    → event_of (object (put (codes "records") (array (items_of (map record_data rs))) (cond zero (controller_members (codes "change") c) (with_whole (codes "now") now (controller_members (codes "change") c)))))
+    ≡ Some (Change c rs now)
+change_by c now rs true is id changes time = rw (id_is c id, some_are_read rs changes) (ap (λ t. Some (Change c rs t)) (is_zero now is))
+change_by c now rs false is id changes time = rw (id_is c id, some_are_read rs changes, time_is now time) refl
 
 zk_says : (os : List Op) → AreSomeOps os → event_of (object (members_of_event (Zk os))) ≡ Some (Zk os)
 zk_says [] h = absurd h
@@ -114,7 +134,8 @@ event_says (Quorum ids) h = subst (λ is. event_of (object (members_of_event (Qu
 event_says (Start c) h = rw (id_is c h) refl
 event_says (Elect c now) h = elect_by c now _ refl h.0 h.1
 event_says (Turn c now) h = turn_by c now _ refl h.0 h.1
-event_says (Change c records now) h = subst (λ rs. event_of (object (members_of_event (Change c rs now))) ≡ Some (Change c rs now)) (sym h.1.1) (change_by c now h.1.0 _ refl h.0 h.1.2 h.1.3 h.2)
+event_says (Register c b m now) h = register_by c b now m _ refl h.0 h.1 h.2
+event_says (Change c records now) h = change_by c now records _ refl h.0 h.1 h.2
 event_says Check h = refl
 event_says (ZkOpen s) h = rw (session_is s h) refl
 event_says (ZkExpire s) h = rw (session_is s h) refl

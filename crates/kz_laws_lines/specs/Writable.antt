@@ -3,13 +3,13 @@ use Rattle.std.specs.Prelude.{◌≡◌, ⊤, ℕ, true, ℤ, pos, negsuc, List,
 use Rattle.base64.specs.GeneralPurpose.{IsBytes}
 use Rattle.kz_types.specs.Paths.{is_path}
 use Rattle.kz_types.specs.declared.machine.Event.{Event}
-use Rattle.kz_types.specs.declared.machine.Event.TheVariants.{Quorum, Start, Elect, Turn, Change, Check, ZkOpen, ZkExpire, Zk}
+use Rattle.kz_types.specs.declared.machine.Event.TheVariants.{Quorum, Start, Elect, Turn, Register, Change, Check, ZkOpen, ZkExpire, Zk}
 use Rattle.kz_types.specs.declared.record.ConfigRecord.{ConfigRecord}
 use Rattle.kz_types.specs.declared.record.MetaRecord.{MetaRecord}
 use Rattle.kz_types.specs.declared.record.MetaRecord.TheVariants.{Config}
 use Rattle.kz_types.specs.declared.tree.Op.{Op}
 use Rattle.kz_types.specs.declared.tree.Op.TheVariants as op
-use Rattle.kz_spec_lines.specs.Events.{is_broker_config, is_open_op}
+use Rattle.kz_spec_lines.specs.Events.{is_open_op}
 use Rattle.kz_laws_values.specs.Ranges.{IsBetween}
 use Rattle.kz_laws_bodies.specs.Readable.{IsText}
 
@@ -45,9 +45,19 @@ pub record IsConfigRecord (c : ConfigRecord) : Type 0 where
   pub name : IsText c.name
   pub value : IsTextOrNull c.value
 
--- one record, of the configuration of a broker or of all
+-- a record of the configuration of brokers
+abbrev pub IsChange : MetaRecord → Type 0
+IsChange r = (c : ConfigRecord) × (r ≡ Config c) × IsConfigRecord c × (c.resource_type ≡ pos 4)
+
+-- such records
 abbrev pub AreChanges : List MetaRecord → Type 0
-AreChanges records = (c : ConfigRecord) × (records ≡ Config c ∷ []) × IsConfigRecord c × (is_broker_config c ≡ true)
+AreChanges [] = ⊤
+AreChanges (r ∷ rs) = IsChange r × AreChanges rs
+
+-- at least one of them
+abbrev pub AreSomeChanges : List MetaRecord → Type 0
+AreSomeChanges [] = ⊥
+AreSomeChanges (r ∷ rs) = AreChanges (r ∷ rs)
 
 -- ---- operations
 
@@ -85,7 +95,8 @@ IsEvent (Quorum ids) = (id : ℤ) × (ids ≡ id ∷ []) × IsId id
 IsEvent (Start controller) = IsId controller
 IsEvent (Elect controller now) = IsId controller × IsTime now
 IsEvent (Turn controller now) = IsId controller × IsTime now
-IsEvent (Change controller records now) = IsId controller × AreChanges records × IsTime now
+IsEvent (Register controller broker migrating now) = IsId controller × IsId broker × IsTime now
+IsEvent (Change controller records now) = IsId controller × AreSomeChanges records × IsTime now
 IsEvent Check = ⊤
 IsEvent (ZkOpen session) = IsSession session
 IsEvent (ZkExpire session) = IsSession session

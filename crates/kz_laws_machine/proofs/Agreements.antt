@@ -1,6 +1,6 @@
 -- How the tree and the log agree after each request.
 use Rattle.std.proofs.Common.{◌≡◌, ℤ, pos, negsuc, ◌≤ℤ◌, int_le, Bool, true, false, Option, Some, None, option_map, is_some, refl, sym, ap, ◌∙◌, subst, arith}
-use Rattle.std.specs.Prelude.{Result, Ok}
+use Rattle.std.specs.Prelude.{Ok, option_and_then}
 use Rattle.std.specs.Result.{result_ok}
 use Rattle.std.proofs.lemmas.Int.{ints}
 use Rattle.kz_types.specs.declared.tree.Row.{Row}
@@ -34,7 +34,7 @@ offset_of m r is has = not_negative r.offset (sym (ap has_offset is) ∙ has)
 pub closed_offset : (t : Tree) (r : Recorded) → recorded t ≡ Some r → unclosed t ≡ None → pos 0 ≤ℤ r.offset
 closed_offset t r is closed =
     let c = closed_is t closed in
-    offset_of (recorded_of c.row.body) r (sym (ap (Rattle.std.specs.Prelude.option_and_then (λ (x : Row). recorded_of x.body)) c.found) ∙ is) c.offset
+    offset_of (recorded_of c.row.body) r (sym (ap (option_and_then (λ (x : Row). recorded_of x.body)) c.found) ∙ is) c.offset
 
 -- ---- the log grows
 

@@ -46,12 +46,6 @@ unless_leaves w None rest made = made refl
 
 pub event_leaves : (w : World) (e : Event) → IsOfClient e → Sound w → is_held_tree w.shared.tree ≡ true → Leaves w (next w e).0
 unfolding next
-event_leaves w (event.Quorum ids) of_client sound held = absurd of_client
-event_leaves w (event.Start id) of_client sound held = absurd of_client
-event_leaves w (event.Elect id now) of_client sound held = absurd of_client
-event_leaves w (event.Turn id now) of_client sound held = absurd of_client
-event_leaves w (event.Change id records now) of_client sound held = absurd of_client
-event_leaves w event.Check of_client sound held = absurd of_client
 event_leaves w (event.ZkOpen session) of_client sound held =
     moved_leaves w (begin_session w.shared.tree session) (λ t is. (begin_leaves w.shared.tree t session is sound.kept.tree).1)
 event_leaves w (event.ZkExpire session) of_client sound held =
@@ -59,6 +53,7 @@ event_leaves w (event.ZkExpire session) of_client sound held =
 event_leaves w (event.Zk ops) of_client sound held =
     unless_leaves w (client_refusal w.shared.tree ops) (client_world w (multi w.shared.tree ops))
     (λ none. client_leaves w (multi w.shared.tree ops) (λ t is. client_leaves_held w.shared.tree t ops is none held sound.kept.tree))
+event_leaves w e of_client sound held = absurd of_client
 
 -- ---- a tree in step
 

@@ -1,18 +1,15 @@
 -- The events that lines give are lawful.
-use Rattle.std.proofs.Common.{◌≡◌, ℕ, suc, ◌==◌, ◌≤◌, nat_le, ℤ, pos, negsuc, ◌≤ℤ◌, int_le, Bool, true, false, not, ◌&&◌, ◌||◌, if◌then◌else◌, List, [], ◌∷◌, length, Option, Some, None, option_map, is_some, All, refl, sym, ap, ◌∙◌, subst, arith}
+use Rattle.std.proofs.Common.{◌≡◌, ℕ, ◌==◌, ◌≤◌, nat_le, ℤ, pos, negsuc, ◌≤ℤ◌, int_le, Bool, true, false, ◌&&◌, if◌then◌else◌, List, [], ◌∷◌, length, Option, Some, None, option_map, All, refl, subst, arith}
 use Rattle.std.specs.Prelude.{⊤, option_and_then, codes}
-use Rattle.std.specs.Ordering.{int_eq}
 use Rattle.std.specs.Str.{bytes_eq}
-use Rattle.std.proofs.lemmas.Bool.Decides.{nat_tests}
+use Rattle.std.proofs.lemmas.Bool.Decides.{nat_tests, Decides-int_eq}
 use Rattle.std.proofs.lemmas.Int.{ints}
 use Rattle.std.proofs.lemmas.List.Elements.{All-nil, All-cons}
 use Rattle.serde_json.specs.Data.{Data, Items, no_items, item}
-use Rattle.serde_json.specs.Find.{get, as_array, as_u64, as_i64, as_number}
-use Rattle.kz_types.specs.Numbers.{canonical}
+use Rattle.serde_json.specs.Find.{get, as_array, as_bool, as_u64, as_i64, as_number}
 use Rattle.kz_types.specs.Paths.{is_path}
 use Rattle.kz_types.specs.declared.machine.Event.{Event}
 use Rattle.kz_types.specs.declared.machine.Event.TheVariants as event
-use Rattle.kz_types.specs.declared.record.ConfigRecord.{ConfigRecord}
 use Rattle.kz_types.specs.declared.record.MetaRecord.{MetaRecord}
 use Rattle.kz_types.specs.declared.record.MetaRecord.TheVariants as meta
 use Rattle.kz_spec_lines.specs.Json.{json_of, member_count, whole_up_to, whole_within, text_member, by_name}
@@ -22,9 +19,7 @@ use Rattle.kz_spec_lines.specs.Ops.{session_in, path_in, version_in, body_in, ow
 use Rattle.kz_spec_lines.specs.Ops as ops
 use Rattle.kz_types.specs.declared.tree.Op.{Op}
 use Rattle.kz_types.specs.declared.tree.Op.TheVariants.{Create, Set, Delete, Check}
-use Rattle.kz_spec_lines.specs.Events.{id_of, time_of, controller_of, now_of, timed_count, only_id, quorum_of, start_of, elect_of, turn_of, is_broker_config, is_changeable, changeable_of, only_record, change_of, check_of, session_of, open_of, expire_of, is_open_op, open_op_of, ops_in, some_ops, zk_of, event_forms, event_of, line_event}
-use Rattle.kz_spec_stores.specs.Image.{is_empty, is_broker_name}
-use Rattle.kz_spec_stores.specs.Image as image
+use Rattle.kz_spec_lines.specs.Events.{id_of, time_of, controller_of, now_of, timed_count, only_id, quorum_of, start_of, elect_of, turn_of, is_changeable, changeable_of, records_in, some_records, change_of, register_of, check_of, session_of, open_of, expire_of, is_open_op, open_op_of, ops_in, some_ops, zk_of, event_forms, event_of, line_event}
 use Rattle.kz_spec_machine.specs.Sound.{IsId, IsTime, IsChange, IsSession, IsOwner, IsVersion, IsLawfulOp, IsLawful}
 use Rattle.kz_spec_runs.specs.InStep.{events_on, events_of, script_events}
 
@@ -72,8 +67,12 @@ time_is : (o : Option Data) → OfSome IsTime (time_of o)
 time_is None = record { least = omega (arith, ints); most = omega (arith, ints) }
 time_is (Some d) = weaker (λ (i : ℤ). (pos 0 ≤ℤ i) × (i ≤ℤ pos 9223372036854775807)) IsTime (whole_up_to 9223372036854775807 d) (whole_is 9223372036854775807 d) (λ i both. record { least = both.0; most = both.1 })
 
+-- the id under a name
+id_at : (name : List ℕ) (d : Data) → OfSome IsId (option_and_then id_of (get name d))
+id_at name d = after (λ (x : Data). ⊤) IsId id_of (get name d) (anything (get name d)) (λ x t. id_is x)
+
 controller_is : (d : Data) → OfSome IsId (controller_of d)
-controller_is d = after (λ (x : Data). ⊤) IsId id_of (get (codes "controller") d) (anything (get (codes "controller") d)) (λ x t. id_is x)
+controller_is d = id_at (codes "controller") d
 
 -- ---- events
 
@@ -103,53 +102,44 @@ turn_lawful : (d : Data) → OfSome IsLawful (turn_of d)
 turn_lawful d = where_true IsLawful (member_count d == timed_count 2 d) _ (λ few. after IsId IsLawful (λ c. option_map (λ t. event.Turn c t) (now_of d)) (controller_of d) (controller_is d)
     (λ c is. mapped IsTime IsLawful (λ t. event.Turn c t) (now_of d) (time_is (get (codes "now") d)) (λ t low. (is, low))))
 
--- the same test, said of a record of a change and of a record of the log
-same_empty : (name : List ℕ) → (length name == 0) ≡ is_empty name
-same_empty [] = refl
-same_empty (b ∷ bs) = not_zero (length bs)
-  where
-    not_zero : (n : ℕ) → (suc n == 0) ≡ false
-    not_zero n = grind (arith, nat_tests)
-
-same_name : (name : List ℕ) → (length name == 0 || is_some (canonical name)) ≡ is_broker_name name
-same_name [] = refl
-same_name (b ∷ bs) = ap (λ x. x || is_some (canonical (b ∷ bs))) (same_empty (b ∷ bs))
-
-same_test : (c : ConfigRecord) → is_broker_config c ≡ image.is_broker_config c
-same_test c = ap (λ b. int_eq c.resource_type (pos 4) && b && not (length c.name == 0)) (same_name c.resource_name) ∙ ap (λ b. int_eq c.resource_type (pos 4) && is_broker_name c.resource_name && not b) (same_empty c.name)
-
 -- of every other record the test is false
 change_is : (r : MetaRecord) → is_changeable r ≡ true → IsChange r
-change_is (meta.RegisterBroker b) is = absurd (cc)
-change_is (meta.Topic t) is = absurd (cc)
-change_is (meta.Partition p) is = absurd (cc)
-change_is (meta.Config c) is = sym (same_test c) ∙ is
-change_is (meta.PartitionChange p) is = absurd (cc)
-change_is (meta.RemoveTopic id) is = absurd (cc)
-change_is (meta.UserScramCredential r) is = absurd (cc)
-change_is (meta.ClientQuota r) is = absurd (cc)
-change_is (meta.ProducerIds r) is = absurd (cc)
-change_is (meta.AccessControlEntry r) is = absurd (cc)
-change_is (meta.RemoveAccessControlEntry id) is = absurd (cc)
-change_is meta.NoOp is = absurd (cc)
-change_is (meta.ZkMigrationState s) is = absurd (cc)
-change_is (meta.RemoveUserScramCredential name mechanism) is = absurd (cc)
-change_is (meta.BeginTransaction name) is = absurd (cc)
-change_is meta.EndTransaction is = absurd (cc)
-change_is (meta.AbortTransaction reason) is = absurd (cc)
+change_is (meta.Config c) is = (Decides-int_eq c.resource_type (pos 4)).0 is
+change_is r is = absurd (cc)
 
 changeable_is : (d : Data) → OfSome IsChange (changeable_of d)
 changeable_is d = after (λ (x : MetaRecord). ⊤) IsChange (λ r. if is_changeable r then Some r else None) (record_of d) (anything (record_of d)) (λ r t. where_true IsChange (is_changeable r) (Some r) (change_is r))
 
-only_record_is : (ds : Items) → OfSome IsChange (only_record ds)
-only_record_is no_items = tt
-only_record_is (item d no_items) = changeable_is d
-only_record_is (item d (item e ds)) = tt
+-- one more of a list
+one_more : {A : Type 0} (P : A → Type 0) (first : Option A) (rest : Option (List A)) → OfSome P first → OfSome (All P) rest → OfSome (All P) (option_and_then (λ x. option_map (λ xs. x ∷ xs) rest) first)
+one_more P first rest is all = after P (All P) (λ x. option_map (λ xs. x ∷ xs) rest) first is (λ x so. mapped (All P) (All P) (λ xs. x ∷ xs) rest all (λ xs each. All-cons P x xs so each))
+
+records_are : (ds : Items) → OfSome (All IsChange) (records_in ds)
+records_are no_items = All-nil IsChange
+records_are (item d ds) = one_more IsChange (changeable_of d) (records_in ds) (changeable_is d) (records_are ds)
+
+-- the records of a change: at least one
+abbrev AreChanges : List MetaRecord → Type 0
+AreChanges records = All IsChange records × (1 ≤ length records)
+
+some_changes : (records : List MetaRecord) → All IsChange records → OfSome AreChanges (some_records records)
+some_changes [] all = tt
+some_changes (r ∷ rs) all = (all, omega arith)
+
+changes_in : (d : Data) → OfSome AreChanges (option_and_then some_records (option_and_then records_in (items_at (codes "records") d)))
+changes_in d = after (All IsChange) AreChanges some_records (option_and_then records_in (items_at (codes "records") d))
+    (after (λ (x : Items). ⊤) (All IsChange) records_in (items_at (codes "records") d) (anything (items_at (codes "records") d)) (λ ds t. records_are ds)) some_changes
 
 change_lawful : (d : Data) → OfSome IsLawful (change_of d)
 change_lawful d = where_true IsLawful (member_count d == timed_count 3 d) _ (λ few. after IsId IsLawful _ (controller_of d) (controller_is d)
-    (λ c is. after IsChange IsLawful (λ r. option_map (λ t. event.Change c (r ∷ []) t) (now_of d)) (option_and_then only_record (items_at (codes "records") d)) (after (λ (x : Items). ⊤) IsChange only_record (items_at (codes "records") d) (anything (items_at (codes "records") d)) (λ ds t. only_record_is ds))
-    (λ r change. mapped IsTime IsLawful (λ t. event.Change c (r ∷ []) t) (now_of d) (time_is (get (codes "now") d)) (λ t low. (is, low, All-cons IsChange r [] change (All-nil IsChange), refl)))))
+    (λ c is. after AreChanges IsLawful (λ rs. option_map (λ t. event.Change c rs t) (now_of d)) (option_and_then some_records (option_and_then records_in (items_at (codes "records") d))) (changes_in d)
+    (λ rs changes. mapped IsTime IsLawful (λ t. event.Change c rs t) (now_of d) (time_is (get (codes "now") d)) (λ t low. (is, low, changes.0, changes.1)))))
+
+register_lawful : (d : Data) → OfSome IsLawful (register_of d)
+register_lawful d = where_true IsLawful (member_count d == timed_count 4 d) _ (λ few. after IsId IsLawful _ (controller_of d) (controller_is d)
+    (λ c is. after IsId IsLawful _ (option_and_then id_of (get (codes "broker") d)) (id_at (codes "broker") d)
+    (λ b broker. after (λ (m : Bool). ⊤) IsLawful (λ m. option_map (λ t. event.Register c b m t) (now_of d)) (option_and_then as_bool (get (codes "migrating") d)) (anything (option_and_then as_bool (get (codes "migrating") d)))
+    (λ m u. mapped IsTime IsLawful (λ t. event.Register c b m t) (now_of d) (time_is (get (codes "now") d)) (λ t low. (is, broker, low))))))
 
 check_lawful : (d : Data) → OfSome IsLawful (check_of d)
 check_lawful d = where_true IsLawful (member_count d == 1) (Some event.Check) (λ one. tt)
@@ -235,8 +225,7 @@ open_op_lawful d = after IsLawfulOp IsLawfulOp (λ o. if is_open_op o then Some 
 
 ops_lawful : (ds : Items) → OfSome (All IsLawfulOp) (ops_in ds)
 ops_lawful no_items = All-nil IsLawfulOp
-ops_lawful (item d ds) = after IsLawfulOp (All IsLawfulOp) (λ o. option_map (λ os. o ∷ os) (ops_in ds)) (open_op_of d) (open_op_lawful d)
-    (λ o is. mapped (All IsLawfulOp) (All IsLawfulOp) (λ os. o ∷ os) (ops_in ds) (ops_lawful ds) (λ os all. All-cons IsLawfulOp o os is all))
+ops_lawful (item d ds) = one_more IsLawfulOp (open_op_of d) (ops_in ds) (open_op_lawful d) (ops_lawful ds)
 
 some_lawful : (os : List Op) → All IsLawfulOp os → OfSome IsLawful (some_ops os)
 some_lawful [] all = tt
@@ -249,7 +238,7 @@ zk_lawful d = where_true IsLawful (member_count d == 2) _ (λ two. after (All Is
 -- ---- every event
 
 form_lawful : (name : List ℕ) (d : Data) → OfSome IsLawful (by_name event_forms name d)
-form_lawful name d = by_name_gives IsLawful event_forms name d (quorum_lawful, (start_lawful, (elect_lawful, (turn_lawful, (change_lawful, (check_lawful, (open_lawful, (expire_lawful, (zk_lawful, tt)))))))))
+form_lawful name d = by_name_gives IsLawful event_forms name d (quorum_lawful, (start_lawful, (elect_lawful, (turn_lawful, (register_lawful, (change_lawful, (check_lawful, (open_lawful, (expire_lawful, (zk_lawful, tt))))))))))
 
 event_lawful : (d : Data) → OfSome IsLawful (event_of d)
 event_lawful d = after (λ (x : List ℕ). ⊤) IsLawful (λ name. by_name event_forms name d) (text_member (codes "event") d) (anything (text_member (codes "event") d)) (λ name t. form_lawful name d)

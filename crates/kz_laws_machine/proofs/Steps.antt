@@ -276,23 +276,9 @@ begins s now d rows (Ok records) translated is kept base current elected claimed
     (λ l made-is. (claimed, translated_are_configs rows records translated))
 
 config_plain : (r : MetaRecord) → IsConfig r → IsPlain r
-config_plain (meta.RegisterBroker b) is = absurd is
-config_plain (meta.Topic t) is = absurd is
-config_plain (meta.Partition p) is = absurd is
-config_plain (meta.Config c) is = tt
-config_plain (meta.PartitionChange p) is = absurd is
-config_plain (meta.RemoveTopic id) is = absurd is
-config_plain (meta.UserScramCredential r) is = absurd is
-config_plain (meta.ClientQuota r) is = absurd is
-config_plain (meta.ProducerIds r) is = absurd is
-config_plain (meta.AccessControlEntry r) is = absurd is
-config_plain (meta.RemoveAccessControlEntry id) is = absurd is
-config_plain meta.NoOp is = tt
-config_plain (meta.ZkMigrationState s) is = absurd is
-config_plain (meta.RemoveUserScramCredential name mechanism) is = absurd is
-config_plain (meta.BeginTransaction name) is = tt
 config_plain meta.EndTransaction is = absurd is
-config_plain (meta.AbortTransaction reason) is = tt
+config_plain (meta.ZkMigrationState s) is = absurd is
+config_plain r is = tt
 
 all_plain : (records : List MetaRecord) → All IsConfig records → All IsPlain (take batch_size records)
 all_plain records all = All-take IsPlain batch_size records (All-weaker IsConfig IsPlain config_plain records all)

@@ -1,7 +1,7 @@
 -- Worlds with at most one driver, event by event.
-use Rattle.kz_spec_stores.specs.Image.{is_migrated_state}
+use Rattle.kz_spec_stores.specs.Image.{is_migrated_state, first_bad}
 use Rattle.kz_laws_trees.specs.LogLaws.{IsPlain, IsUncommitted}
-use Rattle.std.proofs.Common.{◌≡◌, inl, inr, ℕ, ◌≤◌, ℤ, pos, negsuc, ◌+ℤ◌, ◌≤ℤ◌, int_lt, Bool, true, false, not, ◌||◌, if◌then◌else◌, cond, List, [], ◌∷◌, ◌++◌, length, map, Option, Some, None, option_map, refl, sym, ap, ◌∙◌, subst, arith, All}
+use Rattle.std.proofs.Common.{◌≡◌, inl, inr, ℕ, ◌≤◌, nat_le, ℤ, pos, negsuc, ◌+ℤ◌, ◌≤ℤ◌, int_lt, Bool, true, false, not, ◌||◌, if◌then◌else◌, cond, List, [], ◌∷◌, ◌++◌, length, map, Option, Some, None, option_map, refl, sym, ap, ◌∙◌, subst, arith, All}
 use Rattle.std.specs.Prelude.{⊤, Result, Ok, Err}
 use Rattle.std.specs.Ordering.{int_eq}
 use Rattle.std.proofs.lemmas.Bool.Decides.{Decides-int_eq}
@@ -23,13 +23,13 @@ use Rattle.kz_spec_stores.specs.Difference.{diff}
 use Rattle.kz_spec_stores.specs.Log.{Log, empty_log, end_of, image_at, max_epoch, full_log, is_migrated_log, image_of, is_open_log}
 use Rattle.kz_spec_stores.specs.Rendering.{render}
 use Rattle.kz_spec_machine.specs.Driver.{Shared, Driver, new_driver, elected_driver, is_one_of}
-use Rattle.kz_spec_machine.specs.Machine.{World, empty_world, running_ids, is_running, driver_of, with_driver, Turned, turn, work, decided, first_of, unless, over, full, running_refusal, leader_refusal, quorum_refusal, declared_world, start_refusal, started_world, election_records, next_epoch, elected_log, election_refusal, elected_world, election_answer, turn_result, change_refusal, changed_log, changed_world, with_tree, moved_world, is_held_tree, client_refusal, client_world, unless_refused, next}
+use Rattle.kz_spec_machine.specs.Machine.{World, empty_world, running_ids, is_running, driver_of, with_driver, Turned, turn, work, decided, first_of, unless, over, full, running_refusal, leader_refusal, quorum_refusal, declared_world, start_refusal, started_world, election_records, next_epoch, elected_log, election_refusal, elected_world, election_answer, turn_result, max_changes, bad_record, change_refusal, changed_log, changed_world, registration, register_refusal, with_tree, moved_world, is_held_tree, client_refusal, client_world, unless_refused, next}
 use Rattle.kz_spec_machine.specs.Sound.{IsId, IsTime, IsEpoch, IsEpochOrNone, TreeShape, LogShape, IsBatchEnd, Agreement, Kept, Aims, AtStage, Fine, IsLawful, IsChange, IsSession, IsLawfulOp}
 use Rattle.kz_laws_trees.specs.TreeLaws.{Unchanged}
 use Rattle.kz_laws_trees.proofs.Sessions.{begin_leaves, end_leaves}
 use Rattle.kz_laws_trees.proofs.Clients.{client_keeps_shape, client_leaves_recorded, client_leaves_held}
 use Rattle.kz_laws_trees.proofs.Ends.{end_least, base_is_batch_end, image_before}
-use Rattle.kz_laws_trees.proofs.Growth.{Grows, batch_shape, grows_batch, view_grown, view_within, StaysMigrated, plain_stays, uncommitted_was}
+use Rattle.kz_laws_trees.proofs.Growth.{Grows, batch_shape, grows_batch, view_grown, view_within, StaysMigrated, plain_stays, plain_was, uncommitted_was}
 use Rattle.kz_laws_machine.proofs.Agreements.{agreement_grown}
 use Rattle.kz_laws_machine.proofs.Groups.{Current, epochs_grown}
 use Rattle.kz_laws_machine.proofs.Clients.{agreement_unchanged, fine_unchanged, current_unchanged, agreement_unheld, unclaimed, fine_unheld}
@@ -268,18 +268,20 @@ election_kept w id now lone none =
 
 -- ---- changes
 
-change_migrated : (w : World) (id : ℤ) (records : List MetaRecord) → change_refusal w id records ≡ None → is_migrated_log w.shared.log ≡ true
-change_migrated w id records none =
-    let a = first_none (leader_refusal w id) _ none in
-    let b = first_none (unless (is_migrated_log w.shared.log) answer.NotMigrated) _ a.1 in
-    unless_none (is_migrated_log w.shared.log) answer.NotMigrated b.0
-
 change_room : (w : World) (id : ℤ) (records : List MetaRecord) → change_refusal w id records ≡ None → full_log w.shared.log records ≡ None
 change_room w id records none =
     let a = first_none (leader_refusal w id) _ none in
     let b = first_none (unless (is_migrated_log w.shared.log) answer.NotMigrated) _ a.1 in
-    let c = first_none _ (full w.shared.log records) b.1 in
-    full_none w.shared.log records (full_log w.shared.log records) refl c.1
+    let c = first_none (unless (nat_le (length records) max_changes) (over 8)) _ b.1 in
+    let d = first_none (bad_record (first_bad 0 records (image_of w.shared.log))) _ c.1 in
+    let e = first_none _ (full w.shared.log records) d.1 in
+    full_none w.shared.log records (full_log w.shared.log records) refl e.1
+
+register_room : (w : World) (id : ℤ) (records : List MetaRecord) → register_refusal w id records ≡ None → full_log w.shared.log records ≡ None
+register_room w id records none =
+    let a = first_none (leader_refusal w id) _ none in
+    let b = first_none _ (full w.shared.log records) a.1 in
+    full_none w.shared.log records (full_log w.shared.log records) refl b.1
 
 changed_one : (s : Shared) (l : Log) (ds : List Driver) → Kept s → Grows s.log l → OneOf s ds → OneOf (record s { log = l }) ds
 changed_one s l [] kept grows one = tt
@@ -287,38 +289,31 @@ changed_one s l (d ∷ []) kept grows one = record { fine = fine_grown s l d kep
 changed_one s l (d ∷ e ∷ ds) kept grows one = one
 
 change_plain : (r : MetaRecord) → IsChange r → IsPlain r
-change_plain (meta.RegisterBroker b) is = absurd is
-change_plain (meta.Topic t) is = absurd is
-change_plain (meta.Partition p) is = absurd is
-change_plain (meta.Config c) is = tt
-change_plain (meta.PartitionChange p) is = absurd is
-change_plain (meta.RemoveTopic id) is = absurd is
-change_plain (meta.UserScramCredential r) is = absurd is
-change_plain (meta.ClientQuota r) is = absurd is
-change_plain (meta.ProducerIds r) is = absurd is
-change_plain (meta.AccessControlEntry r) is = absurd is
-change_plain (meta.RemoveAccessControlEntry id) is = absurd is
-change_plain meta.NoOp is = absurd is
-change_plain (meta.ZkMigrationState s) is = absurd is
-change_plain (meta.RemoveUserScramCredential name mechanism) is = absurd is
-change_plain (meta.BeginTransaction name) is = absurd is
 change_plain meta.EndTransaction is = absurd is
-change_plain (meta.AbortTransaction reason) is = absurd is
+change_plain (meta.ZkMigrationState s) is = absurd is
+change_plain r is = tt
 
-change_kept : (w : World) (id : ℤ) (records : List MetaRecord) (now : ℤ) → All IsChange records → Lone w → change_refusal w id records ≡ None → Lone (changed_world w records now)
-change_kept w id records now all lone none =
+-- one batch more of plain records, of the log's epoch
+plain_kept : (w : World) (records : List MetaRecord) (now : ℤ) → All IsPlain records → full_log w.shared.log records ≡ None → Lone w → Lone (changed_world w records now)
+plain_kept w records now plain room lone =
     let l = w.shared.log in
     let shape = lone.kept.log in
-    let grows = grows_batch l l.epoch now records (omega (arith, ints)) (plain_stays l l.epoch now records shape (All-weaker IsChange IsPlain change_plain records all)) in
+    let grows = grows_batch l l.epoch now records (omega (arith, ints)) (plain_stays l l.epoch now records shape plain) in
     record {
       kept = record {
         tree = lone.kept.tree;
-        log = batch_shape l l.epoch now records shape shape.epoch (change_room w id records none) (λ high. let old = shape.begun high in omega (arith, ints));
-        agreement = agreement_grown w.shared.tree l (changed_log l records now) shape grows (λ migrated. lone.kept.agreement.holds (change_migrated w id records none)) lone.kept.agreement;
+        log = batch_shape l l.epoch now records shape shape.epoch room (λ high. let old = shape.begun high in omega (arith, ints));
+        agreement = agreement_grown w.shared.tree l (changed_log l records now) shape grows (λ migrated. lone.kept.agreement.holds (plain_was l l.epoch now records shape plain migrated)) lone.kept.agreement;
       };
       declared = lone.declared;
       one = changed_one w.shared (changed_log l records now) w.drivers lone.kept grows lone.one;
     }
+
+change_kept : (w : World) (id : ℤ) (records : List MetaRecord) (now : ℤ) → All IsChange records → Lone w → change_refusal w id records ≡ None → Lone (changed_world w records now)
+change_kept w id records now all lone none = plain_kept w records now (All-weaker IsChange IsPlain change_plain records all) (change_room w id records none) lone
+
+register_kept : (w : World) (id broker : ℤ) (migrating : Bool) (now : ℤ) → Lone w → register_refusal w id (registration broker migrating) ≡ None → Lone (changed_world w (registration broker migrating) now)
+register_kept w id broker migrating now lone none = plain_kept w (registration broker migrating) now (All-cons IsPlain _ [] tt (All-nil IsPlain)) (register_room w id (registration broker migrating) none) lone
 
 -- ---- turns
 
@@ -420,6 +415,7 @@ next_kept w (event.Start id) lawful lone = decided_kept Lone w (start_refusal w 
 next_kept w (event.Elect id now) lawful lone = decided_kept Lone w (election_refusal w id) (elected_world w id now) (election_answer w now) lone (election_kept w id now lone)
 next_kept w (event.Turn id now) lawful lone = unless_kept Lone w (running_refusal w id) (turn_result w now (driver_of id w.drivers)) lone (turn_kept w id now (driver_of id w.drivers) lawful.1 lone refl)
 next_kept w (event.Change id records now) lawful lone = decided_kept Lone w (change_refusal w id records) (changed_world w records now) (answer.Appended (end_of (changed_log w.shared.log records now))) lone (change_kept w id records now lawful.2 lone)
+next_kept w (event.Register id broker migrating now) lawful lone = decided_kept Lone w (register_refusal w id (registration broker migrating)) (changed_world w (registration broker migrating) now) (answer.Appended (end_of (changed_log w.shared.log (registration broker migrating) now))) lone (register_kept w id broker migrating now lone)
 next_kept w event.Check lawful lone = lone
 next_kept w (event.ZkOpen session) lawful lone = open_kept w session lawful lone
 next_kept w (event.ZkExpire session) lawful lone = expire_kept w session lone

@@ -1,6 +1,7 @@
 -- A log whose migration is committed stays so, and its commit makes it so.
 use Rattle.std.proofs.Common.{◌≡◌, inl, inr, ℕ, suc, ℤ, pos, ◌+ℤ◌, ◌-ℤ◌, ◌≤ℤ◌, int_le, int_lt, Bool, true, false, not, ◌&&◌, ◌||◌, if◌then◌else◌, cond, List, [], ◌∷◌, ◌++◌, length, Option, Some, None, All, refl, sym, ap, ◌∙◌, filter, arith, append-nil}
 use Rattle.std.specs.Prelude.{⊤}
+use Rattle.std.specs.Ordering.{int_eq}
 use Rattle.std.specs.List.{find}
 use Rattle.std.proofs.lemmas.Int.{ints}
 use Rattle.std.proofs.lemmas.List.Elements.{filter-append, All-head, All-tail}
@@ -9,7 +10,10 @@ use Rattle.kz_types.specs.declared.log.BatchRow.{BatchRow}
 use Rattle.kz_types.specs.declared.log.Entry.{Entry}
 use Rattle.kz_types.specs.declared.record.MetaRecord.{MetaRecord}
 use Rattle.kz_types.specs.declared.record.MetaRecord.TheVariants as meta
-use Rattle.kz_spec_stores.specs.Image.{Image, is_broker_config, applied, configured, is_migrated_state}
+use Rattle.kz_types.specs.declared.image_fault.ImageRule.{ImageRule}
+use Rattle.kz_spec_stores.specs.Metadata.{Image, topic_named, is_migrated_state}
+use Rattle.kz_spec_stores.specs.ImageRules.{broken}
+use Rattle.kz_spec_stores.specs.Image.{with_changed, topic_configured, configured, effect, unless_broken, applied}
 use Rattle.kz_spec_stores.specs.Settlement.{is_end, closes, is_marker, is_inside, first_close, is_ended_by, is_counted, counted}
 use Rattle.kz_spec_stores.specs.Log.{Log, last_of, last_end, end_of, numbered, entries_of_batch, entries, record_count, all_entries_applied, image_at, image_of, is_migrated_log, new_batch, with_batch}
 use Rattle.kz_spec_machine.specs.Driver.{commit_records}
@@ -53,46 +57,29 @@ not_after : (a b : ℤ) → a ≤ℤ b → int_le a b ≡ true
 not_after a b low = grind (arith, ints)
 
 no_end : (r : MetaRecord) → IsPlain r → is_end r ≡ false
-no_end (meta.RegisterBroker b) plain = refl
-no_end (meta.Topic t) plain = refl
-no_end (meta.Partition p) plain = refl
-no_end (meta.Config c) plain = refl
-no_end (meta.PartitionChange p) plain = refl
-no_end (meta.RemoveTopic id) plain = refl
-no_end (meta.UserScramCredential r) plain = refl
-no_end (meta.ClientQuota r) plain = refl
-no_end (meta.ProducerIds r) plain = refl
-no_end (meta.AccessControlEntry r) plain = refl
-no_end (meta.RemoveAccessControlEntry id) plain = refl
-no_end meta.NoOp plain = refl
-no_end (meta.ZkMigrationState s) plain = refl
-no_end (meta.RemoveUserScramCredential name mechanism) plain = refl
-no_end (meta.BeginTransaction name) plain = refl
 no_end meta.EndTransaction plain = absurd plain
-no_end (meta.AbortTransaction reason) plain = refl
+no_end r plain = refl
 
-either_state : (b : Bool) (i j : Image) → j.state ≡ i.state → (if b then j else i).state ≡ i.state
-either_state true i j same = same
-either_state false i j same = refl
+either_state : (b : Bool) (i j k : Image) → j.state ≡ i.state → k.state ≡ i.state → (if b then j else k).state ≡ i.state
+either_state true i j k one other = one
+either_state false i j k one other = other
+
+effect_leaves : (epoch : ℤ) (r : MetaRecord) (i : Image) → IsPlain r → (effect epoch r i).state ≡ i.state
+effect_leaves epoch (meta.Config c) i plain = either_state (int_eq c.resource_type (pos 2)) i
+    (record i { topics = with_changed (topic_configured c) (topic_named c.resource_name i) i.topics })
+    (record i { broker_configs = configured c i.broker_configs })
+    refl refl
+effect_leaves epoch (meta.ZkMigrationState s) i plain = absurd plain
+effect_leaves epoch meta.EndTransaction i plain = absurd plain
+effect_leaves epoch r i plain = refl
+
+-- a record that breaks a rule leaves all
+unless_broken_leaves : (b : Option ImageRule) (made i : Image) → made.state ≡ i.state → (unless_broken b made i).state ≡ i.state
+unless_broken_leaves None made i same = same
+unless_broken_leaves (Some rule) made i same = refl
 
 state_left : (epoch : ℤ) (r : MetaRecord) (i : Image) → IsPlain r → (applied epoch r i).state ≡ i.state
-state_left epoch (meta.RegisterBroker b) i plain = absurd plain
-state_left epoch (meta.Topic t) i plain = absurd plain
-state_left epoch (meta.Partition p) i plain = absurd plain
-state_left epoch (meta.Config c) i plain = either_state (is_broker_config c) i (record i { broker_configs = configured c i.broker_configs }) refl
-state_left epoch (meta.PartitionChange p) i plain = absurd plain
-state_left epoch (meta.RemoveTopic id) i plain = absurd plain
-state_left epoch (meta.UserScramCredential r) i plain = absurd plain
-state_left epoch (meta.ClientQuota r) i plain = absurd plain
-state_left epoch (meta.ProducerIds r) i plain = absurd plain
-state_left epoch (meta.AccessControlEntry r) i plain = absurd plain
-state_left epoch (meta.RemoveAccessControlEntry id) i plain = absurd plain
-state_left epoch meta.NoOp i plain = refl
-state_left epoch (meta.ZkMigrationState s) i plain = absurd plain
-state_left epoch (meta.RemoveUserScramCredential name mechanism) i plain = absurd plain
-state_left epoch (meta.BeginTransaction name) i plain = refl
-state_left epoch meta.EndTransaction i plain = absurd plain
-state_left epoch (meta.AbortTransaction reason) i plain = refl
+state_left epoch r i plain = unless_broken_leaves (broken i r) (effect epoch r i) i (effect_leaves epoch r i plain)
 
 abbrev AllPlain : List Entry → Type 0
 AllPlain [] = ⊤
@@ -235,9 +222,19 @@ state_or_before : (b : Bool) (s : ℤ) (i : Image) → is_migrated_state s ≡ f
 state_or_before true s i new before = new
 state_or_before false s i new before = before
 
+-- a state of the migration breaks no rule
+state_unbroken : (s : ℤ) (i : Image) → broken i (meta.ZkMigrationState s) ≡ None
+unfolding broken
+state_unbroken s i = refl
+
+state_applied : (epoch s : ℤ) (i : Image) → applied epoch (meta.ZkMigrationState s) i ≡ effect epoch (meta.ZkMigrationState s) i
+state_applied epoch s i = ap (λ b. unless_broken b (effect epoch (meta.ZkMigrationState s) i) i) (state_unbroken s i)
+
 one_uncommitted : (epoch : ℤ) (r : MetaRecord) (i : Image) → IsUncommitted r → is_migrated_state i.state ≡ false → is_migrated_state (applied epoch r i).state ≡ false
 one_uncommitted epoch r i (inl plain) before = ap is_migrated_state (state_left epoch r i plain) ∙ before
-one_uncommitted epoch r i (inr state) before = ap (λ x. is_migrated_state (applied epoch x i).state) state.1 ∙ state_or_before (int_le (pos 0) state.0 && int_le state.0 (pos 3)) state.0 i state.2 before
+one_uncommitted epoch r i (inr state) before = ap (λ x. is_migrated_state (applied epoch x i).state) state.1
+    ∙ ap (λ (j : Image). is_migrated_state j.state) (state_applied epoch state.0 i)
+    ∙ state_or_before (int_le (pos 0) state.0 && int_le state.0 (pos 3)) state.0 i state.2 before
 
 all_uncommitted : (es : List Entry) (i : Image) → AllUncommitted es → is_migrated_state i.state ≡ false → is_migrated_state (all_entries_applied es i).state ≡ false
 all_uncommitted [] i all before = before
@@ -305,6 +302,7 @@ commit_migrates l epoch now shape =
     ap (λ xs. (all_entries_applied (counted xs later) l.base_image).state) (entries_more l epoch now commit_records)
     ∙ ap (λ xs. (all_entries_applied xs l.base_image).state) (filter-append test es (x ∷ y ∷ []) ∙ ap (λ l. filter test es ++ l) (marker_left test x y counts (no_marker (int_le y.offset later) (not (is_inside all y.offset) || is_ended_by later (first_close all y.offset)))))
     ∙ ap (λ (i : Image). i.state) (applied_append (filter test es) (x ∷ []) l.base_image)
+    ∙ ap (λ (i : Image). i.state) (state_applied epoch (pos 2) (all_entries_applied (filter test es) l.base_image))
   where
     two_more : (e n : ℤ) → n ≡ e +ℤ pos 2 → ((e +ℤ pos 1) +ℤ pos 1) ≤ℤ n
     two_more e n is = omega (arith, ints)

@@ -36,11 +36,9 @@ EndIsLastBatchEnd = (l : Log) → LogShape l → IsBatchEnd l (end_of l) × ((at
 
 -- A record that neither ends a transaction nor is of the migration's state.
 abbrev pub IsPlain : MetaRecord → Type 0
-IsPlain (meta.Config c) = ⊤
-IsPlain meta.NoOp = ⊤
-IsPlain (meta.BeginTransaction name) = ⊤
-IsPlain (meta.AbortTransaction reason) = ⊤
-IsPlain r = ⊥
+IsPlain meta.EndTransaction = ⊥
+IsPlain (meta.ZkMigrationState s) = ⊥
+IsPlain r = ⊤
 
 -- A batch of such records leaves the state of the migration.
 abbrev pub PlainKeepsState : Type 0

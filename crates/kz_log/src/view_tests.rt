@@ -1,3 +1,4 @@
+//! Tests of views over feeds.
 ghost use Rattle.std.specs.Prelude.{◌≡◌, ◌<◌, length};
 ghost use Rattle.kz_spec_stores.specs.Log.{IsViewOf};
 

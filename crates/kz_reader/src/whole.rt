@@ -65,7 +65,7 @@ fn rendered(alloc: Global, records: &[MetaRecord]) -> Result<Vec<Rendered>, NoMe
     ensures { IfOk result (λ znodes. znodes.items ≡ render (all_applied max_epoch records.now empty_image)) }
 {
     let mut image = Image::new(alloc);
-    image.apply_all(alloc, i32::MAX, records)?;
+    image.apply_all(i32::MAX, records)?;
     Ok(render(alloc, &image)?)
 }
 

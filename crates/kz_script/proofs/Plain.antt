@@ -8,11 +8,11 @@ use Rattle.std.specs.declared.cmp.Ordering.{Ordering}
 use Rattle.std.specs.declared.cmp.Ordering.TheVariants.{Less, Equal, Greater}
 use Rattle.base64.specs.Engines.{standard}
 use Rattle.base64.specs.GeneralPurpose.{encode_of}
-use Rattle.serde_json.specs.Data.{Data, string, object, array, Members, no_members, member, put}
+use Rattle.serde_json.specs.Data.{Data, boolean, string, object, array, Members, no_members, member, put}
 use Rattle.serde_json.specs.View.{items_of}
 use Rattle.serde_json.specs.Written.{has_float, members_have_float, items_have_float}
 use Rattle.kz_types.specs.declared.machine.Event.{Event}
-use Rattle.kz_types.specs.declared.machine.Event.TheVariants.{Quorum, Start, Elect, Turn, Change, Check, ZkOpen, ZkExpire, Zk}
+use Rattle.kz_types.specs.declared.machine.Event.TheVariants.{Quorum, Start, Elect, Turn, Register, Change, Check, ZkOpen, ZkExpire, Zk}
 use Rattle.kz_types.specs.declared.record.ConfigRecord.{ConfigRecord}
 use Rattle.kz_types.specs.declared.record.MetaRecord.{MetaRecord}
 use Rattle.kz_types.specs.declared.record.MetaRecord.TheVariants.{RegisterBroker, Topic, Partition, Config, PartitionChange, RemoveTopic, UserScramCredential, ClientQuota, ProducerIds, AccessControlEntry, RemoveAccessControlEntry, NoOp, ZkMigrationState, RemoveUserScramCredential, BeginTransaction, EndTransaction, AbortTransaction}
@@ -162,6 +162,8 @@ members_no_float (Elect controller now) = now_no_float now _ (controller_no_floa
 members_no_float (Turn controller now) = now_no_float now _ (controller_no_float (codes "turn") controller)
 members_no_float (Change controller records now) =
     put_calm (codes "records") (array (items_of (map record_data records))) _ (records_no_float records) (now_no_float now _ (controller_no_float (codes "change") controller))
+members_no_float (Register controller broker migrating now) =
+    put_calm (codes "migrating") (boolean migrating) _ refl (whole_no_float (codes "broker") broker _ (now_no_float now _ (controller_no_float (codes "register") controller)))
 members_no_float Check = event_members_no_float (codes "check")
 members_no_float (ZkOpen session) = session_no_float (codes "zk-open") session
 members_no_float (ZkExpire session) = session_no_float (codes "zk-expire") session

@@ -1,15 +1,14 @@
 //! The events that lines are.
 ghost use Rattle.std.specs.Prelude.{◌≡◌, ◌∷◌, [], IfOk, None, Some, Err};
 ghost use Rattle.serde_json.specs.View.{view, items_view};
-ghost use Rattle.kz_spec_lines.specs.Events.{controller_of, now_of, timed_count, only_id, quorum_of, start_of, elect_of, turn_of, is_broker_config, is_changeable, changeable_of, only_record, change_of, check_of, session_of, open_of, expire_of, ops_in, zk_of, event_of, line_event};
+ghost use Rattle.kz_spec_lines.specs.Events.{controller_of, now_of, timed_count, only_id, quorum_of, start_of, elect_of, turn_of, is_changeable, changeable_of, records_in, change_of, register_of, check_of, session_of, open_of, expire_of, ops_in, zk_of, event_of, line_event};
 
-use crate::decimals::is_canonical;
 use crate::fault::LineFault;
 use crate::members::{id_of, member_count, read_json, text_member, time_of};
 use crate::open::open_op_of;
 use crate::ops::session_in;
 use crate::records::record_of;
-use kz_types::{ConfigRecord, Event, MetaRecord, NoMemory, Op, Sequence};
+use kz_types::{Event, MetaRecord, NoMemory, Op, Sequence};
 use serde_json::Value;
 use std::alloc::Global;
 
@@ -95,20 +94,12 @@ fn turn_of(value: &Value) -> Option<Event>
     Some(Event::Turn { controller, now })
 }
 
-// The configuration of all brokers, or of one broker.
-fn is_broker_config(config: &ConfigRecord) -> bool
-    ensures { result ≡ is_broker_config config.now }
-{
-    config.resource_type == 4
-        && (config.resource_name.bytes().is_empty() || is_canonical(config.resource_name.as_str()))
-        && !config.name.bytes().is_empty()
-}
-
+// Whether a change may hold a record: one of the configuration of brokers.
 fn is_changeable(item: &MetaRecord) -> bool
     ensures { result ≡ is_changeable item.now }
 {
     match item {
-        MetaRecord::Config(config) => is_broker_config(config),
+        MetaRecord::Config(config) => config.resource_type == 4,
         _ => false,
     }
 }
@@ -128,14 +119,18 @@ fn changeable_of(alloc: Global, value: &Value) -> Result<Option<MetaRecord>, NoM
     }
 }
 
-fn only_record(alloc: Global, values: &[Value]) -> Result<Option<MetaRecord>, NoMemory>
-    ensures { IfOk result (λ made. made ≡ only_record (items_view values.now)) }
+// The records of a list, or `None` where one of them is none that a change may hold.
+fn records_in(alloc: Global, values: &[Value]) -> Result<Option<Sequence<MetaRecord>>, NoMemory>
+    ensures { IfOk result (λ records. records ≡ records_in (items_view values.now)) }
 {
-    match values {
-        [] => Ok(None),
-        [value] => changeable_of(alloc, value),
-        [_, _, ..] => Ok(None),
+    let mut records = Sequence::new(alloc);
+    for value in values {
+        match changeable_of(alloc, value)? {
+            Some(record) => records.push(record)?,
+            None => return Ok(None),
+        }
     }
+    Ok(Some(records))
 }
 
 fn change_of(alloc: Global, value: &Value) -> Result<Option<Event>, NoMemory>
@@ -153,16 +148,32 @@ fn change_of(alloc: Global, value: &Value) -> Result<Option<Event>, NoMemory>
     let Some(values) = value.get("records").and_then(Value::as_array) else {
         return Ok(None);
     };
-    let Some(record) = only_record(alloc, values)? else {
-        return Ok(None);
-    };
-    let mut records = Sequence::new(alloc);
-    records.push(record)?;
-    Ok(Some(Event::Change {
+    match records_in(alloc, values)? {
+        Some(records) if records.len() > 0 => Ok(Some(Event::Change {
+            controller,
+            records,
+            now,
+        })),
+        _ => Ok(None),
+    }
+}
+
+fn register_of(value: &Value) -> Option<Event>
+    ensures { result ≡ register_of (view value.now) }
+{
+    if member_count(value) != timed_count(4, value) {
+        return None;
+    }
+    let controller = controller_of(value)?;
+    let broker = id_of(value.get("broker")?)?;
+    let migrating = value.get("migrating")?.as_bool()?;
+    let now = now_of(value)?;
+    Some(Event::Register {
         controller,
-        records,
+        broker,
+        migrating,
         now,
-    }))
+    })
 }
 
 fn check_of(value: &Value) -> Option<Event>
@@ -241,6 +252,7 @@ fn event_of(alloc: Global, value: &Value) -> Result<Option<Event>, NoMemory>
         "start" => Ok(start_of(value)),
         "elect" => Ok(elect_of(value)),
         "turn" => Ok(turn_of(value)),
+        "register" => Ok(register_of(value)),
         "change" => change_of(alloc, value),
         "check" => Ok(check_of(value)),
         "zk-open" => Ok(open_of(value)),

@@ -1,7 +1,6 @@
 //! Reads and writes the lines of a script, and writes the lines that the program prints.
 #![tactic(auto)]
 
-mod decimals;
 mod events;
 mod fault;
 mod members;

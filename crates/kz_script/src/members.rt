@@ -36,7 +36,7 @@ pub fn member_count(value: &Value) -> usize
     }
 }
 
-/// The id of a controller.
+/// The id of a controller or a broker.
 pub fn id_of(value: &Value) -> Option<i32>
     ensures { result ≡ id_of (view value.now) }
 {

@@ -43,7 +43,7 @@ fn is_read_as(rt: &impl Abort, alloc: Global, line: &[u8], wanted: &str) -> bool
     }
 }
 
-static LINES: [(&[u8], &str); 16] = [
+static LINES: [(&[u8], &str); 19] = [
     (
         b"{\"event\":\"quorum\",\"ids\":[3000]}",
         r#"{"event":"quorum","ids":[3000]}"#,
@@ -86,6 +86,18 @@ static LINES: [(&[u8], &str); 16] = [
         "{\"controller\":0,\"event\":\"change\",\"now\":3,\"records\":[{\"kind\":\"Config\",\"name\":\"\u{e4}\",\"resourceName\":\"\",\"resourceType\":4,\"value\":null}]}",
     ),
     (
+        b"{\"event\":\"change\",\"controller\":1,\"records\":[{\"kind\":\"Config\",\"resourceType\":4,\"resourceName\":\"01\",\"name\":\"\",\"value\":\"1\"},{\"kind\":\"Config\",\"resourceType\":4,\"resourceName\":\"x\",\"name\":\"a\",\"value\":null}]}",
+        r#"{"controller":1,"event":"change","records":[{"kind":"Config","name":"","resourceName":"01","resourceType":4,"value":"1"},{"kind":"Config","name":"a","resourceName":"x","resourceType":4,"value":null}]}"#,
+    ),
+    (
+        b"{\"event\":\"register\",\"controller\":3000,\"broker\":1,\"migrating\":true}",
+        r#"{"broker":1,"controller":3000,"event":"register","migrating":true}"#,
+    ),
+    (
+        b"{\"event\":\"register\",\"controller\":0,\"broker\":2147483647,\"migrating\":false,\"now\":5}",
+        r#"{"broker":2147483647,"controller":0,"event":"register","migrating":false,"now":5}"#,
+    ),
+    (
         b"{\"event\":\"zk-open\",\"session\":1}",
         r#"{"event":"zk-open","session":1}"#,
     ),
@@ -114,7 +126,7 @@ fn lines_are_read_as_their_events(rt: HostRuntime) {
     }
 }
 
-static BAD_LINES: [&[u8]; 44] = [
+static BAD_LINES: [&[u8]; 50] = [
     b"",
     b"# a comment",
     b" ",
@@ -147,6 +159,12 @@ static BAD_LINES: [&[u8]; 44] = [
     b"{\"event\":\"change\",\"controller\":1,\"records\":[]}",
     b"{\"event\":\"change\",\"controller\":1,\"records\":{}}",
     b"{\"event\":\"change\",\"controller\":1,\"records\":[{\"kind\":\"NoOp\"}]}",
+    b"{\"event\":\"change\",\"controller\":1,\"records\":[{\"kind\":\"Config\",\"resourceType\":4,\"resourceName\":\"1\",\"name\":\"a\",\"value\":null},{\"kind\":\"NoOp\"}]}",
+    b"{\"event\":\"register\",\"controller\":1,\"broker\":1}",
+    b"{\"event\":\"register\",\"controller\":1,\"broker\":1,\"migrating\":1}",
+    b"{\"event\":\"register\",\"controller\":1,\"broker\":1,\"migrating\":\"true\"}",
+    b"{\"event\":\"register\",\"controller\":1,\"broker\":-1,\"migrating\":true}",
+    b"{\"event\":\"register\",\"controller\":1,\"broker\":1,\"migrating\":true,\"epoch\":0}",
     b"{\"event\":\"zk-open\"}",
     b"{\"event\":\"zk-open\",\"session\":0}",
     b"{\"event\":\"zk-open\",\"session\":-1}",
@@ -168,16 +186,10 @@ fn other_lines_are_bad(rt: HostRuntime) {
     }
 }
 
-static BAD_CONFIGS: [&str; 12] = [
+static BAD_CONFIGS: [&str; 6] = [
     "\"resourceType\":4,\"resourceName\":\"1\",\"name\":\"a\"",
     "\"resourceType\":4,\"resourceName\":\"1\",\"name\":\"a\",\"value\":1",
     "\"resourceType\":4,\"resourceName\":\"1\",\"name\":\"a\",\"value\":\"1\",\"x\":0",
-    "\"resourceType\":4,\"resourceName\":\"1\",\"name\":\"\",\"value\":\"1\"",
-    "\"resourceType\":4,\"resourceName\":\"01\",\"name\":\"a\",\"value\":\"1\"",
-    "\"resourceType\":4,\"resourceName\":\"+1\",\"name\":\"a\",\"value\":\"1\"",
-    "\"resourceType\":4,\"resourceName\":\"-1\",\"name\":\"a\",\"value\":\"1\"",
-    "\"resourceType\":4,\"resourceName\":\"1x\",\"name\":\"a\",\"value\":\"1\"",
-    "\"resourceType\":4,\"resourceName\":\"2147483648\",\"name\":\"a\",\"value\":\"1\"",
     "\"resourceType\":2,\"resourceName\":\"1\",\"name\":\"a\",\"value\":\"1\"",
     "\"resourceType\":260,\"resourceName\":\"1\",\"name\":\"a\",\"value\":\"1\"",
     "\"resourceType\":4,\"resourceName\":1,\"name\":\"a\",\"value\":\"1\"",

@@ -3,7 +3,7 @@ ghost use Rattle.std.specs.Prelude.{◌≡◌, IfOk, OnOk, MatchOption, map, tru
 ghost use Rattle.std.specs.Str.{is_utf8};
 ghost use Rattle.base64.specs.Engines.{standard};
 ghost use Rattle.base64.specs.GeneralPurpose.{encode_of};
-ghost use Rattle.serde_json.specs.Data.{object, array, put};
+ghost use Rattle.serde_json.specs.Data.{boolean, object, array, put};
 ghost use Rattle.serde_json.specs.View.{view, members_view, items_of};
 ghost use Rattle.serde_json.specs.Written.{compact_text, has_float};
 ghost use Rattle.kz_spec_lines.specs.Written.{whole_data, with_whole, event_members, controller_members, with_now, with_body, with_owner, op_members, op_data, record_data, members_of_event, written_event};
@@ -249,6 +249,21 @@ fn change_members(
     Ok(members)
 }
 
+fn register_members(
+    alloc: Global,
+    controller: i32,
+    broker: i32,
+    migrating: bool,
+    now: i64,
+) -> Result<Map<String, Value>, NoMemory>
+    ensures { IfOk result (λ members. members_view members.entries ≡ put (codes "migrating") (boolean migrating) (with_whole (codes "broker") broker (with_now now (controller_members (codes "register") controller)))) }
+{
+    let mut members = timed_members(alloc, "register", controller, now)?;
+    put_whole(&mut members, alloc, "broker", broker as i64)?;
+    serde_json::put(&mut members, alloc, "migrating", Value::Bool(migrating))?;
+    Ok(members)
+}
+
 fn members_of_event(alloc: Global, event: &Event) -> Result<Map<String, Value>, NoMemory>
     ensures { IfOk result (λ members. members_view members.entries ≡ members_of_event event.now) }
 {
@@ -268,6 +283,12 @@ fn members_of_event(alloc: Global, event: &Event) -> Result<Map<String, Value>, 
             let records = record_values(alloc, records.as_slice())?;
             change_members(alloc, *controller, records, *now)
         }
+        Event::Register {
+            controller,
+            broker,
+            migrating,
+            now,
+        } => register_members(alloc, *controller, *broker, *migrating, *now),
         Event::Check => event_members(alloc, "check"),
         Event::ZkOpen { session } => session_members(alloc, "zk-open", *session),
         Event::ZkExpire { session } => session_members(alloc, "zk-expire", *session),

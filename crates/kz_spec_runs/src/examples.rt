@@ -17,6 +17,20 @@ pub fn write_back()
         ≡ record { text = codes "1 done\n2 done\n3 elected 1 1\n4 moved WAIT_FOR_BROKERS\n4 looked\n4 moved BECOME_CONTROLLER\n4 looked\n4 claimed 1\n4 read 0\n4 appended 2\n4 appended 4\n4 looked\n4 read 0\n4 recorded 4\n4 moved DUAL_WRITE\n4 idle\n5 closed 4\n6 appended 5\n7 closed 4\n8 looked\n8 recorded 5\n8 idle\n9 closed 5\nend events=9 steps=16 zxid=3 offset=5 recorded=5\n"; status = status.Done } }
 {}
 
+/// The registration of a broker is recorded.
+#[tactic(auto, unfolding(crate::proofs::OnLiterals::runs_on_literals))]
+pub fn registration()
+    ensures { replayed (codes "{\"event\":\"quorum\",\"ids\":[3000]}\n{\"event\":\"start\",\"controller\":3000}\n{\"event\":\"elect\",\"controller\":3000}\n{\"event\":\"turn\",\"controller\":3000}\n{\"event\":\"register\",\"controller\":3000,\"broker\":1,\"migrating\":true}\n{\"event\":\"turn\",\"controller\":3000}\n")
+        ≡ record { text = codes "1 done\n2 done\n3 elected 1 1\n4 moved WAIT_FOR_BROKERS\n4 looked\n4 moved BECOME_CONTROLLER\n4 looked\n4 claimed 1\n4 read 0\n4 appended 2\n4 appended 4\n4 looked\n4 read 0\n4 recorded 4\n4 moved DUAL_WRITE\n4 idle\n5 appended 5\n6 looked\n6 recorded 5\n6 idle\nend events=6 steps=16 zxid=3 offset=5 recorded=5\n"; status = status.Done } }
+{}
+
+/// A migration waits for a broker of the tree until it is registered.
+#[tactic(auto, unfolding(crate::proofs::OnLiterals::runs_on_literals))]
+pub fn awaited_broker()
+    ensures { replayed (codes "{\"event\":\"quorum\",\"ids\":[3000]}\n{\"event\":\"zk\",\"ops\":[{\"op\":\"create\",\"path\":\"/brokers\"},{\"op\":\"create\",\"path\":\"/brokers/ids\"},{\"op\":\"create\",\"path\":\"/brokers/ids/1\"}]}\n{\"event\":\"start\",\"controller\":3000}\n{\"event\":\"elect\",\"controller\":3000}\n{\"event\":\"turn\",\"controller\":3000}\n{\"event\":\"register\",\"controller\":3000,\"broker\":1,\"migrating\":true}\n{\"event\":\"turn\",\"controller\":3000}\n")
+        ≡ record { text = codes "1 done\n2 done 1\n3 done\n4 elected 1 1\n5 moved WAIT_FOR_BROKERS\n5 looked\n5 wait-broker 1\n6 appended 2\n7 looked\n7 moved BECOME_CONTROLLER\n7 looked\n7 claimed 1\n7 read 0\n7 appended 3\n7 appended 5\n7 looked\n7 read 0\n7 recorded 5\n7 moved DUAL_WRITE\n7 idle\nend events=7 steps=15 zxid=3 offset=5 recorded=5\n"; status = status.Done } }
+{}
+
 /// Refusals of starts and of a change.
 #[tactic(auto, unfolding(crate::proofs::OnLiterals::runs_on_literals))]
 pub fn refusals()

@@ -51,7 +51,7 @@ fn the_least_missing_broker_is_told(rt: HostRuntime) {
         put(&rt, &mut records, broker_record(alloc, id, migrating));
     }
     let mut image = Image::new(alloc);
-    made(&rt, image.apply_all(alloc, 1, records.as_slice()));
+    made(&rt, image.apply_all(1, records.as_slice()));
     for (ids, missing) in &BROKERS {
         assert!(rt; missing_broker(ids, &image) == *missing);
     }

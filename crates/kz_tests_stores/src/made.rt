@@ -86,7 +86,7 @@ pub fn image_of(rt: &impl Abort, alloc: Global, configs: &[(&str, &str, &str)]) 
         );
     }
     let mut image = Image::new(alloc);
-    made(rt, image.apply_all(alloc, 1, records.as_slice()));
+    made(rt, image.apply_all(1, records.as_slice()));
     image
 }
 

@@ -95,7 +95,7 @@ fn excess_refusal(
     ensures { IfOk result (λ refusal. refusal ≡ over_excess (excess (all_applied log.now.epoch records.now image))) }
 {
     let mut image = image;
-    image.apply_all(alloc, log.epoch(), records)?;
+    image.apply_all(log.epoch(), records)?;
     let znodes = render(alloc, &image)?;
     match first_excess(alloc, &znodes)? {
         Some(excess) => Ok(Some(Answer::Over {

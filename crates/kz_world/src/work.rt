@@ -40,7 +40,7 @@ fn records_rendered_len(alloc: Global, records: &[MetaRecord]) -> Result<usize, 
     ensures { IfOk result (λ count. count ≡ length (render (all_applied max_epoch records.now empty_image))) }
 {
     let mut image = Image::new(alloc);
-    image.apply_all(alloc, MAX_EPOCH, records)?;
+    image.apply_all(MAX_EPOCH, records)?;
     rendered_len(alloc, &image)
 }
 

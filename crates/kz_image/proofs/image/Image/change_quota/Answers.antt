@@ -1,12 +1,13 @@
-use Rattle.kz_image.proofs.QuotaLists.{quota_changed_in_order}
+use Rattle.std.proofs.Common.{◌≡◌, None, subst, sym}
+use Rattle.std.specs.Prelude.{pos}
+use Rattle.kz_types.specs.declared.record.MetaRecord.TheVariants as meta
+use Rattle.kz_spec_stores.specs.ImageRules.{broken}
+use Rattle.kz_image.proofs.Unbroken.{quota_unbroken}
+use Rattle.kz_image.proofs.Kept.{kept}
 use Rattle.kz_image.proofs.image.Image.change_quota.Goals as goal
 
+pub change_quota-requires-clause-named : goal.change_quota-requires-clause-named
+change_quota-requires-clause-named c = quota_unbroken c.args.self.now c.args.change.now c.requires
+
 pub invariant_of-self-2 : goal.invariant_of-self-2
-invariant_of-self-2 c = record {
-  topics = c.self.invariant.topics;
-  configs = c.self.invariant.configs;
-  quotas = rw c.in_ok-change_quota.ensures.ok (quota_changed_in_order c.args.change.now c.self.inside.quotas.items c.requires c.self.invariant.quotas);
-  users = c.self.invariant.users;
-  acls = c.self.invariant.acls;
-  brokers = c.self.invariant.brokers;
-}
+invariant_of-self-2 c = rw c.in_ok-change_quota.ensures.ok (kept _ c.self.invariant (pos 0) (meta.ClientQuota c.args.change.now) (subst (λ i. broken i (meta.ClientQuota c.args.change.now) ≡ None) (sym c.self.view_is) c.requires))

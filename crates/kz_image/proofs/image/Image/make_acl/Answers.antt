@@ -1,14 +1,9 @@
-use Rattle.kz_spec_stores.specs.Metadata.{id_of_acl}
-use Rattle.kz_ordered.proofs.Order.{bytes_order}
-use Rattle.kz_ordered.proofs.Lookup.{Rises-put}
+use Rattle.std.proofs.Common.{◌≡◌, None, subst, sym}
+use Rattle.std.specs.Prelude.{pos}
+use Rattle.kz_types.specs.declared.record.MetaRecord.TheVariants as meta
+use Rattle.kz_spec_stores.specs.ImageRules.{broken}
+use Rattle.kz_image.proofs.Kept.{kept}
 use Rattle.kz_image.proofs.image.Image.make_acl.Goals as goal
 
 pub invariant_of-self-2 : goal.invariant_of-self-2
-invariant_of-self-2 c = record {
-  topics = c.self.invariant.topics;
-  configs = c.self.invariant.configs;
-  quotas = c.self.invariant.quotas;
-  users = c.self.invariant.users;
-  acls = rw c.in_ok-put.ensures.ok (Rises-put bytes_order id_of_acl _ c.self.inside.acls.items c.self.invariant.acls);
-  brokers = c.self.invariant.brokers;
-}
+invariant_of-self-2 c = rw (c.in_ok-put.ensures.ok, c.in_ok-entry.ensures) (kept _ c.self.invariant (pos 0) (meta.AccessControlEntry c.args.change.now) (subst (λ i. broken i (meta.AccessControlEntry c.args.change.now) ≡ None) (sym c.self.view_is) c.requires))

@@ -1,12 +1,9 @@
-use Rattle.kz_image.proofs.TopicLists.{topic_made_in_order}
+use Rattle.std.proofs.Common.{◌≡◌, None, subst, sym}
+use Rattle.std.specs.Prelude.{pos}
+use Rattle.kz_types.specs.declared.record.MetaRecord.TheVariants as meta
+use Rattle.kz_spec_stores.specs.ImageRules.{broken}
+use Rattle.kz_image.proofs.Kept.{kept}
 use Rattle.kz_image.proofs.image.Image.make_topic.Goals as goal
 
 pub invariant_of-self-2 : goal.invariant_of-self-2
-invariant_of-self-2 c = record {
-  topics = rw c.in_ok-make_topic.ensures.ok (topic_made_in_order c.args.change.now c.self.inside.topics.items c.self.invariant.topics);
-  configs = c.self.invariant.configs;
-  quotas = c.self.invariant.quotas;
-  users = c.self.invariant.users;
-  acls = c.self.invariant.acls;
-  brokers = c.self.invariant.brokers;
-}
+invariant_of-self-2 c = rw c.in_ok-make_topic.ensures.ok (kept _ c.self.invariant (pos 0) (meta.Topic c.args.change.now) (subst (λ i. broken i (meta.Topic c.args.change.now) ≡ None) (sym c.self.view_is) c.requires))
