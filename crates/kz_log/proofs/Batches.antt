@@ -1,30 +1,26 @@
 -- The batches of a log: their records, how many there are, and their offsets.
-use Rattle.std.proofs.Common.{◌≡◌, ℕ, zero, suc, ◌+◌, ◌<◌, ◌≤◌, Bool, true, false, not, ◌&&◌, ◌||◌, cond, nat_lt, ℤ, pos, negsuc, ◌+ℤ◌, ◌≤ℤ◌, ◌<ℤ◌, int_le, int_lt, int_cmp, Less, List, [], ◌∷◌, ◌++◌, length, get_or, drop, Option, Some, None, refl, sym, ap, ◌∙◌, subst, take, filter, map, w64, to_z, of_z, arith}
+use Rattle.std.proofs.Common.{◌≡◌, ℕ, zero, suc, ◌+◌, ◌<◌, ◌≤◌, Bool, true, false, not, ◌&&◌, ◌||◌, cond, nat_lt, ℤ, pos, negsuc, ◌+ℤ◌, ◌≤ℤ◌, ◌<ℤ◌, int_le, int_lt, List, [], ◌∷◌, ◌++◌, length, get_or, drop, Option, Some, None, refl, sym, ap, ◌∙◌, subst, take, filter, map, w64, to_z, of_z, arith}
 use Rattle.std.proofs.lemmas.Bool.{false≢true}
 use Rattle.std.proofs.lemmas.List.{take_more, map-append}
 use Rattle.std.proofs.lemmas.Int.{ints, to_z-of_z}
 use mir.Val.{SFits}
 use Rattle.std.proofs.lemmas.Bool.Decides.{nat_tests}
-use Rattle.std.specs.Cmp.{int_cmp_is}
 use Rattle.std.specs.List.{find}
 use Rattle.std.proofs.lemmas.List.Sums.{sum_by-cons, sum_by_push, sum_by_more, sum_by_more_le}
 use Rattle.kz_types.specs.declared.log.BatchRow.{BatchRow}
 use Rattle.kz_types.specs.declared.log.Entry.{Entry}
 use Rattle.kz_types.specs.declared.record.MetaRecord.{MetaRecord}
 use Rattle.kz_types.specs.declared.record.MetaRecord.TheVariants as meta
-use Rattle.kz_ordered.specs.Ordered.{Rises, RisesAbove}
 use Rattle.kz_spec_stores.specs.Image.{Image, applied}
 use Rattle.kz_spec_stores.specs.Log.{Log, IsLog, Follow, Climb, is_behind, end_of, image_at, full_log, with_batch, max_records, last_of, last_end, record_count, numbered, entries, all_entries_applied}
 use Rattle.kz_spec_stores.specs.Settlement.{counted, is_begin, closes, is_marker, is_end, is_ended_by}
 use Rattle.kz_spec_stores.specs.Tree.{max_long}
-use Rattle.kz_settle.specs.Settling.{offset_of, closes_entry, opened, passed, ends_by}
+use Rattle.kz_settle.specs.Settling.{closes_entry, opened, passed, ends_by}
 use Rattle.kz_settle.proofs.Passing.{counted_is_passed}
 use Rattle.kz_log.specs.Reading.{placed, remaining, image_after}
+use Rattle.kz_log.proofs.Offsets.{Consecutive, numbered_consecutive, consecutive_rises, last_of_is, last_end-append, is_lt, of_lt, not_lt, of_not_lt, of_le}
 
 -- ---- how many records there are, and the last offset
-
-last_of_is : (from : ℤ) (b : BatchRow) → b.first ≡ from +ℤ pos 1 → last_of b ≡ from +ℤ pos (length b.items)
-last_of_is from b h = omega (arith, ints, h)
 
 pub record_count-cons : (b : BatchRow) (bs : List BatchRow) → record_count (b ∷ bs) ≡ length b.items + record_count bs
 record_count-cons b bs = sum_by-cons (λ (x : BatchRow). length x.items) b bs
@@ -40,10 +36,6 @@ pub Follow-push : (from : ℤ) (bs : List BatchRow) (b : BatchRow) → Follow fr
 Follow-push from [] b h first some = (first, some, tt)
 Follow-push from (x ∷ bs) b h first some = (h.0, h.1, Follow-push (last_of x) bs b h.2 first some)
 
-pub last_end-push : (from : ℤ) (bs : List BatchRow) (b : BatchRow) → last_end from (bs ++ b ∷ []) ≡ last_of b
-last_end-push from [] b = refl
-last_end-push from (x ∷ bs) b = last_end-push (last_of x) bs b
-
 pub Climb-push : (least most more : ℤ) (bs : List BatchRow) (b : BatchRow) → Climb least most bs → most ≤ℤ more → least ≤ℤ b.epoch → most ≤ℤ b.epoch → b.epoch ≤ℤ more → Climb least more (bs ++ b ∷ [])
 Climb-push least most more [] b h rise low above high = (low, high, tt)
 Climb-push least most more (x ∷ bs) b h rise low above high =
@@ -58,37 +50,12 @@ entries_placed from (b ∷ bs) h =
     ap (λ es. numbered b.first b.epoch b.items ++ es) (entries_placed (last_of b) bs h.2 ∙ ap (λ o. placed o bs) (last_of_is from b h.0))
     ∙ ap (λ o. numbered o b.epoch b.items ++ placed (from +ℤ pos (length b.items)) bs) h.0
 
--- offsets that follow each other from behind this one on
-abbrev pub Consecutive : ℤ → List Entry → Type 0
-Consecutive from [] = Unit {0}
-Consecutive from (e ∷ es) = (e.offset ≡ from +ℤ pos 1) × Consecutive (from +ℤ pos 1) es
-
-pub numbered_consecutive : (from epoch : ℤ) (items : List MetaRecord) (es : List Entry) → Consecutive (from +ℤ pos (length items)) es → Consecutive from (numbered (from +ℤ pos 1) epoch items ++ es)
-numbered_consecutive from epoch [] es h = let at : from +ℤ pos 0 ≡ from = omega (arith, ints) in subst (λ o. Consecutive o es) at h
-numbered_consecutive from epoch (x ∷ items) es h =
-    let at : from +ℤ pos (suc (length items)) ≡ (from +ℤ pos 1) +ℤ pos (length items) = omega (arith, ints) in
-    (refl, numbered_consecutive (from +ℤ pos 1) epoch items es (subst (λ o. Consecutive o es) at h))
-
 pub placed_consecutive : (from : ℤ) (bs : List BatchRow) → Consecutive from (placed from bs)
 placed_consecutive from [] = tt
-placed_consecutive from (b ∷ bs) = numbered_consecutive from b.epoch b.items (placed (from +ℤ pos (length b.items)) bs) (placed_consecutive (from +ℤ pos (length b.items)) bs)
+placed_consecutive from (b ∷ bs) = numbered_consecutive from (from +ℤ pos 1) b.epoch b.items (placed (from +ℤ pos (length b.items)) bs) refl (placed_consecutive (from +ℤ pos (length b.items)) bs)
 
 pub remaining_consecutive : (from epoch : ℤ) (items : List MetaRecord) (rest : List BatchRow) → Consecutive from (remaining from epoch items rest)
-remaining_consecutive from epoch items rest = numbered_consecutive from epoch items (placed (from +ℤ pos (length items)) rest) (placed_consecutive (from +ℤ pos (length items)) rest)
-
-below : (x y : ℤ) → x <ℤ y → int_cmp x y ≡ Less
-below x y h = sym (int_cmp_is x y Less h)
-
-rises_above : (k from : ℤ) (es : List Entry) → k ≤ℤ from → Consecutive from es → RisesAbove int_cmp offset_of k es
-rises_above k from [] le h = tt
-rises_above k from (e ∷ es) le h = (
-  subst (λ o. int_cmp k o ≡ Less) (sym h.0) (below k (from +ℤ pos 1) (omega (arith, ints, le))),
-  subst (λ o. RisesAbove int_cmp offset_of o es) (sym h.0) (rises_above (from +ℤ pos 1) (from +ℤ pos 1) es (omega (arith, ints)) h.1),
-)
-
-pub consecutive_rises : (from : ℤ) (es : List Entry) → Consecutive from es → Rises int_cmp offset_of es
-consecutive_rises from [] h = tt
-consecutive_rises from (e ∷ es) h = subst (λ o. RisesAbove int_cmp offset_of o es) (sym h.0) (rises_above (from +ℤ pos 1) (from +ℤ pos 1) es (omega (arith, ints)) h.1)
+remaining_consecutive from epoch items rest = numbered_consecutive from (from +ℤ pos 1) epoch items (placed (from +ℤ pos (length items)) rest) refl (placed_consecutive (from +ℤ pos (length items)) rest)
 
 -- ---- a record read
 
@@ -119,21 +86,6 @@ read_none from epoch [] (y ∷ rest) none last = absurd (omega arith)
 read_none from epoch (x ∷ items) rest none last = absurd (omega arith)
 
 -- ---- what the records behind an offset do to the metadata
-
-lt_true : (x y : ℤ) → x <ℤ y → int_lt x y ≡ true
-lt_true x y h = grind (arith, ints)
-
-of_lt : (x y : ℤ) → int_lt x y ≡ true → x <ℤ y
-of_lt x y h = grind (arith, ints)
-
-not_lt : (x y : ℤ) → y ≤ℤ x → int_lt x y ≡ false
-not_lt x y h = grind (arith, ints)
-
-of_not_lt : (x y : ℤ) → int_lt x y ≡ false → y ≤ℤ x
-of_not_lt x y h = grind (arith, ints)
-
-of_le : (x y : ℤ) → int_le x y ≡ true → x ≤ℤ y
-of_le x y h = grind (arith, ints)
 
 -- what tests of an offset in range say
 pub is_before : (x y : ℤ) → SFits w64 x → int_lt (to_z w64 (of_z w64 x)) y ≡ true → x <ℤ y
@@ -290,7 +242,7 @@ full_none l items room near =
 
 pub full_end : (l : Log) (items : List MetaRecord) → record_count l.batches + length items ≤ max_records → max_long <ℤ (end_of l +ℤ pos (length items)) → Some 17 ≡ full_log l items
 full_end l items room far =
-    rw (few_enough (record_count l.batches + length items) room, lt_true max_long (end_of l +ℤ pos (length items)) far) refl
+    rw (few_enough (record_count l.batches + length items) room, is_lt max_long (end_of l +ℤ pos (length items)) far) refl
 
 room_by : (many far : Bool) → cond {A = Option ℕ} many (Some 7) (cond far (Some 17) None) ≡ None → (many ≡ false) × (far ≡ false)
 room_by true far h = cc
@@ -310,7 +262,7 @@ pub is_log_added : (l : Log) (epoch now : ℤ) (items : List MetaRecord) → IsL
 is_log_added l epoch now items k elected climbs some free =
     let b : BatchRow = record { first = end_of l +ℤ pos 1; epoch = epoch; time = now; items = items } in
     let room = room_for l items free in
-    let last : last_end l.base (l.batches ++ b ∷ []) ≡ end_of l +ℤ pos (length items) = last_end-push l.base l.batches b ∙ last_of_is (end_of l) b refl in
+    let last : last_end l.base (l.batches ++ b ∷ []) ≡ end_of l +ℤ pos (length items) = last_end-append l.base l.batches (b ∷ []) ∙ last_of_is (end_of l) b refl in
     record {
       epoch = omega (arith, ints, elected);
       base = k.base;
@@ -338,7 +290,7 @@ pub behind_more : (after : ℤ) (bs : List BatchRow) (i : ℕ) (b : BatchRow) �
     → drop (suc i) bs ≡ filter (is_behind after) (drop (suc i) bs) → drop i bs ≡ filter (is_behind after) (drop i bs)
 behind_more after [] i b h is lt rest = absurd (omega arith)
 behind_more after (x ∷ bs) zero b h is lt rest =
-    let t : is_behind after x ≡ true = ap (λ (y : BatchRow). is_behind after y) (sym is) ∙ lt_true after b.first lt in
+    let t : is_behind after x ≡ true = ap (λ (y : BatchRow). is_behind after y) (sym is) ∙ is_lt after b.first lt in
     rw t (ap (λ ys. x ∷ ys) rest)
 behind_more after (x ∷ bs) (suc i) b h is lt rest = behind_more after bs i b (omega arith) is lt rest
 

@@ -18,8 +18,9 @@ use Rattle.kz_settle.proofs.Bounds.{counted_same}
 use Rattle.kz_log.specs.Building.{Building, building_of, started, view_of, Takes, Took}
 use Rattle.kz_log.specs.Requests.{IsFeed}
 use Rattle.kz_log.specs.Views.{Fits, start_of, known_epoch, GoesOn}
-use Rattle.kz_log.proofs.Cuts.{Chain, chain_of, Chain-append, Follow-left, Follow-right, last_end-append, chain_end, entries-append, entries_rise, entries_end, cut_of, of_cut, by_here}
-use Rattle.kz_log.proofs.Views.{le_of, at_of, behind_base, behind_cut, based, baseless}
+use Rattle.kz_log.proofs.Cuts.{Chain, chain_of, Chain-append, Follow-left, Follow-right, chain_end, entries-append, entries_rise, entries_end, cut_of, of_cut, by_here}
+use Rattle.kz_log.proofs.Offsets.{last_end-append, le_of_lt}
+use Rattle.kz_log.proofs.Views.{at_of, behind_base, behind_cut, based, baseless}
 
 -- ---- one after another
 
@@ -215,7 +216,7 @@ reads_by : (l : Log) (v n : View) (f : Feed) → IsLog l → IsViewOf l v → Is
     → (t : Bool) → int_lt v.position l.base ≡ t → n ≡ read_view l v
 reads_by l v n f k is read at position epoch true below =
     let base = based (int_lt v.position l.base) l f.base read.base below in
-    let batches : f.batches ≡ l.batches = read.batches ∙ behind_base l v.position k (le_of v.position l.base below) in
+    let batches : f.batches ≡ l.batches = read.batches ∙ behind_base l v.position k (le_of_lt v.position l.base below) in
     let whole : fed l f.base f.batches ≡ l = ap (λ b. fed l b f.batches) base ∙ ap (fed l (Some (l.base, l.base_image))) batches in
     read_is l v n k (subst (λ m. IsAt m n) whole (at l (subst (GoesOn l v) (sym base) tt))) (position ∙ read.end)
     (epoch ∙ ap (λ b. last_epoch (known_epoch b v.epoch) f.batches) base ∙ ap (last_epoch (pos 0)) read.batches

@@ -1,17 +1,18 @@
 -- The records of batches that follow each other, and what a log says at the end of one of its batches.
-use Rattle.std.proofs.Common.{◌≡◌, ◌+◌, true, false, ℤ, pos, ◌+ℤ◌, ◌≤ℤ◌, ◌<ℤ◌, int_le, int_lt, int_cmp, Less, List, [], ◌∷◌, ◌++◌, length, refl, sym, ap, ◌∙◌, subst, filter, map, arith}
+use Rattle.std.proofs.Common.{◌≡◌, ◌+◌, false, ℤ, pos, ◌+ℤ◌, ◌≤ℤ◌, ◌<ℤ◌, int_le, int_cmp, List, [], ◌∷◌, ◌++◌, length, refl, sym, ap, ◌∙◌, subst, filter, map, arith}
 use Rattle.std.proofs.lemmas.Int.{ints}
 use Rattle.std.proofs.lemmas.Grind.{flat_map-append}
 use Rattle.std.proofs.lemmas.List.Elements.{All-nil, All-cons, filter-append}
 use Rattle.kz_types.specs.declared.log.BatchRow.{BatchRow}
 use Rattle.kz_types.specs.declared.log.Entry.{Entry}
 use Rattle.kz_types.specs.declared.record.MetaRecord.{MetaRecord}
-use Rattle.kz_ordered.specs.Ordered.{Rises, RisesAbove}
+use Rattle.kz_ordered.specs.Ordered.{Rises}
 use Rattle.kz_spec_stores.specs.Log.{Log, View, Follow, IsAt, is_behind, last_of, last_end, batch_ends, numbered, entries_of_batch, entries, entries_by, image_at, all_entries_applied}
 use Rattle.kz_spec_stores.specs.Settlement.{counted, begun, kept}
 use Rattle.kz_settle.specs.Settling.{offset_of}
 use Rattle.kz_settle.specs.Stands.{AllBy}
 use Rattle.kz_settle.proofs.Bounds.{AllBehind, counted_before, by_split}
+use Rattle.kz_log.proofs.Offsets.{Consecutive, numbered_consecutive, consecutive_rises, last_of_is, is_lt, not_lt, not_le}
 
 -- ---- batches
 
@@ -44,26 +45,7 @@ pub Follow-right : (from : ℤ) (bs cs : List BatchRow) → Follow from (bs ++ c
 Follow-right from [] cs h = h
 Follow-right from (b ∷ bs) cs h = Follow-right (last_of b) bs cs h.2
 
-pub last_end-append : (from : ℤ) (bs cs : List BatchRow) → last_end from (bs ++ cs) ≡ last_end (last_end from bs) cs
-last_end-append from [] cs = refl
-last_end-append from (b ∷ bs) cs = last_end-append (last_of b) bs cs
-
-last_of_is : (from : ℤ) (b : BatchRow) → b.first ≡ from +ℤ pos 1 → last_of b ≡ from +ℤ pos (length b.items)
-last_of_is from b h = omega (arith, ints, h)
-
 -- ---- their records
-
--- offsets that follow each other from behind an offset on
-abbrev pub Consecutive : ℤ → List Entry → Type 0
-Consecutive from [] = Unit {0}
-Consecutive from (e ∷ es) = (e.offset ≡ from +ℤ pos 1) × Consecutive (from +ℤ pos 1) es
-
-numbered_consecutive : (from offset epoch : ℤ) (items : List MetaRecord) (es : List Entry) → offset ≡ from +ℤ pos 1 → Consecutive (from +ℤ pos (length items)) es
-    → Consecutive from (numbered offset epoch items ++ es)
-numbered_consecutive from offset epoch [] es at h = let same : from +ℤ pos 0 ≡ from = omega (arith, ints) in subst (λ n. Consecutive n es) same h
-numbered_consecutive from offset epoch (x ∷ items) es at h =
-    let same : from +ℤ pos (length (x ∷ items)) ≡ (from +ℤ pos 1) +ℤ pos (length items) = omega (arith, ints) in
-    (at, numbered_consecutive (from +ℤ pos 1) (offset +ℤ pos 1) epoch items es (ap (λ n. n +ℤ pos 1) at) (subst (λ n. Consecutive n es) same h))
 
 entries_consecutive : (from : ℤ) (bs : List BatchRow) → Chain from bs → Consecutive from (entries bs)
 entries_consecutive from [] h = tt
@@ -87,30 +69,11 @@ consecutive_by from to (e ∷ es) h k =
     let here : e.offset ≤ℤ to = let at = h.0 in omega (arith, ints, at, k) in
     All-cons (λ (x : Entry). x.offset ≤ℤ to) e es here (consecutive_by (from +ℤ pos 1) to es h.1 (omega (arith, ints, k)))
 
-not_le : (x y : ℤ) → y <ℤ x → int_le x y ≡ false
-not_le x y h = grind (arith, ints)
-
 consecutive_behind : (from at : ℤ) (es : List Entry) → Consecutive from es → at ≤ℤ from → AllBehind at es
 consecutive_behind from at [] h k = All-nil (λ (e : Entry). int_le e.offset at ≡ false)
 consecutive_behind from at (e ∷ es) h k =
     let here : at <ℤ e.offset = let is = h.0 in omega (arith, ints, is, k) in
     All-cons (λ (x : Entry). int_le x.offset at ≡ false) e es (not_le e.offset at here) (consecutive_behind (from +ℤ pos 1) at es h.1 (omega (arith, ints, k)))
-
-is_lt : (x y : ℤ) → x <ℤ y → int_lt x y ≡ true
-is_lt x y h = grind (arith, ints)
-
-less : (x y : ℤ) → x <ℤ y → int_cmp x y ≡ Less
-less x y h = rw (is_lt x y h) refl
-
-rises_above : (low from : ℤ) (es : List Entry) → low ≤ℤ from → Consecutive from es → RisesAbove int_cmp offset_of low es
-rises_above low from [] k h = tt
-rises_above low from (e ∷ es) k h =
-    let at = h.0 in
-    (less low e.offset (omega (arith, ints, at, k)), rises_above e.offset (from +ℤ pos 1) es (omega (arith, ints, at)) h.1)
-
-consecutive_rises : (from : ℤ) (es : List Entry) → Consecutive from es → Rises int_cmp offset_of es
-consecutive_rises from [] h = tt
-consecutive_rises from (e ∷ es) h = let at = h.0 in rises_above e.offset (from +ℤ pos 1) es (omega (arith, ints, at)) h.1
 
 pub entries_rise : (from : ℤ) (bs : List BatchRow) → Chain from bs → Rises int_cmp offset_of (entries bs)
 entries_rise from bs h = consecutive_rises from (entries bs) (entries_consecutive from bs h)
@@ -210,9 +173,6 @@ of_cut l v chain c =
     }
 
 -- ---- the batches behind an offset
-
-not_lt : (x y : ℤ) → y ≤ℤ x → int_lt x y ≡ false
-not_lt x y h = grind (arith, ints)
 
 pub behind_all : (from at : ℤ) (cs : List BatchRow) → at ≤ℤ from → Chain from cs → filter (is_behind at) cs ≡ cs
 behind_all from at [] le h = refl

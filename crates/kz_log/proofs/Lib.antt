@@ -1,5 +1,6 @@
 pub mod Batches
-pub mod Wires
 pub mod Building
 pub mod Cuts
+pub mod Offsets
 pub mod Views
+pub mod Wires

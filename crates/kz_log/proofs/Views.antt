@@ -1,5 +1,5 @@
 -- Views of a log: what is known before the first read, what a view can take, and what leaves a view a view.
-use Rattle.std.proofs.Common.{◌≡◌, inl, inr, ℕ, Bool, true, false, cond, ℤ, pos, negsuc, ◌+ℤ◌, ◌≤ℤ◌, ◌<ℤ◌, int_lt, List, [], ◌∷◌, ◌++◌, Option, Some, None, Ok, Err, refl, sym, ap, ◌∙◌, subst, append_assoc, append-nil, get_or, filter, arith}
+use Rattle.std.proofs.Common.{◌≡◌, inl, inr, ℕ, Bool, true, false, cond, ℤ, pos, negsuc, ◌+ℤ◌, ◌≤ℤ◌, int_lt, List, [], ◌∷◌, ◌++◌, Option, Some, None, Ok, Err, refl, sym, ap, ◌∙◌, subst, append_assoc, append-nil, get_or, filter, arith}
 use Rattle.std.proofs.lemmas.Int.{ints}
 use Rattle.std.specs.Ordering.{int_eq}
 use Rattle.kz_types.specs.declared.log.BatchRow.{BatchRow}
@@ -14,28 +14,15 @@ use Rattle.kz_log.specs.Requests.{IsFeed}
 use Rattle.kz_log.specs.Rows.{log_of, base_of, image_of_base}
 use Rattle.kz_log.specs.Views.{Fits, start_of}
 use Rattle.kz_log.specs.ViewLaws.{NewIsView, FeedFits, AppendLeavesViews, ElectLeavesViews, OpenIsBegun}
-use Rattle.kz_log.proofs.Cuts.{chain_of, Chain-append, Follow-right, last_end-append, entries_rise, entries_end, Cut, cut_of, of_cut, behind_all, behind_right}
-
--- ---- orders of numbers as tests
-
-lt_of : (x y : ℤ) → int_lt x y ≡ true → x <ℤ y
-lt_of x y h = grind (arith, ints)
-
-pub le_of : (x y : ℤ) → int_lt x y ≡ true → x ≤ℤ y
-le_of x y h = grind (arith, ints)
-
-ge_of : (x y : ℤ) → int_lt x y ≡ false → y ≤ℤ x
-ge_of x y h = grind (arith, ints)
-
-is_lt : (x y : ℤ) → x <ℤ y → int_lt x y ≡ true
-is_lt x y h = grind (arith, ints)
+use Rattle.kz_log.proofs.Cuts.{chain_of, Chain-append, Follow-right, entries_rise, entries_end, Cut, cut_of, of_cut, behind_all, behind_right}
+use Rattle.kz_log.proofs.Offsets.{last_end-append, is_lt, of_lt, le_of_lt, of_not_lt}
 
 -- ---- before the first read
 
 new_by : (l : Log) → IsLog l → (t : Bool) → int_lt (negsuc 0) l.base ≡ t → IsViewOf l new_view
-new_by l k true is = inl (lt_of (negsuc 0) l.base is)
+new_by l k true is = inl (of_lt (negsuc 0) l.base is)
 new_by l k false is =
-    let low = ge_of (negsuc 0) l.base is in
+    let low = of_not_lt (negsuc 0) l.base is in
     let high = k.base in
     let at : l.base ≡ negsuc 0 = omega (arith, ints, low, high) in
     inr (of_cut l new_view (chain_of l.base l.batches k.follow) (record {
@@ -116,7 +103,7 @@ read_is_view l v k =
 
 -- what is read behind a position of the log that the view has passed
 pub at_of : (l : Log) (v : View) → IsViewOf l v → int_lt v.position l.base ≡ false → IsAt l v
-at_of l v (inl below) h = let over = ge_of v.position l.base h in absurd (omega (arith, ints, below, over))
+at_of l v (inl below) h = let over = of_not_lt v.position l.base h in absurd (omega (arith, ints, below, over))
 at_of l v (inr at) h = at
 
 pub behind_base : (l : Log) (after : ℤ) → IsLog l → after ≤ℤ l.base → filter (is_behind after) l.batches ≡ l.batches
@@ -156,7 +143,7 @@ baseless false l b h is = h
 
 fits_by : (l : Log) (v : View) (f : Feed) → IsLog l → IsViewOf l v → IsFeed (feed_from l v.position) f → (t : Bool) → int_lt v.position l.base ≡ t → Fits v f
 fits_by l v f k is read true below =
-    fits_whole l v f k (based (int_lt v.position l.base) l f.base read.base below) (read.batches ∙ behind_base l v.position k (le_of v.position l.base below)) read.end
+    fits_whole l v f k (based (int_lt v.position l.base) l f.base read.base below) (read.batches ∙ behind_base l v.position k (le_of_lt v.position l.base below)) read.end
 fits_by l v f k is read false passed =
     let c = cut_of l v (chain_of l.base l.batches k.follow) (at_of l v is passed) in
     fits_rest l v f c k (baseless (int_lt v.position l.base) l f.base read.base passed) (read.batches ∙ behind_cut l v c k) read.end

@@ -5,7 +5,6 @@ ghost use Rattle.kz_log.specs.Requests.{IsReadFault, IsDown};
 
 use crate::{LogRows, MetaLog, View};
 use kz_types::{LogFault, NoMemory};
-use std::alloc::Global;
 
 /// Brings a view to the log's end. At `Err` it is as it was.
 pub fn read_to_end<L: MetaLog>(view: &mut View, log: &mut L) -> Result<(), LogFault>
@@ -31,7 +30,7 @@ pub fn read_to_end<L: MetaLog>(view: &mut View, log: &mut L) -> Result<(), LogFa
 }
 
 /// All of a log.
-pub fn read_all<L: MetaLog>(alloc: Global, log: &mut L) -> Result<LogRows, LogFault>
+pub fn read_all<L: MetaLog>(log: &mut L) -> Result<LogRows, LogFault>
     ensures ok { IfOk result (λ rows. rows ≡ L.log log.old) }
     ensures failed { IfErr result (IsReadFault (L.down log.old)) }
     ensures same { L.log log.new ≡ L.log log.old }
@@ -41,10 +40,7 @@ pub fn read_all<L: MetaLog>(alloc: Global, log: &mut L) -> Result<LogRows, LogFa
 {
     let epoch = log.epoch();
     match log.read_from(-2) {
-        Ok(feed) => match LogRows::from_feed(alloc, epoch, feed) {
-            Ok(rows) => Ok(rows),
-            Err(NoMemory) => Err(LogFault::NoMemory),
-        },
+        Ok(feed) => Ok(LogRows::from_feed(epoch, feed)),
         Err(fault) => Err(fault),
     }
 }

@@ -55,23 +55,23 @@ impl LogRows {
     }
 
     /// The log of this epoch that was read whole: from its base on.
-    pub fn from_feed(alloc: Global, epoch: i32, feed: Feed) -> Result<Self, NoMemory>
+    pub fn from_feed(epoch: i32, feed: Feed) -> Self
         requires { IsLog (log_of epoch feed) }
-        ensures { IfOk result (λ rows. rows ≡ log_of epoch feed) }
+        ensures { result ≡ log_of epoch feed }
     {
         let batches = feed.batches.into_vec();
         let count = count_of(&batches);
         let (base, base_image) = match feed.base {
             Some(base) => base,
-            None => (-1, Image::new(alloc)),
+            None => (-1, Image::new(*batches.allocator())),
         };
-        Ok(LogRows {
+        LogRows {
             epoch,
             base,
             base_image,
             count,
             batches,
-        })
+        }
     }
 
     /// The epoch of the controller that was elected last, or 0.

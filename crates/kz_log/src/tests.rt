@@ -1,4 +1,6 @@
-use super::{Elected, Feed, LogFault, LogRows, LogWire, LogWireFault, MemoryLog, MetaLog};
+use super::{
+    Elected, Feed, LogFault, LogRows, LogWire, LogWireFault, MemoryLog, MetaLog, read_all,
+};
 use kz_image::Image;
 use kz_types::{ConfigRecord, MetaRecord, Plan, Sequence, Text};
 use std::alloc::Global;
@@ -82,6 +84,19 @@ fn batches_behind_an_offset_are_read(rt: HostRuntime) {
         assert!(rt; feed.end == 6);
         drop(feed);
     }
+    drop(log);
+}
+
+#[test]
+fn a_log_is_read_whole(rt: HostRuntime) {
+    let alloc = rt.alloc();
+    let mut log = log_of_three(&rt, alloc);
+    let rows = made(&rt, read_all(&mut log));
+    assert!(rt; rows.epoch() == 1);
+    assert!(rt; rows.base() == -1);
+    let ends = made(&rt, rows.batch_ends(alloc));
+    assert!(rt; ends.as_slice() == [-1, 0, 3, 6].as_slice());
+    drop(rows);
     drop(log);
 }
 
@@ -220,7 +235,7 @@ fn rows_from(rt: &impl Abort, alloc: Global, base: i64) -> LogRows {
         batches: Sequence::new(alloc),
         end: base,
     };
-    made(rt, LogRows::from_feed(alloc, 1, feed))
+    LogRows::from_feed(1, feed)
 }
 
 #[test]

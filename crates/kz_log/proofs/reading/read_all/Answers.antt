@@ -8,7 +8,7 @@ from_feed-requires g c =
     let epoch : to_z w32 (of_z w32 c.epoch-epoch.result) ≡ (g.L.MetaLog.log c.args.log.now).epoch = search rules in
     subst IsLog (sym (log_is_read (g.L.MetaLog.log c.args.log.now) _ c.in-Ok.feed c.epoch-epoch.ensures.kept epoch c.in-Ok.ensures.ok)) c.epoch-epoch.ensures.kept
 
-pub returns-in-Ok-from_feed-clause-ok : goal.returns-in-Ok-from_feed-clause-ok
-returns-in-Ok-from_feed-clause-ok g c =
+pub returns-in-Ok-clause-ok : goal.returns-in-Ok-clause-ok
+returns-in-Ok-clause-ok g c =
     let epoch : to_z w32 (of_z w32 c.epoch-epoch.result) ≡ (g.L.MetaLog.log c.args.log.now).epoch = search rules in
-    c.in-Ok-from_feed.ensures ∙ log_is_read (g.L.MetaLog.log c.args.log.now) _ c.in-Ok.feed c.epoch-epoch.ensures.kept epoch c.in-Ok.ensures.ok
+    c.from_feed.ensures ∙ log_is_read (g.L.MetaLog.log c.args.log.now) _ c.in-Ok.feed c.epoch-epoch.ensures.kept epoch c.in-Ok.ensures.ok
