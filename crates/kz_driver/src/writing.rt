@@ -75,7 +75,7 @@ fn remaining_in<L: MetaLog>(
     ensures calm { L.faults log.new ≡ L.faults log.old }
     ensures up { L.down log.new ≡ L.down log.old }
 {
-    match read_all(alloc, log) {
+    match read_all(log) {
         Ok(rows) => Ok(remaining(alloc, tree, &rows.image_at(alloc, offset)?)?),
         Err(fault) => Err(log_fault(fault)),
     }
