@@ -1,13 +1,8 @@
-use mir.Val.{SFits}
-use Rattle.std.proofs.Common.{rules, ◌≡◌, w32, to_z, of_z, sym, ap, ◌∙◌, subst}
-use Rattle.std.proofs.lemmas.Int.{to_z-of_z}
-use Rattle.kz_spec_stores.specs.Requests.{Either}
+use Rattle.std.proofs.Common.{rules, ◌≡◌}
 use Rattle.kz_spec_stores.specs.Tree.{multi}
 use Rattle.kz_spec_machine.specs.Driver.{remaining_at, write_ops}
-use Rattle.kz_driver.specs.Claims.{tree_after}
-use Rattle.kz_driver.specs.Faults.{IsChangeStepFault}
 use Rattle.kz_driver.specs.Rows.{driver_of}
-use Rattle.kz_driver.specs.Writes.{more_of, last_of, written_by, tree_written}
+use Rattle.kz_driver.specs.Writes.{more_of, last_of, written_by}
 use Rattle.kz_driver.proofs.Writings.{writes_is}
 use Rattle.kz_driver.proofs.writing.write.Goals as goal
 
