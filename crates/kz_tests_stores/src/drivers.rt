@@ -1,7 +1,8 @@
 //! The drivers of controllers, and the multis by which they claim the tree and write to it.
 //!
 //! A test lets go of drivers and stores by `drop`, which makes its proof much shorter than their end of scope.
-ghost use Rattle.std.specs.Prelude.{◌<◌, ◌≤ℤ◌, pos, length};
+ghost use Rattle.std.specs.Prelude.{◌≡◌, ◌<◌, ◌≤ℤ◌, pos, length};
+ghost use Rattle.kz_spec_stores.specs.Log.{View, IsViewOf, new_view};
 
 use crate::made::{
     OpText, are_ops, body_of, broker_record, config_record, ids_of, is_op, made, path_of, put,
@@ -11,11 +12,11 @@ use kz_driver::{
     Claimer, Driver, Peers, claim_ops, is_last_write, missing_broker, missing_controller, write_ops,
 };
 use kz_image::Image;
-use kz_log::MemoryLog;
+use kz_log::{MemoryLog, MetaLog, views_stay};
 use kz_script::write_answer;
 use kz_session::MemoryTree;
 use kz_tree::ZTree;
-use kz_types::{Answer, ClaimSeen, MetaRecord, Op, Recorded, Sequence, Stage};
+use kz_types::{Answer, ClaimSeen, MetaRecord, Op, Recorded, Reply, Sequence, Stage};
 use std::alloc::Global;
 use std::process::Abort;
 
@@ -152,27 +153,51 @@ fn new_stores(rt: &impl Abort, alloc: Global, declared: &[i32], running: &[i32])
     }
 }
 
+// One step. What the driver and others know of the log stays known.
+fn step(rt: &impl Abort, driver: &mut Driver, stores: &mut Stores, replies: &mut Sequence<Reply>)
+    requires { IsViewOf stores.old.log driver.old.view }
+    ensures view { IsViewOf stores.new.log driver.new.view }
+    ensures views { (v : View) → IsViewOf stores.old.log v → IsViewOf stores.new.log v }
+{
+    match driver.step(&mut stores.tree, &mut stores.log, &stores.peers, 8) {
+        Ok(reply) => put(rt, replies, reply),
+        Err(_) => panic!(rt; "a step failed"),
+    }
+}
+
 // Makes as many steps as there are lines, and compares what they tell, as a turn's lines write it.
-fn tells(rt: &impl Abort, alloc: Global, driver: &mut Driver, stores: &mut Stores, lines: &str) {
+fn tells(rt: &impl Abort, alloc: Global, driver: &mut Driver, stores: &mut Stores, lines: &str)
+    requires { IsViewOf stores.old.log driver.old.view }
+    ensures view { IsViewOf stores.new.log driver.new.view }
+    ensures views { (v : View) → IsViewOf stores.old.log v → IsViewOf stores.new.log v }
+{
     let mut replies = Sequence::new(alloc);
     for _ in lines.lines() {
-        let reply = driver.step(&mut stores.tree, &mut stores.log, &stores.peers, 8);
-        put(rt, &mut replies, made(rt, reply));
+        step(rt, driver, stores, &mut replies);
     }
     let told = made(rt, write_answer(alloc, 1, &Answer::Turn(replies)));
     assert!(rt; told.as_slice() == lines.as_bytes());
 }
 
 // The log elects a leader, which begins with these records.
-fn elect(rt: &impl Abort, alloc: Global, stores: &mut Stores, items: &[MetaRecord])
+fn elect(rt: &impl Abort, stores: &mut Stores, items: &[MetaRecord])
     requires { 0 < length items.now }
+    ensures views { (v : View) → IsViewOf stores.old.log v → IsViewOf stores.new.log v }
+    ensures first { IsViewOf stores.new.log new_view }
 {
-    made(rt, stores.log.elect(alloc, 8, items));
+    views_stay();
+    let _kept = stores.log.epoch();
+    match stores.log.elect(8, items) {
+        Ok(_) => {}
+        Err(_) => panic!(rt; "an election failed"),
+    }
+    let _kept = stores.log.epoch();
 }
 
 // A controller that is elected with this epoch.
 fn elected(alloc: Global, id: i32, epoch: i32) -> Driver
     requires { pos 1 ≤ℤ epoch }
+    ensures { result.view ≡ new_view }
 {
     let mut driver = Driver::new(alloc, id);
     driver.elected(epoch);
@@ -207,9 +232,11 @@ fn has_body(tree: &MemoryTree, path: &str, body: &str) -> bool {
 }
 
 // A tree and a log that the controller 3000 has migrated, and that controller, which rests.
-fn migrated(rt: &impl Abort, alloc: Global) -> (Stores, Driver) {
+fn migrated(rt: &impl Abort, alloc: Global) -> (Stores, Driver)
+    ensures { IsViewOf result.0.log result.1.view }
+{
     let mut stores = new_stores(rt, alloc, &[3000], &[3000]);
-    elect(rt, alloc, &mut stores, &MIGRATING);
+    elect(rt, &mut stores, &MIGRATING);
     let mut driver = elected(alloc, 3000, 1);
     tells(rt, alloc, &mut driver, &mut stores, MIGRATION);
     (stores, driver)
@@ -238,20 +265,22 @@ fn a_driver_migrates_an_empty_tree(rt: HostRuntime) {
 }
 
 // Appends a record as the leader of the epoch 1.
-fn append(rt: &impl Abort, alloc: Global, stores: &mut Stores, item: MetaRecord) {
-    made(rt, stores.log.append(alloc, 1, 8, &[item]));
+fn append(rt: &impl Abort, stores: &mut Stores, item: MetaRecord)
+    ensures { (v : View) → IsViewOf stores.old.log v → IsViewOf stores.new.log v }
+{
+    views_stay();
+    let _kept = stores.log.epoch();
+    match stores.log.append(1, 8, &[item]) {
+        Ok(_) => {}
+        Err(_) => panic!(rt; "an append failed"),
+    }
 }
 
 #[test]
 fn a_change_is_written_back_in_dual_write(rt: HostRuntime) {
     let alloc = rt.alloc();
     let (mut stores, mut driver) = migrated(&rt, alloc);
-    append(
-        &rt,
-        alloc,
-        &mut stores,
-        config_record(&rt, alloc, "1", "a", "v"),
-    );
+    append(&rt, &mut stores, config_record(&rt, alloc, "1", "a", "v"));
     let lines = "1 looked\n1 recorded 5\n1 idle\n";
     tells(&rt, alloc, &mut driver, &mut stores, lines);
     assert!(rt;
@@ -269,7 +298,7 @@ fn a_change_is_written_back_in_dual_write(rt: HostRuntime) {
 fn a_driver_waits_for_controllers(rt: HostRuntime) {
     let alloc = rt.alloc();
     let mut stores = new_stores(&rt, alloc, &[3002, 3000, 3001], &[3000]);
-    elect(&rt, alloc, &mut stores, &MIGRATING);
+    elect(&rt, &mut stores, &MIGRATING);
     let mut driver = elected(alloc, 3000, 1);
     let lines = "1 wait-quorum 3001\n1 wait-quorum 3001\n";
     tells(&rt, alloc, &mut driver, &mut stores, lines);
@@ -296,11 +325,11 @@ fn a_driver_waits_for_brokers(rt: HostRuntime) {
     for path in ["/brokers", "/brokers/ids", "/brokers/ids/7"] {
         create(&rt, alloc, &mut stores.tree, path, "");
     }
-    elect(&rt, alloc, &mut stores, &MIGRATING);
+    elect(&rt, &mut stores, &MIGRATING);
     let mut driver = elected(alloc, 3000, 1);
     let lines = "1 moved WAIT_FOR_BROKERS\n1 looked\n1 wait-broker 7\n";
     tells(&rt, alloc, &mut driver, &mut stores, lines);
-    append(&rt, alloc, &mut stores, broker_record(alloc, 7, true));
+    append(&rt, &mut stores, broker_record(alloc, 7, true));
     let lines = "1 looked\n1 moved BECOME_CONTROLLER\n1 looked\n1 claimed 1\n";
     tells(&rt, alloc, &mut driver, &mut stores, lines);
     drop(driver);
@@ -324,7 +353,7 @@ fn a_claim_takes_the_tree_of_another_controller(rt: HostRuntime) {
     for (path, body) in &HELD {
         create(&rt, alloc, &mut stores.tree, path, body);
     }
-    elect(&rt, alloc, &mut stores, &MIGRATING);
+    elect(&rt, &mut stores, &MIGRATING);
     let mut driver = elected(alloc, 3000, 1);
     let lines =
         "1 moved WAIT_FOR_BROKERS\n1 looked\n1 moved BECOME_CONTROLLER\n1 looked\n1 claimed 6\n";
@@ -345,7 +374,7 @@ fn a_claim_takes_the_tree_of_another_controller(rt: HostRuntime) {
 fn a_write_is_fenced_by_a_later_claim(rt: HostRuntime) {
     let alloc = rt.alloc();
     let (mut stores, mut driver) = migrated(&rt, alloc);
-    elect(&rt, alloc, &mut stores, &NEXT);
+    elect(&rt, &mut stores, &NEXT);
     let mut other = elected(alloc, 3001, 2);
     let lines = "1 moved BECOME_CONTROLLER\n1 looked\n1 claimed 2\n";
     tells(&rt, alloc, &mut other, &mut stores, lines);
@@ -362,8 +391,8 @@ fn a_claim_is_fenced_by_a_higher_epoch(rt: HostRuntime) {
     let alloc = rt.alloc();
     let (mut stores, first) = migrated(&rt, alloc);
     drop(first);
-    elect(&rt, alloc, &mut stores, &NEXT);
-    elect(&rt, alloc, &mut stores, &NEXT);
+    elect(&rt, &mut stores, &NEXT);
+    elect(&rt, &mut stores, &NEXT);
     let mut later = elected(alloc, 3002, 3);
     let lines = "1 moved BECOME_CONTROLLER\n1 looked\n1 claimed 2\n";
     tells(&rt, alloc, &mut later, &mut stores, lines);
