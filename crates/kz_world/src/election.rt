@@ -1,7 +1,6 @@
 //! An election.
 ghost use Rattle.std.specs.Prelude.{◌≡◌, ◌<◌, ◌∷◌, [], ◌++◌, length, None, IfOk, OnOk, OnErr, IfErr, IsErrOf, true, if◌then◌else◌};
 ghost use Rattle.kz_types.specs.Causes.{Rose};
-ghost use Rattle.kz_types.specs.declared.record.MetaRecord.TheVariants as meta;
 ghost use Rattle.kz_types.specs.declared.machine.Event.TheVariants as event;
 ghost use Rattle.kz_spec_machine.specs.Machine.{election_records, running_refusal, next};
 ghost use Rattle.kz_world.specs.Worlds.{world_of, records_on_election, IsKept, IsEventFault};

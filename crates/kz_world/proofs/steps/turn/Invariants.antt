@@ -1,8 +1,6 @@
-use Rattle.std.proofs.Common.{◌≡◌}
-use Rattle.kz_spec_stores.specs.Log.{View, IsViewOf}
 use Rattle.kz_spec_machine.specs.Machine.{turn}
 use Rattle.kz_driver.specs.Drivers.{shared_of}
-use Rattle.kz_world.proofs.StepWise.{GoesOn, IsTurning}
+use Rattle.kz_world.proofs.StepWise.{IsTurning}
 use Rattle.kz_world.proofs.steps.turn.Given as goal
 
 abbrev pub invariant-loop-done : goal.invariant-loop-done
