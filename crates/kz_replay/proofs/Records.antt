@@ -11,6 +11,7 @@ is_asked (event.Start id) lawful = tt
 is_asked (event.Elect id now) lawful = tt
 is_asked (event.Turn id now) lawful = tt
 is_asked (event.Change id records now) lawful = omega (arith, lawful.3)
+is_asked (event.Register id broker migrating now) lawful = tt
 is_asked event.Check lawful = tt
 is_asked (event.ZkOpen session) lawful = lawful.least
 is_asked (event.ZkExpire session) lawful = tt

@@ -8,6 +8,7 @@ ghost use Rattle.kz_spec_runs.specs.Output.{replayed};
 
 use crate::program::run_on;
 use kz_io::{Sink, Source};
+use kz_log::MemoryLog;
 use kz_session::MemoryTree;
 use kz_types::Status;
 use kz_world::World;
@@ -57,5 +58,5 @@ pub fn run<S: Source, K: Sink>(
     // after each turn of the script that comes to rest in dual write, the tree is in step with the log
     ensures in_step { IsReplay words.now → IfSome (S.left input.old) (λ script. StaysInStep (script_events script)) }
 {
-    run_on::<World<MemoryTree>, S, K>(alloc, words, input, out)
+    run_on::<World<MemoryTree, MemoryLog>, S, K>(alloc, words, input, out)
 }

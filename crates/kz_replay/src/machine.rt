@@ -7,6 +7,7 @@ ghost use Rattle.kz_spec_runs.specs.Output.{recorded_offset};
 ghost use Rattle.kz_world.specs.Worlds.{seen};
 
 use kz_driver::StepFault;
+use kz_log::{MemoryLog, MetaLog};
 use kz_session::MemoryTree;
 use kz_tree::ZTree;
 use kz_types::{Answer, Event, NoMemory};
@@ -40,11 +41,11 @@ pub trait Machine: Drop + Sized {
         ensures { IfOk result (λ offset. offset ≡ recorded_offset (world self.now).shared.tree) };
 }
 
-impl Machine for World<MemoryTree> {
-    ghost world = { λ w. seen ⟦<MemoryTree as ZTree>⟧.tree w };
+impl Machine for World<MemoryTree, MemoryLog> {
+    ghost world = { λ w. seen ⟦<MemoryTree as ZTree>⟧.tree ⟦<MemoryLog as MetaLog>⟧.log w };
 
     fn new(alloc: Global) -> Result<Self, NoMemory> {
-        World::new(alloc, MemoryTree::new(alloc))
+        Ok(World::new(alloc, MemoryTree::new(alloc), MemoryLog::new(alloc)))
     }
 
     #[tactic(auto, using(crate::proofs::Records::is_asked))]
@@ -53,6 +54,7 @@ impl Machine for World<MemoryTree> {
             Ok(answer) => Ok(answer),
             Err(StepFault::NoMemory) => Err(NoMemory),
             Err(StepFault::Tree(_)) => unreachable!(),
+            Err(StepFault::Log(_)) => unreachable!(),
         }
     }
 

@@ -3,3 +3,4 @@ pub mod Listings
 pub mod OrderedZnodes
 pub mod Outcomes
 pub mod StepWise
+pub mod Views

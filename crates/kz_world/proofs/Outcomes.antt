@@ -1,8 +1,6 @@
 -- What events make of a world.
 use Rattle.std.proofs.Common.{◌≡◌, ℕ, zero, suc, ◌<◌, ◌≤◌, Bool, true, false, cond, ℤ, List, [], ◌∷◌, length, set, not, Option, Some, None, option_map, Result, Ok, Err, refl, sym, ap, ◌∙◌, subst, arith}
-use Rattle.std.specs.Prelude.{slice_get, int_lt}
-use Rattle.std.specs.Ordering.{int_eq}
-use Rattle.std.proofs.lemmas.Int.{ints}
+use Rattle.std.specs.Prelude.{slice_get, int_lt, nat_le, IfOk}
 use Rattle.kz_types.specs.declared.fault.LogFault.{LogFault}
 use Rattle.kz_types.specs.declared.fault.LogFault.TheVariants as fault
 use Rattle.kz_types.specs.declared.machine.Answer.{Answer}
@@ -10,12 +8,12 @@ use Rattle.kz_types.specs.declared.machine.Answer.TheVariants as answer
 use Rattle.kz_types.specs.declared.machine.Event.TheVariants as event
 use Rattle.kz_types.specs.declared.machine.Reply.{Reply}
 use Rattle.kz_types.specs.declared.record.MetaRecord.{MetaRecord}
-use Rattle.kz_spec_stores.specs.Image.{all_applied}
-use Rattle.kz_spec_stores.specs.Log.{Log, append, elect, end_of, full_log, added, with_batch, max_epoch, image_of, is_migrated_log}
+use Rattle.kz_spec_stores.specs.Image.{all_applied, first_bad}
+use Rattle.kz_spec_stores.specs.Log.{Log, elect, end_of, full_log, added, max_epoch, image_of, begun_of, is_migrated_log}
 use Rattle.kz_spec_stores.specs.Rendering.{excess}
 use Rattle.kz_spec_machine.specs.Driver.{Shared, Driver}
-use Rattle.kz_spec_machine.specs.Machine.{World, next, running_ids, is_running, start_refusal, turn, work, turned_world, decided, unless_refused, first_of, unless, over, full, running_refusal, leader_refusal, change_refusal, over_excess, election_refusal, election_records, elected_log, elected_world, election_answer, next_epoch, changed_log, changed_world, turn_result, driver_of}
-use Rattle.kz_world.specs.Worlds.{AreDistinct, IsPartlyTurned, elected_drivers, records_refusal}
+use Rattle.kz_spec_machine.specs.Machine.{World, next, running_ids, is_running, start_refusal, turn, work, turned_world, decided, unless_refused, first_of, unless, over, full, running_refusal, leader_refusal, change_refusal, over_excess, election_refusal, election_records, elected_log, elected_world, election_answer, next_epoch, changed_log, changed_world, turn_result, driver_of, register_refusal, registration, bad_record, max_changes}
+use Rattle.kz_world.specs.Worlds.{AreDistinct, IsPartlyTurned, elected_drivers, records_refusal, appended}
 use Rattle.kz_world.proofs.StepWise.{turned}
 use Rattle.kz_world.proofs.Listings.{one_place}
 
@@ -27,6 +25,11 @@ first_none (Some x) b h = absurd (cc)
 
 by_refusal : (w : World) (refusal : Option Answer) (r : Answer) (new : World) (a : Answer) → refusal ≡ Some r → decided w refusal new a ≡ (w, r)
 by_refusal w refusal r new a h = ap (λ x. decided w x new a) h
+
+-- what an answer is told of is another way to say the same
+pub told_by : {E : Type 0} (r : Result Answer E) (x y : World × Answer) (new : World) → x ≡ y → IfOk r (λ a. y ≡ (new, a)) → IfOk r (λ a. x ≡ (new, a))
+told_by (Ok a) x y new h k = h ∙ k
+told_by (Err e) x y new h k = tt
 
 -- ---- the log's answers
 
@@ -82,51 +85,51 @@ election_over w id now items n runs items_are refused =
 
 -- ---- changes
 
-itself : (x : ℤ) → int_eq x x ≡ true
-itself x = grind (arith, ints)
+joined : (a b c d rest : Option Answer) → first_of (first_of a (first_of b (first_of c d))) rest ≡ first_of a (first_of b (first_of c (first_of d rest)))
+joined (Some x) b c d rest = refl
+joined None (Some x) c d rest = refl
+joined None None (Some x) d rest = refl
+joined None None None d rest = refl
 
-own_epoch : (l : Log) (now : ℤ) (items : List MetaRecord) (r : Result Log LogFault) → append l l.epoch now items ≡ r → added (full_log l items) (with_batch l l.epoch now items) ≡ r
-own_epoch l now items r h = sym (ap (λ b. cond b (added (full_log l items) (with_batch l l.epoch now items)) (Err (fault.Stale l.epoch))) (itself l.epoch)) ∙ h
-
-change_full : (w : World) (id : ℤ) (records : List MetaRecord) → leader_refusal w id ≡ None → records_refusal w.shared.log records ≡ None → change_refusal w id records ≡ full w.shared.log records
-change_full w id records leads taken =
+-- a change by a leader, with what is asked for before the log's room
+by_records : (w : World) (id : ℤ) (records : List MetaRecord) (r : Option Answer) → leader_refusal w id ≡ None → records_refusal w.shared.log.epoch (image_of w.shared.log) records ≡ r → change_refusal w id records ≡ first_of r (full w.shared.log records)
+by_records w id records r leads is =
     let l = w.shared.log in
-    let none = first_none (unless (is_migrated_log l) answer.NotMigrated) (over_excess (excess (all_applied l.epoch records (image_of l)))) taken in
-    ap (λ a. first_of a (first_of (unless (is_migrated_log l) answer.NotMigrated) (first_of (over_excess (excess (all_applied l.epoch records (image_of l)))) (full l records)))) leads
-    ∙ ap (λ a. first_of a (first_of (over_excess (excess (all_applied l.epoch records (image_of l)))) (full l records))) none.0
-    ∙ ap (λ a. first_of a (full l records)) none.1
+    let i = image_of l in
+    let unmigrated = unless (is_migrated_log l) answer.NotMigrated in
+    let many = unless (nat_le (length records) max_changes) (over 8) in
+    let bad = bad_record (first_bad 0 records i) in
+    let much = over_excess (excess (all_applied l.epoch records i)) in
+    ap (λ a. first_of a (first_of unmigrated (first_of many (first_of bad (first_of much (full l records)))))) leads ∙ sym (joined unmigrated many bad much (full l records)) ∙ ap (λ a. first_of a (full l records)) is
 
-first_some : (a b rest : Option Answer) (r : Answer) → first_of a b ≡ Some r → first_of a (first_of b rest) ≡ Some r
-first_some None b rest r h = ap (λ x. first_of x rest) h
-first_some (Some x) b rest r h = h
-
-pub change_refused : (w : World) (id now : ℤ) (records : List MetaRecord) (r : Answer) → leader_refusal w id ≡ None → records_refusal w.shared.log records ≡ Some r → next w (event.Change id records now) ≡ (w, r)
+pub change_refused : (w : World) (id now : ℤ) (records : List MetaRecord) (r : Answer) → leader_refusal w id ≡ None → records_refusal w.shared.log.epoch (image_of w.shared.log) records ≡ Some r → next w (event.Change id records now) ≡ (w, r)
 unfolding next
 change_refused w id now records r leads refused =
-    let l = w.shared.log in
-    let unmigrated = unless (is_migrated_log l) answer.NotMigrated in
-    let much = over_excess (excess (all_applied l.epoch records (image_of l))) in
-    by_refusal w (change_refusal w id records) r (changed_world w records now) (answer.Appended (end_of (changed_log l records now)))
-    (ap (λ a. first_of a (first_of unmigrated (first_of much (full l records)))) leads ∙ first_some unmigrated much (full l records) r refused)
+    by_refusal w (change_refusal w id records) r (changed_world w records now) (answer.Appended (end_of (changed_log w.shared.log records now))) (by_records w id records (Some r) leads refused)
 
-pub change_done : (w : World) (id now : ℤ) (records : List MetaRecord) (l : Log) (end : ℤ) → leader_refusal w id ≡ None → records_refusal w.shared.log records ≡ None
-    → append w.shared.log w.shared.log.epoch now records ≡ Ok l → end ≡ end_of l
-    → next w (event.Change id records now) ≡ (record { shared = record { tree = w.shared.tree; log = l; declared = w.shared.declared }; drivers = w.drivers }, answer.Appended end)
+pub change_appends : (w : World) (id now : ℤ) (records : List MetaRecord) → leader_refusal w id ≡ None → records_refusal w.shared.log.epoch (image_of w.shared.log) records ≡ None → next w (event.Change id records now) ≡ appended w records now
 unfolding next
-change_done w id now records l end leads taken ok end_is =
-    let old = w.shared.log in
-    let done = added_ok (full_log old records) (with_batch old old.epoch now records) l (own_epoch old now records (Ok l) ok) in
-    let target : Log → ℤ → World × Answer = λ x o. (record { shared = record { tree = w.shared.tree; log = x; declared = w.shared.declared }; drivers = w.drivers }, answer.Appended o) in
-    ap (λ a. decided w a (changed_world w records now) (answer.Appended (end_of (changed_log old records now)))) (change_full w id records leads taken ∙ ap (option_map over) done.0)
-    ∙ ap (λ x. target x (end_of x)) done.1 ∙ ap (target l) (sym end_is)
+change_appends w id now records leads taken = ap (λ a. decided w a (changed_world w records now) (answer.Appended (end_of (changed_log w.shared.log records now)))) (by_records w id records None leads taken)
 
-pub change_over : (w : World) (id now : ℤ) (records : List MetaRecord) (n : ℕ) → leader_refusal w id ≡ None → records_refusal w.shared.log records ≡ None
-    → append w.shared.log w.shared.log.epoch now records ≡ Err (fault.Limit n) → next w (event.Change id records now) ≡ (w, answer.Over n)
+-- ---- registrations
+
+by_begun : (w : World) (id : ℤ) (records : List MetaRecord) (b : Option ℤ) → leader_refusal w id ≡ None → begun_of w.shared.log ≡ b
+    → register_refusal w id records ≡ first_of (option_map (λ offset. answer.InTransaction offset) b) (full w.shared.log records)
+by_begun w id records b leads is =
+    ap (λ a. first_of a (first_of (option_map (λ offset. answer.InTransaction offset) (begun_of w.shared.log)) (full w.shared.log records))) leads
+    ∙ ap (λ o. first_of (option_map (λ offset. answer.InTransaction offset) o) (full w.shared.log records)) is
+
+pub register_refused : (w : World) (id broker : ℤ) (migrating : Bool) (now offset : ℤ) → leader_refusal w id ≡ None → begun_of w.shared.log ≡ Some offset → next w (event.Register id broker migrating now) ≡ (w, answer.InTransaction offset)
 unfolding next
-change_over w id now records n leads taken refused =
-    let old = w.shared.log in
-    by_refusal w (change_refusal w id records) (over n) (changed_world w records now) (answer.Appended (end_of (changed_log old records now)))
-    (change_full w id records leads taken ∙ ap (option_map over) (added_over (full_log old records) (with_batch old old.epoch now records) n (own_epoch old now records (Err (fault.Limit n)) refused)))
+register_refused w id broker migrating now offset leads is =
+    let records = registration broker migrating in
+    by_refusal w (register_refusal w id records) (answer.InTransaction offset) (changed_world w records now) (answer.Appended (end_of (changed_log w.shared.log records now))) (by_begun w id records (Some offset) leads is)
+
+pub register_appends : (w : World) (id broker : ℤ) (migrating : Bool) (now : ℤ) → leader_refusal w id ≡ None → begun_of w.shared.log ≡ None → next w (event.Register id broker migrating now) ≡ appended w (registration broker migrating) now
+unfolding next
+register_appends w id broker migrating now leads is =
+    let records = registration broker migrating in
+    ap (λ a. decided w a (changed_world w records now) (answer.Appended (end_of (changed_log w.shared.log records now)))) (by_begun w id records None leads is)
 
 -- ---- starts
 

@@ -16,7 +16,7 @@ use Rattle.kz_types.specs.declared.tree.Row.{Row}
 use Rattle.kz_types.specs.declared.tree.Op.{Op}
 use Rattle.kz_spec_values.specs.Control.{read_epoch}
 use Rattle.kz_spec_stores.specs.Tree.{Tree, multi, broker_ids}
-use Rattle.kz_spec_stores.specs.Log.{Log, append}
+use Rattle.kz_spec_stores.specs.Log.{Log, View, IsViewOf, append}
 use Rattle.kz_spec_stores.specs.Image.{Image}
 use Rattle.kz_spec_stores.specs.Translation.{Unreadable, translate}
 use Rattle.kz_spec_machine.specs.Driver.{Shared, Driver, Stepped, step, answered, unless_finalised, wait_or_move, after_quorum, after_brokers, missing_controller, missing_broker, having_read, seen_in, looked, shown_by, unless_fenced, unless_full_epoch, unless_bad_epoch, unless_full_record, epoch_or_zero, claim_ops, after_claim, after_translation, after_append, begin_record, next_records, after_records, after_rest, is_recorded_at, writes, after_write, written_driver, is_last_write, is_claim_refused, write_ops, remaining_at}
@@ -178,6 +178,19 @@ joined rs r t = ap (turned t.shared t.driver) (append_assoc rs (r ∷ []) t.repl
 -- So many steps of a turn are made, with these replies: any number of further steps makes the turn of so many steps more.
 abbrev pub GoesOn : ℕ → List Reply → (ℕ → Turned) → Shared → List ℤ → ℤ → Driver → Type 0
 GoesOn i rs whole s running now d = (k : ℕ) → with_replies rs (turn k s running now d) ≡ whole (i + k)
+
+-- So many steps of a turn are made, and the turn goes on from here: the driver has its id, what it and others know is a view
+-- of the log, and neither disk has failed.
+pub record IsTurning (i : ℕ) (rs : List Reply) (whole : ℕ → Turned) (s : Shared) (running : List ℤ) (now : ℤ) (d first : Driver) (l : Log) (tree_faults tree_faults_now : ℕ) (tree_down tree_down_now : Bool)
+    (log_faults log_faults_now : ℕ) (log_down log_down_now : Bool) : Type 0 where
+  pub goes_on : GoesOn i rs whole s running now d
+  pub id : d.id ≡ first.id
+  pub view : IsViewOf s.log d.view
+  pub views : (v : View) → IsViewOf l v → IsViewOf s.log v
+  pub tree_calm : tree_faults_now ≡ tree_faults
+  pub tree_up : tree_down_now ≡ tree_down
+  pub log_calm : log_faults_now ≡ log_faults
+  pub log_up : log_down_now ≡ log_down
 
 -- the whole turn, where it ends with this step
 pub whole_ends : (most i : ℕ) (whole : ℕ → Turned) (rs qs : List Reply) (s : Shared) (running : List ℤ) (now : ℤ) (d : Driver) (t : Shared) (e : Driver) (r : Reply) → i < most

@@ -1,5 +1,5 @@
 //! Multis of ZooKeeper clients.
-ghost use Rattle.std.specs.Prelude.{◌≡◌, ◌&&◌, ◌||◌, is_some, None, IfOk, IfErr, OnErr, IsErrOf};
+ghost use Rattle.std.specs.Prelude.{◌≡◌, ◌&&◌, ◌||◌, is_some, None, true, IfOk, IfErr, OnErr, IsErrOf};
 ghost use Rattle.std.specs.List.{list_any};
 ghost use Rattle.std.specs.Str.{bytes_eq};
 ghost use Rattle.kz_types.specs.Causes.{Rose};
@@ -8,13 +8,14 @@ ghost use Rattle.kz_types.specs.declared.machine.Event.TheVariants as event;
 ghost use Rattle.kz_spec_values.specs.Control.{control_path, epoch_path, shown_epoch};
 ghost use Rattle.kz_spec_machine.specs.Driver.{path_of_op};
 ghost use Rattle.kz_spec_machine.specs.Machine.{is_reserved, is_held, is_held_path, is_held_tree, first_told, client_refusal, next};
-ghost use Rattle.kz_world.specs.Worlds.{world_of, ids_of, IsEventFault};
+ghost use Rattle.kz_world.specs.Worlds.{world_of, IsKept, IsEventFault};
 
 use crate::parts::Parts;
 use kz_driver::StepFault;
+use kz_log::MetaLog;
 use kz_state::read_control;
 use kz_tree::{Tree, ZTree, is_migrated};
-use kz_types::{Answer, Duplicate, NoMemory, Op, TreeFault, ZPath};
+use kz_types::{Answer, Duplicate, LogFault, NoMemory, Op, TreeFault, ZPath};
 use std::alloc::Global;
 
 // Whether this is the path of a base znode.
@@ -175,13 +176,17 @@ fn client_refusal(alloc: Global, tree: &Tree, ops: &[Op]) -> Result<Option<Answe
 
 // The tree's store is asked for a multi that no rule of clients refuses.
 #[tactic(auto, unfolding(kz_spec_machine::specs::Machine::next))]
-fn ask_tree<T: ZTree>(parts: &mut Parts<T>, ops: &[Op]) -> Result<Answer, StepFault>
-    requires { client_refusal (T.tree parts.old.tree) ops.now ≡ None }
-    ensures ok { IfOk result (λ answer. next (world_of T.tree parts.old) (event.Zk ops.now) ≡ (world_of T.tree parts.new, answer)) }
-    ensures ids { ids_of parts.new ≡ ids_of parts.old }
-    ensures err { OnErr result (world_of T.tree parts.new ≡ world_of T.tree parts.old) }
-    ensures cause { IfErr result (IsEventFault T.tree T.length (T.tree parts.new.tree) (T.down parts.old.tree)) }
+fn ask_tree<T: ZTree, L: MetaLog>(parts: &mut Parts<T, L>, ops: &[Op]) -> Result<Answer, StepFault>
+    requires kept { IsKept (L.log parts.old.log) parts.old.view parts.old.drivers.items }
+    requires taken { client_refusal (T.tree parts.old.tree) ops.now ≡ None }
+    ensures ok { IfOk result (λ answer. next (world_of T.tree L.log parts.old) (event.Zk ops.now) ≡ (world_of T.tree L.log parts.new, answer)) }
+    ensures kept { IsKept (L.log parts.new.log) parts.new.view parts.new.drivers.items }
+    ensures log { parts.new.log ≡ parts.old.log }
+    ensures err { OnErr result (world_of T.tree L.log parts.new ≡ world_of T.tree L.log parts.old) }
+    ensures cause { IfErr result (IsEventFault T.tree T.length (T.tree parts.new.tree) (T.down parts.old.tree) L.log L.length (L.log parts.new.log) (L.down parts.old.log)) }
+    ensures quiet { IsErrOf result (StepFault.Log LogFault.Failed) → ⊥ }
     ensures device { IsErrOf result (StepFault.Tree TreeFault.Device) → Rose (T.faults parts.old.tree) (T.faults parts.new.tree) }
+    ensures falls { IsErrOf result (StepFault.Tree TreeFault.Device) → T.down parts.new.tree ≡ true }
     ensures calm { (IsErrOf result (StepFault.Tree TreeFault.Device) → ⊥) → T.faults parts.new.tree ≡ T.faults parts.old.tree }
     ensures up { (IsErrOf result (StepFault.Tree TreeFault.Device) → ⊥) → T.down parts.new.tree ≡ T.down parts.old.tree }
 {
@@ -199,12 +204,20 @@ fn ask_tree<T: ZTree>(parts: &mut Parts<T>, ops: &[Op]) -> Result<Answer, StepFa
 /// A client's multi. What is kept for controllers is refused before the tree is asked. Refused, and where memory runs out
 /// or the store fails, the world is as it was.
 #[tactic(auto, unfolding(kz_spec_machine::specs::Machine::next))]
-pub fn ask<T: ZTree>(alloc: Global, parts: &mut Parts<T>, ops: &[Op]) -> Result<Answer, StepFault>
-    ensures ok { IfOk result (λ answer. next (world_of T.tree parts.old) (event.Zk ops.now) ≡ (world_of T.tree parts.new, answer)) }
-    ensures ids { ids_of parts.new ≡ ids_of parts.old }
-    ensures err { OnErr result (world_of T.tree parts.new ≡ world_of T.tree parts.old) }
-    ensures cause { IfErr result (IsEventFault T.tree T.length (T.tree parts.new.tree) (T.down parts.old.tree)) }
+pub fn ask<T: ZTree, L: MetaLog>(
+    alloc: Global,
+    parts: &mut Parts<T, L>,
+    ops: &[Op],
+) -> Result<Answer, StepFault>
+    requires { IsKept (L.log parts.old.log) parts.old.view parts.old.drivers.items }
+    ensures ok { IfOk result (λ answer. next (world_of T.tree L.log parts.old) (event.Zk ops.now) ≡ (world_of T.tree L.log parts.new, answer)) }
+    ensures kept { IsKept (L.log parts.new.log) parts.new.view parts.new.drivers.items }
+    ensures log { parts.new.log ≡ parts.old.log }
+    ensures err { OnErr result (world_of T.tree L.log parts.new ≡ world_of T.tree L.log parts.old) }
+    ensures cause { IfErr result (IsEventFault T.tree T.length (T.tree parts.new.tree) (T.down parts.old.tree) L.log L.length (L.log parts.new.log) (L.down parts.old.log)) }
+    ensures quiet { IsErrOf result (StepFault.Log LogFault.Failed) → ⊥ }
     ensures device { IsErrOf result (StepFault.Tree TreeFault.Device) → Rose (T.faults parts.old.tree) (T.faults parts.new.tree) }
+    ensures falls { IsErrOf result (StepFault.Tree TreeFault.Device) → T.down parts.new.tree ≡ true }
     ensures calm { (IsErrOf result (StepFault.Tree TreeFault.Device) → ⊥) → T.faults parts.new.tree ≡ T.faults parts.old.tree }
     ensures up { (IsErrOf result (StepFault.Tree TreeFault.Device) → ⊥) → T.down parts.new.tree ≡ T.down parts.old.tree }
 {

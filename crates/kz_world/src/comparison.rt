@@ -5,12 +5,12 @@ ghost use Rattle.kz_types.specs.declared.tree.Rendered.{Rendered as RenderedValu
 ghost use Rattle.kz_ordered.specs.Order.{bytes_cmp};
 ghost use Rattle.kz_ordered.specs.Ordered.{all_put, put as put_in, Rises};
 ghost use Rattle.kz_spec_stores.specs.Tree.{area as area_of, recorded, unclosed};
-ghost use Rattle.kz_spec_stores.specs.Log.{image_at, batch_ends, is_migrated_log};
+ghost use Rattle.kz_spec_stores.specs.Log.{image_at, batch_ends};
 ghost use Rattle.kz_spec_stores.specs.Rendering.{render, path_of_rendered};
-ghost use Rattle.kz_spec_machine.specs.Verdicts.{body_at, paths_at, verdict_at, verdict_of, verdict};
+ghost use Rattle.kz_spec_machine.specs.Verdicts.{body_at, paths_at, verdict_at, verdict_of};
 ghost use Rattle.kz_world.specs.Agreement.{agrees_in, all_first, marked, all_found, found_at, is_disagreeing, ahead_of, found_verdict};
 
-use kz_log::MemoryLog;
+use kz_log::LogRows;
 use kz_render::render;
 use kz_sorted::{find, put};
 use kz_tree::Tree;
@@ -53,7 +53,7 @@ fn agrees(area: &[Rendered], rendering: &[Rendered], path: &[u8]) -> bool
 }
 
 // The znodes of the metadata at an offset.
-fn rendering_at(alloc: Global, log: &MemoryLog, offset: i64) -> Result<Vec<Rendered>, NoMemory>
+fn rendering_at(alloc: Global, log: &LogRows, offset: i64) -> Result<Vec<Rendered>, NoMemory>
     ensures znodes { IfOk result (λ znodes. znodes.items ≡ render (image_at log.now offset)) }
     ensures rising { IfOk result (λ znodes. Rises bytes_cmp path_of_rendered znodes.items) }
 {
@@ -126,7 +126,7 @@ fn marked(
 // The marks of these znodes, with one batch end more.
 fn marks_with(
     alloc: Global,
-    log: &MemoryLog,
+    log: &LogRows,
     offset: i64,
     end: i64,
     area: &[Rendered],
@@ -149,7 +149,7 @@ fn marks_with(
 // For each of these znodes the first batch end, from an offset on, at which the area is as rendered there.
 fn all_marks(
     alloc: Global,
-    log: &MemoryLog,
+    log: &LogRows,
     offset: i64,
     area: &[Rendered],
     znodes: &[Rendered],
@@ -193,12 +193,7 @@ fn all_found(
 }
 
 // What is found at every path of the area and of the rendering at an offset.
-fn find_all(
-    alloc: Global,
-    tree: &Tree,
-    log: &MemoryLog,
-    offset: i64,
-) -> Result<Vec<Found>, NoMemory>
+fn find_all(alloc: Global, tree: &Tree, log: &LogRows, offset: i64) -> Result<Vec<Found>, NoMemory>
     ensures { IfOk result (λ found. found.items ≡ map (found_at tree.now log.now offset) (paths_at tree.now log.now offset)) }
 {
     let area = tree.area()?;
@@ -267,7 +262,7 @@ fn verdict_of_found(
 
 // How the tree and the log agree, where an offset is recorded.
 #[tactic(auto, using(crate::proofs::Agreements::verdict_found))]
-fn verdict_at(alloc: Global, tree: &Tree, log: &MemoryLog, offset: i64) -> Result<Verdict, NoMemory>
+fn verdict_at(alloc: Global, tree: &Tree, log: &LogRows, offset: i64) -> Result<Verdict, NoMemory>
     ensures { IfOk result (λ verdict. verdict ≡ verdict_at tree.now log.now offset (is_none (unclosed tree.now))) }
 {
     let is_closed = tree.unclosed()?.is_none();
@@ -275,31 +270,12 @@ fn verdict_at(alloc: Global, tree: &Tree, log: &MemoryLog, offset: i64) -> Resul
     verdict_of_found(alloc, offset, is_closed, &found)
 }
 
-// How the tree and a migrated log agree.
-fn verdict_of(alloc: Global, tree: &Tree, log: &MemoryLog) -> Result<Verdict, NoMemory>
+/// How the tree and a migrated log agree: nothing recorded; a path that disagrees; as recorded; or ahead of it.
+pub fn verdict_of(alloc: Global, tree: &Tree, log: &LogRows) -> Result<Verdict, NoMemory>
     ensures { IfOk result (λ verdict. verdict ≡ verdict_of tree.now log.now (recorded tree.now)) }
 {
     match tree.recorded()? {
         Some(Recorded { offset, .. }) if offset >= 0 => verdict_at(alloc, tree, log, offset),
         _ => Ok(Verdict::Unrecorded),
-    }
-}
-
-/// Whether the migration is committed.
-pub fn is_migrated(alloc: Global, log: &MemoryLog) -> Result<bool, NoMemory>
-    ensures { IfOk result (λ migrated. migrated ≡ is_migrated_log log.now) }
-{
-    Ok(log.image(alloc)?.state() >= 2)
-}
-
-/// How the tree and the log agree: not migrated; nothing recorded; a path that disagrees; as recorded; or ahead of it.
-#[tactic(auto, unfolding(kz_spec_machine::specs::Verdicts::verdict))]
-pub fn verdict(alloc: Global, tree: &Tree, log: &MemoryLog) -> Result<Verdict, NoMemory>
-    ensures { IfOk result (λ told. told ≡ verdict tree.now log.now) }
-{
-    if is_migrated(alloc, log)? {
-        verdict_of(alloc, tree, log)
-    } else {
-        Ok(Verdict::Unmigrated)
     }
 }

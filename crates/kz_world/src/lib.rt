@@ -1,7 +1,9 @@
 //! The machine that a script drives: the store of the tree, the log, and the controllers with their drivers.
 #![tactic(auto)]
 
+mod appending;
 mod change;
+mod checks;
 mod client;
 mod comparison;
 mod drivers;
@@ -9,7 +11,9 @@ mod election;
 mod machine;
 mod members;
 mod parts;
+mod reading;
 mod refusals;
+mod registration;
 mod sessions;
 mod steps;
 mod turns;

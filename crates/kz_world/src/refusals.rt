@@ -1,22 +1,25 @@
 //! Why an event is refused. A refusal takes no memory, unless the metadata has to be read.
 ghost use Rattle.std.specs.Prelude.{◌≡◌, pos, ◌≤ℤ◌, IfNone, IfSome, IfOk};
-ghost use Rattle.kz_spec_stores.specs.Image.{all_applied};
+ghost use Rattle.kz_spec_stores.specs.Image.{all_applied, first_bad, rule_number};
 ghost use Rattle.kz_spec_stores.specs.Rendering.{excess};
-ghost use Rattle.kz_spec_machine.specs.Machine.{quorum_refusal, start_refusal, running_refusal, epoch_refusal, driver_refusal, driver_of, leader_refusal, over_excess};
+ghost use Rattle.kz_spec_machine.specs.Machine.{quorum_refusal, start_refusal, running_refusal, epoch_refusal, driver_refusal, driver_of, leader_refusal, over_excess, bad_record};
 ghost use Rattle.kz_world.specs.Worlds.{world_of, records_refusal};
 
 use crate::drivers::{is_one_of, is_running, least_running, place_of};
 use crate::parts::Parts;
-use kz_image::Image;
-use kz_log::MemoryLog;
+use kz_image::{Image, valid};
+use kz_log::MetaLog;
 use kz_render::{first_excess, render};
 use kz_tree::ZTree;
-use kz_types::{Answer, MetaRecord, NoMemory};
+use kz_types::{Answer, Duplicate, ImageFault, ImageRule, MetaRecord, NoMemory};
 use std::alloc::Global;
 
+// The most records of a change.
+const MAX_CHANGES: usize = 1000;
+
 /// A controller runs.
-pub fn quorum_refusal<T: ZTree>(parts: &Parts<T>) -> Option<Answer>
-    ensures { result ≡ quorum_refusal (world_of T.tree parts.now) }
+pub fn quorum_refusal<T: ZTree, L: MetaLog>(parts: &Parts<T, L>) -> Option<Answer>
+    ensures { result ≡ quorum_refusal (world_of T.tree L.log parts.now) }
 {
     match least_running(&parts.drivers) {
         Some(id) => Some(Answer::Running { id }),
@@ -25,8 +28,8 @@ pub fn quorum_refusal<T: ZTree>(parts: &Parts<T>) -> Option<Answer>
 }
 
 /// The controller isn't declared, or runs already.
-pub fn start_refusal<T: ZTree>(parts: &Parts<T>, id: i32) -> Option<Answer>
-    ensures { result ≡ start_refusal (world_of T.tree parts.now) id }
+pub fn start_refusal<T: ZTree, L: MetaLog>(parts: &Parts<T, L>, id: i32) -> Option<Answer>
+    ensures { result ≡ start_refusal (world_of T.tree L.log parts.now) id }
 {
     if !is_one_of(parts.declared.as_slice(), id) {
         Some(Answer::UnknownController)
@@ -38,8 +41,8 @@ pub fn start_refusal<T: ZTree>(parts: &Parts<T>, id: i32) -> Option<Answer>
 }
 
 /// The controller isn't declared, or doesn't run.
-pub fn running_refusal<T: ZTree>(parts: &Parts<T>, id: i32) -> Option<Answer>
-    ensures { result ≡ running_refusal (world_of T.tree parts.now) id }
+pub fn running_refusal<T: ZTree, L: MetaLog>(parts: &Parts<T, L>, id: i32) -> Option<Answer>
+    ensures { result ≡ running_refusal (world_of T.tree L.log parts.now) id }
 {
     if !is_one_of(parts.declared.as_slice(), id) {
         Some(Answer::UnknownController)
@@ -64,9 +67,9 @@ fn epoch_refusal(epoch: i32, driver: Option<i32>) -> Option<Answer>
 }
 
 // The driver of a controller doesn't lead the log.
-fn driver_refusal<T: ZTree>(parts: &Parts<T>, id: i32) -> Option<Answer>
-    ensures refusal { result ≡ driver_refusal parts.now.log.epoch (driver_of id parts.now.drivers.items) }
-    ensures elected { IfNone result (pos 1 ≤ℤ parts.now.log.epoch) }
+fn driver_refusal<T: ZTree, L: MetaLog>(parts: &Parts<T, L>, id: i32) -> Option<Answer>
+    ensures refusal { result ≡ driver_refusal (L.log parts.now.log).epoch (driver_of id parts.now.drivers.items) }
+    ensures elected { IfNone result (pos 1 ≤ℤ (L.log parts.now.log).epoch) }
 {
     match place_of(&parts.drivers, id) {
         Some(at) => epoch_refusal(parts.log.epoch(), parts.drivers[at].epoch()),
@@ -75,9 +78,9 @@ fn driver_refusal<T: ZTree>(parts: &Parts<T>, id: i32) -> Option<Answer>
 }
 
 /// The controller isn't declared, doesn't run, or doesn't lead the log.
-pub fn leader_refusal<T: ZTree>(parts: &Parts<T>, id: i32) -> Option<Answer>
-    ensures refusal { result ≡ leader_refusal (world_of T.tree parts.now) id }
-    ensures elected { IfNone result (pos 1 ≤ℤ parts.now.log.epoch) }
+pub fn leader_refusal<T: ZTree, L: MetaLog>(parts: &Parts<T, L>, id: i32) -> Option<Answer>
+    ensures refusal { result ≡ leader_refusal (world_of T.tree L.log parts.now) id }
+    ensures elected { IfNone result (pos 1 ≤ℤ (L.log parts.now.log).epoch) }
 {
     match running_refusal(parts, id) {
         Some(refusal) => Some(refusal),
@@ -85,18 +88,49 @@ pub fn leader_refusal<T: ZTree>(parts: &Parts<T>, id: i32) -> Option<Answer>
     }
 }
 
+// The number of a rule of the metadata.
+fn rule_number(rule: ImageRule) -> u8
+    ensures { result ≡ rule_number rule }
+{
+    match rule {
+        ImageRule::NotAllowed => 1,
+        ImageRule::Exists => 2,
+        ImageRule::Absent => 3,
+        ImageRule::BadName => 4,
+        ImageRule::BadValue => 5,
+    }
+}
+
+// A record breaks a rule of the metadata.
+fn bad_record(
+    alloc: Global,
+    image: &Image,
+    records: &[MetaRecord],
+) -> Result<Option<Answer>, NoMemory>
+    ensures { IfOk result (λ refusal. refusal ≡ bad_record (first_bad 0 records.now image.now)) }
+{
+    match valid(alloc, image, records) {
+        Ok(()) => Ok(None),
+        Err(ImageFault::BadRecord { index, why }) => Ok(Some(Answer::BadRecord {
+            index,
+            why: rule_number(why),
+        })),
+        Err(ImageFault::NoMemory) => Err(NoMemory),
+    }
+}
+
 // The metadata would pass a limit once these records are applied.
 fn excess_refusal(
     alloc: Global,
-    log: &MemoryLog,
-    image: Image,
+    epoch: i32,
+    image: &Image,
     records: &[MetaRecord],
 ) -> Result<Option<Answer>, NoMemory>
-    ensures { IfOk result (λ refusal. refusal ≡ over_excess (excess (all_applied log.now.epoch records.now image))) }
+    ensures { IfOk result (λ refusal. refusal ≡ over_excess (excess (all_applied epoch records.now image.now))) }
 {
-    let mut image = image;
-    image.apply_all(log.epoch(), records)?;
-    let znodes = render(alloc, &image)?;
+    let mut after = image.copy(alloc)?;
+    after.apply_all(epoch, records)?;
+    let znodes = render(alloc, &after)?;
     match first_excess(alloc, &znodes)? {
         Some(excess) => Ok(Some(Answer::Over {
             number: excess.number,
@@ -105,17 +139,24 @@ fn excess_refusal(
     }
 }
 
-/// The log isn't migrated, or the metadata would pass a limit once these records are applied.
+/// The migration isn't committed in this metadata, the records are too many, one of them breaks a rule, or the metadata
+/// would pass a limit once they are applied in a log of this epoch.
 pub fn records_refusal(
     alloc: Global,
-    log: &MemoryLog,
+    epoch: i32,
+    image: &Image,
     records: &[MetaRecord],
 ) -> Result<Option<Answer>, NoMemory>
-    ensures { IfOk result (λ refusal. refusal ≡ records_refusal log.now records.now) }
+    ensures { IfOk result (λ refusal. refusal ≡ records_refusal epoch image.now records.now) }
 {
-    let image = log.image(alloc)?;
     if image.state() < 2 {
         return Ok(Some(Answer::NotMigrated));
     }
-    excess_refusal(alloc, log, image, records)
+    if records.len() > MAX_CHANGES {
+        return Ok(Some(Answer::Over { number: 8 }));
+    }
+    match bad_record(alloc, image, records)? {
+        Some(refusal) => Ok(Some(refusal)),
+        None => excess_refusal(alloc, epoch, image, records),
+    }
 }

@@ -1,8 +1,8 @@
 ghost use Rattle.std.specs.Prelude.{◌<◌, length};
 
 use super::World;
-use crate::comparison::verdict;
-use kz_log::MemoryLog;
+use crate::comparison::verdict_of;
+use kz_log::{MemoryLog, MetaLog, read_all};
 use kz_render::bare_roots;
 use kz_session::MemoryTree;
 use kz_tree::{Tree, ZTree};
@@ -44,18 +44,23 @@ fn one<T: Drop>(rt: &impl Abort, alloc: Global, item: T) -> Sequence<T>
     }
 }
 
-// A world in which the controller 1 is declared.
-fn declared(rt: &impl Abort, alloc: Global) -> World<MemoryTree> {
-    let mut world = made(rt, World::new(alloc, MemoryTree::new(alloc)));
+// A world over this log in which the controller 1 is declared.
+fn declared_over(rt: &impl Abort, alloc: Global, log: MemoryLog) -> World<MemoryTree, MemoryLog> {
+    let mut world = World::new(alloc, MemoryTree::new(alloc), log);
     let ids = one(rt, alloc, 1);
     drop(made(rt, world.event(Event::Quorum { ids })));
     world
 }
 
+// A world over an empty log in which the controller 1 is declared.
+fn declared(rt: &impl Abort, alloc: Global) -> World<MemoryTree, MemoryLog> {
+    declared_over(rt, alloc, MemoryLog::new(alloc))
+}
+
 const START: Event = Event::Start { controller: 1 };
 
 // A world in which it runs.
-fn started(rt: &impl Abort, alloc: Global) -> World<MemoryTree> {
+fn started(rt: &impl Abort, alloc: Global) -> World<MemoryTree, MemoryLog> {
     let mut world = declared(rt, alloc);
     drop(made(rt, world.event(START)));
     world
@@ -162,7 +167,7 @@ fn rooted(rt: &impl Abort, alloc: Global) -> Tree {
 fn migrated(rt: &impl Abort, alloc: Global) -> MemoryLog {
     let mut log = MemoryLog::new(alloc);
     let items = [MetaRecord::NoOp, MetaRecord::ZkMigrationState { state: 2 }];
-    made(rt, log.elect(alloc, 5, &items));
+    made(rt, log.elect(5, &items));
     drop(items);
     log
 }
@@ -183,10 +188,12 @@ fn a_recorded_tree_is_closed(rt: HostRuntime) {
     let alloc = rt.alloc();
     let mut tree = rooted(&rt, alloc);
     add_recorded(&rt, alloc, &mut tree);
-    let log = migrated(&rt, alloc);
-    let told = made(&rt, verdict(alloc, &tree, &log));
+    let mut log = migrated(&rt, alloc);
+    let rows = made(&rt, read_all(alloc, &mut log));
+    let told = made(&rt, verdict_of(alloc, &tree, &rows));
     assert!(rt; matches!(told, Verdict::Closed { offset: 1 }));
     drop(told);
+    drop(rows);
     drop(log);
     drop(tree);
 }
@@ -203,18 +210,156 @@ fn a_root_that_is_missing_disagrees(rt: HostRuntime) {
     let alloc = rt.alloc();
     let mut tree = Tree::new(alloc);
     add_recorded(&rt, alloc, &mut tree);
-    let log = migrated(&rt, alloc);
-    let told = made(&rt, verdict(alloc, &tree, &log));
+    let mut log = migrated(&rt, alloc);
+    let rows = made(&rt, read_all(alloc, &mut log));
+    let told = made(&rt, verdict_of(alloc, &tree, &rows));
     assert!(rt; disagrees_at(&told, "/brokers/topics"));
     drop(told);
+    drop(rows);
     drop(log);
     drop(tree);
+}
+
+// A world over a migrated log, which ends at offset 2, whose controller leads it.
+fn leading(rt: &impl Abort, alloc: Global) -> World<MemoryTree, MemoryLog> {
+    let mut world = declared_over(rt, alloc, migrated(rt, alloc));
+    drop(made(rt, world.event(START)));
+    drop(made(rt, world.event(ELECT)));
+    world
+}
+
+#[test]
+fn a_log_that_is_not_migrated_is_not_compared(rt: HostRuntime) {
+    let mut world = started(&rt, rt.alloc());
+    let told = made(&rt, world.event(Event::Check));
+    assert!(rt; matches!(told, Answer::Check(Verdict::Unmigrated)));
+    drop(told);
+    drop(world);
+}
+
+const REGISTER: Event = Event::Register {
+    controller: 1,
+    broker: 7,
+    migrating: true,
+    now: 8,
+};
+
+#[test]
+fn a_broker_is_registered_by_the_leader(rt: HostRuntime) {
+    let alloc = rt.alloc();
+    let mut world = World::new(alloc, MemoryTree::new(alloc), MemoryLog::new(alloc));
+    let unknown = made(&rt, world.event(REGISTER));
+    assert!(rt; matches!(unknown, Answer::UnknownController));
+    let ids = one(&rt, alloc, 1);
+    drop(made(&rt, world.event(Event::Quorum { ids })));
+    let at_rest = made(&rt, world.event(REGISTER));
+    assert!(rt; matches!(at_rest, Answer::NotRunning));
+    drop(made(&rt, world.event(START)));
+    let follower = made(&rt, world.event(REGISTER));
+    assert!(rt; matches!(follower, Answer::NotLeader));
+    assert!(rt; world.end() == -1);
+    drop(made(&rt, world.event(ELECT)));
+    let told = made(&rt, world.event(REGISTER));
+    assert!(rt; matches!(told, Answer::Appended { offset: 2 }));
+    let again = made(&rt, world.event(REGISTER));
+    assert!(rt; matches!(again, Answer::Appended { offset: 3 }));
+    drop([unknown, at_rest, follower, told, again]);
+    drop(world);
+}
+
+// The answer of the controller to these records.
+fn answer_to_change(
+    rt: &impl Abort,
+    world: &mut World<MemoryTree, MemoryLog>,
+    records: Sequence<MetaRecord>,
+) -> Answer
+    requires { 0 < length records }
+{
+    let change = Event::Change {
+        controller: 1,
+        records,
+        now: 9,
+    };
+    made(rt, world.event(change))
+}
+
+// The configuration's record, and a second one.
+fn config_and(rt: &impl Abort, alloc: Global, second: MetaRecord) -> Sequence<MetaRecord>
+    ensures { 0 < length result }
+{
+    let mut records = one(rt, alloc, config(rt, alloc));
+    match records.push(second) {
+        Ok(()) => records,
+        Err(_) => panic!(rt; "no memory"),
+    }
+}
+
+#[test]
+fn a_change_of_two_records_is_one_batch(rt: HostRuntime) {
+    let alloc = rt.alloc();
+    let mut world = leading(&rt, alloc);
+    let records = config_and(&rt, alloc, config(&rt, alloc));
+    let told = answer_to_change(&rt, &mut world, records);
+    assert!(rt; matches!(told, Answer::Appended { offset: 4 }));
+    assert!(rt; world.end() == 4);
+    drop(told);
+    drop(world);
+}
+
+#[test]
+fn a_change_wants_a_migrated_log(rt: HostRuntime) {
+    let alloc = rt.alloc();
+    let mut world = started(&rt, alloc);
+    drop(made(&rt, world.event(ELECT)));
+    let told = answer_to_change(&rt, &mut world, one(&rt, alloc, config(&rt, alloc)));
+    assert!(rt; matches!(told, Answer::NotMigrated));
+    drop(told);
+    drop(world);
+}
+
+#[test]
+fn a_bad_record_is_told_with_its_index(rt: HostRuntime) {
+    let alloc = rt.alloc();
+    let mut world = leading(&rt, alloc);
+    let records = config_and(&rt, alloc, MetaRecord::ZkMigrationState { state: 3 });
+    let told = answer_to_change(&rt, &mut world, records);
+    assert!(rt; matches!(told, Answer::BadRecord { index: 1, why: 1 }));
+    assert!(rt; world.end() == 2);
+    drop(told);
+    drop(world);
+}
+
+// So many records of a configuration, and one more.
+fn configs(rt: &impl Abort, alloc: Global, more: u32) -> Sequence<MetaRecord>
+    ensures { 0 < length result }
+{
+    let mut records = Vec::new(alloc);
+    for _done in 0..more {
+        made(rt, records.push(config(rt, alloc)));
+    }
+    match records.push(config(rt, alloc)) {
+        Ok(()) => Sequence::from_vec(records),
+        Err(_) => panic!(rt; "no memory"),
+    }
+}
+
+#[test]
+fn a_change_has_at_most_a_thousand_records(rt: HostRuntime) {
+    let alloc = rt.alloc();
+    let mut world = leading(&rt, alloc);
+    let over = answer_to_change(&rt, &mut world, configs(&rt, alloc, 1000));
+    assert!(rt; matches!(over, Answer::Over { number: 8 }));
+    assert!(rt; world.end() == 2);
+    let most = answer_to_change(&rt, &mut world, configs(&rt, alloc, 999));
+    assert!(rt; matches!(most, Answer::Appended { offset: 1002 }));
+    drop([over, most]);
+    drop(world);
 }
 
 #[test]
 fn a_session_begins_once_and_ends_once(rt: HostRuntime) {
     let alloc = rt.alloc();
-    let mut world = made(&rt, World::new(alloc, MemoryTree::new(alloc)));
+    let mut world = World::new(alloc, MemoryTree::new(alloc), MemoryLog::new(alloc));
     let begun = made(&rt, world.event(Event::ZkOpen { session: 5 }));
     assert!(rt; matches!(begun, Answer::DoneAt { zxid: 1 }));
     let known = made(&rt, world.event(Event::ZkOpen { session: 5 }));
@@ -228,21 +373,26 @@ fn a_session_begins_once_and_ends_once(rt: HostRuntime) {
 }
 
 // The answer to a client that makes a znode of this path.
-fn answer_to(rt: &impl Abort, alloc: Global, world: &mut World<MemoryTree>, path: &str) -> Answer {
+fn answer_to(
+    rt: &impl Abort,
+    alloc: Global,
+    world: &mut World<MemoryTree, MemoryLog>,
+    path: &str,
+) -> Answer {
     let mut ops = Sequence::new(alloc);
     put_create(rt, alloc, &mut ops, path, Sequence::new(alloc));
     made(rt, world.event(Event::Zk { ops }))
 }
 
 // A world whose `/controller` is of this body.
-fn held(rt: &impl Abort, alloc: Global, body: &[u8]) -> World<MemoryTree> {
+fn held(rt: &impl Abort, alloc: Global, body: &[u8]) -> World<MemoryTree, MemoryLog> {
     let mut ops = Sequence::new(alloc);
     let body = Sequence::from_vec(made(rt, body.to_vec(alloc)));
     put_create(rt, alloc, &mut ops, "/controller", body);
     let mut tree = MemoryTree::new(alloc);
     made(rt, tree.multi(ops.as_slice()));
     drop(ops);
-    made(rt, World::new(alloc, tree))
+    World::new(alloc, tree, MemoryLog::new(alloc))
 }
 
 static KRAFT: &[u8] = b"{\"kraftControllerEpoch\":1}";

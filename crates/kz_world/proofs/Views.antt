@@ -1,0 +1,52 @@
+-- What the world and its drivers know of the log.
+use Rattle.std.proofs.Common.{◌≡◌, ℕ, zero, suc, Bool, true, false, cond, ℤ, List, [], ◌∷◌, ◌++◌, set, Option, Some, sym, ap, subst}
+use Rattle.std.specs.Prelude.{slice_get, unwrap_or}
+use Rattle.std.specs.Ordering.{int_eq}
+use Rattle.kz_spec_stores.specs.Log.{Log, View, IsViewOf}
+use Rattle.kz_spec_machine.specs.Driver.{Driver, elected_driver}
+use Rattle.kz_spec_machine.specs.Machine.{is_running}
+use Rattle.kz_world.specs.Worlds.{AreDistinct, AreViews, IsKept, elected_drivers}
+use Rattle.kz_world.proofs.Listings.{started_distinct, elected_ids, same_ids}
+
+-- ---- views of the drivers
+
+each_still : (l m : Log) (ds : List Driver) → ((v : View) → IsViewOf l v → IsViewOf m v) → AreViews l ds → AreViews m ds
+each_still l m [] still h = tt
+each_still l m (d ∷ ds) still h = (still d.view h.0, each_still l m ds still h.1)
+
+each_more : (l : Log) (ds : List Driver) (d : Driver) → AreViews l ds → IsViewOf l d.view → AreViews l (ds ++ d ∷ [])
+each_more l [] d h own = (own, tt)
+each_more l (x ∷ ds) d h own = (h.0, each_more l ds d h.1 own)
+
+view_by : (l : Log) (b : Bool) (epoch : ℤ) (d : Driver) → IsViewOf l d.view → IsViewOf l (cond b (elected_driver epoch d) d).view
+view_by l true epoch d h = h
+view_by l false epoch d h = h
+
+each_elected : (l : Log) (id epoch : ℤ) (ds : List Driver) → AreViews l ds → AreViews l (elected_drivers id epoch ds)
+each_elected l id epoch [] h = tt
+each_elected l id epoch (d ∷ ds) h = (view_by l (int_eq d.id id) epoch d h.0, each_elected l id epoch ds h.1)
+
+each_set : (l : Log) (ds : List Driver) (at : ℕ) (d : Driver) → AreViews l ds → IsViewOf l d.view → AreViews l (set ds at d)
+each_set l [] at d h own = tt
+each_set l (x ∷ ds) zero d h own = (own, h.1)
+each_set l (x ∷ ds) (suc at) d h own = (h.0, each_set l ds at d h.1 own)
+
+pub view_at : (l : Log) (ds : List Driver) (at : ℕ) (d : Driver) → AreViews l ds → slice_get ds at ≡ Some d → IsViewOf l d.view
+view_at l [] at d h is = absurd (cc)
+view_at l (x ∷ ds) zero d h is = subst (λ (e : Driver). IsViewOf l e.view) (ap (λ (o : Option Driver). unwrap_or o d) is) h.0
+view_at l (x ∷ ds) (suc at) d h is = view_at l ds at d h.1 is
+
+-- ---- what is kept
+
+pub kept_still : (l m : Log) (own : View) (ds : List Driver) → ((v : View) → IsViewOf l v → IsViewOf m v) → IsKept l own ds → IsKept m own ds
+kept_still l m own ds still h = record { distinct = h.distinct; own = still own h.own; each = each_still l m ds still h.each }
+
+pub kept_started : (l : Log) (own : View) (ds : List Driver) (d : Driver) → IsKept l own ds → IsViewOf l d.view → is_running d.id ds ≡ false → IsKept l own (ds ++ d ∷ [])
+kept_started l own ds d h view none = record { distinct = started_distinct ds d h.distinct none; own = h.own; each = each_more l ds d h.each view }
+
+pub kept_elected : (l : Log) (own : View) (id epoch : ℤ) (ds : List Driver) → IsKept l own ds → IsKept l own (elected_drivers id epoch ds)
+kept_elected l own id epoch ds h = record { distinct = subst AreDistinct (sym (elected_ids id epoch ds)) h.distinct; own = h.own; each = each_elected l id epoch ds h.each }
+
+pub kept_turned : (l m : Log) (own : View) (ds : List Driver) (at : ℕ) (d e : Driver) → slice_get ds at ≡ Some d → e.id ≡ d.id → ((v : View) → IsViewOf l v → IsViewOf m v) → IsViewOf m e.view → IsKept l own ds → IsKept m own (set ds at e)
+kept_turned l m own ds at d e is same still view h =
+    record { distinct = subst AreDistinct (sym (same_ids ds at d e is same)) h.distinct; own = still own h.own; each = each_set m ds at e (each_still l m ds still h.each) view }
