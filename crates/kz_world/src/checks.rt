@@ -34,7 +34,7 @@ fn verdict<L: MetaLog>(
     if image.state() < 2 {
         return Ok(Verdict::Unmigrated);
     }
-    let rows = match read_whole(alloc, log) {
+    let rows = match read_whole(log) {
         Ok(rows) => rows,
         Err(fault) => return Err(fault),
     };

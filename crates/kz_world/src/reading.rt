@@ -7,7 +7,6 @@ use crate::parts::Parts;
 use kz_log::{LogRows, MetaLog, read_all, read_to_end};
 use kz_tree::ZTree;
 use kz_types::LogFault;
-use std::alloc::Global;
 
 /// Why the log wasn't read.
 #[derive(Clone, Copy, Debug, PartialEq, Eq)]
@@ -40,14 +39,14 @@ pub fn read<T: ZTree, L: MetaLog>(parts: &mut Parts<T, L>) -> Result<(), Unread>
 }
 
 /// All of the log.
-pub fn read_whole<L: MetaLog>(alloc: Global, log: &mut L) -> Result<LogRows, Unread>
+pub fn read_whole<L: MetaLog>(log: &mut L) -> Result<LogRows, Unread>
     ensures ok { IfOk result (λ rows. rows ≡ L.log log.old) }
     ensures down { IsErrOf result Unread.Down → L.down log.old ≡ true }
     ensures same { L.log log.new ≡ L.log log.old }
     ensures calm { L.faults log.new ≡ L.faults log.old }
     ensures up { L.down log.new ≡ L.down log.old }
 {
-    match read_all(alloc, log) {
+    match read_all(log) {
         Ok(rows) => Ok(rows),
         Err(LogFault::NoMemory) => Err(Unread::NoMemory),
         Err(LogFault::Down) => Err(Unread::Down),

@@ -189,7 +189,7 @@ fn a_recorded_tree_is_closed(rt: HostRuntime) {
     let mut tree = rooted(&rt, alloc);
     add_recorded(&rt, alloc, &mut tree);
     let mut log = migrated(&rt, alloc);
-    let rows = made(&rt, read_all(alloc, &mut log));
+    let rows = made(&rt, read_all(&mut log));
     let told = made(&rt, verdict_of(alloc, &tree, &rows));
     assert!(rt; matches!(told, Verdict::Closed { offset: 1 }));
     drop(told);
@@ -211,7 +211,7 @@ fn a_root_that_is_missing_disagrees(rt: HostRuntime) {
     let mut tree = Tree::new(alloc);
     add_recorded(&rt, alloc, &mut tree);
     let mut log = migrated(&rt, alloc);
-    let rows = made(&rt, read_all(alloc, &mut log));
+    let rows = made(&rt, read_all(&mut log));
     let told = made(&rt, verdict_of(alloc, &tree, &rows));
     assert!(rt; disagrees_at(&told, "/brokers/topics"));
     drop(told);

@@ -1,7 +1,8 @@
 //! How many steps a turn may have.
 ghost use Rattle.std.specs.Prelude.{◌≡◌, List, ℤ, length, true, false, IfOk, IsErrOf, if◌then◌else◌};
 ghost use Rattle.kz_spec_stores.specs.Image.{empty_image, all_applied};
-ghost use Rattle.kz_spec_stores.specs.Log.{Log, image_of, is_migrated_log, max_epoch};
+ghost use Rattle.kz_spec_machine.specs.Driver.{is_one_of};
+ghost use Rattle.kz_spec_stores.specs.Log.{batch_ends, Log, image_of, is_migrated_log, max_epoch};
 ghost use Rattle.kz_spec_stores.specs.Rendering.{render};
 ghost use Rattle.kz_spec_stores.specs.Tree.{migrated_rows};
 ghost use Rattle.kz_spec_stores.specs.Translation.{translate};
@@ -44,15 +45,23 @@ fn records_rendered_len(alloc: Global, records: &[MetaRecord]) -> Result<usize, 
     rendered_len(alloc, &image)
 }
 
+// Whether an offset is the base or the last one of a batch.
+fn is_batch_end(alloc: Global, log: &LogRows, offset: i64) -> Result<bool, NoMemory>
+    ensures { IfOk result (λ is_end. is_end ≡ is_one_of (batch_ends log.now) offset) }
+{
+    let ends = log.batch_ends(alloc)?;
+    Ok(ends.contains(&offset))
+}
+
 // How many znodes stand for the metadata of a target, where its offset is a batch end.
 fn rendered_at(alloc: Global, log: &LogRows, target: &Recorded) -> Result<usize, NoMemory>
     ensures { IfOk result (λ count. count ≡ rendered_at log.now target.now) }
 {
-    if log.batch_ends(alloc)?.contains(&target.offset) {
-        rendered_len(alloc, &log.image_at(alloc, target.offset)?)
-    } else {
-        Ok(0)
+    if !is_batch_end(alloc, log, target.offset)? {
+        return Ok(0);
     }
+    let image = log.image_at(alloc, target.offset)?;
+    rendered_len(alloc, &image)
 }
 
 // How many znodes stand for the metadata of a target of this log, which is read whole.
@@ -63,7 +72,7 @@ fn rendered_in<L: MetaLog>(alloc: Global, log: &mut L, target: &Recorded) -> Res
     ensures calm { L.faults log.new ≡ L.faults log.old }
     ensures up { L.down log.new ≡ L.down log.old }
 {
-    let rows = match read_whole(alloc, log) {
+    let rows = match read_whole(log) {
         Ok(rows) => rows,
         Err(fault) => return Err(fault),
     };
