@@ -1,24 +1,21 @@
 -- The batches of a log: their records, how many there are, and their offsets.
-use Rattle.std.proofs.Common.{◌≡◌, ℕ, zero, suc, ◌+◌, ◌<◌, ◌≤◌, Bool, true, false, not, ◌&&◌, ◌||◌, cond, nat_lt, ℤ, pos, negsuc, ◌+ℤ◌, ◌≤ℤ◌, ◌<ℤ◌, int_le, int_lt, List, [], ◌∷◌, ◌++◌, length, get_or, drop, Option, Some, None, refl, sym, ap, ◌∙◌, subst, take, filter, map, w64, to_z, of_z, arith}
-use Rattle.std.proofs.lemmas.Bool.{false≢true}
+use Rattle.std.proofs.Common.{◌≡◌, ℕ, zero, suc, ◌+◌, ◌<◌, ◌≤◌, Bool, true, false, ◌&&◌, cond, nat_lt, ℤ, pos, negsuc, ◌+ℤ◌, ◌≤ℤ◌, ◌<ℤ◌, int_le, int_lt, List, [], ◌∷◌, ◌++◌, length, get_or, drop, Option, Some, None, refl, sym, ap, ◌∙◌, subst, take, filter, map, w64, to_z, of_z, arith}
 use Rattle.std.proofs.lemmas.List.{take_more, map-append}
 use Rattle.std.proofs.lemmas.Int.{ints, to_z-of_z}
 use mir.Val.{SFits}
 use Rattle.std.proofs.lemmas.Bool.Decides.{nat_tests}
 use Rattle.std.specs.List.{find}
-use Rattle.std.proofs.lemmas.List.Sums.{sum_by-cons, sum_by_push, sum_by_more, sum_by_more_le}
+use Rattle.std.proofs.lemmas.List.Sums.{sum_by-cons, sum_by_push, sum_by_more}
 use Rattle.kz_types.specs.declared.log.BatchRow.{BatchRow}
 use Rattle.kz_types.specs.declared.log.Entry.{Entry}
 use Rattle.kz_types.specs.declared.record.MetaRecord.{MetaRecord}
-use Rattle.kz_types.specs.declared.record.MetaRecord.TheVariants as meta
-use Rattle.kz_spec_stores.specs.Image.{Image, applied}
 use Rattle.kz_spec_stores.specs.Log.{Log, IsLog, Follow, Climb, is_behind, end_of, image_at, full_log, with_batch, max_records, last_of, last_end, record_count, numbered, entries, all_entries_applied}
-use Rattle.kz_spec_stores.specs.Settlement.{counted, is_begin, closes, is_marker, is_end, is_ended_by}
+use Rattle.kz_spec_stores.specs.Settlement.{counted, closes, is_end, is_ended_by}
 use Rattle.kz_spec_stores.specs.Tree.{max_long}
 use Rattle.kz_settle.specs.Settling.{closes_entry, opened, passed, ends_by}
 use Rattle.kz_settle.proofs.Passing.{counted_is_passed}
 use Rattle.kz_log.specs.Reading.{placed, remaining, image_after}
-use Rattle.kz_log.proofs.Offsets.{Consecutive, numbered_consecutive, consecutive_rises, last_of_is, last_end-append, is_lt, of_lt, not_lt, of_not_lt, of_le}
+use Rattle.kz_log.proofs.Offsets.{Consecutive, numbered_consecutive, consecutive_rises, last_of_is, last_end-append, of_lt, not_lt, of_not_lt, of_le}
 
 -- ---- how many records there are, and the last offset
 
@@ -56,34 +53,6 @@ placed_consecutive from (b ∷ bs) = numbered_consecutive from (from +ℤ pos 1)
 
 pub remaining_consecutive : (from epoch : ℤ) (items : List MetaRecord) (rest : List BatchRow) → Consecutive from (remaining from epoch items rest)
 remaining_consecutive from epoch items rest = numbered_consecutive from (from +ℤ pos 1) epoch items (placed (from +ℤ pos (length items)) rest) refl (placed_consecutive (from +ℤ pos (length items)) rest)
-
--- ---- a record read
-
-pub read_item : (from epoch : ℤ) (items : List MetaRecord) (rest : List BatchRow) (x : MetaRecord) → 0 < length items → x ≡ get_or items 0 x
-    → remaining from epoch items rest ≡ record { offset = from +ℤ pos 1; epoch = epoch; item = x } ∷ remaining (from +ℤ pos 1) epoch (drop 1 items) rest
-read_item from epoch [] rest x some is = absurd (omega arith)
-read_item from epoch (y ∷ items) rest x some is =
-    let at : from +ℤ pos (suc (length items)) ≡ (from +ℤ pos 1) +ℤ pos (length items) = omega (arith, ints) in
-    let e : MetaRecord → Entry = λ z. record { offset = from +ℤ pos 1; epoch = epoch; item = z } in
-    ap (λ z. e z ∷ (numbered ((from +ℤ pos 1) +ℤ pos 1) epoch items ++ placed (from +ℤ pos (suc (length items))) rest)) (sym is)
-    ∙ ap (λ o. e x ∷ (numbered ((from +ℤ pos 1) +ℤ pos 1) epoch items ++ placed o rest)) at
-
-pub read_batch : (from epoch : ℤ) (items : List MetaRecord) (rest : List BatchRow) (b : BatchRow) → length items ≡ 0 → 0 < length rest → b ≡ get_or rest 0 b
-    → remaining from epoch items rest ≡ remaining from b.epoch b.items (drop 1 rest)
-read_batch from epoch (x ∷ items) rest b none some is = absurd (omega arith)
-read_batch from epoch [] [] b none some is = absurd (omega arith)
-read_batch from epoch [] (y ∷ rest) b none some is =
-    let at : from +ℤ pos 0 ≡ from = omega (arith, ints) in
-    ap (λ o. placed o (y ∷ rest)) at ∙ ap (λ (z : BatchRow). placed from (z ∷ rest)) (sym is)
-
-pub read_count : (rest : List BatchRow) (b : BatchRow) → 0 < length rest → b ≡ get_or rest 0 b → record_count rest ≡ length b.items + record_count (drop 1 rest)
-read_count [] b some is = absurd (omega arith)
-read_count (y ∷ rest) b some is = record_count-cons y rest ∙ ap (λ (z : BatchRow). length z.items + record_count rest) (sym is)
-
-pub read_none : (from epoch : ℤ) (items : List MetaRecord) (rest : List BatchRow) → length items ≡ 0 → length rest ≡ 0 → remaining from epoch items rest ≡ []
-read_none from epoch [] [] none last = refl
-read_none from epoch [] (y ∷ rest) none last = absurd (omega arith)
-read_none from epoch (x ∷ items) rest none last = absurd (omega arith)
 
 -- ---- what the records behind an offset do to the metadata
 
@@ -130,88 +99,6 @@ skip_by false at e es h = refl
 pub ends_skip : (at : ℤ) (e : Entry) (es : List Entry) → closes e.item ≡ false → ends_by at (e ∷ es) ≡ ends_by at es
 ends_skip at e es h = skip_by (closes e.item) at e es h
 
-and_true : (a b : Bool) → b ≡ true → (a && b) ≡ a
-and_true true b h = h
-and_true false b h = refl
-
-here_by : (c : Bool) (at : ℤ) (e : Entry) (es : List Entry) → c ≡ true → int_le e.offset at ≡ true → is_ended_by at (cond c (Some e) (find closes_entry es)) ≡ is_end e.item
-here_by true at e es h under = and_true (is_end e.item) (int_le e.offset at) under
-here_by false at e es h under = cc
-
-pub ends_here : (at : ℤ) (e : Entry) (es : List Entry) → closes e.item ≡ true → int_le e.offset at ≡ true → ends_by at (e ∷ es) ≡ is_end e.item
-ends_here at e es h under = here_by (closes e.item) at e es h under
-
--- a Begin is no End or Abort
-pub begin_does_not_close : (r : MetaRecord) → is_begin r ≡ true → closes r ≡ false
-begin_does_not_close (meta.BeginTransaction name) h = refl
-begin_does_not_close (meta.EndTransaction) h = absurd (false≢true h)
-begin_does_not_close (meta.AbortTransaction reason) h = absurd (false≢true h)
-begin_does_not_close r h = refl
-
-marked : (b c : Bool) → b ≡ true → b || c ≡ true
-marked true c h = refl
-marked false c h = cc
-
-marked_too : (b c : Bool) → c ≡ true → b || c ≡ true
-marked_too true c h = refl
-marked_too false c h = h
-
-pub begin_is_marker : (r : MetaRecord) → is_begin r ≡ true → is_marker r ≡ true
-begin_is_marker r h = marked (is_begin r) (closes r) h
-
-pub close_is_marker : (r : MetaRecord) → closes r ≡ true → is_marker r ≡ true
-close_is_marker r h = marked_too (is_begin r) (closes r) h
-
-not_marked : (b c : Bool) → b ≡ false → c ≡ false → b || c ≡ false
-not_marked b c h k = rw h k
-
-skips : (at : ℤ) (test : Bool) (e : Entry) (es : List Entry) (i : Image) → test ≡ false → all_entries_applied (cond test (e ∷ es) es) i ≡ all_entries_applied es i
-skips at true e es i h = cc
-skips at false e es i h = refl
-
-takes : (at : ℤ) (test : Bool) (e : Entry) (es : List Entry) (i : Image) → test ≡ true → all_entries_applied (cond test (e ∷ es) es) i ≡ all_entries_applied es (applied e.epoch e.item i)
-takes at true e es i h = refl
-takes at false e es i h = cc
-
-marker_test : (a m k : Bool) → m ≡ true → (a && not m && k) ≡ false
-marker_test true true k h = refl
-marker_test false m k h = refl
-marker_test true false k h = cc
-
-pub marker_skips : (at : ℤ) (inside : Bool) (e : Entry) (es : List Entry) (i : Image) → is_marker e.item ≡ true → image_after at inside (e ∷ es) i ≡ image_after at (opened inside e.item) es i
-marker_skips at inside e es i h =
-    skips at _ e (passed at (opened inside e.item) es) i (marker_test (int_le e.offset at) (is_marker e.item) (not inside || ends_by at es) h)
-
-and_all : (a m k : Bool) → a ≡ true → m ≡ false → k ≡ true → (a && not m && k) ≡ true
-and_all a m k h g f = rw (h, g) f
-
-and_last : (a m k : Bool) → k ≡ false → (a && not m && k) ≡ false
-and_last true true k h = refl
-and_last true false k h = h
-and_last false m k h = refl
-
--- one that counts is taken in
-pub counted_takes : (at : ℤ) (inside : Bool) (e : Entry) (es : List Entry) (i : Image) → int_le e.offset at ≡ true → is_marker e.item ≡ false → (not inside || ends_by at es) ≡ true
-    → image_after at inside (e ∷ es) i ≡ image_after at (opened inside e.item) es (applied e.epoch e.item i)
-counted_takes at inside e es i under plain counts =
-    takes at _ e (passed at (opened inside e.item) es) i (and_all (int_le e.offset at) (is_marker e.item) (not inside || ends_by at es) under plain counts)
-
--- one in a transaction that doesn't end by then changes nothing
-pub uncounted_skips : (at : ℤ) (inside : Bool) (e : Entry) (es : List Entry) (i : Image) → (not inside || ends_by at es) ≡ false → image_after at inside (e ∷ es) i ≡ image_after at (opened inside e.item) es i
-uncounted_skips at inside e es i h = skips at _ e (passed at (opened inside e.item) es) i (and_last (int_le e.offset at) (is_marker e.item) (not inside || ends_by at es) h)
-
-pub opened_begin : (inside : Bool) (r : MetaRecord) → is_begin r ≡ true → opened inside r ≡ true
-opened_begin inside r h = rw h refl
-
-pub opened_close : (inside : Bool) (r : MetaRecord) → is_begin r ≡ false → closes r ≡ true → opened inside r ≡ false
-opened_close inside r h k = rw (h, k) refl
-
-pub opened_plain : (inside : Bool) (r : MetaRecord) → is_begin r ≡ false → closes r ≡ false → opened inside r ≡ inside
-opened_plain inside r h k = rw (h, k) refl
-
-pub plain_is_no_marker : (r : MetaRecord) → is_begin r ≡ false → closes r ≡ false → is_marker r ≡ false
-plain_is_no_marker r h k = not_marked (is_begin r) (closes r) h k
-
 -- ---- the log
 
 pub end_is : (l : Log) → IsLog l → end_of l ≡ l.base +ℤ pos (record_count l.batches)
@@ -232,17 +119,6 @@ image_at_is l k at =
     (counted_is_passed (placed l.base l.batches) at (consecutive_rises l.base (placed l.base l.batches) (placed_consecutive l.base l.batches)))
 
 -- ---- a batch more
-
-few_enough : (count : ℕ) → count ≤ max_records → nat_lt max_records count ≡ false
-few_enough count h = grind (arith, nat_tests)
-
-pub full_none : (l : Log) (items : List MetaRecord) → record_count l.batches + length items ≤ max_records → (end_of l +ℤ pos (length items)) ≤ℤ max_long → None ≡ full_log l items
-full_none l items room near =
-    rw (few_enough (record_count l.batches + length items) room, not_lt max_long (end_of l +ℤ pos (length items)) near) refl
-
-pub full_end : (l : Log) (items : List MetaRecord) → record_count l.batches + length items ≤ max_records → max_long <ℤ (end_of l +ℤ pos (length items)) → Some 17 ≡ full_log l items
-full_end l items room far =
-    rw (few_enough (record_count l.batches + length items) room, is_lt max_long (end_of l +ℤ pos (length items)) far) refl
 
 room_by : (many far : Bool) → cond {A = Option ℕ} many (Some 7) (cond far (Some 17) None) ≡ None → (many ≡ false) × (far ≡ false)
 room_by true far h = cc
@@ -285,15 +161,6 @@ added_is l b epoch now items first e t is =
 
 -- ---- the batches behind an offset
 
--- one more, from the end
-pub behind_more : (after : ℤ) (bs : List BatchRow) (i : ℕ) (b : BatchRow) → i < length bs → b ≡ get_or bs i b → after <ℤ b.first
-    → drop (suc i) bs ≡ filter (is_behind after) (drop (suc i) bs) → drop i bs ≡ filter (is_behind after) (drop i bs)
-behind_more after [] i b h is lt rest = absurd (omega arith)
-behind_more after (x ∷ bs) zero b h is lt rest =
-    let t : is_behind after x ≡ true = ap (λ (y : BatchRow). is_behind after y) (sym is) ∙ is_lt after b.first lt in
-    rw t (ap (λ ys. x ∷ ys) rest)
-behind_more after (x ∷ bs) (suc i) b h is lt rest = behind_more after bs i b (omega arith) is lt rest
-
 first_behind : (from : ℤ) (bs : List BatchRow) (i : ℕ) (b : BatchRow) → Follow from bs → i < length bs → b ≡ get_or bs i b → from <ℤ b.first
 first_behind from [] i b h lt is = absurd (omega arith)
 first_behind from (x ∷ bs) zero b h lt is = let e = ap (λ (y : BatchRow). y.first) is ∙ h.0 in omega (arith, ints, e)
@@ -317,11 +184,6 @@ none_behind from after (x ∷ bs) (suc i) b h lt is le rest =
 
 pub count_more : (bs : List BatchRow) (i : ℕ) (b : BatchRow) → i < length bs → b ≡ get_or bs i b → record_count (take (i + 1) bs) ≡ record_count (take i bs) + length b.items
 count_more bs i b h is = sum_by_more (λ (x : BatchRow). length x.items) bs i b h ∙ ap (λ (x : BatchRow). record_count (take i bs) + length x.items) (sym is)
-
-pub count_within : (bs : List BatchRow) (i : ℕ) (b : BatchRow) → i < length bs → b ≡ get_or bs i b → record_count (take i bs) + length b.items ≤ record_count bs
-count_within bs i b h is =
-    let le = sum_by_more_le (λ (x : BatchRow). length x.items) bs i b h in
-    let same = ap (λ (x : BatchRow). length x.items) is in omega (arith, le, same)
 
 pub last_at : (from : ℤ) (bs : List BatchRow) (i : ℕ) (b : BatchRow) → Follow from bs → i < length bs → b ≡ get_or bs i b → last_of b ≡ from +ℤ pos (record_count (take i bs) + length b.items)
 last_at from [] i b h lt is = absurd (omega arith)
