@@ -2,6 +2,8 @@
 #![tactic(auto)]
 
 #[cfg(test)]
+mod brokers;
+#[cfg(test)]
 mod clients;
 #[cfg(test)]
 mod made;
