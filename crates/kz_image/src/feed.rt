@@ -6,11 +6,11 @@ use kz_types::{BatchRow, Sequence};
 /// metadata before them.
 #[derive(Drop)]
 pub struct Feed {
-    /// The metadata that the batches go on from, and the offset behind the last record that it has, where the reader
-    /// begins anew.
+    /// Where the reader begins anew: the metadata that the batches go on from, and the offset up to which it is, which is that
+    /// of the last record that it has.
     pub base: Option<(i64, Image)>,
     /// The batches, in the order of the log.
     pub batches: Sequence<BatchRow>,
-    /// The offset behind the last record.
+    /// The offset of the last record, or the one that the batches go on from where there is none.
     pub end: i64,
 }

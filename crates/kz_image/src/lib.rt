@@ -19,7 +19,7 @@ mod values;
 
 pub use feed::Feed;
 pub use image::{Brokers, Image, Pairs, Quotas, valid};
-pub use kz_types::Configuration;
+pub use kz_types::{BatchRow, Configuration, ImageFault, ImageRule};
 
 #[cfg(test)]
 mod tests;

@@ -44,10 +44,15 @@ is_loss (Ok a) = false
 is_loss (Err wire_fault.Lost) = true
 is_loss (Err (wire_fault.Log f)) = false
 
--- the log after an append whose answer was lost: it was made, or refused
-abbrev pub after_append : Log → Result Log LogFault → Log
-after_append l (Ok made) = made
-after_append l (Err f) = l
+-- the log after an append whose answer was lost: it was made, or refused as one of another epoch; no other answer is lost
+abbrev pub IsLostAppend : Log → Log → Result Log LogFault → Type 0
+IsLostAppend old new (Ok made) = new ≡ made
+IsLostAppend old new (Err (fault.Stale epoch)) = new ≡ old
+IsLostAppend old new (Err fault.Failed) = ⊥
+IsLostAppend old new (Err (fault.Limit number)) = ⊥
+IsLostAppend old new (Err fault.NoMemory) = ⊥
+IsLostAppend old new (Err fault.Down) = ⊥
+IsLostAppend old new (Err (fault.Full length)) = ⊥
 
 -- the log gets the request, and its answer arrives, by these plans
 abbrev pub is_answered : Plan → Bool

@@ -5,7 +5,7 @@ ghost use Rattle.kz_spec_stores.specs.Log as logs;
 ghost use Rattle.kz_spec_stores.specs.Log.{end_of, feed_from};
 ghost use Rattle.kz_spec_stores.specs.Requests.{Between};
 ghost use Rattle.kz_log.specs.Requests.{IsFeed, IsChangeFault, IsReadFault};
-ghost use Rattle.kz_log.specs.Wires.{Wired, OfLog, IfLog, LostOr, is_loss, after_append, is_answered, arrives, IsWireDown};
+ghost use Rattle.kz_log.specs.Wires.{Wired, OfLog, IfLog, LostOr, is_loss, IsLostAppend, is_answered, arrives, IsWireDown};
 ghost use Rattle.kz_log.specs.Lending.{lends_log};
 ghost use Rattle.std.specs.Borrow.{sem};
 
@@ -117,7 +117,7 @@ impl<L: MetaLog> LogWire<L> {
         ensures ok { IfOk result (λ end. (logs.append (L.log self.old.inner) epoch now items.now ≡ Ok (L.log self.new.inner)) × (end ≡ end_of (L.log self.new.inner))) }
         ensures delivered { is_answered self.old.plan ≡ true → IfErr result (OfLog (IsChangeFault (logs.append (L.log self.old.inner) epoch now items.now) (L.length self.old.inner) (L.down self.old.inner))) }
         ensures lost_after { self.old.plan ≡ Plan.LostAfter → OnOk result ⊥ × IfErr result (LostOr (IsChangeFault (logs.append (L.log self.old.inner) epoch now items.now) (L.length self.old.inner) (L.down self.old.inner))) }
-        ensures taken { self.old.plan ≡ Plan.LostAfter → IsErrOf result LogWireFault.Lost → L.log self.new.inner ≡ after_append (L.log self.old.inner) (logs.append (L.log self.old.inner) epoch now items.now) }
+        ensures taken { self.old.plan ≡ Plan.LostAfter → IsErrOf result LogWireFault.Lost → IsLostAppend (L.log self.old.inner) (L.log self.new.inner) (logs.append (L.log self.old.inner) epoch now items.now) }
         ensures same { IfErr result (IfLog (L.log self.new.inner ≡ L.log self.old.inner)) }
         ensures lost_before { self.old.plan ≡ Plan.LostBefore → (result ≡ Err LogWireFault.Lost) × (self.new.inner ≡ self.old.inner) }
         ensures was_down { L.down self.old.inner ≡ true → arrives self.old.plan ≡ true → IsWireDown result }
