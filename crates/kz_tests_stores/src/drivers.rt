@@ -204,6 +204,16 @@ fn elected(alloc: Global, id: i32, epoch: i32) -> Driver
     driver
 }
 
+// A controller that is elected with this epoch, and has read nothing of the log.
+fn elected_later(alloc: Global, stores: &Stores, id: i32, epoch: i32) -> Driver
+    requires { pos 1 ≤ℤ epoch }
+    ensures { IsViewOf stores.now.log result.view }
+{
+    views_stay();
+    let _kept = stores.log.epoch();
+    elected(alloc, id, epoch)
+}
+
 const MIGRATING: [MetaRecord; 2] = [MetaRecord::NoOp, MetaRecord::ZkMigrationState { state: 1 }];
 
 const NEXT: [MetaRecord; 1] = [MetaRecord::NoOp];
@@ -264,16 +274,24 @@ fn a_driver_migrates_an_empty_tree(rt: HostRuntime) {
     drop(stores);
 }
 
-// Appends a record as the leader of the epoch 1.
-fn append(rt: &impl Abort, stores: &mut Stores, item: MetaRecord)
+// Appends records as the leader of the epoch 1.
+fn append_all(rt: &impl Abort, stores: &mut Stores, items: &[MetaRecord])
+    requires { 0 < length items.now }
     ensures { (v : View) → IsViewOf stores.old.log v → IsViewOf stores.new.log v }
 {
     views_stay();
     let _kept = stores.log.epoch();
-    match stores.log.append(1, 8, &[item]) {
+    match stores.log.append(1, 8, items) {
         Ok(_) => {}
         Err(_) => panic!(rt; "an append failed"),
     }
+}
+
+// Appends a record as the leader of the epoch 1.
+fn append(rt: &impl Abort, stores: &mut Stores, item: MetaRecord)
+    ensures { (v : View) → IsViewOf stores.old.log v → IsViewOf stores.new.log v }
+{
+    append_all(rt, stores, &[item]);
 }
 
 #[test]
@@ -396,7 +414,7 @@ fn a_claim_is_fenced_by_a_higher_epoch(rt: HostRuntime) {
     let mut later = elected(alloc, 3002, 3);
     let lines = "1 moved BECOME_CONTROLLER\n1 looked\n1 claimed 2\n";
     tells(&rt, alloc, &mut later, &mut stores, lines);
-    let mut driver = elected(alloc, 3001, 2);
+    let mut driver = elected_later(alloc, &stores, 3001, 2);
     let lines = "1 moved BECOME_CONTROLLER\n1 fenced-epoch 3\n1 idle\n";
     tells(&rt, alloc, &mut driver, &mut stores, lines);
     drop(driver);
