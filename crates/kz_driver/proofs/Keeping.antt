@@ -16,7 +16,7 @@ use Rattle.kz_types.specs.declared.record.MetaRecord.{MetaRecord}
 use Rattle.kz_spec_values.specs.Control.{epoch_path, migration_path, read_epoch}
 use Rattle.kz_spec_stores.specs.Tree.{max_version}
 use Rattle.kz_spec_stores.specs.Log.{Log, append}
-use Rattle.kz_spec_stores.specs.Translation.{Unreadable}
+use Rattle.kz_spec_znodes.specs.Translation.{Unreadable}
 use Rattle.kz_spec_machine.specs.Driver.{Shared, Driver, epoch_or_zero, at_stage, resigned, unless_finalised, wait_or_move, after_quorum, after_brokers, unless_fenced, unless_full_epoch, unless_bad_epoch, unless_full_record, looked, after_page, after_append, after_records, after_translation, views_migrated, shown_by, missing_controller, page_size, begin_record}
 use Rattle.kz_driver.specs.declared.claim.Claimed.{Claimed}
 use Rattle.kz_driver.specs.declared.claim.Claimed.TheVariants.{Done, Refused, Stopped}

@@ -9,8 +9,7 @@ use Rattle.kz_ordered.specs.Ordered.{Rises, AllBelow}
 use Rattle.kz_ordered.proofs.Order.{bytes_order}
 use Rattle.kz_ordered.proofs.Maps.{Rises-map}
 use Rattle.kz_ordered.proofs.Append.{Rises-append}
-use Rattle.kz_spec_stores.specs.Tree.{Tree, path_of_row, rendered_row, is_after, scan, migrated_rows}
-use Rattle.kz_spec_stores.specs.Rendering.{path_of_rendered}
+use Rattle.kz_spec_stores.specs.Tree.{Tree, path_of_row, rendered_row, is_after, scan, migrated_rows, path_of_rendered}
 use Rattle.kz_spec_machine.specs.Driver.{last_path, page_size}
 
 pub rendered_rise : (rows : List Row) → Rises bytes_cmp path_of_row rows → Rises bytes_cmp path_of_rendered (map rendered_row rows)

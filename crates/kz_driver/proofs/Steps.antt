@@ -14,7 +14,7 @@ use Rattle.kz_types.specs.declared.fault.TreeFault.TheVariants as fault
 use Rattle.kz_types.specs.declared.fault.LogFault.{LogFault}
 use Rattle.kz_spec_stores.specs.Tree.{Tree, multi}
 use Rattle.kz_spec_stores.specs.Log.{Log, View, append}
-use Rattle.kz_spec_stores.specs.Translation.{Unreadable}
+use Rattle.kz_spec_znodes.specs.Translation.{Unreadable}
 use Rattle.kz_spec_machine.specs.Driver.{Shared, Driver, epoch_or_zero, asked, made, with_tree, with_log, begin_request, write_request, write_ops, answered, after_claim, step, begin_record, after_page, page_size}
 use Rattle.kz_driver.specs.declared.row.DriverRow.{DriverRow}
 use Rattle.kz_driver.specs.Rows.{driver_of}

@@ -7,7 +7,7 @@ use Rattle.kz_types.specs.declared.fault.TreeFault.{TreeFault}
 use Rattle.kz_types.specs.declared.fault.TreeFault.TheVariants as fault
 use Rattle.kz_types.specs.declared.machine.Reply.{Reply}
 use Rattle.kz_spec_stores.specs.Tree.{Tree, multi}
-use Rattle.kz_spec_stores.specs.Difference.{chunk, max_chunk}
+use Rattle.kz_spec_znodes.specs.Difference.{chunk, max_chunk}
 use Rattle.kz_spec_machine.specs.Driver.{Driver, after_write, is_last_write, is_claim_refused, write_ops, writes}
 use Rattle.kz_driver.specs.declared.writing.Written.{Written}
 use Rattle.kz_driver.specs.declared.writing.Written.TheVariants.{Last, More, Fenced, Refused}

@@ -3,7 +3,7 @@ use Rattle.std.specs.Prelude.{◌≡◌, ℤ, List, [], ◌∷◌, Result, Ok, E
 use Rattle.kz_types.specs.declared.fault.LogFault.{LogFault}
 use Rattle.kz_types.specs.declared.record.MetaRecord.{MetaRecord}
 use Rattle.kz_spec_stores.specs.Log.{Log, append, end_of}
-use Rattle.kz_spec_stores.specs.Translation.{Unreadable}
+use Rattle.kz_spec_znodes.specs.Translation.{Unreadable}
 use Rattle.kz_spec_machine.specs.Driver.{begin_record}
 
 -- the last offset of the log that it makes, or its fault

@@ -10,7 +10,7 @@ use Rattle.kz_types.specs.declared.machine.Reply.TheVariants as reply
 use Rattle.kz_types.specs.declared.fault.TreeFault.{TreeFault}
 use Rattle.kz_types.specs.declared.fault.TreeFault.TheVariants as fault
 use Rattle.kz_spec_stores.specs.Tree.{Tree, multi}
-use Rattle.kz_spec_stores.specs.Difference.{chunk, max_chunk}
+use Rattle.kz_spec_znodes.specs.Difference.{chunk, max_chunk}
 use Rattle.kz_spec_machine.specs.Driver.{Driver, at_stage, begins_again, resigned, path_at, is_last_write, is_claim_refused, write_ops}
 use Rattle.kz_driver.specs.declared.writing.Scope.{Scope}
 use Rattle.kz_driver.specs.declared.writing.Scope.TheVariants.{All, Change}

@@ -5,9 +5,9 @@ ghost use Rattle.kz_types.specs.declared.machine.Recorded.{Recorded as RecordedV
 ghost use Rattle.kz_types.specs.declared.driver.Stage.TheVariants as stage;
 ghost use Rattle.kz_ordered.specs.Order.{bytes_cmp};
 ghost use Rattle.kz_ordered.specs.Ordered.{Rises};
-ghost use Rattle.kz_spec_stores.specs.Tree.{scan, rendered_row, path_of_row};
-ghost use Rattle.kz_spec_stores.specs.Rendering.{render, path_of_rendered};
-ghost use Rattle.kz_spec_stores.specs.Difference.{diff};
+ghost use Rattle.kz_spec_stores.specs.Tree.{scan, rendered_row, path_of_row, path_of_rendered};
+ghost use Rattle.kz_spec_znodes.specs.Rendering.{render};
+ghost use Rattle.kz_spec_znodes.specs.Difference.{diff};
 ghost use Rattle.kz_spec_machine.specs.Driver.{last_path, page_size, after_page};
 ghost use Rattle.kz_driver.specs.Rows.{driver_of};
 ghost use Rattle.kz_driver.specs.Drivers.{HasRisen};

@@ -7,7 +7,7 @@ ghost use Rattle.kz_types.specs.declared.fault.LogFault.{LogFault as LogFaultVal
 ghost use Rattle.kz_spec_stores.specs.Tree.{Tree};
 ghost use Rattle.kz_spec_stores.specs.Requests.{Either};
 ghost use Rattle.kz_spec_stores.specs.Log.{Log, View as ViewValue, IsViewOf, append};
-ghost use Rattle.kz_spec_stores.specs.Translation.{translate};
+ghost use Rattle.kz_spec_znodes.specs.Translation.{translate};
 ghost use Rattle.kz_spec_machine.specs.Driver.{epoch_or_zero, begin_record, commit_records, next_records, after_records, after_append, after_translation};
 ghost use Rattle.kz_driver.specs.Faults.{IsCalm, IsChangeLogFault};
 ghost use Rattle.kz_driver.specs.Rows.{driver_of};

@@ -1,9 +1,9 @@
 //! DUAL_WRITE, no write under way: the log is read, and what has changed will be written.
 ghost use Rattle.std.specs.Prelude.{◌≡◌, IfOk, OnOk, IfErr, OnErr};
 ghost use Rattle.kz_types.specs.declared.driver.Stage.TheVariants as stage;
-ghost use Rattle.kz_spec_stores.specs.Difference.{diff};
+ghost use Rattle.kz_spec_znodes.specs.Difference.{diff};
 ghost use Rattle.kz_spec_stores.specs.Log.{Log, IsViewOf, read_view};
-ghost use Rattle.kz_spec_stores.specs.Rendering.{render};
+ghost use Rattle.kz_spec_znodes.specs.Rendering.{render};
 ghost use Rattle.kz_spec_machine.specs.Driver.{at_stage, target_of, having_read, is_recorded_at, after_rest};
 ghost use Rattle.kz_driver.specs.Drivers.{IsElected, IsKept};
 ghost use Rattle.kz_driver.specs.Faults.{IsReadLogFault};

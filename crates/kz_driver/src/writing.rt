@@ -6,8 +6,8 @@ ghost use Rattle.kz_types.specs.declared.machine.Recorded.{Recorded as RecordedV
 ghost use Rattle.kz_spec_stores.specs.Requests.{Either};
 ghost use Rattle.kz_spec_stores.specs.Tree.{multi, area};
 ghost use Rattle.kz_spec_stores.specs.Log.{IsViewOf};
-ghost use Rattle.kz_spec_stores.specs.Rendering.{render};
-ghost use Rattle.kz_spec_stores.specs.Difference.{diff};
+ghost use Rattle.kz_spec_znodes.specs.Rendering.{render};
+ghost use Rattle.kz_spec_znodes.specs.Difference.{diff};
 ghost use Rattle.kz_spec_machine.specs.Driver.{begins_again, remaining_at, write_ops, writes};
 ghost use Rattle.kz_driver.specs.Claims.{tree_after};
 ghost use Rattle.kz_driver.specs.Drivers.{IsElected, IsKept};

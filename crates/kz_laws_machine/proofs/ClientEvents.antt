@@ -11,7 +11,7 @@ use Rattle.kz_types.specs.declared.machine.Event.TheVariants as event
 use Rattle.kz_spec_values.specs.Control.{recorded_of}
 use Rattle.kz_spec_stores.specs.Tree.{Tree, multi, begin_session, end_session, rendered_row, has_offset, recorded, unclosed}
 use Rattle.kz_spec_stores.specs.Log.{Log, image_of}
-use Rattle.kz_spec_stores.specs.Rendering.{render}
+use Rattle.kz_spec_znodes.specs.Rendering.{render}
 use Rattle.kz_spec_machine.specs.Driver.{Driver}
 use Rattle.kz_spec_machine.specs.Machine.{World, driver_of, moved_world, is_held_tree, client_refusal, client_world, unless_refused, next}
 use Rattle.kz_spec_machine.specs.Sound.{Agreement, Sound}

@@ -5,8 +5,8 @@ use Rattle.kz_types.specs.declared.driver.Stage.TheVariants as stage
 use Rattle.kz_types.specs.declared.machine.Recorded.{Recorded}
 use Rattle.kz_spec_stores.specs.Tree.{Tree, rendered_row, recorded}
 use Rattle.kz_spec_stores.specs.Log.{Log, image_at}
-use Rattle.kz_spec_stores.specs.Rendering.{render}
-use Rattle.kz_spec_stores.specs.Difference.{diff}
+use Rattle.kz_spec_znodes.specs.Rendering.{render}
+use Rattle.kz_spec_znodes.specs.Difference.{diff}
 use Rattle.kz_spec_machine.specs.Driver.{Shared, Driver}
 use Rattle.kz_spec_machine.specs.Machine.{is_held_tree}
 use Rattle.kz_spec_machine.specs.Sound.{Agreement, claim_version, IsCurrent, shown_in, Claims, Rests, AtStage, Fine}

@@ -34,9 +34,9 @@ use Rattle.kz_ordered.proofs.Lookup.{found_is_contained}
 use Rattle.kz_spec_values.specs.Control.{epoch_path, migration_path, read_epoch, recorded_of, written_recorded}
 use Rattle.kz_spec_stores.specs.Tree.{Tree, row_at, path_of_row, multi, migrated_rows, is_after, scan, broker_ids, area, has_offset, rendered_row, max_version, max_long}
 use Rattle.kz_spec_stores.specs.Log.{Log, append, end_of, image_at, image_of, with_batch, is_migrated_log}
-use Rattle.kz_spec_stores.specs.Rendering.{render}
-use Rattle.kz_spec_stores.specs.Translation.{Unreadable, translate}
-use Rattle.kz_spec_stores.specs.Difference.{diff, chunk, max_chunk}
+use Rattle.kz_spec_znodes.specs.Rendering.{render}
+use Rattle.kz_spec_znodes.specs.Translation.{Unreadable, translate}
+use Rattle.kz_spec_znodes.specs.Difference.{diff, chunk, max_chunk}
 use Rattle.kz_spec_machine.specs.Driver.{Shared, Driver, state_of, at_stage, resigned, begins_again, epoch_or_zero, views_migrated, seen_in, shown_by, unless_fenced, unless_full_epoch, unless_bad_epoch, unless_full_record, looked, claimed_version, claim_ops, remaining_at, is_last_write, write_ops, target_of, page_size, last_path, Request, nothing, read_log, list_brokers, look_up, read_page, write, add, begin_record, begin_request, next_records, write_request, asked, with_tree, with_log, made, missing_controller, missing_broker, having_read, wait_or_move, after_quorum, after_brokers, path_at, after_claim, after_append, after_translation, after_records, written_driver, is_claim_refused, after_write, writes, is_recorded_at, answered, batch_size}
 use Rattle.kz_spec_machine.specs.Machine.{is_held_tree}
 use Rattle.kz_spec_machine.specs.Sound.{IsId, IsEpochOrNone, IsStamped, TreeShape, LogShape, IsBatchEnd, Kept, IsTime, claim_version, IsCurrent, shown_in, Claimed, Claims, Epochs, Elected, Aims, Reads, Writes, Rests, AtStage, IsConfig}

@@ -10,7 +10,7 @@ use Rattle.kz_types.specs.declared.machine.Verdict.{Verdict}
 use Rattle.kz_types.specs.declared.machine.Verdict.TheVariants.{Unmigrated, Unrecorded, Closed}
 use Rattle.kz_spec_stores.specs.Tree.{Tree, area, recorded, unclosed}
 use Rattle.kz_spec_stores.specs.Log.{Log, image_at, is_migrated_log}
-use Rattle.kz_spec_stores.specs.Rendering.{render}
+use Rattle.kz_spec_znodes.specs.Rendering.{render}
 use Rattle.kz_spec_machine.specs.Driver.{Shared}
 use Rattle.kz_spec_machine.specs.Verdicts.{body_at, same_bodies, agrees_at, ends_from, paths_at, disagrees, closed_or_ahead, unless_disagrees, verdict_at, verdict_of, verdict}
 use Rattle.kz_spec_machine.specs.Sound.{IsBatchEnd, Kept}

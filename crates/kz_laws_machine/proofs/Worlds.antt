@@ -19,9 +19,9 @@ use Rattle.kz_types.specs.declared.tree.Op.{Op}
 use Rattle.kz_types.specs.declared.fault.TreeFault.{TreeFault}
 use Rattle.kz_types.specs.declared.move_fault.MoveFault.{MoveFault}
 use Rattle.kz_spec_stores.specs.Tree.{Tree, multi, begin_session, end_session, area}
-use Rattle.kz_spec_stores.specs.Difference.{diff}
+use Rattle.kz_spec_znodes.specs.Difference.{diff}
 use Rattle.kz_spec_stores.specs.Log.{Log, empty_log, end_of, image_at, max_epoch, full_log, is_migrated_log, image_of, is_open_log}
-use Rattle.kz_spec_stores.specs.Rendering.{render}
+use Rattle.kz_spec_znodes.specs.Rendering.{render}
 use Rattle.kz_spec_machine.specs.Driver.{Shared, Driver, new_driver, elected_driver, is_one_of}
 use Rattle.kz_spec_machine.specs.Machine.{World, empty_world, running_ids, is_running, driver_of, with_driver, Turned, turn, work, decided, first_of, unless, over, full, running_refusal, leader_refusal, quorum_refusal, declared_world, start_refusal, started_world, election_records, next_epoch, elected_log, election_refusal, elected_world, election_answer, turn_result, max_changes, bad_record, change_refusal, changed_log, changed_world, registration, register_refusal, with_tree, moved_world, is_held_tree, client_refusal, client_world, unless_refused, next}
 use Rattle.kz_spec_machine.specs.Sound.{IsId, IsTime, IsEpoch, IsEpochOrNone, TreeShape, LogShape, IsBatchEnd, Agreement, Kept, Aims, AtStage, Fine, IsLawful, IsChange, IsSession, IsLawfulOp}

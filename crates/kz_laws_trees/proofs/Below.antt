@@ -14,8 +14,8 @@ use Rattle.kz_ordered.proofs.Append.{find-append}
 use Rattle.kz_ordered.proofs.Lookup.{find_here, find_skip}
 use Rattle.kz_ordered.proofs.Puts.{find-all_put}
 use Rattle.kz_spec_stores.specs.Image.{Image}
-use Rattle.kz_spec_stores.specs.Tree.{parent_of, is_root}
-use Rattle.kz_spec_stores.specs.Rendering.{path_of_rendered, bare, config_znode, render}
+use Rattle.kz_spec_stores.specs.Tree.{parent_of, is_root, path_of_rendered}
+use Rattle.kz_spec_znodes.specs.Rendering.{bare, config_znode, render}
 use Rattle.kz_laws_trees.proofs.Rows.{same, other, compare}
 use Rattle.kz_laws_trees.proofs.Area.{find_rendered}
 

@@ -15,8 +15,8 @@ use Rattle.kz_ordered.proofs.Maps.{Rises-filter, find-filter_absent, find-filter
 use Rattle.kz_spec_values.specs.Control.{control_path, epoch_path, migration_path, recorded_of, written_control, written_recorded}
 use Rattle.kz_spec_stores.specs.Tree.{Tree, path_of_row, row_at, parent_of, touched, after_set, set_row, created_row, after_op, set_refusal, multi, migrated_rows, area, recorded, has_offset, is_later, unclosed}
 use Rattle.kz_spec_stores.specs.Image.{Image}
-use Rattle.kz_spec_stores.specs.Rendering.{render}
-use Rattle.kz_spec_stores.specs.Difference.{diff, chunk}
+use Rattle.kz_spec_znodes.specs.Rendering.{render}
+use Rattle.kz_spec_znodes.specs.Difference.{diff, chunk}
 use Rattle.kz_spec_machine.specs.Driver.{Driver, epoch_or_zero, views_migrated, epoch_op, control_ops, migration_ops, base_op, base_ops, unrecorded, claim_ops, is_last_write, record_ops, write_ops}
 use Rattle.kz_spec_machine.specs.Sound.{TreeShape}
 use Rattle.kz_laws_trees.specs.TreeLaws.{path_of_op, Left}

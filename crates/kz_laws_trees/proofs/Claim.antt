@@ -15,8 +15,8 @@ use Rattle.kz_spec_values.specs.Control.{control_path, epoch_path, migration_pat
 use Rattle.kz_spec_stores.specs.Tree.{Tree, area, row_at, after_op, op_refusal, max_body, max_version, Refusal, code, limit, first_refusal, fits_version, set_refusal, created_row, multi, is_root}
 use Rattle.kz_types.specs.declared.machine.Recorded.{Recorded}
 use Rattle.kz_spec_stores.specs.Image.{Image}
-use Rattle.kz_spec_stores.specs.Rendering.{render}
-use Rattle.kz_spec_stores.specs.Difference.{diff}
+use Rattle.kz_spec_znodes.specs.Rendering.{render}
+use Rattle.kz_spec_znodes.specs.Difference.{diff}
 use Rattle.kz_laws_values.specs.Ranges.{IsLong, IsEpoch}
 use Rattle.kz_laws_values.proofs.Control.{control_is_read}
 use Rattle.kz_spec_machine.specs.Driver.{Driver, epoch_or_zero, views_migrated, epoch_op, epoch_number, control_ops, migration_ops, base_op, base_ops, unrecorded, claimed_version, claim_ops, shown_by, write_ops}

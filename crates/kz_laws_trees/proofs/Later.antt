@@ -19,10 +19,10 @@ use Rattle.kz_ordered.proofs.Edits.{each_is_due}
 use Rattle.kz_ordered.proofs.Lookup.{found_is_contained, key_of_found, find-put_same, find-without_other, Contains-head}
 use Rattle.kz_ordered.proofs.Maps.{find-filter_found}
 use Rattle.kz_spec_values.specs.Control.{migration_path, recorded_of}
-use Rattle.kz_spec_stores.specs.Tree.{Tree, path_of_row, row_at, put_row, without_row, parent_of, is_root, delete_refusal, set_refusal, op_refusal, created_row, set_row, touched, after_op, multi, migrated_rows, area, has_offset, is_later, first_path, unclosed_below, unclosed}
+use Rattle.kz_spec_stores.specs.Tree.{Tree, path_of_row, row_at, put_row, without_row, parent_of, is_root, delete_refusal, set_refusal, op_refusal, created_row, set_row, touched, after_op, multi, migrated_rows, area, has_offset, is_later, first_path, unclosed_below, unclosed, path_of_rendered}
 use Rattle.kz_spec_stores.specs.Image.{Image}
-use Rattle.kz_spec_stores.specs.Rendering.{path_of_rendered, render}
-use Rattle.kz_spec_stores.specs.Difference.{same_body, op_of, diff, max_chunk, chunk}
+use Rattle.kz_spec_znodes.specs.Rendering.{render}
+use Rattle.kz_spec_znodes.specs.Difference.{same_body, op_of, diff, max_chunk, chunk}
 use Rattle.kz_spec_machine.specs.Driver.{is_last_write, record_ops, write_ops}
 use Rattle.kz_spec_machine.specs.Sound.{IsStamped, HaveParents, TreeShape}
 use Rattle.kz_laws_trees.proofs.Rows.{still, created_found, set_found}

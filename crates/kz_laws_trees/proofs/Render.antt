@@ -14,9 +14,9 @@ use Rattle.kz_ordered.proofs.Order.{bytes_order}
 use Rattle.kz_ordered.proofs.Edits.{All-drops, All-makes}
 use Rattle.kz_ordered.proofs.Puts.{Rises-all_put, Contains-all_put_cases}
 use Rattle.kz_spec_stores.specs.Image.{Image}
-use Rattle.kz_spec_stores.specs.Tree.{rendered_row}
-use Rattle.kz_spec_stores.specs.Rendering.{path_of_rendered, bare, broker_key, config_znode, render}
-use Rattle.kz_spec_stores.specs.Difference.{same_body}
+use Rattle.kz_spec_stores.specs.Tree.{rendered_row, path_of_rendered}
+use Rattle.kz_spec_znodes.specs.Rendering.{bare, broker_key, config_znode, render}
+use Rattle.kz_spec_znodes.specs.Difference.{same_body}
 use Rattle.kz_laws_trees.proofs.Area.{area_of, edit_path}
 use Rattle.kz_laws_trees.proofs.Runs.{Inside}
 use Rattle.kz_laws_trees.proofs.Each.{all_from_contains}

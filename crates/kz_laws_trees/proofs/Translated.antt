@@ -17,8 +17,8 @@ use Rattle.kz_types.specs.Paths.{kind_of, key_of}
 use Rattle.kz_spec_values.specs.Bodies.{read_body}
 use Rattle.kz_spec_stores.specs.Image.{empty_image, all_applied}
 use Rattle.kz_spec_stores.specs.Log.{max_records, max_epoch}
-use Rattle.kz_spec_stores.specs.Rendering.{Excess, excess}
-use Rattle.kz_spec_stores.specs.Translation.{Unreadable, Translated, config_record, config_records, records_of_config, entity_records, records_by_kind, row_records, joined, all_records, further_records, bounded, within_limits, translate}
+use Rattle.kz_spec_znodes.specs.Rendering.{Excess, excess}
+use Rattle.kz_spec_znodes.specs.Translation.{Unreadable, Translated, config_record, config_records, records_of_config, entity_records, records_by_kind, row_records, joined, all_records, further_records, bounded, within_limits, translate}
 use Rattle.kz_spec_machine.specs.Sound.{IsConfig}
 
 abbrev Configs : {E : Type 0} → Result (List MetaRecord) E → Type 0

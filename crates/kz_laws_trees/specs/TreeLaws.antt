@@ -10,10 +10,10 @@ use Rattle.kz_types.specs.Paths.{is_migrated}
 use Rattle.kz_ordered.specs.Order.{bytes_cmp}
 use Rattle.kz_ordered.specs.Difference.{all_edited, difference}
 use Rattle.kz_spec_values.specs.Control.{control_path, shown_epoch, recorded_of, written_recorded}
-use Rattle.kz_spec_stores.specs.Tree.{Tree, created_row, multi, begin_session, end_session, migrated_rows, area, recorded, has_offset, unclosed}
+use Rattle.kz_spec_stores.specs.Tree.{Tree, created_row, multi, begin_session, end_session, migrated_rows, area, recorded, has_offset, unclosed, path_of_rendered}
 use Rattle.kz_spec_stores.specs.Image.{Image}
-use Rattle.kz_spec_stores.specs.Rendering.{path_of_rendered, render}
-use Rattle.kz_spec_stores.specs.Difference.{same_body, diff, max_chunk}
+use Rattle.kz_spec_znodes.specs.Rendering.{render}
+use Rattle.kz_spec_znodes.specs.Difference.{same_body, diff, max_chunk}
 use Rattle.kz_spec_machine.specs.Driver.{Driver, epoch_or_zero, views_migrated, unrecorded, is_last_write, write_ops, claimed_version, claim_ops}
 use Rattle.kz_spec_machine.specs.Machine.{is_held_tree, client_refusal}
 use Rattle.kz_spec_machine.specs.Sound.{IsNotRoot, IsUnreserved, Lasts, TreeShape, claim_version, shown_in, IsSession, IsLawfulOp}

@@ -3,7 +3,7 @@ ghost use Rattle.std.specs.Prelude.{◌≡◌, IfOk, Ok, map, string_bytes};
 ghost use Rattle.std.specs.Fmt.{signed_decimal};
 ghost use Rattle.kz_types.specs.declared.key.EntityKey.TheVariants.{BrokerConfig};
 ghost use Rattle.kz_spec_values.specs.Bodies.{read_body};
-ghost use Rattle.kz_spec_stores.specs.Translation.{broker_name, config_record, config_records, records_of_config};
+ghost use Rattle.kz_spec_znodes.specs.Translation.{broker_name, config_record, config_records, records_of_config};
 
 use kz_json::read_config;
 use kz_types::{

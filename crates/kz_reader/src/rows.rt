@@ -1,6 +1,6 @@
 //! The records of one znode.
 ghost use Rattle.std.specs.Prelude.{◌≡◌, IfOk};
-ghost use Rattle.kz_spec_stores.specs.Translation.{entity_records, row_records};
+ghost use Rattle.kz_spec_znodes.specs.Translation.{entity_records, row_records};
 
 use crate::configs::records_of_body;
 use kz_path::{key_of, kind};

@@ -2,8 +2,8 @@
 ghost use Rattle.std.specs.Prelude.{◌≡◌, IfOk, OnOk, IfErr, Ok, Err, MatchOption};
 ghost use Rattle.kz_spec_stores.specs.Image.{all_applied, empty_image};
 ghost use Rattle.kz_spec_stores.specs.Log.{max_epoch};
-ghost use Rattle.kz_spec_stores.specs.Rendering.{render, excess};
-ghost use Rattle.kz_spec_stores.specs.Translation.{Translated, row_records, joined, all_records, bounded, translate};
+ghost use Rattle.kz_spec_znodes.specs.Rendering.{render, excess};
+ghost use Rattle.kz_spec_znodes.specs.Translation.{Translated, row_records, joined, all_records, bounded, translate};
 ghost use Rattle.kz_types.specs.declared.fault.ReadWhy.TheVariants.{Over};
 ghost use Rattle.kz_reader.specs.Faults.{IsReadFault, IsRowFault, after_records};
 
@@ -70,7 +70,7 @@ fn rendered(alloc: Global, records: &[MetaRecord]) -> Result<Vec<Rendered>, NoMe
 }
 
 // The first limit that these records pass, with what they make of the empty metadata.
-#[tactic(auto, unfolding(kz_spec_stores::specs::Rendering::render))]
+#[tactic(auto, unfolding(kz_spec_znodes::specs::Rendering::render))]
 fn passed_limit(alloc: Global, records: &[MetaRecord]) -> Result<Option<Excess>, NoMemory>
     ensures { IfOk result (λ told. MatchOption told
         (bounded (excess (all_applied max_epoch records.now empty_image)) records.now ≡ Ok records.now)
@@ -92,7 +92,7 @@ fn passed_limit(alloc: Global, records: &[MetaRecord]) -> Result<Option<Excess>,
 /// `Untranslatable` names the first znode that can't be translated, and why: one that isn't migrated though it stands in
 /// the migrated area, or a body that can't be read. Where each can be, it names the first limit that all of them pass: 2, 3
 /// and 6 of the znodes that the records would be rendered as, and 7 where the log would have no room for them.
-#[tactic(auto, unfolding(kz_spec_stores::specs::Translation::translate))]
+#[tactic(auto, unfolding(kz_spec_znodes::specs::Translation::translate))]
 pub fn translate(alloc: Global, rows: &[Row]) -> Result<Vec<MetaRecord>, ReadFault>
     ensures ok { IfOk result (λ records. translate rows.now ≡ Ok records.items) }
     ensures err { IfErr result (IsReadFault (translate rows.now)) }

@@ -13,7 +13,7 @@ use Rattle.kz_types.proofs.OnLiterals.{values_on_literals}
 use Rattle.std.proofs.lemmas.Fmt.{length-decimal-le}
 use Rattle.std.proofs.lemmas.Int.{ints}
 use Rattle.kz_types.proofs.NumberLemmas.{canonical_sound, canonical_complete, canonical_digits}
-use Rattle.kz_spec_stores.specs.Rendering.{broker_key}
+use Rattle.kz_spec_znodes.specs.Rendering.{broker_key}
 
 -- a byte from 48 to 57
 digit_range : (b : ℕ) → is_digit b ≡ true → (48 ≤ b) × (b ≤ 57)

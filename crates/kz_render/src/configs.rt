@@ -2,7 +2,7 @@
 ghost use Rattle.std.specs.Prelude.{◌≡◌, true, IfOk, MatchResult};
 ghost use Rattle.kz_types.specs.Paths.{path_of, is_legal};
 ghost use Rattle.kz_types.specs.PathRule.{is_path};
-ghost use Rattle.kz_spec_stores.specs.Rendering.{broker_key, config_znode};
+ghost use Rattle.kz_spec_znodes.specs.Rendering.{broker_key, config_znode};
 
 use kz_json::config_text;
 use kz_path::path_of;

@@ -3,7 +3,7 @@ ghost use Rattle.std.specs.Prelude.{◌≡◌, length, IfOk, nat_lt, option_map,
 ghost use Rattle.std.specs.List.{find, sum_by};
 ghost use Rattle.kz_types.specs.PathRule.{is_path};
 ghost use Rattle.kz_types.specs.declared.tree.Rendered.{Rendered as RenderedValue};
-ghost use Rattle.kz_spec_stores.specs.Rendering.{is_long, max_bodies, excess_of};
+ghost use Rattle.kz_spec_znodes.specs.Rendering.{is_long, max_bodies, excess_of};
 ghost use Rattle.kz_render.specs.Limits.{excess_of_told};
 
 use kz_types::{Duplicate, NoMemory, Rendered, Text, ZPath};

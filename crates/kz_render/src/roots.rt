@@ -4,7 +4,8 @@ ghost use Rattle.kz_types.specs.PathRule.{is_path};
 ghost use Rattle.kz_types.specs.Paths.{roots};
 ghost use Rattle.kz_ordered.specs.Order.{bytes_cmp};
 ghost use Rattle.kz_ordered.specs.Ordered.{Rises};
-ghost use Rattle.kz_spec_stores.specs.Rendering.{bare, path_of_rendered};
+ghost use Rattle.kz_spec_stores.specs.Tree.{path_of_rendered};
+ghost use Rattle.kz_spec_znodes.specs.Rendering.{bare};
 
 use kz_types::{NoMemory, Rendered, Sequence, Text, ZPath};
 use std::alloc::Global;

@@ -2,7 +2,8 @@
 ghost use Rattle.std.specs.Prelude.{◌≡◌, IfOk, OnOk, OnErr, map};
 ghost use Rattle.kz_ordered.specs.Order.{bytes_cmp};
 ghost use Rattle.kz_ordered.specs.Ordered.{all_put, put, Rises};
-ghost use Rattle.kz_spec_stores.specs.Rendering.{bare, config_znode, path_of_rendered, render};
+ghost use Rattle.kz_spec_stores.specs.Tree.{path_of_rendered};
+ghost use Rattle.kz_spec_znodes.specs.Rendering.{bare, config_znode, render};
 
 use crate::configs::config_znode;
 use crate::roots::bare_roots;
@@ -42,7 +43,7 @@ fn put_configs(
 }
 
 /// The znodes of the metadata, in path order.
-#[tactic(auto, unfolding(kz_spec_stores::specs::Rendering::render))]
+#[tactic(auto, unfolding(kz_spec_znodes::specs::Rendering::render))]
 pub fn render(alloc: Global, image: &Image) -> Result<Vec<Rendered>, NoMemory>
     ensures znodes { IfOk result (λ znodes. znodes.items ≡ render image.now) }
     ensures rising { IfOk result (λ znodes. Rises bytes_cmp path_of_rendered znodes.items) }

@@ -28,9 +28,9 @@ use Rattle.kz_spec_values.specs.Control.{control_path, epoch_path, migration_pat
 use Rattle.kz_spec_stores.specs.Tree.{Tree, row_at, multi, scan, look, broker_ids, area, rendered_row, max_version}
 use Rattle.kz_spec_stores.specs.Image.{Image, is_migrated_state}
 use Rattle.kz_spec_stores.specs.Log.{Log, View, new_view, append, end_of, image_at, read_view}
-use Rattle.kz_spec_stores.specs.Rendering.{render}
-use Rattle.kz_spec_stores.specs.Translation.{Unreadable, translate}
-use Rattle.kz_spec_stores.specs.Difference.{diff, chunk, max_chunk}
+use Rattle.kz_spec_znodes.specs.Rendering.{render}
+use Rattle.kz_spec_znodes.specs.Translation.{Unreadable, translate}
+use Rattle.kz_spec_znodes.specs.Difference.{diff, chunk, max_chunk}
 
 -- ---- what there is
 

@@ -22,7 +22,7 @@ use Rattle.kz_spec_values.specs.Control.{control_path, epoch_path, migration_pat
 use Rattle.kz_spec_stores.specs.Tree.{Tree, row_at, parent_of, is_root, has_parent, is_ephemeral, may_own, path_of_row, migrated_rows, area, recorded, unclosed, max_body, max_znodes, max_version, max_long}
 use Rattle.kz_spec_stores.specs.Image.{empty_image, is_migrated_state}
 use Rattle.kz_spec_stores.specs.Log.{Log, View, last_of, end_of, batch_ends, record_count, image_at, is_migrated_log, max_records, max_epoch}
-use Rattle.kz_spec_stores.specs.Rendering.{render}
+use Rattle.kz_spec_znodes.specs.Rendering.{render}
 use Rattle.kz_spec_machine.specs.Driver.{Shared, Driver, is_one_of, shown_by, remaining_at}
 use Rattle.kz_spec_machine.specs.Machine.{World, driver_of, is_held_tree}
 

@@ -9,9 +9,9 @@ use Rattle.kz_types.specs.declared.machine.Verdict.{Verdict}
 use Rattle.kz_types.specs.declared.machine.Verdict.TheVariants.{Unmigrated, Unrecorded, Closed, Ahead, Disagrees}
 use Rattle.kz_ordered.specs.Order.{bytes_cmp}
 use Rattle.kz_ordered.specs.Ordered.{find, all_put}
-use Rattle.kz_spec_stores.specs.Tree.{Tree, area, recorded, unclosed}
+use Rattle.kz_spec_stores.specs.Tree.{Tree, area, recorded, unclosed, path_of_rendered}
 use Rattle.kz_spec_stores.specs.Log.{Log, batch_ends, image_at, is_migrated_log}
-use Rattle.kz_spec_stores.specs.Rendering.{render, path_of_rendered}
+use Rattle.kz_spec_znodes.specs.Rendering.{render}
 
 -- the body at a path of a rendering or an area
 abbrev pub body_at : List ℕ → List Rendered → Option (List ℕ)

@@ -10,7 +10,7 @@ use Rattle.kz_spec_lines.specs.Lines.{Item, line, long, much, items, is_passed_o
 use Rattle.kz_spec_lines.specs.Events.{line_event}
 use Rattle.kz_spec_stores.specs.Tree.{area, unclosed}
 use Rattle.kz_spec_stores.specs.Log.{image_of}
-use Rattle.kz_spec_stores.specs.Rendering.{render}
+use Rattle.kz_spec_znodes.specs.Rendering.{render}
 use Rattle.kz_spec_machine.specs.Driver.{Shared, Driver, state_of}
 use Rattle.kz_spec_machine.specs.Machine.{World, empty_world, driver_of, next, after_events}
 

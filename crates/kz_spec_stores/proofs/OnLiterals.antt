@@ -7,10 +7,7 @@ use Rattle.kz_spec_values.specs.Control.{written_control, shown_epoch, written_r
 use Rattle.kz_spec_stores.specs.Tree.{multi}
 use Rattle.kz_spec_stores.specs.ImageRules.{broken}
 use Rattle.kz_spec_stores.specs.Log.{image_at}
-use Rattle.kz_spec_stores.specs.Rendering.{render}
-use Rattle.kz_spec_stores.specs.Translation.{translate}
-use Rattle.kz_spec_stores.specs.Difference.{diff}
 
 unfoldable pub stores_on_literals : ⊤
-unfolding values_on_literals serde_json_on_literals written body_of empty_body read_body written_control shown_epoch written_recorded read_recorded multi broken image_at render translate diff
+unfolding values_on_literals serde_json_on_literals written body_of empty_body read_body written_control shown_epoch written_recorded read_recorded multi broken image_at
 stores_on_literals = tt

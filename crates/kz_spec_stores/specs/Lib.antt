@@ -4,8 +4,5 @@ pub mod ImageRules
 pub mod Image
 pub mod Settlement
 pub mod Log
-pub mod Rendering
-pub mod Translation
-pub mod Difference
 pub mod Requests
 pub mod ImageExamples

@@ -239,6 +239,9 @@ migrated_rows t = filter (λ (r : Row). is_migrated r.path) t.rows
 abbrev pub rendered_row : Row → Rendered
 rendered_row r = record { path = r.path; body = r.body }
 
+abbrev pub path_of_rendered : Rendered → List ℕ
+path_of_rendered r = r.path
+
 -- the paths and bodies of the migrated area
 abbrev pub area : Tree → List Rendered
 area t = map rendered_row (migrated_rows t)

@@ -7,8 +7,7 @@ use Rattle.kz_ordered.specs.Order.{bytes_cmp}
 use Rattle.kz_ordered.specs.Ordered.{Rises, RisesAbove}
 use Rattle.kz_ordered.proofs.Order.{bytes_order}
 use Rattle.kz_ordered.proofs.Maps.{Rises-map, Rises-filter}
-use Rattle.kz_spec_stores.specs.Tree.{path_of_row, rendered_row, is_after}
-use Rattle.kz_spec_stores.specs.Rendering.{path_of_rendered}
+use Rattle.kz_spec_stores.specs.Tree.{path_of_row, rendered_row, is_after, path_of_rendered}
 use Rattle.kz_tree.specs.Kept.{AreRows}
 
 pub area_rises : (rows : List Row) → AreRows rows → Rises bytes_cmp path_of_rendered (map rendered_row (filter (λ (row : Row). is_migrated row.path) rows))

@@ -1,10 +1,9 @@
 //! The tree.
 ghost use Rattle.std.specs.Prelude.{◌≡◌, ◌+ℤ◌, ◌<ℤ◌, ◌≤ℤ◌, pos, length, option_map, map, None, Ok, IfOk, IfErr, OnOk, OnErr};
 ghost use Rattle.kz_spec_stores.specs.Tree as tree;
-ghost use Rattle.kz_spec_stores.specs.Tree.{max_long, path_of_row};
+ghost use Rattle.kz_spec_stores.specs.Tree.{max_long, path_of_row, path_of_rendered};
 ghost use Rattle.kz_ordered.specs.Order.{bytes_cmp};
 ghost use Rattle.kz_ordered.specs.Ordered.{Rises};
-ghost use Rattle.kz_spec_stores.specs.Rendering.{path_of_rendered};
 ghost use Rattle.kz_tree.specs.Kept.{IsKept};
 ghost use Rattle.kz_tree.specs.Refusals.{IsFaultOf, IsMultiFaultOf, IsMoveFaultOf, IsClosedFaultOf};
 

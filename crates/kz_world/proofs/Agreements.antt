@@ -9,7 +9,7 @@ use Rattle.kz_types.specs.declared.machine.Verdict.{Verdict}
 use Rattle.kz_types.specs.declared.machine.Verdict.TheVariants.{Ahead, Disagrees}
 use Rattle.kz_spec_stores.specs.Tree.{Tree, area}
 use Rattle.kz_spec_stores.specs.Log.{Log, batch_ends, image_at}
-use Rattle.kz_spec_stores.specs.Rendering.{render}
+use Rattle.kz_spec_znodes.specs.Rendering.{render}
 use Rattle.kz_spec_machine.specs.Verdicts.{agrees_at, disagrees, ahead_path, paths_at, unless_disagrees, closed_or_ahead, verdict_at}
 use Rattle.kz_world.specs.declared.comparison.Found.{Found}
 use Rattle.kz_world.specs.Agreement.{agrees_in, first_among, all_first, marked, all_found, found_at, is_disagreeing, ahead_of, found_verdict, found_closed_or_ahead, unless_one_disagrees}

@@ -10,7 +10,7 @@ use Rattle.kz_types.specs.declared.machine.Reply.{Reply}
 use Rattle.kz_types.specs.declared.record.MetaRecord.{MetaRecord}
 use Rattle.kz_spec_stores.specs.Image.{all_applied, first_bad}
 use Rattle.kz_spec_stores.specs.Log.{Log, elect, end_of, full_log, added, max_epoch, image_of, begun_of, is_migrated_log}
-use Rattle.kz_spec_stores.specs.Rendering.{excess}
+use Rattle.kz_spec_znodes.specs.Rendering.{excess}
 use Rattle.kz_spec_machine.specs.Driver.{Shared, Driver}
 use Rattle.kz_spec_machine.specs.Machine.{World, next, running_ids, is_running, start_refusal, turn, work, turned_world, decided, unless_refused, first_of, unless, over, full, running_refusal, leader_refusal, change_refusal, over_excess, election_refusal, election_records, elected_log, elected_world, election_answer, next_epoch, changed_log, changed_world, turn_result, driver_of, register_refusal, registration, bad_record, max_changes}
 use Rattle.kz_world.specs.Worlds.{AreDistinct, IsPartlyTurned, elected_drivers, records_refusal, appended}

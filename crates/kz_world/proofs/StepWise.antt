@@ -18,7 +18,7 @@ use Rattle.kz_spec_values.specs.Control.{read_epoch}
 use Rattle.kz_spec_stores.specs.Tree.{Tree, multi, broker_ids}
 use Rattle.kz_spec_stores.specs.Log.{Log, View, IsViewOf, append}
 use Rattle.kz_spec_stores.specs.Image.{Image}
-use Rattle.kz_spec_stores.specs.Translation.{Unreadable, translate}
+use Rattle.kz_spec_znodes.specs.Translation.{Unreadable, translate}
 use Rattle.kz_spec_machine.specs.Driver.{Shared, Driver, Stepped, step, answered, unless_finalised, wait_or_move, after_quorum, after_brokers, missing_controller, missing_broker, having_read, seen_in, looked, shown_by, unless_fenced, unless_full_epoch, unless_bad_epoch, unless_full_record, epoch_or_zero, claim_ops, after_claim, after_translation, after_append, begin_record, next_records, after_records, after_rest, is_recorded_at, writes, after_write, written_driver, is_last_write, is_claim_refused, write_ops, remaining_at}
 use Rattle.kz_spec_machine.specs.Machine.{Turned, ends, turn, with_reply}
 use Rattle.kz_driver.specs.Drivers.{shared_of}

@@ -14,7 +14,7 @@ use Rattle.kz_types.specs.declared.fault.LogFault.TheVariants as log_fault
 use Rattle.kz_spec_stores.specs.Requests.{IsFull}
 use Rattle.kz_spec_stores.specs.Image.{Image, all_applied, first_bad, is_migrated_state}
 use Rattle.kz_spec_stores.specs.Log.{Log, View, IsViewOf, end_of}
-use Rattle.kz_spec_stores.specs.Rendering.{excess}
+use Rattle.kz_spec_znodes.specs.Rendering.{excess}
 use Rattle.kz_spec_stores.specs.Tree.{Tree}
 use Rattle.kz_spec_machine.specs.Driver.{Driver, elected_driver, is_one_of}
 use Rattle.kz_spec_machine.specs.Machine.{World, running_ids, driver_of, turn, work, turned_world, decided, first_of, unless, over, full, over_excess, bad_record, max_changes, changed_log, changed_world}

@@ -3,9 +3,9 @@ ghost use Rattle.std.specs.Prelude.{◌≡◌, List, ℤ, length, true, false, I
 ghost use Rattle.kz_spec_stores.specs.Image.{empty_image, all_applied};
 ghost use Rattle.kz_spec_machine.specs.Driver.{is_one_of};
 ghost use Rattle.kz_spec_stores.specs.Log.{batch_ends, Log, image_of, is_migrated_log, max_epoch};
-ghost use Rattle.kz_spec_stores.specs.Rendering.{render};
+ghost use Rattle.kz_spec_znodes.specs.Rendering.{render};
 ghost use Rattle.kz_spec_stores.specs.Tree.{migrated_rows};
-ghost use Rattle.kz_spec_stores.specs.Translation.{translate};
+ghost use Rattle.kz_spec_znodes.specs.Translation.{translate};
 ghost use Rattle.kz_spec_machine.specs.Machine.{most_steps, translated_count, rendered_count, rendered_at, remaining_count, work};
 ghost use Rattle.kz_driver.specs.Drivers.{shared_of};
 

@@ -7,8 +7,8 @@ use Rattle.kz_types.specs.declared.tree.Rendered.{Rendered}
 use Rattle.kz_ordered.specs.Order.{bytes_cmp}
 use Rattle.kz_ordered.specs.Ordered.{find}
 use Rattle.kz_ordered.specs.Difference.{drops, makes, drop_unless, make_or_alter}
-use Rattle.kz_spec_stores.specs.Rendering.{path_of_rendered}
-use Rattle.kz_spec_stores.specs.Difference.{op_of, same_body, diff}
+use Rattle.kz_spec_stores.specs.Tree.{path_of_rendered}
+use Rattle.kz_spec_znodes.specs.Difference.{op_of, same_body, diff}
 use Rattle.kz_writer.specs.Parts.{delete_of, put_of, deletes, puts}
 
 deletes-cons : (r : Rendered) (have want : List Rendered) → deletes (r ∷ have) want ≡ deletes have want ++ delete_of r want

@@ -5,8 +5,8 @@ use Rattle.kz_types.specs.declared.tree.Rendered.{Rendered}
 use Rattle.kz_ordered.specs.Order.{bytes_cmp}
 use Rattle.kz_ordered.specs.Ordered.{find}
 use Rattle.kz_ordered.specs.Difference.{drops, makes, drop_unless, make_or_alter}
-use Rattle.kz_spec_stores.specs.Rendering.{path_of_rendered}
-use Rattle.kz_spec_stores.specs.Difference.{op_of, same_body}
+use Rattle.kz_spec_stores.specs.Tree.{path_of_rendered}
+use Rattle.kz_spec_znodes.specs.Difference.{op_of, same_body}
 
 -- the delete of a znode that isn't wanted
 abbrev pub delete_of : Rendered → List Rendered → List Op

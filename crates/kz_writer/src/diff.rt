@@ -2,8 +2,8 @@
 ghost use Rattle.std.specs.Prelude.{◌≡◌, ◌++◌, IfOk, OnOk, OnErr};
 ghost use Rattle.kz_ordered.specs.Order.{bytes_cmp};
 ghost use Rattle.kz_ordered.specs.Ordered.{Rises};
-ghost use Rattle.kz_spec_stores.specs.Rendering.{path_of_rendered};
-ghost use Rattle.kz_spec_stores.specs.Difference.{diff, chunk as chunk_of};
+ghost use Rattle.kz_spec_stores.specs.Tree.{path_of_rendered};
+ghost use Rattle.kz_spec_znodes.specs.Difference.{diff, chunk as chunk_of};
 ghost use Rattle.kz_writer.specs.Parts.{deletes, puts, delete_of, put_of};
 
 use kz_sorted::find;

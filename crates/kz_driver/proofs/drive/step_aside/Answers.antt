@@ -8,7 +8,7 @@ use Rattle.kz_types.specs.declared.machine.Reply.TheVariants as reply
 use Rattle.kz_spec_stores.specs.Tree.{empty_tree}
 use Rattle.kz_spec_stores.specs.Requests.{Either}
 use Rattle.kz_spec_stores.specs.Log.{Log, append, end_of}
-use Rattle.kz_spec_stores.specs.Translation.{translate}
+use Rattle.kz_spec_znodes.specs.Translation.{translate}
 use Rattle.kz_spec_machine.specs.Driver.{Shared, epoch_or_zero, at_stage, having_read, after_quorum, unless_finalised, after_translation, after_append, after_records, next_records}
 use Rattle.kz_driver.specs.Rows.{driver_of}
 use Rattle.kz_driver.specs.Appends.{log_after, log_begun}

@@ -6,8 +6,8 @@ use Rattle.std.proofs.lemmas.Result.{IfOk-weaker}
 use Rattle.kz_types.specs.declared.driver.Stage.TheVariants as stage
 use Rattle.kz_spec_stores.specs.Tree.{Tree, multi, scan, broker_ids, rendered_row}
 use Rattle.kz_spec_stores.specs.Requests.{Either}
-use Rattle.kz_spec_stores.specs.Rendering.{render}
-use Rattle.kz_spec_stores.specs.Difference.{diff}
+use Rattle.kz_spec_znodes.specs.Rendering.{render}
+use Rattle.kz_spec_znodes.specs.Difference.{diff}
 use Rattle.kz_spec_machine.specs.Driver.{Shared, step, epoch_or_zero, after_brokers, missing_broker, looked, seen_in, claim_ops, after_page, last_path, page_size, remaining_at}
 use Rattle.kz_driver.specs.Rows.{driver_of}
 use Rattle.kz_driver.specs.Claims.{claimed_by, after_claimed, tree_after}

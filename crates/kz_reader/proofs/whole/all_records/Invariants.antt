@@ -1,5 +1,5 @@
 use Rattle.std.proofs.Common.{◌≡◌, drop}
-use Rattle.kz_spec_stores.specs.Translation.{all_records}
+use Rattle.kz_spec_znodes.specs.Translation.{all_records}
 use Rattle.kz_reader.specs.Faults.{after_records}
 use Rattle.kz_reader.proofs.whole.all_records.Given as goal
 

@@ -1,7 +1,8 @@
 use Rattle.std.proofs.Common.{◌≡◌, IfOk, OnOk, OnErr, map, ℕ, drop}
 use Rattle.kz_ordered.specs.Order.{bytes_cmp}
 use Rattle.kz_ordered.specs.Ordered.{all_put, Rises}
-use Rattle.kz_spec_stores.specs.Rendering.{bare, config_znode, path_of_rendered, render}
+use Rattle.kz_spec_stores.specs.Tree.{path_of_rendered}
+use Rattle.kz_spec_znodes.specs.Rendering.{bare, config_znode, render}
 use Rattle.kz_render.proofs.znodes.put_configs.Given as goal
 
 abbrev pub invariant-loop-config : goal.invariant-loop-config

@@ -3,9 +3,9 @@ use Rattle.std.proofs.lemmas.Int.{to_z-of_z}
 use Rattle.kz_types.specs.declared.tree.Rendered.{Rendered}
 use Rattle.kz_ordered.specs.Order.{bytes_cmp}
 use Rattle.kz_ordered.specs.Ordered.{all_put}
-use Rattle.kz_spec_stores.specs.Tree.{area}
+use Rattle.kz_spec_stores.specs.Tree.{area, path_of_rendered}
 use Rattle.kz_spec_stores.specs.Log.{image_at, batch_ends}
-use Rattle.kz_spec_stores.specs.Rendering.{render, path_of_rendered}
+use Rattle.kz_spec_znodes.specs.Rendering.{render}
 use Rattle.kz_world.specs.Agreement.{found_at, all_first}
 use Rattle.kz_world.proofs.Agreements.{found_is}
 use Rattle.kz_world.proofs.comparison.find_all.Goals as goal

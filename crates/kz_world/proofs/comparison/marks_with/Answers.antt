@@ -1,7 +1,7 @@
 use Rattle.std.proofs.Common.{◌∙◌, ap, arith, w64, ◌≤ℤ◌}
 use Rattle.std.proofs.lemmas.Int.{ints, to_z-of_z}
 use Rattle.kz_spec_stores.specs.Log.{image_at}
-use Rattle.kz_spec_stores.specs.Rendering.{render}
+use Rattle.kz_spec_znodes.specs.Rendering.{render}
 use Rattle.kz_world.specs.Agreement.{marked}
 use Rattle.kz_world.proofs.Agreements.{next_end}
 use Rattle.kz_world.proofs.comparison.marks_with.Goals as goal

@@ -6,7 +6,7 @@ use Rattle.kz_types.specs.declared.tree.Op.TheVariants.{Create, Set, Delete}
 use Rattle.kz_types.specs.declared.tree.Rendered.{Rendered}
 use Rattle.kz_ordered.specs.Order.{bytes_cmp}
 use Rattle.kz_ordered.specs.Difference.{Edit, drop_key, make, alter, difference}
-use Rattle.kz_spec_stores.specs.Rendering.{path_of_rendered}
+use Rattle.kz_spec_stores.specs.Tree.{path_of_rendered}
 
 abbrev pub same_body : Rendered → Rendered → Bool
 same_body x y = bytes_eq x.body y.body

@@ -11,11 +11,8 @@ use Rattle.kz_types.specs.Paths.{roots, path_of}
 use Rattle.kz_spec_values.specs.Bodies.{written}
 use Rattle.kz_ordered.specs.Order.{bytes_cmp}
 use Rattle.kz_ordered.specs.Ordered.{all_put}
-use Rattle.kz_spec_stores.specs.Tree.{max_body, max_znodes}
+use Rattle.kz_spec_stores.specs.Tree.{max_body, max_znodes, path_of_rendered}
 use Rattle.kz_spec_stores.specs.Image.{Image}
-
-abbrev pub path_of_rendered : Rendered → List ℕ
-path_of_rendered r = r.path
 
 -- a znode without data
 abbrev pub bare : List ℕ → Rendered

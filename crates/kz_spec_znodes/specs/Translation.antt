@@ -19,7 +19,7 @@ use Rattle.kz_types.specs.Paths.{kind_of, key_of}
 use Rattle.kz_spec_values.specs.Bodies.{read_body}
 use Rattle.kz_spec_stores.specs.Image.{empty_image, all_applied}
 use Rattle.kz_spec_stores.specs.Log.{max_records, max_epoch}
-use Rattle.kz_spec_stores.specs.Rendering.{Excess, excess}
+use Rattle.kz_spec_znodes.specs.Rendering.{Excess, excess}
 
 -- A path that can't be translated, and why.
 pub record Unreadable : Type 0 where
