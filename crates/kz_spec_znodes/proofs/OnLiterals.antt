@@ -1,10 +1,11 @@
 -- What a proof unfolds to compute the definitions of this crate on a literal.
 use Rattle.std.specs.Prelude.{⊤}
+use Rattle.kz_spec_values.proofs.BodiesOnLiterals.{bodies_on_literals}
 use Rattle.kz_spec_stores.proofs.OnLiterals.{stores_on_literals}
 use Rattle.kz_spec_znodes.specs.Rendering.{render}
 use Rattle.kz_spec_znodes.specs.Translation.{translate}
 use Rattle.kz_spec_znodes.specs.Difference.{diff}
 
 unfoldable pub znodes_on_literals : ⊤
-unfolding stores_on_literals render translate diff
+unfolding bodies_on_literals stores_on_literals render translate diff
 znodes_on_literals = tt

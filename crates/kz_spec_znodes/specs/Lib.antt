@@ -1,3 +1,4 @@
 pub mod Rendering
 pub mod Translation
 pub mod Difference
+pub mod ZnodeExamples

@@ -2,3 +2,6 @@
 //!
 //! The definitions stand in specs/. A law is the contract of a function that does nothing.
 #![tactic(auto)]
+
+mod rendering_examples;
+mod translation_examples;
