@@ -19,8 +19,8 @@ use Rattle.kz_ordered.proofs.Lookup.{Rises-put, Rises-without}
 use Rattle.kz_spec_stores.specs.Metadata.{Image, id_of_acl, id_of_broker, topic_named, topic_with}
 use Rattle.kz_spec_stores.specs.ImageRules.{is_empty, is_zero, is_broker_name, is_mechanism, is_user, are_codes, is_resource, is_row, new_row, is_epoch, is_operation, is_permission, is_epoch_or_none, is_below_next, max_next, broken, quota_key}
 use Rattle.kz_spec_stores.specs.Image.{acl_row, topic_configured, with_changed, configured, without_topic, scram_removed, effect}
-use Rattle.kz_image.specs.Legal.{AreTopics, IsScramEntry, IsAcl, IsBroker}
-use Rattle.kz_image.specs.InOrder.{AreTopicsInOrder, AreUsersInOrder, IsInOrder}
+use Rattle.kz_spec_stores.specs.Legal.{AreTopics, IsScramEntry, IsAcl, IsBroker}
+use Rattle.kz_spec_stores.specs.InOrder.{AreTopicsInOrder, AreUsersInOrder, IsInOrder}
 use Rattle.kz_image.proofs.Lists.{All-put, All-without, configured_in_order}
 use Rattle.kz_image.proofs.TopicLists.{topic_made_in_order, partition_made_in_order, partition_changed_in_order, topic_configured_in_order, topic_removed_in_order}
 use Rattle.kz_image.proofs.QuotaLists.{quota_changed_in_order}

@@ -39,7 +39,7 @@ use Rattle.kz_spec_values.specs.Credentials.{quota_keys}
 use Rattle.kz_spec_stores.specs.Metadata.{name_of_topic, number_of_partition, name_of_configuration, name_of_pair, path_of_quotas, key_of_quota, name_of_user, mechanism_of_pair, same_id, partition_at, pairs_of, pairs_at}
 use Rattle.kz_spec_stores.specs.ImageRules.{is_empty, is_zero, is_broker_name, is_mechanism, is_user, is_row, new_row, changed_row, leaves_row, has_quota}
 use Rattle.kz_spec_stores.specs.Image.{put_topic, new_topic, with_changed, put_partition, change_partition, partition_changed, without_topic, topic_configured, with_member, with_pairs, configured, quotas_in, with_quota, quota_changed, scrams_in, scrams_at, with_scrams, scram_row, scram_set, scram_removed}
-use Rattle.kz_image.specs.Legal.{IsMember, IsPartition, IsTopic, AreApart, AreTopics, IsConfiguration, IsQuotaOf, IsQuotaEntry, IsScramOf, IsScramEntry}
+use Rattle.kz_spec_stores.specs.Legal.{IsMember, IsPartition, IsTopic, AreApart, AreTopics, IsConfiguration, IsQuotaOf, IsQuotaEntry, IsScramOf, IsScramEntry}
 use Rattle.kz_image.proofs.Lists.{All-put, All-without}
 use Rattle.kz_image.proofs.Entries.{HasIfFound, found_has, found_by_has, changed_all}
 use Rattle.kz_image.proofs.QuotaLists.{quotas_hold}

@@ -16,7 +16,7 @@ use Rattle.kz_ordered.proofs.Lookup.{Rises-put, Rises-without}
 use Rattle.kz_ordered.proofs.Spot.{find_by_spot, find_by_gap, put_by_spot, put_by_gap, without_by_spot, without_by_gap}
 use Rattle.kz_spec_stores.specs.Image.{name_of_configuration, name_of_pair, with_member, with_pairs, configured, Image, applied, all_applied}
 use Rattle.kz_spec_stores.specs.Metadata.{pairs_of, pairs_at}
-use Rattle.kz_image.specs.InOrder.{IsFilled, AreInOrder}
+use Rattle.kz_spec_stores.specs.InOrder.{IsFilled, AreInOrder}
 
 -- ---- a configuration that is there
 

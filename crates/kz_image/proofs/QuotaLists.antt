@@ -22,8 +22,8 @@ use Rattle.kz_spec_values.specs.Credentials.{quota_keys}
 use Rattle.kz_spec_stores.specs.Metadata.{path_of_quotas, key_of_quota}
 use Rattle.kz_spec_stores.specs.ImageRules.{quota_key, has_quota}
 use Rattle.kz_spec_stores.specs.Image.{quotas_in, with_quota, with_quotas, quota_changed}
-use Rattle.kz_image.specs.InOrder.{IsQuotaFilled, AreQuotasInOrder}
-use Rattle.kz_image.specs.QuotaKeys.{is_below_quota_root}
+use Rattle.kz_spec_stores.specs.InOrder.{IsQuotaFilled, AreQuotasInOrder}
+use Rattle.kz_spec_stores.specs.InOrder.{is_below_quota_root}
 use Rattle.kz_image.proofs.Entries.{Holds, HasIfFound, found_has, set_there, remove_there, key_there, entry_there, entry_absent, insert_absent, none_absent, changed_rises, changed_all}
 
 -- ---- what isn't found

@@ -20,7 +20,7 @@ use Rattle.kz_ordered.proofs.Spot.{find_by_spot, put_by_spot}
 use Rattle.kz_spec_stores.specs.Metadata.{name_of_topic, number_of_partition, same_id, partition_at}
 use Rattle.kz_spec_stores.specs.ImageRules.{changed_row, leaves_row}
 use Rattle.kz_spec_stores.specs.Image.{with_changed, put_partition, change_partition, partition_changed, put_topic, new_topic, topic_configured, without_topic}
-use Rattle.kz_image.specs.InOrder.{IsTopicInOrder, AreTopicsInOrder}
+use Rattle.kz_spec_stores.specs.InOrder.{IsTopicInOrder, AreTopicsInOrder}
 use Rattle.kz_image.specs.Places.{IsTopicPlace}
 use Rattle.kz_image.proofs.Lists.{All-put, member_rises}
 use Rattle.kz_image.proofs.Entries.{HasIfFound, found_has, found_by_has}

@@ -11,7 +11,7 @@ use Rattle.kz_ordered.proofs.Order.{int_order}
 use Rattle.kz_ordered.proofs.Lookup.{Rises-put, Rises-without}
 use Rattle.kz_spec_stores.specs.Metadata.{name_of_user, mechanism_of_pair}
 use Rattle.kz_spec_stores.specs.Image.{scrams_in, scrams_at, with_scrams, scram_row, scram_set, scram_removed}
-use Rattle.kz_image.specs.InOrder.{IsUserFilled, AreUsersInOrder}
+use Rattle.kz_spec_stores.specs.InOrder.{IsUserFilled, AreUsersInOrder}
 use Rattle.kz_image.proofs.Entries.{Holds, HasIfFound, found_has, set_there, remove_there, key_there, entry_there, entry_absent, insert_absent, none_absent, changed_rises, changed_all}
 
 abbrev pub user_with : List ℕ → List ScramPair → ScramEntry

@@ -4,7 +4,7 @@ ghost use Rattle.kz_ordered.specs.Order.{bytes_cmp};
 ghost use Rattle.kz_ordered.specs.Ordered.{Rises};
 ghost use Rattle.kz_ordered.specs.Spot.{IsSpot};
 ghost use Rattle.kz_spec_stores.specs.Image.{name_of_configuration, name_of_pair, with_member, configured};
-ghost use Rattle.kz_image.specs.InOrder.{AreInOrder};
+ghost use Rattle.kz_spec_stores.specs.InOrder.{AreInOrder};
 
 use kz_sorted::{put, spot, without};
 use kz_types::{ConfigRecord, Configuration, Duplicate, NoMemory, Pair, Sequence, Text};

@@ -7,7 +7,7 @@ ghost use Rattle.kz_ordered.specs.Ordered.{find as find_in, put as put_in, witho
 ghost use Rattle.kz_ordered.specs.Spot.{IsSpot};
 ghost use Rattle.kz_spec_stores.specs.Metadata.{name_of_user, mechanism_of_pair};
 ghost use Rattle.kz_spec_stores.specs.Image.{with_scrams, scrams_at, scram_row, scram_set, scram_removed};
-ghost use Rattle.kz_image.specs.InOrder.{AreUsersInOrder};
+ghost use Rattle.kz_spec_stores.specs.InOrder.{AreUsersInOrder};
 
 use kz_sorted::spot;
 use kz_types::{

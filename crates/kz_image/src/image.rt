@@ -8,8 +8,8 @@ ghost use Rattle.kz_types.specs.declared.record.MetaRecord.TheVariants as meta;
 ghost use Rattle.kz_spec_stores.specs.Metadata.{empty_image, topic_named, id_of_acl, id_of_broker, topic_id_of, topic_name_of, partition_of, configs_of, quotas_of, scram_of, acl_of};
 ghost use Rattle.kz_spec_stores.specs.ImageRules.{broken, quota_key, is_broker_name, is_empty};
 ghost use Rattle.kz_spec_stores.specs.Image.{acl_row, configured, topic_configured, with_changed, put_topic, new_topic, without_topic, scram_set, scram_removed, quota_changed, effect, applied, all_applied, first_bad};
-ghost use Rattle.kz_image.specs.InOrder.{AreTopicsInOrder, AreInOrder, AreQuotasInOrder, AreUsersInOrder};
-ghost use Rattle.kz_image.specs.Legal.{AreTopics, IsConfiguration, IsQuotaEntry, IsScramEntry, IsAcl, IsBroker, IsNext};
+ghost use Rattle.kz_spec_stores.specs.InOrder.{AreTopicsInOrder, AreInOrder, AreQuotasInOrder, AreUsersInOrder};
+ghost use Rattle.kz_spec_stores.specs.Legal.{AreTopics, IsConfiguration, IsQuotaEntry, IsScramEntry, IsAcl, IsBroker, IsNext};
 ghost use Rattle.kz_image.specs.Faults.{IsFirstBad};
 
 use crate::brokers::{is_migrating, register};
@@ -58,7 +58,7 @@ pub struct Image {
 
 impl Model for Image {
     ghost use Rattle.kz_spec_stores.specs.Metadata.{Image as ImageValue};
-    ghost use Rattle.kz_image.specs.InOrder.{IsInOrder};
+    ghost use Rattle.kz_spec_stores.specs.InOrder.{IsInOrder};
 
     ghost Value = { ImageValue };
 

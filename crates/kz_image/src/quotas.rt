@@ -9,7 +9,7 @@ ghost use Rattle.kz_ordered.specs.Spot.{IsSpot};
 ghost use Rattle.kz_spec_stores.specs.Metadata.{path_of_quotas, key_of_quota};
 ghost use Rattle.kz_spec_stores.specs.ImageRules.{quota_key, has_quota};
 ghost use Rattle.kz_spec_stores.specs.Image.{quotas_in, with_quota, with_quotas, quota_changed};
-ghost use Rattle.kz_image.specs.InOrder.{AreQuotasInOrder};
+ghost use Rattle.kz_spec_stores.specs.InOrder.{AreQuotasInOrder};
 ghost use Rattle.kz_image.specs.QuotaKeys.{entity_of};
 
 use crate::quota_keys::{QuotaKey, path_of, quota_key};

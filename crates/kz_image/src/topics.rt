@@ -9,7 +9,7 @@ ghost use Rattle.kz_ordered.specs.Spot.{IsSpot};
 ghost use Rattle.kz_spec_stores.specs.Metadata.{name_of_topic, number_of_partition, name_of_pair, same_id, partition_at};
 ghost use Rattle.kz_spec_stores.specs.ImageRules.{new_row, leaves_row};
 ghost use Rattle.kz_spec_stores.specs.Image.{put_topic, new_topic, with_changed, put_partition, partition_changed, without_topic, topic_configured};
-ghost use Rattle.kz_image.specs.InOrder.{AreTopicsInOrder};
+ghost use Rattle.kz_spec_stores.specs.InOrder.{AreTopicsInOrder};
 ghost use Rattle.kz_image.specs.Places.{IsTopicPlace};
 
 use crate::configurations::change_pairs;

@@ -6,3 +6,5 @@ pub mod Settlement
 pub mod Log
 pub mod Requests
 pub mod ImageExamples
+pub mod Legal
+pub mod InOrder

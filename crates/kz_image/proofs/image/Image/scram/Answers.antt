@@ -2,7 +2,7 @@ use Rattle.std.proofs.Common.{subst, sym}
 use Rattle.std.specs.List.{All}
 use Rattle.kz_ordered.specs.Order.{bytes_cmp}
 use Rattle.kz_spec_stores.specs.Metadata.{name_of_user}
-use Rattle.kz_image.specs.InOrder.{IsUserFilled}
+use Rattle.kz_spec_stores.specs.InOrder.{IsUserFilled}
 use Rattle.kz_image.proofs.Entries.{HasIfFound, found_has}
 use Rattle.kz_image.proofs.image.Image.scram.Goals as goal
 

@@ -1,6 +1,6 @@
 -- What every metadata keeps: its lists rise, and those within its entries, none of these that mustn't be empty is, and its
 -- entries are legal.
-use Rattle.std.specs.Prelude.{◌≡◌, ◌<◌, true, List, length, All}
+use Rattle.std.specs.Prelude.{◌≡◌, ◌<◌, ◌==◌, ℕ, Bool, true, ◌&&◌, ◌||◌, List, length, slice_index, All}
 use Rattle.std.specs.Ordering.{int_cmp}
 use Rattle.kz_types.specs.PathRule.{is_path}
 use Rattle.kz_types.specs.declared.image.Configuration.{Configuration}
@@ -10,8 +10,7 @@ use Rattle.kz_types.specs.declared.image.ScramEntry.{ScramEntry}
 use Rattle.kz_ordered.specs.Order.{bytes_cmp}
 use Rattle.kz_ordered.specs.Ordered.{Rises}
 use Rattle.kz_spec_stores.specs.Metadata.{Image, name_of_topic, number_of_partition, name_of_configuration, name_of_pair, path_of_quotas, key_of_quota, name_of_user, mechanism_of_pair, id_of_acl, id_of_broker}
-use Rattle.kz_image.specs.QuotaKeys.{is_below_quota_root}
-use Rattle.kz_image.specs.Legal.{IsLegal}
+use Rattle.kz_spec_stores.specs.Legal.{IsLegal}
 
 -- A topic's partitions rise by number, and its members by name.
 abbrev pub IsTopicInOrder : TopicEntry → Type 0
@@ -30,6 +29,11 @@ IsFilled c = (0 < length c.pairs) × Rises bytes_cmp name_of_pair c.pairs
 pub record AreInOrder (configs : List Configuration) : Type 0 where
   pub rising : Rises bytes_cmp name_of_configuration configs
   pub filled : All IsFilled configs
+
+-- Whether a path of an entity is at `/config/clients`, `/config/ips` or `/config/users`: no other kind of entity has a path
+-- with these bytes at these places.
+abbrev pub is_below_quota_root : List ℕ → Bool
+is_below_quota_root path = (slice_index path 1 == 99) && ((slice_index path 8 == 99) || (slice_index path 8 == 105) || (slice_index path 8 == 117))
 
 -- An entity has a quota, its quotas rise by key, and its path is one of an entity that may have some.
 abbrev pub IsQuotaFilled : QuotaEntry → Type 0
