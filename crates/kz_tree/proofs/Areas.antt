@@ -10,8 +10,11 @@ use Rattle.kz_ordered.proofs.Maps.{Rises-map, Rises-filter}
 use Rattle.kz_spec_stores.specs.Tree.{path_of_row, rendered_row, is_after, path_of_rendered}
 use Rattle.kz_tree.specs.Kept.{AreRows}
 
+pub migrated_rise : (rows : List Row) → AreRows rows → Rises bytes_cmp path_of_row (filter (λ (row : Row). is_migrated row.path) rows)
+migrated_rise rows h = Rises-filter bytes_order path_of_row (λ (row : Row). is_migrated row.path) rows h
+
 pub area_rises : (rows : List Row) → AreRows rows → Rises bytes_cmp path_of_rendered (map rendered_row (filter (λ (row : Row). is_migrated row.path) rows))
-area_rises rows h = Rises-map bytes_cmp path_of_row path_of_rendered rendered_row (λ row. refl) _ (Rises-filter bytes_order path_of_row (λ (row : Row). is_migrated row.path) rows h)
+area_rises rows h = Rises-map bytes_cmp path_of_row path_of_rendered rendered_row (λ row. refl) _ (migrated_rise rows h)
 
 first_above : (n : ℕ) (path : List ℕ) (rows : List Row) → RisesAbove bytes_cmp path_of_row path rows → RisesAbove bytes_cmp path_of_row path (take n rows)
 first_above zero path rows h = tt
@@ -24,4 +27,4 @@ first_rise (suc n) [] h = tt
 first_rise (suc n) (r ∷ rs) h = first_above n r.path rs h
 
 pub page_rises : (rows : List Row) (after : Option (List ℕ)) (n : ℕ) → AreRows rows → AreRows (take n (filter (is_after after) (filter (λ (row : Row). is_migrated row.path) rows)))
-page_rises rows after n h = first_rise n _ (Rises-filter bytes_order path_of_row (is_after after) _ (Rises-filter bytes_order path_of_row (λ (row : Row). is_migrated row.path) rows h))
+page_rises rows after n h = first_rise n _ (Rises-filter bytes_order path_of_row (is_after after) _ (migrated_rise rows h))

@@ -234,8 +234,10 @@ impl Tree {
     }
 
     /// Copies of the znodes of the migrated area, by rising path.
+    #[tactic(auto, using(crate::proofs::Areas::migrated_rise))]
     pub fn migrated_rows(&self) -> Result<Vec<Row>, NoMemory>
-        ensures { IfOk result (λ made. made.items ≡ tree.migrated_rows self.now) }
+        ensures rows { IfOk result (λ made. made.items ≡ tree.migrated_rows self.now) }
+        ensures rising { IfOk result (λ made. Rises bytes_cmp path_of_row made.items) }
     {
         reads::migrated_rows(self.alloc, &self.rows)
     }
