@@ -126,12 +126,7 @@ claimed_keeps (Done number version) d h k = free_kept d.epoch d.view.position (i
 claimed_keeps Refused d h k = free_kept d.epoch d.view.position stage.Look h (tt, tt, tt)
 claimed_keeps (Stopped told) d h k = k
 
--- ---- pages and appends
-
-pub page_keeps : (rows page : List Row) (more last : List Row → Stage) (d : Driver) → IsElected d.epoch → IsFree d.view.position (more (rows ++ page)) → IsFree d.view.position (last (rows ++ page)) → Keeps (after_page rows page more last d)
-page_keeps rows page more last d h goes_on ends =
-    free_kept d.epoch d.view.position (if nat_lt (length page) page_size then last (rows ++ page) else more (rows ++ page)) h
-    (chosen_stage (IsFree d.view.position) (nat_lt (length page) page_size) (last (rows ++ page)) (more (rows ++ page)) ends goes_on)
+-- ---- appends
 
 pub append_keeps : (next : Stage) (d : Driver) (r : Result Log LogFault) → IsElected d.epoch → IsFree d.view.position next → IsKept d.epoch d.view.position d.stage → Keeps (after_append next d r)
 append_keeps next d (Ok l) h free k = free_kept d.epoch d.view.position next h free

@@ -74,16 +74,20 @@ look_kept (Err f) old new x is can same k lives = subst (λ (d : DriverRow). IsK
 abbrev IsReady : Driver × Reply → Type 0
 IsReady x = HasEpoch x.0.epoch x.0.stage × StageCanClaim x.0.stage × IsAtTarget x.0.view.position x.0.stage
 
--- after a page of the area, the znodes that were read rise
-pub area_kept : {E : Type 0} (r : Result Reply E) (old new : DriverRow) (rows page : List Row) (target : Recorded) (ops : List Row → List Op)
-    → IfOk r (λ told. after_page rows page (λ all. stage.ReadArea target all) (λ all. stage.WriteAll target (ops all)) (driver_of old) ≡ (driver_of new, told)) → HasRisen new.stage
-    → OnErr r (new ≡ old) → IsKept old.epoch old.view.position old.stage → IsElected old.epoch → target.offset ≡ old.view.position → IsKept new.epoch new.view.position new.stage
-area_kept (Ok told) old new rows page target ops is risen same k h at =
-    let ready : IsReady (after_page rows page (λ all. stage.ReadArea target all) (λ all. stage.WriteAll target (ops all)) (driver_of old)) =
-    chosen_stage (λ s. HasEpoch old.epoch s × StageCanClaim s × IsAtTarget old.view.position s) (nat_lt (length page) page_size) (stage.WriteAll target (ops (rows ++ page))) (stage.ReadArea target (rows ++ page)) (h, tt, at) (h, tt, at) in
+-- a stage that the driver may be at, but for the znodes that it has read
+abbrev pub IsReadyAt : DriverRow → Stage → Type 0
+IsReadyAt d s = HasEpoch d.epoch s × StageCanClaim s × IsAtTarget d.view.position s
+
+-- after a page, the znodes that were read rise
+pub page_kept : {E : Type 0} (r : Result Reply E) (old new : DriverRow) (rows page : List Row) (more last : List Row → Stage)
+    → IfOk r (λ told. after_page rows page more last (driver_of old) ≡ (driver_of new, told)) → HasRisen new.stage
+    → OnErr r (new ≡ old) → IsKept old.epoch old.view.position old.stage → IsReadyAt old (more (rows ++ page)) → IsReadyAt old (last (rows ++ page)) → IsKept new.epoch new.view.position new.stage
+page_kept (Ok told) old new rows page more last is risen same k goes_on ends =
+    let ready : IsReady (after_page rows page more last (driver_of old)) =
+    chosen_stage (IsReadyAt old) (nat_lt (length page) page_size) (last (rows ++ page)) (more (rows ++ page)) ends goes_on in
     let now : IsReady (driver_of new, told) = subst IsReady is ready in
     record { elected = now.0; can_claim = now.1; risen = risen; at_target = now.2 }
-area_kept (Err f) old new rows page target ops is risen same k h at = subst (λ (d : DriverRow). IsKept d.epoch d.view.position d.stage) (sym same) k
+page_kept (Err f) old new rows page more last is risen same k goes_on ends = subst (λ (d : DriverRow). IsKept d.epoch d.view.position d.stage) (sym same) k
 
 -- ---- what requests make of the tree and the log
 

@@ -34,6 +34,8 @@ HasEpoch epoch s = IsElected epoch
 
 -- the znodes of the migrated area that a driver has read rise by path
 abbrev pub HasRisen : Stage → Type 0
+HasRisen (stage.ReadSource rows) = Rises bytes_cmp path_of_row rows
+HasRisen (stage.Begin rows) = Rises bytes_cmp path_of_row rows
 HasRisen (stage.ReadArea target rows) = Rises bytes_cmp path_of_row rows
 HasRisen s = ⊤
 

@@ -13,10 +13,9 @@ ghost use Rattle.kz_driver.specs.Rows.{driver_of};
 ghost use Rattle.kz_driver.specs.Drivers.{HasRisen};
 ghost use Rattle.kz_driver.specs.Faults.{IsReadStepFault};
 
-use crate::asking::page;
 use crate::fault::StepFault;
 use crate::row::DriverRow;
-use crate::source::{PAGE_SIZE, last_path};
+use crate::source::{PAGE_SIZE, next_page};
 use kz_image::Image;
 use kz_render::render;
 use kz_tree::ZTree;
@@ -64,20 +63,6 @@ fn ops_to(alloc: Global, rows: &[Row], page: &[Row], image: &Image) -> Result<Ve
     let have = all_rendered(alloc, rows, page)?;
     let want = render(alloc, image)?;
     diff_renderings(alloc, &have, &want)
-}
-
-// The next page behind these znodes.
-#[tactic(auto, using(crate::proofs::Pages::joined_rise))]
-fn next_page<T: ZTree>(tree: &mut T, rows: &[Row]) -> Result<Vec<Row>, StepFault>
-    requires { Rises bytes_cmp path_of_row rows.now }
-    ensures page { IfOk result (λ page. page.items ≡ scan (T.tree tree.old) (last_path rows.now) page_size) }
-    ensures rising { IfOk result (λ page. Rises bytes_cmp path_of_row (rows.now ++ page.items)) }
-    ensures failed { IfErr result (IsReadStepFault (T.down tree.old)) }
-    ensures same { T.tree tree.new ≡ T.tree tree.old }
-    ensures calm { T.faults tree.new ≡ T.faults tree.old }
-    ensures up { T.down tree.new ≡ T.down tree.old }
-{
-    page(tree, last_path(rows), PAGE_SIZE)
 }
 
 // The driver that goes on with a page more. At `Err` nothing has changed.

@@ -4,7 +4,9 @@ ghost use Rattle.kz_types.specs.declared.record.MetaRecord.{MetaRecord as MetaRe
 ghost use Rattle.kz_types.specs.declared.tree.Row.{Row as RowValue};
 ghost use Rattle.kz_types.specs.declared.driver.Stage.TheVariants as stage;
 ghost use Rattle.kz_types.specs.declared.fault.LogFault.{LogFault as LogFaultValue};
-ghost use Rattle.kz_spec_stores.specs.Tree.{Tree};
+ghost use Rattle.kz_ordered.specs.Order.{bytes_cmp};
+ghost use Rattle.kz_ordered.specs.Ordered.{Rises};
+ghost use Rattle.kz_spec_stores.specs.Tree.{Tree, path_of_row};
 ghost use Rattle.kz_spec_stores.specs.Requests.{Either};
 ghost use Rattle.kz_spec_stores.specs.Log.{Log, View as ViewValue, IsViewOf, append};
 ghost use Rattle.kz_spec_znodes.specs.Translation.{translate};
@@ -115,7 +117,8 @@ pub fn begin<L: MetaLog>(
     log: &mut L,
     now: i64,
 ) -> Result<Reply, StepFault>
-    requires { pos 1 ≤ℤ epoch_or_zero row.old.epoch }
+    requires elected { pos 1 ≤ℤ epoch_or_zero row.old.epoch }
+    requires risen { (rows : List RowValue) → row.old.stage ≡ stage.Begin rows → Rises bytes_cmp path_of_row rows }
     ensures driver { (rows : List RowValue) → row.old.stage ≡ stage.Begin rows → (t : Tree) (ids : List ℤ) → IfOk result (λ told.
         after_translation (shared_of t (L.log log.old) ids) now (driver_of row.old) (translate rows) ≡ (driver_of row.new, told)) }
     ensures log { (rows : List RowValue) → row.old.stage ≡ stage.Begin rows → IfOk result (λ told.

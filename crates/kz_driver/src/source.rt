@@ -2,8 +2,11 @@
 ghost use Rattle.std.specs.Prelude.{◌≡◌, ◌++◌, ◌<◌, ℕ, List, option_map, IfOk, OnOk, IfErr, OnErr, length, map};
 ghost use Rattle.kz_types.specs.declared.tree.Row.{Row as RowValue};
 ghost use Rattle.kz_types.specs.declared.driver.Stage.TheVariants as stage;
-ghost use Rattle.kz_spec_stores.specs.Tree.{scan};
+ghost use Rattle.kz_ordered.specs.Order.{bytes_cmp};
+ghost use Rattle.kz_ordered.specs.Ordered.{Rises};
+ghost use Rattle.kz_spec_stores.specs.Tree.{scan, path_of_row};
 ghost use Rattle.kz_spec_machine.specs.Driver.{last_path, page_size, after_page};
+ghost use Rattle.kz_driver.specs.Drivers.{HasRisen};
 ghost use Rattle.kz_driver.specs.Faults.{IsReadStepFault};
 ghost use Rattle.kz_driver.specs.Rows.{driver_of};
 
@@ -38,8 +41,24 @@ fn keep(rows: &mut Vec<Row>, more: &mut Vec<Row>) -> Result<(), NoMemory>
     Ok(())
 }
 
+/// The next page behind these znodes.
+#[tactic(auto, using(crate::proofs::Pages::joined_rise))]
+pub fn next_page<T: ZTree>(tree: &mut T, rows: &[Row]) -> Result<Vec<Row>, StepFault>
+    requires { Rises bytes_cmp path_of_row rows.now }
+    ensures page { IfOk result (λ page. page.items ≡ scan (T.tree tree.old) (last_path rows.now) page_size) }
+    ensures rising { IfOk result (λ page. Rises bytes_cmp path_of_row (rows.now ++ page.items)) }
+    ensures failed { IfErr result (IsReadStepFault (T.down tree.old)) }
+    ensures same { T.tree tree.new ≡ T.tree tree.old }
+    ensures calm { T.faults tree.new ≡ T.faults tree.old }
+    ensures up { T.down tree.new ≡ T.down tree.old }
+{
+    page(tree, last_path(rows), PAGE_SIZE)
+}
+
 /// Reads the next page behind these znodes, and answers how many znodes it has. At `Err` they are as they were.
 pub fn add_page<T: ZTree>(rows: &mut Vec<Row>, tree: &mut T) -> Result<usize, StepFault>
+    requires { Rises bytes_cmp path_of_row rows.old.items }
+    ensures rising { Rises bytes_cmp path_of_row rows.new.items }
     ensures rows { IfOk result (λ count. rows.new.items ≡ rows.old.items ++ scan (T.tree tree.old) (last_path rows.old.items) page_size) }
     ensures count { IfOk result (λ count. count ≡ length (scan (T.tree tree.old) (last_path rows.old.items) page_size)) }
     ensures err { OnErr result (rows.new.items ≡ rows.old.items) }
@@ -48,7 +67,7 @@ pub fn add_page<T: ZTree>(rows: &mut Vec<Row>, tree: &mut T) -> Result<usize, St
     ensures calm { T.faults tree.new ≡ T.faults tree.old }
     ensures up { T.down tree.new ≡ T.down tree.old }
 {
-    let mut more = page(tree, last_path(rows), PAGE_SIZE)?;
+    let mut more = next_page(tree, rows)?;
     let count = more.len();
     keep(rows, &mut more)?;
     Ok(count)
@@ -56,8 +75,10 @@ pub fn add_page<T: ZTree>(rows: &mut Vec<Row>, tree: &mut T) -> Result<usize, St
 
 /// ZK_MIGRATION, reading. At `Err` nothing has changed.
 pub fn read_source<T: ZTree>(row: &mut DriverRow, tree: &mut T) -> Result<Reply, StepFault>
+    requires { (rows : List RowValue) → row.old.stage ≡ stage.ReadSource rows → Rises bytes_cmp path_of_row rows }
     ensures ok { (rows : List RowValue) → row.old.stage ≡ stage.ReadSource rows → IfOk result (λ told.
         after_page rows (scan (T.tree tree.old) (last_path rows) page_size) (λ all. stage.ReadSource all) (λ all. stage.Begin all) (driver_of row.old) ≡ (driver_of row.new, told)) }
+    ensures rising { (rows : List RowValue) → row.old.stage ≡ stage.ReadSource rows → HasRisen row.new.stage }
     ensures view { row.new.view ≡ row.old.view }
     ensures err { OnErr result (row.new ≡ row.old) }
     ensures failed { IfErr result (IsReadStepFault (T.down tree.old)) }

@@ -15,8 +15,8 @@ use Rattle.kz_driver.specs.Writes.{tree_written}
 use Rattle.kz_driver.specs.Drivers.{HasEpoch, IsAtTarget, shared_of}
 use Rattle.kz_driver.specs.Faults.{IsChangeStepFault, IsChangeLogFault, StepHasCause}
 use Rattle.kz_spec_stores.specs.Log.{IsViewOf}
-use Rattle.kz_driver.proofs.Keeping.{brokers_keep, look_lives, claimed_keeps, page_keeps}
-use Rattle.kz_driver.proofs.Steps.{view_kept, ok_step, always, first_same, kept_step, look_kept, area_kept, tree_made, written_made, claim_is}
+use Rattle.kz_driver.proofs.Keeping.{brokers_keep, look_lives, claimed_keeps}
+use Rattle.kz_driver.proofs.Steps.{view_kept, ok_step, always, first_same, kept_step, look_kept, page_kept, tree_made, written_made, claim_is}
 use Rattle.kz_driver.proofs.Causes.{tree_step, log_step, stepped_shared}
 use Rattle.kz_driver.proofs.drive.step_row.Goals as goal
 
@@ -39,8 +39,9 @@ returns-in-ReadSource-clause-ok g c =
 
 pub returns-in-ReadSource-clause-kept : goal.returns-in-ReadSource-clause-kept
 returns-in-ReadSource-clause-kept g c =
-    kept_step c.read_source.result c.args.row.now c.read_source.new.row (after_page c.in-ReadSource.rows (scan (g.T.ZTree.tree c.args.tree.now) (last_path c.in-ReadSource.rows) page_size) (λ all. stage.ReadSource all) (λ all. stage.Begin all) (driver_of c.args.row.now)) (c.read_source.ensures.ok c.in-ReadSource.rows c.in-ReadSource.is) c.read_source.ensures.err c.requires.kept
-    (page_keeps c.in-ReadSource.rows (scan (g.T.ZTree.tree c.args.tree.now) (last_path c.in-ReadSource.rows) page_size) (λ all. stage.ReadSource all) (λ all. stage.Begin all) (driver_of c.args.row.now) (subst (HasEpoch c.args.row.now.epoch) c.in-ReadSource.is c.requires.kept.elected) (tt, tt, tt) (tt, tt, tt))
+    let elected = subst (HasEpoch c.args.row.now.epoch) c.in-ReadSource.is c.requires.kept.elected in
+    page_kept c.read_source.result c.args.row.now c.read_source.new.row c.in-ReadSource.rows (scan (g.T.ZTree.tree c.args.tree.now) (last_path c.in-ReadSource.rows) page_size) (λ all. stage.ReadSource all) (λ all. stage.Begin all)
+    (c.read_source.ensures.ok c.in-ReadSource.rows c.in-ReadSource.is) (c.read_source.ensures.rising c.in-ReadSource.rows c.in-ReadSource.is) c.read_source.ensures.err c.requires.kept (elected, tt, tt) (elected, tt, tt)
 
 pub returns-in-ReadArea-clause-ok : goal.returns-in-ReadArea-clause-ok
 returns-in-ReadArea-clause-ok g c =
@@ -73,8 +74,10 @@ returns-in-Look-clause-kept g c =
 
 pub returns-in-ReadArea-clause-kept : goal.returns-in-ReadArea-clause-kept
 returns-in-ReadArea-clause-kept g c =
-    area_kept c.read_area.result c.args.row.now c.read_area.new.row c.in-ReadArea.rows (scan (g.T.ZTree.tree c.args.tree.now) (last_path c.in-ReadArea.rows) page_size) c.in-ReadArea.target (λ all. diff (map rendered_row all) (render c.args.row.now.view.image)) (c.read_area.ensures.ok c.in-ReadArea.target c.in-ReadArea.rows c.in-ReadArea.is) (c.read_area.ensures.rising c.in-ReadArea.target c.in-ReadArea.rows c.in-ReadArea.is) c.read_area.ensures.err c.requires.kept
-    (subst (HasEpoch c.args.row.now.epoch) c.in-ReadArea.is c.requires.kept.elected) (subst (IsAtTarget c.args.row.now.view.position) c.in-ReadArea.is c.requires.kept.at_target)
+    let elected = subst (HasEpoch c.args.row.now.epoch) c.in-ReadArea.is c.requires.kept.elected in
+    let at = subst (IsAtTarget c.args.row.now.view.position) c.in-ReadArea.is c.requires.kept.at_target in
+    page_kept c.read_area.result c.args.row.now c.read_area.new.row c.in-ReadArea.rows (scan (g.T.ZTree.tree c.args.tree.now) (last_path c.in-ReadArea.rows) page_size) (λ all. stage.ReadArea c.in-ReadArea.target all) (λ all. stage.WriteAll c.in-ReadArea.target (diff (map rendered_row all) (render c.args.row.now.view.image)))
+    (c.read_area.ensures.ok c.in-ReadArea.target c.in-ReadArea.rows c.in-ReadArea.is) (c.read_area.ensures.rising c.in-ReadArea.target c.in-ReadArea.rows c.in-ReadArea.is) c.read_area.ensures.err c.requires.kept (elected, tt, at) (elected, tt, at)
 
 pub returns-in-ReadArea-clause-view : goal.returns-in-ReadArea-clause-view
 returns-in-ReadArea-clause-view g c =
