@@ -15,7 +15,7 @@ use Rattle.kz_ordered.proofs.Lookup.{find_here, find_skip}
 use Rattle.kz_ordered.proofs.Puts.{find-all_put}
 use Rattle.kz_spec_stores.specs.Image.{Image}
 use Rattle.kz_spec_stores.specs.Tree.{parent_of, is_root, path_of_rendered}
-use Rattle.kz_spec_znodes.specs.Rendering.{bare, config_znode, render}
+use Rattle.kz_spec_znodes.specs.Rendering.{bare, entity_znodes, render}
 use Rattle.kz_laws_trees.proofs.Rows.{same, other, compare}
 use Rattle.kz_laws_trees.proofs.Area.{find_rendered}
 
@@ -127,9 +127,9 @@ or_none (Some r) n is = absurd (cc)
 pub rendered_roots : (i : Image) (p : List ℕ) → find_rendered p (render i) ≡ None → list_any (bytes_eq p) roots ≡ false
 unfolding render
 rendered_roots i p is =
-    let configs = map config_znode i.broker_configs in
-    no_root_found roots p (or_none (find_rendered p (reverse configs)) (find_rendered p (map bare roots))
-    (sym (find-append bytes_cmp path_of_rendered p (reverse configs) (map bare roots)) ∙ sym (find-all_put bytes_order path_of_rendered p configs (map bare roots)) ∙ is))
+    let entities = entity_znodes i in
+    no_root_found roots p (or_none (find_rendered p (reverse entities)) (find_rendered p (map bare roots))
+    (sym (find-append bytes_cmp path_of_rendered p (reverse entities) (map bare roots)) ∙ sym (find-all_put bytes_order path_of_rendered p entities (map bare roots)) ∙ is))
 
 -- ---- a parent is another path
 

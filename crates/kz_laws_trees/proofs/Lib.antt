@@ -7,6 +7,7 @@ pub mod Below
 pub mod Free
 pub mod Lasting
 pub mod Limits
+pub mod Places
 pub mod Render
 pub mod Multi
 pub mod Later
@@ -19,5 +20,6 @@ pub mod Logs
 pub mod Ends
 pub mod Pages
 pub mod Migration
+pub mod Asked
 pub mod Growth
 pub mod Translated
