@@ -10,8 +10,7 @@ use Rattle.kz_ordered.specs.Order.{bytes_cmp}
 use Rattle.kz_ordered.specs.Ordered.{all_put}
 use Rattle.kz_spec_stores.specs.Tree.{Tree, area, recorded, unclosed, path_of_rendered}
 use Rattle.kz_spec_stores.specs.Log.{Log, batch_ends, image_at, is_migrated_log}
-pub use Rattle.kz_spec_znodes.specs.Rendering.{body_at}
-use Rattle.kz_spec_znodes.specs.Rendering.{render}
+use Rattle.kz_spec_znodes.specs.Rendering.{body_at, render}
 
 abbrev pub same_bodies : Option (List ℕ) → Option (List ℕ) → Bool
 same_bodies None None = true
