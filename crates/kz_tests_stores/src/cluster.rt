@@ -9,9 +9,9 @@ use kz_types::{Id, MetaRecord, PartitionChangeRecord, Sequence};
 use std::alloc::Global;
 use std::process::Abort;
 
-// The znodes of a cluster in ZooKeeper mode: a topic of three partitions, its configuration, a user with a quota and a
-// credential, and two access control entries.
-static ZNODES: [(&str, &str); 20] = [
+/// The znodes of a cluster in ZooKeeper mode: a topic of three partitions, its configuration, a user with a quota and a
+/// credential, and two access control entries.
+pub static ZNODES: [(&str, &str); 20] = [
     ("/brokers", ""),
     ("/brokers/topics", ""),
     (
