@@ -4,11 +4,14 @@ pub mod Runs
 pub mod Each
 pub mod Parents
 pub mod Below
+pub mod Children
 pub mod Free
 pub mod Lasting
 pub mod Limits
 pub mod Places
 pub mod Render
+pub mod Shown
+pub mod Above
 pub mod Multi
 pub mod Later
 pub mod Claim
