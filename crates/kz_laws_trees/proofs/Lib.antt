@@ -26,3 +26,5 @@ pub mod Migration
 pub mod Asked
 pub mod Growth
 pub mod Translated
+pub mod Refusals
+pub mod FirstEdit

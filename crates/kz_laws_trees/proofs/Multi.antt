@@ -238,7 +238,7 @@ not_control : (p : List ℕ) (b : Bool) → bytes_eq p control_path ≡ b → is
 not_control p true is inside = absurd (let e = ap is_migrated ((bytes_eq-Decides p control_path).0 is) in cc (control_outside))
 not_control p false is inside = refl
 
-edits_keep : (es : List (Edit Rendered (List ℕ))) → Inside es → All KeepsShape (map op_of es)
+pub edits_keep : (es : List (Edit Rendered (List ℕ))) → Inside es → All KeepsShape (map op_of es)
 edits_keep [] inside = All-nil KeepsShape
 edits_keep (drop_key p ∷ es) inside = All-cons KeepsShape (op_of (drop_key p)) (map op_of es) tt (edits_keep es inside.1)
 edits_keep (make r ∷ es) inside = All-cons KeepsShape (op_of (make r)) (map op_of es) (record { not_root = not_empty r.path inside.0; free = migrated_free r.path inside.0; last = λ owned. absurd (cc) }) (edits_keep es inside.1)
