@@ -27,4 +27,6 @@ pub mod Asked
 pub mod Growth
 pub mod Translated
 pub mod Refusals
+pub mod Ready
 pub mod FirstEdit
+pub mod NeverRefused

@@ -49,7 +49,7 @@ pub record Ran (t new : Tree) (ops : List Op) : Type 0 where
   pub rows : new.rows ≡ ran (t.zxid +ℤ pos 1) ops t.rows
   pub passes : Passes t.sessions (t.zxid +ℤ pos 1) ops t.rows
 
-abbrev counted_up : Tree → List Row → Bool → Result Tree TreeFault
+abbrev pub counted_up : Tree → List Row → Bool → Result Tree TreeFault
 counted_up t rows full = if full then Err (fault.Limit 0 17) else Ok (record { zxid = t.zxid +ℤ pos 1; sessions = t.sessions; rows = rows })
 
 pub room_for_one : (a b : ℤ) → int_le max_long a ≡ false → b ≡ a +ℤ pos 1 → b ≤ℤ max_long
