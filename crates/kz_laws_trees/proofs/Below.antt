@@ -21,10 +21,10 @@ use Rattle.kz_laws_trees.proofs.Area.{find_rendered}
 
 -- ---- the parent of what stands below a path
 
-abbrev has_slash : List ℕ → Bool
+abbrev pub has_slash : List ℕ → Bool
 has_slash bs = list_any (λ x. x == 47) bs
 
-slash_inside : (a x : List ℕ) → has_slash (a ++ 47 ∷ x) ≡ true
+pub slash_inside : (a x : List ℕ) → has_slash (a ++ 47 ∷ x) ≡ true
 slash_inside [] x = refl
 slash_inside (b ∷ a) x = or_true (b == 47) (has_slash (a ++ 47 ∷ x)) (slash_inside a x)
   where
@@ -168,7 +168,7 @@ named_by b bs false is slash rest = (bs, ap (λ x. x ∷ bs) ((Decides-eqb b 47)
     here true q is none = refl
     here false q is none = cc
 
-parent_and_name : (p : List ℕ) → has_slash p ≡ true → (name : List ℕ) × (p ≡ parent_of p ++ 47 ∷ name)
+pub parent_and_name : (p : List ℕ) → has_slash p ≡ true → (name : List ℕ) × (p ≡ parent_of p ++ 47 ∷ name)
 parent_and_name [] slash = absurd (cc)
 parent_and_name (b ∷ bs) slash = named_by b bs (has_slash bs) refl slash (parent_and_name bs)
 
@@ -176,7 +176,7 @@ slash_by : (b : ℕ) (bs : List ℕ) (c : Bool) → has_slash bs ≡ c → is_ro
 slash_by b bs true is up = or_right (b == 47) (has_slash bs) is
 slash_by b bs false is up = absurd (cc)
 
-has_name : (p : List ℕ) → is_root (parent_of p) ≡ false → has_slash p ≡ true
+pub has_name : (p : List ℕ) → is_root (parent_of p) ≡ false → has_slash p ≡ true
 has_name [] up = absurd (cc)
 has_name (b ∷ bs) up = slash_by b bs (has_slash bs) refl up
 

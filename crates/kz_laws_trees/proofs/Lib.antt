@@ -4,11 +4,14 @@ pub mod Runs
 pub mod Each
 pub mod Parents
 pub mod Below
+pub mod Children
 pub mod Free
 pub mod Lasting
 pub mod Limits
 pub mod Places
 pub mod Render
+pub mod Shown
+pub mod Above
 pub mod Multi
 pub mod Later
 pub mod Claim
@@ -23,3 +26,7 @@ pub mod Migration
 pub mod Asked
 pub mod Growth
 pub mod Translated
+pub mod Refusals
+pub mod Ready
+pub mod FirstEdit
+pub mod NeverRefused
