@@ -2,7 +2,7 @@
 use Rattle.std.proofs.Common.{◌≡◌, ℕ, ◌==◌, ◌≤◌, nat_le, ℤ, pos, negsuc, ◌≤ℤ◌, int_le, Bool, true, false, ◌&&◌, if◌then◌else◌, List, [], ◌∷◌, length, Option, Some, None, option_map, All, refl, subst, arith}
 use Rattle.std.specs.Prelude.{⊤, option_and_then, codes}
 use Rattle.std.specs.Str.{bytes_eq}
-use Rattle.std.proofs.lemmas.Bool.Decides.{nat_tests, Decides-int_eq}
+use Rattle.std.proofs.lemmas.Bool.Decides.{nat_tests}
 use Rattle.std.proofs.lemmas.Int.{ints}
 use Rattle.std.proofs.lemmas.List.Elements.{All-nil, All-cons}
 use Rattle.serde_json.specs.Data.{Data, Items, no_items, item}
@@ -11,16 +11,14 @@ use Rattle.kz_types.specs.Paths.{is_path}
 use Rattle.kz_types.specs.declared.machine.Event.{Event}
 use Rattle.kz_types.specs.declared.machine.Event.TheVariants as event
 use Rattle.kz_types.specs.declared.record.MetaRecord.{MetaRecord}
-use Rattle.kz_types.specs.declared.record.MetaRecord.TheVariants as meta
 use Rattle.kz_spec_lines.specs.Json.{json_of, member_count, whole_up_to, whole_within, text_member, by_name}
 use Rattle.kz_spec_lines.specs.Lines.{Item, line, long, much, items, is_passed_over}
-use Rattle.kz_spec_lines.specs.Records.{record_of}
 use Rattle.kz_spec_lines.specs.Ops.{session_in, path_in, version_in, body_in, owner_by, create_of, set_of, delete_of, op_forms, op_of}
 use Rattle.kz_spec_lines.specs.Ops as ops
 use Rattle.kz_types.specs.declared.tree.Op.{Op}
 use Rattle.kz_types.specs.declared.tree.Op.TheVariants.{Create, Set, Delete, Check}
-use Rattle.kz_spec_lines.specs.Events.{id_of, time_of, controller_of, now_of, timed_count, only_id, quorum_of, start_of, elect_of, turn_of, is_changeable, changeable_of, records_in, some_records, change_of, register_of, check_of, session_of, open_of, expire_of, is_open_op, open_op_of, ops_in, some_ops, zk_of, event_forms, event_of, line_event}
-use Rattle.kz_spec_machine.specs.Sound.{IsId, IsTime, IsChange, IsSession, IsOwner, IsVersion, IsLawfulOp, IsLawful}
+use Rattle.kz_spec_lines.specs.Events.{id_of, time_of, controller_of, now_of, timed_count, only_id, quorum_of, start_of, elect_of, turn_of, records_in, some_records, change_of, register_of, check_of, session_of, open_of, expire_of, is_open_op, open_op_of, ops_in, some_ops, zk_of, event_forms, event_of, line_event}
+use Rattle.kz_spec_machine.specs.Sound.{IsId, IsTime, IsSession, IsOwner, IsVersion, IsLawfulOp, IsLawful}
 use Rattle.kz_spec_runs.specs.InStep.{events_on, events_of, script_events}
 
 -- it is so of what is there
@@ -102,38 +100,19 @@ turn_lawful : (d : Data) → OfSome IsLawful (turn_of d)
 turn_lawful d = where_true IsLawful (member_count d == timed_count 2 d) _ (λ few. after IsId IsLawful (λ c. option_map (λ t. event.Turn c t) (now_of d)) (controller_of d) (controller_is d)
     (λ c is. mapped IsTime IsLawful (λ t. event.Turn c t) (now_of d) (time_is (get (codes "now") d)) (λ t low. (is, low))))
 
--- of every other record the test is false
-change_is : (r : MetaRecord) → is_changeable r ≡ true → IsChange r
-change_is (meta.Config c) is = (Decides-int_eq c.resource_type (pos 4)).0 is
-change_is r is = absurd (cc)
+-- a change has a record
+abbrev HasRecord : List MetaRecord → Type 0
+HasRecord records = 1 ≤ length records
 
-changeable_is : (d : Data) → OfSome IsChange (changeable_of d)
-changeable_is d = after (λ (x : MetaRecord). ⊤) IsChange (λ r. if is_changeable r then Some r else None) (record_of d) (anything (record_of d)) (λ r t. where_true IsChange (is_changeable r) (Some r) (change_is r))
-
--- one more of a list
-one_more : {A : Type 0} (P : A → Type 0) (first : Option A) (rest : Option (List A)) → OfSome P first → OfSome (All P) rest → OfSome (All P) (option_and_then (λ x. option_map (λ xs. x ∷ xs) rest) first)
-one_more P first rest is all = after P (All P) (λ x. option_map (λ xs. x ∷ xs) rest) first is (λ x so. mapped (All P) (All P) (λ xs. x ∷ xs) rest all (λ xs each. All-cons P x xs so each))
-
-records_are : (ds : Items) → OfSome (All IsChange) (records_in ds)
-records_are no_items = All-nil IsChange
-records_are (item d ds) = one_more IsChange (changeable_of d) (records_in ds) (changeable_is d) (records_are ds)
-
--- the records of a change: at least one
-abbrev AreChanges : List MetaRecord → Type 0
-AreChanges records = All IsChange records × (1 ≤ length records)
-
-some_changes : (records : List MetaRecord) → All IsChange records → OfSome AreChanges (some_records records)
-some_changes [] all = tt
-some_changes (r ∷ rs) all = (all, omega arith)
-
-changes_in : (d : Data) → OfSome AreChanges (option_and_then some_records (option_and_then records_in (items_at (codes "records") d)))
-changes_in d = after (All IsChange) AreChanges some_records (option_and_then records_in (items_at (codes "records") d))
-    (after (λ (x : Items). ⊤) (All IsChange) records_in (items_at (codes "records") d) (anything (items_at (codes "records") d)) (λ ds t. records_are ds)) some_changes
+some_are : (records : List MetaRecord) → OfSome HasRecord (some_records records)
+some_are [] = tt
+some_are (r ∷ rs) = omega arith
 
 change_lawful : (d : Data) → OfSome IsLawful (change_of d)
 change_lawful d = where_true IsLawful (member_count d == timed_count 3 d) _ (λ few. after IsId IsLawful _ (controller_of d) (controller_is d)
-    (λ c is. after AreChanges IsLawful (λ rs. option_map (λ t. event.Change c rs t) (now_of d)) (option_and_then some_records (option_and_then records_in (items_at (codes "records") d))) (changes_in d)
-    (λ rs changes. mapped IsTime IsLawful (λ t. event.Change c rs t) (now_of d) (time_is (get (codes "now") d)) (λ t low. (is, low, changes.0, changes.1)))))
+    (λ c is. after HasRecord IsLawful (λ rs. option_map (λ t. event.Change c rs t) (now_of d)) (option_and_then some_records (option_and_then records_in (items_at (codes "records") d)))
+    (after (λ (rs : List MetaRecord). ⊤) HasRecord some_records (option_and_then records_in (items_at (codes "records") d)) (anything (option_and_then records_in (items_at (codes "records") d))) (λ rs t. some_are rs))
+    (λ rs some. mapped IsTime IsLawful (λ t. event.Change c rs t) (now_of d) (time_is (get (codes "now") d)) (λ t low. (is, low, some)))))
 
 register_lawful : (d : Data) → OfSome IsLawful (register_of d)
 register_lawful d = where_true IsLawful (member_count d == timed_count 4 d) _ (λ few. after IsId IsLawful _ (controller_of d) (controller_is d)
@@ -219,6 +198,10 @@ op_lawful : (d : Data) → OfSome IsLawfulOp (op_of d)
 unfolding op_of
 op_lawful d = after (λ (x : List ℕ). ⊤) IsLawfulOp (λ name. by_name op_forms name d) (text_member (codes "op") d) (anything (text_member (codes "op") d))
     (λ name t. by_name_gives IsLawfulOp op_forms name d (create_lawful, (set_lawful, (delete_lawful, (check_op_lawful, tt)))))
+
+-- one more of a list
+one_more : {A : Type 0} (P : A → Type 0) (first : Option A) (rest : Option (List A)) → OfSome P first → OfSome (All P) rest → OfSome (All P) (option_and_then (λ x. option_map (λ xs. x ∷ xs) rest) first)
+one_more P first rest is all = after P (All P) (λ x. option_map (λ xs. x ∷ xs) rest) first is (λ x so. mapped (All P) (All P) (λ xs. x ∷ xs) rest all (λ xs each. All-cons P x xs so each))
 
 open_op_lawful : (d : Data) → OfSome IsLawfulOp (open_op_of d)
 open_op_lawful d = after IsLawfulOp IsLawfulOp (λ o. if is_open_op o then Some o else None) (op_of d) (op_lawful d) (λ o is. where_true IsLawfulOp (is_open_op o) (Some o) (λ taken. is))

@@ -1,5 +1,5 @@
 -- A step of a driver, by its stage: what is kept of the tree and the log, and what is owed of the driver.
-use Rattle.kz_laws_trees.proofs.Translated.{translated_are_configs}
+use Rattle.kz_laws_trees.proofs.Translated.{all_translated}
 use Rattle.kz_laws_trees.specs.LogLaws.{IsPlain}
 use Rattle.std.proofs.Common.{◌≡◌, ◌≢◌, nat_lt, ℤ, pos, ◌≤ℤ◌, int_le, int_lt, Bool, true, false, not, ◌&&◌, if◌then◌else◌, List, [], ◌∷◌, ◌++◌, length, take, drop, map, filter, Option, Some, None, option_map, is_some, refl, sym, ap, ◌∙◌, subst, arith, All}
 use Rattle.std.specs.Prelude.{Result, Ok, Err, ⊤}
@@ -39,7 +39,7 @@ use Rattle.kz_spec_znodes.specs.Translation.{Unreadable, translate}
 use Rattle.kz_spec_znodes.specs.Difference.{diff, chunk, max_chunk}
 use Rattle.kz_spec_machine.specs.Driver.{Shared, Driver, state_of, at_stage, resigned, begins_again, epoch_or_zero, views_migrated, seen_in, shown_by, unless_fenced, unless_full_epoch, unless_bad_epoch, unless_full_record, looked, claimed_version, claim_ops, remaining_at, is_last_write, write_ops, target_of, page_size, last_path, Request, nothing, read_log, list_brokers, look_up, read_page, write, add, begin_record, begin_request, next_records, write_request, asked, with_tree, with_log, made, missing_controller, missing_broker, having_read, wait_or_move, after_quorum, after_brokers, path_at, after_claim, after_append, after_translation, after_records, written_driver, is_claim_refused, after_write, writes, is_recorded_at, answered, batch_size}
 use Rattle.kz_spec_machine.specs.Machine.{is_held_tree}
-use Rattle.kz_spec_machine.specs.Sound.{IsId, IsEpochOrNone, IsStamped, TreeShape, LogShape, IsBatchEnd, Kept, IsTime, claim_version, IsCurrent, shown_in, Claimed, Claims, Epochs, Elected, Aims, Reads, Writes, Rests, AtStage, IsConfig}
+use Rattle.kz_spec_machine.specs.Sound.{IsId, IsEpochOrNone, IsStamped, TreeShape, LogShape, IsBatchEnd, Kept, IsTime, claim_version, IsCurrent, shown_in, Claimed, Claims, Epochs, Elected, Aims, Reads, Writes, Rests, AtStage, IsTranslated}
 use Rattle.kz_laws_values.proofs.Control.{recorded_is_read}
 use Rattle.kz_laws_trees.proofs.Multi.{multi_ran, shape_kept, write_keeps_shape, write_keeps_version, last_write, remaining_after_write}
 use Rattle.kz_laws_trees.specs.TreeLaws.{KeepsShape, Completed}
@@ -273,23 +273,23 @@ begins s now d rows (Ok records) translated is kept base current elected claimed
     appends s d now (begin_record ∷ []) (stage.Begin rows) (stage.Fill records) (append s.log (epoch_or_zero d.epoch) now (begin_record ∷ [])) refl is kept base current elected claimed elected
     (plain_stays s.log (epoch_or_zero d.epoch) now (begin_record ∷ []) kept.log (All-cons IsPlain begin_record [] tt (All-nil IsPlain)))
     (λ migrated. base.agreement.holds (plain_was s.log (epoch_or_zero d.epoch) now (begin_record ∷ []) kept.log (All-cons IsPlain begin_record [] tt (All-nil IsPlain)) migrated))
-    (λ l made-is. (claimed, translated_are_configs rows records translated))
+    (λ l made-is. (claimed, all_translated rows records translated))
 
-config_plain : (r : MetaRecord) → IsConfig r → IsPlain r
-config_plain meta.EndTransaction is = absurd is
-config_plain (meta.ZkMigrationState s) is = absurd is
-config_plain r is = tt
+translated_plain : (r : MetaRecord) → IsTranslated r → IsPlain r
+translated_plain meta.EndTransaction is = absurd is
+translated_plain (meta.ZkMigrationState s) is = absurd is
+translated_plain r is = tt
 
-all_plain : (records : List MetaRecord) → All IsConfig records → All IsPlain (take batch_size records)
-all_plain records all = All-take IsPlain batch_size records (All-weaker IsConfig IsPlain config_plain records all)
+all_plain : (records : List MetaRecord) → All IsTranslated records → All IsPlain (take batch_size records)
+all_plain records all = All-take IsPlain batch_size records (All-weaker IsTranslated IsPlain translated_plain records all)
 
 -- the driver that makes a log migrated has a claim
-fill_holds : (s : Shared) (d : Driver) (epoch now : ℤ) (records : List MetaRecord) → Kept s → Base s d → d.claim ≢ None → All IsConfig records → HoldsThen s epoch now (next_records records)
+fill_holds : (s : Shared) (d : Driver) (epoch now : ℤ) (records : List MetaRecord) → Kept s → Base s d → d.claim ≢ None → All IsTranslated records → HoldsThen s epoch now (next_records records)
 fill_holds s d epoch now [] kept base claimed all migrated = claim_holds s d d.claim base refl claimed
 fill_holds s d epoch now (r ∷ rs) kept base claimed all migrated = base.agreement.holds (plain_was s.log epoch now (take batch_size (r ∷ rs)) kept.log (all_plain (r ∷ rs) all) migrated)
 
 -- a migrated log stays so with the records of the migration, and the last of them make it so
-fill_stays : (l : Log) (epoch now : ℤ) (records : List MetaRecord) → LogShape l → All IsConfig records → StaysMigrated l epoch now (next_records records)
+fill_stays : (l : Log) (epoch now : ℤ) (records : List MetaRecord) → LogShape l → All IsTranslated records → StaysMigrated l epoch now (next_records records)
 fill_stays l epoch now [] shape all is = commit_is_migrated l epoch now shape
 fill_stays l epoch now (r ∷ rs) shape all is =
     plain_stays l epoch now (take batch_size (r ∷ rs)) shape (all_plain (r ∷ rs) all) is
@@ -298,9 +298,9 @@ after_records_elected : (records : List MetaRecord) (e : Option ℤ) → e ≢ N
 after_records_elected [] e elected = elected
 after_records_elected (r ∷ rs) e elected = elected
 
-after_records_at : (records : List MetaRecord) (t : Tree) (l more : Log) (epoch now : ℤ) (d : Driver) → LogShape l → d.claim ≢ None → All IsConfig records → with_batch l epoch now (next_records records) ≡ more → AtStage t more (at_stage (after_records records) d) (after_records records)
+after_records_at : (records : List MetaRecord) (t : Tree) (l more : Log) (epoch now : ℤ) (d : Driver) → LogShape l → d.claim ≢ None → All IsTranslated records → with_batch l epoch now (next_records records) ≡ more → AtStage t more (at_stage (after_records records) d) (after_records records)
 after_records_at [] t l more epoch now d shape claimed all made-is = subst (λ (x : Log). is_migrated_log x ≡ true) made-is (commit_is_migrated l epoch now shape)
-after_records_at (r ∷ rs) t l more epoch now d shape claimed all made-is = (claimed, All-drop IsConfig batch_size (r ∷ rs) all)
+after_records_at (r ∷ rs) t l more epoch now d shape claimed all made-is = (claimed, All-drop IsTranslated batch_size (r ∷ rs) all)
 
 -- ---- writes
 

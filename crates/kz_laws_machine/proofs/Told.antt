@@ -10,9 +10,9 @@ use Rattle.kz_types.specs.declared.machine.Verdict.{Verdict}
 use Rattle.kz_types.specs.declared.machine.Verdict.TheVariants.{Unmigrated, Unrecorded, Closed}
 use Rattle.kz_spec_stores.specs.Tree.{Tree, area, recorded, unclosed}
 use Rattle.kz_spec_stores.specs.Log.{Log, image_at, is_migrated_log}
-use Rattle.kz_spec_znodes.specs.Rendering.{render}
+use Rattle.kz_spec_znodes.specs.Rendering.{render, body_at}
 use Rattle.kz_spec_machine.specs.Driver.{Shared}
-use Rattle.kz_spec_machine.specs.Verdicts.{body_at, same_bodies, agrees_at, ends_from, paths_at, disagrees, closed_or_ahead, unless_disagrees, verdict_at, verdict_of, verdict}
+use Rattle.kz_spec_machine.specs.Verdicts.{same_bodies, agrees_at, ends_from, paths_at, disagrees, closed_or_ahead, unless_disagrees, verdict_at, verdict_of, verdict}
 use Rattle.kz_spec_machine.specs.Sound.{IsBatchEnd, Kept}
 use Rattle.kz_laws_machine.proofs.Agreements.{closed_offset}
 

@@ -1,12 +1,12 @@
 -- Worlds with at most one driver, event by event.
-use Rattle.kz_spec_stores.specs.Image.{is_migrated_state, first_bad}
+use Rattle.kz_spec_stores.specs.Image.{is_migrated_state, Bad, first_bad}
 use Rattle.kz_laws_trees.specs.LogLaws.{IsPlain, IsUncommitted}
 use Rattle.std.proofs.Common.{◌≡◌, inl, inr, ℕ, ◌≤◌, nat_le, ℤ, pos, negsuc, ◌+ℤ◌, ◌≤ℤ◌, int_lt, Bool, true, false, not, ◌||◌, if◌then◌else◌, cond, List, [], ◌∷◌, ◌++◌, length, map, Option, Some, None, option_map, refl, sym, ap, ◌∙◌, subst, arith, All}
 use Rattle.std.specs.Prelude.{⊤, Result, Ok, Err}
 use Rattle.std.specs.Ordering.{int_eq}
 use Rattle.std.proofs.lemmas.Bool.Decides.{Decides-int_eq}
 use Rattle.std.proofs.lemmas.Int.{ints}
-use Rattle.std.proofs.lemmas.List.Elements.{All-nil, All-cons, All-append, All-weaker}
+use Rattle.std.proofs.lemmas.List.Elements.{All-nil, All-cons, All-append}
 use Rattle.kz_types.specs.declared.driver.Stage.TheVariants as stage
 use Rattle.kz_types.specs.declared.machine.Event.{Event}
 use Rattle.kz_types.specs.declared.machine.Event.TheVariants as event
@@ -24,10 +24,11 @@ use Rattle.kz_spec_stores.specs.Log.{Log, empty_log, end_of, image_at, max_epoch
 use Rattle.kz_spec_znodes.specs.Rendering.{render}
 use Rattle.kz_spec_machine.specs.Driver.{Shared, Driver, new_driver, elected_driver, is_one_of}
 use Rattle.kz_spec_machine.specs.Machine.{World, empty_world, running_ids, is_running, driver_of, with_driver, Turned, turn, work, decided, first_of, unless, over, full, running_refusal, leader_refusal, quorum_refusal, declared_world, start_refusal, started_world, election_records, next_epoch, elected_log, election_refusal, elected_world, election_answer, turn_result, max_changes, bad_record, change_refusal, changed_log, changed_world, registration, register_refusal, with_tree, moved_world, is_held_tree, client_refusal, client_world, unless_refused, next}
-use Rattle.kz_spec_machine.specs.Sound.{IsId, IsTime, IsEpoch, IsEpochOrNone, TreeShape, LogShape, IsBatchEnd, Agreement, Kept, Aims, AtStage, Fine, IsLawful, IsChange, IsSession, IsLawfulOp}
+use Rattle.kz_spec_machine.specs.Sound.{IsId, IsTime, IsEpoch, IsEpochOrNone, TreeShape, LogShape, IsBatchEnd, Agreement, Kept, Aims, AtStage, Fine, IsLawful, IsSession, IsLawfulOp}
 use Rattle.kz_laws_trees.specs.TreeLaws.{Unchanged}
 use Rattle.kz_laws_trees.proofs.Sessions.{begin_leaves, end_leaves}
 use Rattle.kz_laws_trees.proofs.Clients.{client_keeps_shape, client_leaves_recorded, client_leaves_held}
+use Rattle.kz_laws_trees.proofs.Asked.{asked_plain}
 use Rattle.kz_laws_trees.proofs.Ends.{end_least, base_is_batch_end, image_before}
 use Rattle.kz_laws_trees.proofs.Growth.{Grows, batch_shape, grows_batch, view_grown, view_within, StaysMigrated, plain_stays, plain_was, uncommitted_was}
 use Rattle.kz_laws_machine.proofs.Agreements.{agreement_grown}
@@ -288,10 +289,19 @@ changed_one s l [] kept grows one = tt
 changed_one s l (d ∷ []) kept grows one = record { fine = fine_grown s l d kept grows one.fine; declared = one.declared; current = one.current }
 changed_one s l (d ∷ e ∷ ds) kept grows one = one
 
-change_plain : (r : MetaRecord) → IsChange r → IsPlain r
-change_plain meta.EndTransaction is = absurd is
-change_plain (meta.ZkMigrationState s) is = absurd is
-change_plain r is = tt
+bad_none : (b : Option Bad) → bad_record b ≡ None → b ≡ None
+bad_none None none = refl
+bad_none (Some bad) none = absurd (cc)
+
+-- a change that isn't refused has plain records
+change_plain : (w : World) (id : ℤ) (records : List MetaRecord) → change_refusal w id records ≡ None → All IsPlain records
+change_plain w id records none =
+    let bad = first_bad 0 records (image_of w.shared.log) in
+    let a = first_none (leader_refusal w id) _ none in
+    let b = first_none (unless (is_migrated_log w.shared.log) answer.NotMigrated) _ a.1 in
+    let c = first_none (unless (nat_le (length records) max_changes) (over 8)) _ b.1 in
+    let d = first_none (bad_record bad) _ c.1 in
+    asked_plain 0 records (image_of w.shared.log) (bad_none bad d.0)
 
 -- one batch more of plain records, of the log's epoch
 plain_kept : (w : World) (records : List MetaRecord) (now : ℤ) → All IsPlain records → full_log w.shared.log records ≡ None → Lone w → Lone (changed_world w records now)
@@ -309,8 +319,8 @@ plain_kept w records now plain room lone =
       one = changed_one w.shared (changed_log l records now) w.drivers lone.kept grows lone.one;
     }
 
-change_kept : (w : World) (id : ℤ) (records : List MetaRecord) (now : ℤ) → All IsChange records → Lone w → change_refusal w id records ≡ None → Lone (changed_world w records now)
-change_kept w id records now all lone none = plain_kept w records now (All-weaker IsChange IsPlain change_plain records all) (change_room w id records none) lone
+change_kept : (w : World) (id : ℤ) (records : List MetaRecord) (now : ℤ) → Lone w → change_refusal w id records ≡ None → Lone (changed_world w records now)
+change_kept w id records now lone none = plain_kept w records now (change_plain w id records none) (change_room w id records none) lone
 
 register_kept : (w : World) (id broker : ℤ) (migrating : Bool) (now : ℤ) → Lone w → register_refusal w id (registration broker migrating) ≡ None → Lone (changed_world w (registration broker migrating) now)
 register_kept w id broker migrating now lone none = plain_kept w (registration broker migrating) now (All-cons IsPlain _ [] tt (All-nil IsPlain)) (register_room w id (registration broker migrating) none) lone
@@ -414,7 +424,7 @@ next_kept w (event.Quorum ids) lawful lone = decided_kept Lone w (quorum_refusal
 next_kept w (event.Start id) lawful lone = decided_kept Lone w (start_refusal w id) (started_world w id) answer.Done lone (start_kept w id lawful lone)
 next_kept w (event.Elect id now) lawful lone = decided_kept Lone w (election_refusal w id) (elected_world w id now) (election_answer w now) lone (election_kept w id now lone)
 next_kept w (event.Turn id now) lawful lone = unless_kept Lone w (running_refusal w id) (turn_result w now (driver_of id w.drivers)) lone (turn_kept w id now (driver_of id w.drivers) lawful.1 lone refl)
-next_kept w (event.Change id records now) lawful lone = decided_kept Lone w (change_refusal w id records) (changed_world w records now) (answer.Appended (end_of (changed_log w.shared.log records now))) lone (change_kept w id records now lawful.2 lone)
+next_kept w (event.Change id records now) lawful lone = decided_kept Lone w (change_refusal w id records) (changed_world w records now) (answer.Appended (end_of (changed_log w.shared.log records now))) lone (change_kept w id records now lone)
 next_kept w (event.Register id broker migrating now) lawful lone = decided_kept Lone w (register_refusal w id (registration broker migrating)) (changed_world w (registration broker migrating) now) (answer.Appended (end_of (changed_log w.shared.log (registration broker migrating) now))) lone (register_kept w id broker migrating now lone)
 next_kept w event.Check lawful lone = lone
 next_kept w (event.ZkOpen session) lawful lone = open_kept w session lawful lone

@@ -58,7 +58,7 @@ rendered_still (Some r) = refl
 pub shown_alike : (p : List ℕ) (m n : Option Row) → option_map still m ≡ option_map still n → shown_of p m ≡ shown_of p n
 shown_alike p m n e = ap (λ x. cond (is_migrated p) x None) (sym (rendered_still m) ∙ ap (option_map rendered_row) e ∙ rendered_still n)
 
-shown_migrated : (p : List ℕ) (m : Option Row) → is_migrated p ≡ true → shown_of p m ≡ option_map rendered_row m
+pub shown_migrated : (p : List ℕ) (m : Option Row) → is_migrated p ≡ true → shown_of p m ≡ option_map rendered_row m
 shown_migrated p m is = ap (λ b. cond b (option_map rendered_row m) None) is
 
 shown_outside : (p : List ℕ) (m : Option Row) → is_migrated p ≡ false → shown_of p m ≡ None
@@ -92,7 +92,7 @@ edit_path = edit_key path_of_rendered
 abbrev pub area_edited : Edit Rendered (List ℕ) → List Rendered → List Rendered
 area_edited = edited bytes_cmp path_of_rendered
 
-path_of_edit : (e : Edit Rendered (List ℕ)) → path_of_op (op_of e) ≡ edit_path e
+pub path_of_edit : (e : Edit Rendered (List ℕ)) → path_of_op (op_of e) ≡ edit_path e
 path_of_edit (drop_key p) = refl
 path_of_edit (make r) = refl
 path_of_edit (alter r) = refl

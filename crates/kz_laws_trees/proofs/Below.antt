@@ -15,16 +15,16 @@ use Rattle.kz_ordered.proofs.Lookup.{find_here, find_skip}
 use Rattle.kz_ordered.proofs.Puts.{find-all_put}
 use Rattle.kz_spec_stores.specs.Image.{Image}
 use Rattle.kz_spec_stores.specs.Tree.{parent_of, is_root, path_of_rendered}
-use Rattle.kz_spec_znodes.specs.Rendering.{bare, config_znode, render}
+use Rattle.kz_spec_znodes.specs.Rendering.{bare, entity_znodes, render}
 use Rattle.kz_laws_trees.proofs.Rows.{same, other, compare}
 use Rattle.kz_laws_trees.proofs.Area.{find_rendered}
 
 -- ---- the parent of what stands below a path
 
-abbrev has_slash : List ℕ → Bool
+abbrev pub has_slash : List ℕ → Bool
 has_slash bs = list_any (λ x. x == 47) bs
 
-slash_inside : (a x : List ℕ) → has_slash (a ++ 47 ∷ x) ≡ true
+pub slash_inside : (a x : List ℕ) → has_slash (a ++ 47 ∷ x) ≡ true
 slash_inside [] x = refl
 slash_inside (b ∷ a) x = or_true (b == 47) (has_slash (a ++ 47 ∷ x)) (slash_inside a x)
   where
@@ -127,9 +127,9 @@ or_none (Some r) n is = absurd (cc)
 pub rendered_roots : (i : Image) (p : List ℕ) → find_rendered p (render i) ≡ None → list_any (bytes_eq p) roots ≡ false
 unfolding render
 rendered_roots i p is =
-    let configs = map config_znode i.broker_configs in
-    no_root_found roots p (or_none (find_rendered p (reverse configs)) (find_rendered p (map bare roots))
-    (sym (find-append bytes_cmp path_of_rendered p (reverse configs) (map bare roots)) ∙ sym (find-all_put bytes_order path_of_rendered p configs (map bare roots)) ∙ is))
+    let entities = entity_znodes i in
+    no_root_found roots p (or_none (find_rendered p (reverse entities)) (find_rendered p (map bare roots))
+    (sym (find-append bytes_cmp path_of_rendered p (reverse entities) (map bare roots)) ∙ sym (find-all_put bytes_order path_of_rendered p entities (map bare roots)) ∙ is))
 
 -- ---- a parent is another path
 
@@ -168,7 +168,7 @@ named_by b bs false is slash rest = (bs, ap (λ x. x ∷ bs) ((Decides-eqb b 47)
     here true q is none = refl
     here false q is none = cc
 
-parent_and_name : (p : List ℕ) → has_slash p ≡ true → (name : List ℕ) × (p ≡ parent_of p ++ 47 ∷ name)
+pub parent_and_name : (p : List ℕ) → has_slash p ≡ true → (name : List ℕ) × (p ≡ parent_of p ++ 47 ∷ name)
 parent_and_name [] slash = absurd (cc)
 parent_and_name (b ∷ bs) slash = named_by b bs (has_slash bs) refl slash (parent_and_name bs)
 
@@ -176,7 +176,7 @@ slash_by : (b : ℕ) (bs : List ℕ) (c : Bool) → has_slash bs ≡ c → is_ro
 slash_by b bs true is up = or_right (b == 47) (has_slash bs) is
 slash_by b bs false is up = absurd (cc)
 
-has_name : (p : List ℕ) → is_root (parent_of p) ≡ false → has_slash p ≡ true
+pub has_name : (p : List ℕ) → is_root (parent_of p) ≡ false → has_slash p ≡ true
 has_name [] up = absurd (cc)
 has_name (b ∷ bs) up = slash_by b bs (has_slash bs) refl up
 

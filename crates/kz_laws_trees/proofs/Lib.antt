@@ -4,10 +4,14 @@ pub mod Runs
 pub mod Each
 pub mod Parents
 pub mod Below
+pub mod Children
 pub mod Free
 pub mod Lasting
 pub mod Limits
+pub mod Places
 pub mod Render
+pub mod Shown
+pub mod Above
 pub mod Multi
 pub mod Later
 pub mod Claim
@@ -19,5 +23,10 @@ pub mod Logs
 pub mod Ends
 pub mod Pages
 pub mod Migration
+pub mod Asked
 pub mod Growth
 pub mod Translated
+pub mod Refusals
+pub mod Ready
+pub mod FirstEdit
+pub mod NeverRefused

@@ -49,7 +49,7 @@ pub record Ran (t new : Tree) (ops : List Op) : Type 0 where
   pub rows : new.rows ≡ ran (t.zxid +ℤ pos 1) ops t.rows
   pub passes : Passes t.sessions (t.zxid +ℤ pos 1) ops t.rows
 
-abbrev counted_up : Tree → List Row → Bool → Result Tree TreeFault
+abbrev pub counted_up : Tree → List Row → Bool → Result Tree TreeFault
 counted_up t rows full = if full then Err (fault.Limit 0 17) else Ok (record { zxid = t.zxid +ℤ pos 1; sessions = t.sessions; rows = rows })
 
 pub room_for_one : (a b : ℤ) → int_le max_long a ≡ false → b ≡ a +ℤ pos 1 → b ≤ℤ max_long
@@ -238,7 +238,7 @@ not_control : (p : List ℕ) (b : Bool) → bytes_eq p control_path ≡ b → is
 not_control p true is inside = absurd (let e = ap is_migrated ((bytes_eq-Decides p control_path).0 is) in cc (control_outside))
 not_control p false is inside = refl
 
-edits_keep : (es : List (Edit Rendered (List ℕ))) → Inside es → All KeepsShape (map op_of es)
+pub edits_keep : (es : List (Edit Rendered (List ℕ))) → Inside es → All KeepsShape (map op_of es)
 edits_keep [] inside = All-nil KeepsShape
 edits_keep (drop_key p ∷ es) inside = All-cons KeepsShape (op_of (drop_key p)) (map op_of es) tt (edits_keep es inside.1)
 edits_keep (make r ∷ es) inside = All-cons KeepsShape (op_of (make r)) (map op_of es) (record { not_root = not_empty r.path inside.0; free = migrated_free r.path inside.0; last = λ owned. absurd (cc) }) (edits_keep es inside.1)

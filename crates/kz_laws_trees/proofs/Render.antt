@@ -1,11 +1,12 @@
 -- The rendering of the metadata rises and lies in the migrated area, and so do the operations that lead to it.
-use Rattle.std.proofs.Common.{◌≡◌, ◌⊎◌, ℕ, true, List, [], ◌∷◌, Option, None, Contains, All, refl, ap, ◌∙◌, inl, inr, map, filter, get_or, rules}
+use Rattle.std.proofs.Common.{◌≡◌, ◌⊎◌, ℕ, ℤ, pos, Bool, true, false, if◌then◌else◌, List, [], ◌∷◌, ◌++◌, Option, Contains, All, refl, ap, ◌∙◌, inl, inr, map, filter, codes, rules}
+use Rattle.std.specs.Ordering.{int_eq}
 use Rattle.std.proofs.lemmas.Slice.Eq.{bytes_eq-Decides}
-use Rattle.std.proofs.lemmas.List.Elements.{All-contains, All-map, All-append, All-head, All-tail, filter_passes, All-from_recursion}
+use Rattle.std.proofs.lemmas.List.Elements.{All-contains, All-map, All-append, All-head, All-tail, All-weaker, filter_passes, All-from_recursion}
 use Rattle.kz_types.specs.declared.tree.Row.{Row}
 use Rattle.kz_types.specs.declared.tree.Rendered.{Rendered}
-use Rattle.kz_types.specs.declared.key.EntityKey.TheVariants.{BrokerConfig}
-use Rattle.kz_types.specs.declared.image.Configuration.{Configuration}
+use Rattle.kz_types.specs.declared.key.EntityKey.{EntityKey}
+use Rattle.kz_types.specs.declared.key.EntityKey.TheVariants as key
 use Rattle.kz_types.specs.Paths.{is_migrated, roots, path_of}
 use Rattle.kz_ordered.specs.Order.{bytes_cmp}
 use Rattle.kz_ordered.specs.Ordered.{Rises}
@@ -15,11 +16,12 @@ use Rattle.kz_ordered.proofs.Edits.{All-drops, All-makes}
 use Rattle.kz_ordered.proofs.Puts.{Rises-all_put, Contains-all_put_cases}
 use Rattle.kz_spec_stores.specs.Image.{Image}
 use Rattle.kz_spec_stores.specs.Tree.{rendered_row, path_of_rendered}
-use Rattle.kz_spec_znodes.specs.Rendering.{bare, broker_key, config_znode, render}
+use Rattle.kz_spec_znodes.specs.Rendering.{bare, partitions_path, number_path, entity_znodes, render}
 use Rattle.kz_spec_znodes.specs.Difference.{same_body}
 use Rattle.kz_laws_trees.proofs.Area.{area_of, edit_path}
 use Rattle.kz_laws_trees.proofs.Runs.{Inside}
 use Rattle.kz_laws_trees.proofs.Each.{all_from_contains}
+use Rattle.kz_laws_trees.proofs.Places.{Place, at_topic, at_partitions, at_number, at_state, at_topic_config, at_broker, at_client_user, at_clients, at_quota, at_user, at_acl, at_producer, IsPlaced, entities_placed}
 
 pub decides_body : DecidesEqual path_of_rendered same_body
 decides_body = record {
@@ -33,19 +35,69 @@ decides_body = record {
 abbrev pub IsInside : Rendered → Type 0
 IsInside r = is_migrated r.path ≡ true
 
-config_inside : (broker : Option _) → is_migrated (path_of (BrokerConfig broker)) ≡ true
+-- ---- the paths of entities
+
+acl_by : (literal topic group cluster transactional : Bool) (name : List ℕ)
+    → is_migrated ((if literal then codes "/kafka-acl/" else codes "/kafka-acl-extended/prefixed/")
+    ++ ((if topic then codes "Topic" else if group then codes "Group" else if cluster then codes "Cluster" else if transactional then codes "TransactionalId" else codes "DelegationToken") ++ (codes "/" ++ name))) ≡ true
+unfolding is_migrated roots
+acl_by true true group cluster transactional name = refl
+acl_by true false true cluster transactional name = refl
+acl_by true false false true transactional name = refl
+acl_by true false false false true name = refl
+acl_by true false false false false name = refl
+acl_by false true group cluster transactional name = refl
+acl_by false false true cluster transactional name = refl
+acl_by false false false true transactional name = refl
+acl_by false false false false true name = refl
+acl_by false false false false false name = refl
+
+key_inside : (k : EntityKey) → is_migrated (path_of k) ≡ true
 unfolding is_migrated roots path_of
-config_inside broker = refl
+key_inside (key.Topic name) = refl
+key_inside (key.Partition topic number) = refl
+key_inside (key.TopicConfig name) = refl
+key_inside (key.BrokerConfig broker) = refl
+key_inside (key.Client client) = refl
+key_inside (key.User user) = refl
+key_inside (key.UserClient user client) = refl
+key_inside (key.Ip address) = refl
+key_inside (key.Acl pattern kind name) = acl_by (int_eq pattern (pos 3)) (int_eq kind (pos 2)) (int_eq kind (pos 3)) (int_eq kind (pos 4)) (int_eq kind (pos 5)) name
+key_inside key.Producer = refl
 
-config_znode_inside : (c : Configuration) → IsInside (config_znode c)
-config_znode_inside c = by_name c.name
-  where
-    by_name : (name : List ℕ) → is_migrated (path_of (broker_key name)) ≡ true
-    by_name [] = config_inside None
-    by_name (b ∷ bs) = config_inside _
+partitions_inside : (name : List ℕ) → is_migrated (partitions_path name) ≡ true
+unfolding is_migrated roots path_of
+partitions_inside name = refl
 
-configs_inside : (cs : List Configuration) → All (λ c. IsInside (config_znode c)) cs
-configs_inside cs k d within = config_znode_inside (get_or cs k d)
+number_inside : (name : List ℕ) (n : ℤ) → is_migrated (number_path name n) ≡ true
+unfolding is_migrated roots path_of
+number_inside name n = refl
+
+clients_inside : (user : Option (List ℕ)) → is_migrated (path_of (key.User user) ++ codes "/clients") ≡ true
+unfolding is_migrated roots path_of
+clients_inside user = refl
+
+moved : (p q : List ℕ) → p ≡ q → is_migrated q ≡ true → is_migrated p ≡ true
+moved p q same inside = ap is_migrated same ∙ inside
+
+place_inside : (i : Image) (p : List ℕ) → Place i p → is_migrated p ≡ true
+place_inside i p (at_topic t has is) = moved p _ is (key_inside _)
+place_inside i p (at_partitions t has is) = moved p _ is (partitions_inside t.name)
+place_inside i p (at_number t n has within is) = moved p _ is (number_inside t.name n.number)
+place_inside i p (at_state t n has within is) = moved p _ is (key_inside _)
+place_inside i p (at_topic_config t has is) = moved p _ is (key_inside _)
+place_inside i p (at_broker c has is) = moved p _ is (key_inside _)
+place_inside i p (at_client_user q name client has of is) = moved p _ is (key_inside _)
+place_inside i p (at_clients q name client has of is) = moved p _ is (clients_inside name)
+place_inside i p (at_quota q k has of is) = moved p _ is (key_inside k)
+place_inside i p (at_user u has is) = moved p _ is (key_inside _)
+place_inside i p (at_acl a has is) = moved p _ is (key_inside _)
+place_inside i p (at_producer is) = moved p _ is (key_inside _)
+
+entities_inside : (i : Image) → All IsInside (entity_znodes i)
+entities_inside i = All-weaker (IsPlaced i) IsInside (λ r place. place_inside i r.path place) (entity_znodes i) (entities_placed i)
+
+-- ---- the rendering
 
 roots_inside : All (λ p. is_migrated p ≡ true) roots
 unfolding is_migrated roots
@@ -57,14 +109,14 @@ roots_rise = search rules
 
 pub render_rises : (i : Image) → Rises bytes_cmp path_of_rendered (render i)
 unfolding render
-render_rises i = Rises-all_put bytes_order path_of_rendered (map config_znode i.broker_configs) (map bare roots) roots_rise
+render_rises i = Rises-all_put bytes_order path_of_rendered (entity_znodes i) (map bare roots) roots_rise
 
 pub render_inside : (i : Image) → All IsInside (render i)
 unfolding render
-render_inside i = all_from_contains IsInside (render i) (λ r has. either r (Contains-all_put_cases bytes_order path_of_rendered (map config_znode i.broker_configs) (map bare roots) r has))
+render_inside i = all_from_contains IsInside (render i) (λ r has. either r (Contains-all_put_cases bytes_order path_of_rendered (entity_znodes i) (map bare roots) r has))
   where
-    either : (r : Rendered) → Contains (map config_znode i.broker_configs) r ⊎ Contains (map bare roots) r → IsInside r
-    either r (inl has) = All-contains IsInside (map config_znode i.broker_configs) r (All-map IsInside config_znode i.broker_configs (configs_inside i.broker_configs)) has
+    either : (r : Rendered) → Contains (entity_znodes i) r ⊎ Contains (map bare roots) r → IsInside r
+    either r (inl has) = All-contains IsInside (entity_znodes i) r (entities_inside i) has
     either r (inr has) = All-contains IsInside (map bare roots) r (All-map IsInside bare roots roots_inside) has
 
 pub area_inside : (rows : List Row) → All IsInside (area_of rows)

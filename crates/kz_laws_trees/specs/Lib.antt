@@ -1,2 +1,3 @@
 pub mod TreeLaws
 pub mod LogLaws
+pub mod RefusalLaws

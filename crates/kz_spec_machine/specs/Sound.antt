@@ -229,10 +229,14 @@ pub record Rests (t : Tree) (v : View) (offset : Option ℤ) : Type 0 where
   pub view : offset ≡ Some v.position
   pub migrated : is_migrated_state v.image.state ≡ true
 
--- the configuration of a resource
-abbrev pub IsConfig : MetaRecord → Type 0
-IsConfig (meta.Config c) = ⊤
-IsConfig r = ⊥
+-- a record that a translation may give: no registration of a broker, no state of the migration, no marker of a transaction
+abbrev pub IsTranslated : MetaRecord → Type 0
+IsTranslated (meta.RegisterBroker r) = ⊥
+IsTranslated (meta.ZkMigrationState s) = ⊥
+IsTranslated (meta.BeginTransaction name) = ⊥
+IsTranslated meta.EndTransaction = ⊥
+IsTranslated (meta.AbortTransaction reason) = ⊥
+IsTranslated r = ⊤
 
 -- What holds at each stage, by cases: a driver that migrates has a claim. What is said of the tree is said of a current
 -- driver alone.
@@ -240,7 +244,7 @@ abbrev pub AtStage : Tree → Log → Driver → Stage → Type 0
 AtStage t l d (stage.Claim seen) = (r : Row) → seen.epoch ≡ Some r → pos 0 ≤ℤ r.version
 AtStage t l d (stage.ReadSource rows) = d.claim ≢ None
 AtStage t l d (stage.Begin rows) = d.claim ≢ None
-AtStage t l d (stage.Fill records) = (d.claim ≢ None) × All IsConfig records
+AtStage t l d (stage.Fill records) = (d.claim ≢ None) × All IsTranslated records
 AtStage t l d stage.ReadLog = is_migrated_log l ≡ true
 AtStage t l d (stage.ReadArea target rows) = Aims target d.id d.epoch d.view × (IsCurrent t d.claim → Reads t rows)
 AtStage t l d (stage.WriteAll target ops) = Aims target d.id d.epoch d.view × (IsCurrent t d.claim → Writes t l target ops)
@@ -282,11 +286,6 @@ pub record Alone (w : World) : Type 0 where
 
 -- ---- events
 
--- a record that a script's change may hold
-abbrev pub IsChange : MetaRecord → Type 0
-IsChange (meta.Config c) = c.resource_type ≡ pos 4
-IsChange r = ⊥
-
 -- from 1 to the greatest of 64 bits
 pub record IsSession (session : ℤ) : Type 0 where
   pub least : pos 1 ≤ℤ session
@@ -310,13 +309,13 @@ IsLawfulOp (op.Delete path version) = (is_path path ≡ true) × IsVersion versi
 IsLawfulOp (op.Check path version) = (is_path path ≡ true) × IsVersion version
 
 -- An event as a line of a script gives it: ids, times and sessions are in range; one controller is declared; a change has a
--- record, and each is one of the configuration of a broker; and a client's multi has an operation, and each is lawful.
+-- record; and a client's multi has an operation, and each is lawful.
 abbrev pub IsLawful : Event → Type 0
 IsLawful (event.Quorum ids) = All IsId ids × (length ids ≡ 1)
 IsLawful (event.Start id) = IsId id
 IsLawful (event.Elect id now) = IsId id × IsTime now
 IsLawful (event.Turn id now) = IsId id × IsTime now
-IsLawful (event.Change id records now) = IsId id × IsTime now × All IsChange records × (1 ≤ length records)
+IsLawful (event.Change id records now) = IsId id × IsTime now × (1 ≤ length records)
 IsLawful (event.Register id broker migrating now) = IsId id × IsId broker × IsTime now
 IsLawful event.Check = ⊤
 IsLawful (event.ZkOpen session) = IsSession session

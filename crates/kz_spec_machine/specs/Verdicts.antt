@@ -2,20 +2,15 @@
 use Rattle.std.specs.Prelude.{ℕ, Bool, true, false, not, ◌&&◌, ◌||◌, ℤ, pos, int_le, int_lt, List, [], ◌∷◌, ◌++◌, map, Option, Some, None, option_map, is_none, if◌then◌else◌}
 use Rattle.std.specs.Str.{bytes_eq}
 use Rattle.std.specs.List.{filter, find as find_by, filter_map, list_any}
-use Rattle.kz_types.specs.declared.tree.Rendered.{Rendered}
 use Rattle.kz_types.specs.declared.machine.AheadPath.{AheadPath}
 use Rattle.kz_types.specs.declared.machine.Recorded.{Recorded}
 use Rattle.kz_types.specs.declared.machine.Verdict.{Verdict}
 use Rattle.kz_types.specs.declared.machine.Verdict.TheVariants.{Unmigrated, Unrecorded, Closed, Ahead, Disagrees}
 use Rattle.kz_ordered.specs.Order.{bytes_cmp}
-use Rattle.kz_ordered.specs.Ordered.{find, all_put}
+use Rattle.kz_ordered.specs.Ordered.{all_put}
 use Rattle.kz_spec_stores.specs.Tree.{Tree, area, recorded, unclosed, path_of_rendered}
 use Rattle.kz_spec_stores.specs.Log.{Log, batch_ends, image_at, is_migrated_log}
-use Rattle.kz_spec_znodes.specs.Rendering.{render}
-
--- the body at a path of a rendering or an area
-abbrev pub body_at : List ℕ → List Rendered → Option (List ℕ)
-body_at path rs = option_map (λ (r : Rendered). r.body) (find bytes_cmp path_of_rendered path rs)
+use Rattle.kz_spec_znodes.specs.Rendering.{body_at, render}
 
 abbrev pub same_bodies : Option (List ℕ) → Option (List ℕ) → Bool
 same_bodies None None = true

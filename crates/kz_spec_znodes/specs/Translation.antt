@@ -272,7 +272,7 @@ records_behind rows earlier (r ∷ rest) = joined r.path (row_records rows earli
 abbrev pub all_records : List Row → Translated
 all_records rows = records_behind rows [] rows
 
--- the records beside the translated ones that the limit leaves room for: those of the election, Begin and End among them
+-- how many records beside the translated ones the limit leaves room for
 abbrev pub further_records : ℕ
 further_records = 4
 

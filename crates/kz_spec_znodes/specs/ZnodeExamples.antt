@@ -1,5 +1,5 @@
 -- Worked znodes that the laws by example share, and the records that stand for them.
-use Rattle.std.specs.Prelude.{ℕ, false, ℤ, pos, List, [], ◌∷◌, ◌++◌, Some, None, codes}
+use Rattle.std.specs.Prelude.{ℕ, false, ℤ, pos, List, [], ◌∷◌, ◌++◌, Option, Some, None, codes}
 use Rattle.kz_types.specs.declared.id.Id.{Id}
 use Rattle.kz_types.specs.declared.tree.Row.{Row}
 use Rattle.kz_types.specs.declared.tree.Rendered.{Rendered}
@@ -12,6 +12,10 @@ use Rattle.kz_spec_stores.specs.Image.{all_applied}
 abbrev pub row : List ℕ → List ℕ → Row
 row path text = record { path = path; body = text; version = pos 0; owner = None; czxid = pos 1; mzxid = pos 1; pzxid = pos 1 }
 
+-- a rendered znode with this data
+abbrev pub rendered : List ℕ → List ℕ → Rendered
+rendered path text = record { path = path; body = text }
+
 -- a rendered znode as it stands when it was made
 abbrev pub row_of_rendered : Rendered → Row
 row_of_rendered r = row r.path r.body
@@ -19,6 +23,10 @@ row_of_rendered r = row r.path r.body
 -- the metadata that these records make at epoch 1
 abbrev pub made : List MetaRecord → Image
 made records = all_applied (pos 1) records empty_image
+
+-- the metadata that these records make at epoch 1, and then further ones at epoch 3
+abbrev pub made_later : List MetaRecord → List MetaRecord → Image
+made_later records further = all_applied (pos 3) further (made records)
 
 -- the znodes of a topic of three partitions, with its configuration, a user's quota and credential, and entries of the topic
 abbrev pub orders_rows : List Row
@@ -56,9 +64,12 @@ replicated number replicas leader leader_epoch = meta.Partition (record { partit
 abbrev pub allowed : ℕ → List ℕ → ℤ → MetaRecord
 allowed n name operation = meta.AccessControlEntry (record { id = record { bytes = 75 ∷ 82 ∷ 65 ∷ 70 ∷ 84 ∷ 77 ∷ 73 ∷ 71 ∷ 0 ∷ 0 ∷ 0 ∷ 0 ∷ 0 ∷ 0 ∷ 0 ∷ n ∷ [] }; resource_type = pos 2; resource_name = name; pattern_type = pos 3; principal = codes "User:alice"; host = codes "*"; operation = operation; permission = pos 3 })
 
--- the quota of a client of a user
+-- the quota of a client of a user, where None is the default
+abbrev pub quota_of_pair : Option (List ℕ) → Option (List ℕ) → MetaRecord
+quota_of_pair user client = meta.ClientQuota (record { entity = record { kind = codes "user"; name = user } ∷ record { kind = codes "client-id"; name = client } ∷ []; key = codes "consumer_byte_rate"; value = record { whole = pos 7; micros = pos 500000 }; remove = false })
+
 abbrev pub client_quota : List ℕ → List ℕ → MetaRecord
-client_quota user client = meta.ClientQuota (record { entity = record { kind = codes "user"; name = Some user } ∷ record { kind = codes "client-id"; name = Some client } ∷ []; key = codes "consumer_byte_rate"; value = record { whole = pos 7; micros = pos 500000 }; remove = false })
+client_quota user client = quota_of_pair (Some user) (Some client)
 
 -- the records of the topic and of what else stands with it
 abbrev pub orders_records : List MetaRecord

@@ -3,5 +3,6 @@
 //! The definitions stand in specs/. A law is the contract of a function that does nothing.
 #![tactic(auto)]
 
+mod difference_examples;
 mod rendering_examples;
 mod translation_examples;

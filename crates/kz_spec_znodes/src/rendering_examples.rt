@@ -1,13 +1,14 @@
 //! Laws by example: the znodes of worked metadata.
 #![tactic(auto, unfolding(crate::proofs::OnLiterals::znodes_on_literals))]
 
-ghost use Rattle.std.specs.Prelude.{◌≡◌, [], ◌∷◌, Some, None, false, pos, codes, map, length};
+ghost use Rattle.std.specs.Prelude.{◌≡◌, [], ◌∷◌, Some, None, true, false, pos, negsuc, codes, map, take, length};
 ghost use Rattle.kz_types.specs.Paths.{roots};
 ghost use Rattle.kz_types.specs.declared.record.MetaRecord.TheVariants as meta;
+ghost use Rattle.kz_spec_stores.specs.Tree.{path_of_rendered};
 ghost use Rattle.kz_spec_stores.specs.Metadata.{empty_image};
 ghost use Rattle.kz_spec_znodes.specs.Rendering.{bare, render, body_at_path};
-ghost use Rattle.kz_spec_stores.specs.ImageExamples.{id, credential, user_quota, topic_member, block};
-ghost use Rattle.kz_spec_znodes.specs.ZnodeExamples.{made, orders_records, counting_topic, replicated, allowed, client_quota};
+ghost use Rattle.kz_spec_stores.specs.ImageExamples.{id, topic, partition, change, credential, entry, user_quota, topic_member, broker_member, block};
+ghost use Rattle.kz_spec_znodes.specs.ZnodeExamples.{made, made_later, orders_records, counting_topic, replicated, allowed, quota_of_pair, client_quota};
 
 /// A topic, the state of a partition with the epoch of its batch, a user, entries, and no next producer id.
 pub fn worked_bodies()
@@ -66,4 +67,36 @@ pub fn producer_blocks()
         ≡ Some (codes "{\"block_end\":\"1999\",\"block_start\":\"1000\",\"broker\":-1,\"version\":1}") }
     ensures last { body_at_path (made (block (pos 9223372036854774808) ∷ [])) (codes "/latest_producer_id_block")
         ≡ Some (codes "{\"block_end\":\"9223372036854775807\",\"block_start\":\"9223372036854774808\",\"broker\":-1,\"version\":1}") }
+{}
+
+/// A state has the epoch of the batch that last changed its partition.
+pub fn epochs_of_states()
+    ensures isr { body_at_path (made_later (topic (codes "t") 1 ∷ partition 1 (pos 4) ∷ []) (change 1 (Some (pos 1 ∷ [])) (negsuc 1) ∷ [])) (codes "/brokers/topics/t/partitions/0/state")
+        ≡ Some (codes "{\"controller_epoch\":3,\"isr\":[1],\"leader\":1,\"leader_epoch\":4,\"leader_recovery_state\":0,\"version\":1}") }
+    ensures no_leader { body_at_path (made_later (topic (codes "t") 1 ∷ partition 1 (pos 4) ∷ []) (change 1 None (negsuc 0) ∷ [])) (codes "/brokers/topics/t/partitions/0/state")
+        ≡ Some (codes "{\"controller_epoch\":3,\"isr\":[1,2],\"leader\":-1,\"leader_epoch\":5,\"leader_recovery_state\":0,\"version\":1}") }
+    ensures other_topic { body_at_path (made_later (topic (codes "t") 1 ∷ partition 1 (pos 4) ∷ []) (topic (codes "u") 2 ∷ [])) (codes "/brokers/topics/t/partitions/0/state")
+        ≡ Some (codes "{\"controller_epoch\":1,\"isr\":[1,2],\"leader\":1,\"leader_epoch\":4,\"leader_recovery_state\":0,\"version\":1}") }
+{}
+
+/// Paths rise by their bytes, so that what is below a topic stands behind other topics whose names go on with `-` or `.`.
+pub fn order_of_paths()
+    ensures { map path_of_rendered (take 8 (render (made (topic (codes "a.b") 3 ∷ topic (codes "a") 1 ∷ partition 1 (pos 0) ∷ topic (codes "a-b") 2 ∷ []))))
+        ≡ codes "/brokers/topics" ∷ codes "/brokers/topics/a" ∷ codes "/brokers/topics/a-b" ∷ codes "/brokers/topics/a-b/partitions" ∷ codes "/brokers/topics/a.b" ∷ codes "/brokers/topics/a.b/partitions"
+        ∷ codes "/brokers/topics/a/partitions" ∷ codes "/brokers/topics/a/partitions/0" ∷ [] }
+{}
+
+/// The default entities, users with everything, and what is gone again.
+pub fn further_entities()
+    ensures default_broker { body_at_path (made (broker_member [] (codes "a") (Some (codes "1")) ∷ [])) (codes "/config/brokers/<default>") ≡ Some (codes "{\"config\":{\"a\":\"1\"},\"version\":1}") }
+    ensures no_broker { body_at_path (made (broker_member (codes "1") (codes "a") (Some (codes "1")) ∷ broker_member (codes "1") (codes "a") None ∷ [])) (codes "/config/brokers/1") ≡ None }
+    ensures default_pair { body_at_path (made (quota_of_pair None None ∷ [])) (codes "/config/users/<default>/clients/<default>") ≡ Some (codes "{\"config\":{\"consumer_byte_rate\":\"7.5\"},\"version\":1}") }
+    ensures default_user { body_at_path (made (quota_of_pair None None ∷ [])) (codes "/config/users/<default>") ≡ Some [] }
+    ensures named_default { body_at_path (made (credential (codes "<default>") (pos 1) (pos 1) ∷ [])) (codes "/config/users/%3Cdefault%3E")
+        ≡ Some (codes "{\"config\":{\"SCRAM-SHA-256\":\"salt=cw==,stored_key=aw==,server_key=dg==,iterations=1\"},\"version\":1}") }
+    ensures everything { body_at_path (made (user_quota (codes "u") (codes "producer_byte_rate") false ∷ credential (codes "u") (pos 2) (pos 2) ∷ client_quota (codes "u") (codes "c") ∷ credential (codes "u") (pos 1) (pos 1) ∷ [])) (codes "/config/users/u")
+        ≡ Some (codes "{\"config\":{\"SCRAM-SHA-256\":\"salt=cw==,stored_key=aw==,server_key=dg==,iterations=1\",\"SCRAM-SHA-512\":\"salt=cw==,stored_key=aw==,server_key=dg==,iterations=2\",\"producer_byte_rate\":\"1024\"},\"version\":1}") }
+    ensures no_quota { body_at_path (made (user_quota (codes "u") (codes "producer_byte_rate") false ∷ user_quota (codes "u") (codes "producer_byte_rate") true ∷ [])) (codes "/config/users/u") ≡ None }
+    ensures no_entries { body_at_path (made (entry 1 (pos 2) (codes "t") ∷ meta.RemoveAccessControlEntry (id 1) ∷ [])) (codes "/kafka-acl/Topic/t") ≡ None }
+    ensures no_topic { body_at_path (made (topic (codes "t") 1 ∷ partition 1 (pos 4) ∷ topic_member (codes "t") (codes "a") (Some (codes "1")) ∷ meta.RemoveTopic (id 1) ∷ [])) (codes "/config/topics/t") ≡ None }
 {}

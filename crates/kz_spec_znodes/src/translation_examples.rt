@@ -3,7 +3,7 @@
 
 ghost use Rattle.std.specs.Prelude.{◌≡◌, [], ◌∷◌, Some, None, Ok, Err, false, pos, negsuc, codes, map};
 ghost use Rattle.kz_types.specs.declared.record.MetaRecord.TheVariants as meta;
-ghost use Rattle.kz_types.specs.declared.fault.BodyFault.TheVariants.{NotJson, Missing, BadField, UnknownKey};
+ghost use Rattle.kz_types.specs.declared.fault.BodyFault.TheVariants.{NotJson, Missing, BadField, NoTopicId, UnknownKey};
 ghost use Rattle.kz_types.specs.declared.fault.ReadWhy.TheVariants.{Stray, Body, SameId};
 ghost use Rattle.kz_spec_stores.specs.Image.{empty_image, first_bad};
 ghost use Rattle.kz_spec_znodes.specs.Rendering.{render};
@@ -79,4 +79,46 @@ pub fn others()
     ensures no_block { translate (row (codes "/latest_producer_id_block") [] ∷ []) ≡ Ok [] }
     ensures brokers { translate (row (codes "/config/brokers/1") (config_data (codes "{\"a\":\"1\"}")) ∷ row (codes "/config/brokers/<default>") [] ∷ [])
         ≡ Ok (broker_member (codes "1") (codes "a") (Some (codes "1")) ∷ []) }
+{}
+
+/// The first fault by path order decides, whatever kind it is of; a path that names nothing decides also among znodes that
+/// aren't read.
+pub fn first_faults()
+    ensures before_the_state { translate (row (codes "/brokers/topics/a") (counting_data (codes "{\"0\":[1]}")) ∷ row (codes "/brokers/topics/a-b") (codes "x") ∷ row (codes "/brokers/topics/a/partitions/0/state") (codes "x") ∷ [])
+        ≡ Err (record { path = codes "/brokers/topics/a-b"; why = Body NotJson }) }
+    ensures same_id { translate (row (codes "/brokers/topics/a") (counting_data (codes "{\"0\":[1]}")) ∷ row (codes "/brokers/topics/a-b") (counting_data (codes "{}")) ∷ row (codes "/brokers/topics/a/partitions/0/state") (codes "x") ∷ [])
+        ≡ Err (record { path = codes "/brokers/topics/a-b"; why = SameId }) }
+    ensures no_id { translate (row (codes "/brokers/topics/t") (codes "{\"version\":2,\"partitions\":{}}") ∷ []) ≡ Err (record { path = codes "/brokers/topics/t"; why = Body NoTopicId }) }
+    ensures stray_of_none { translate (row (codes "/brokers/topics/t/partitions/0/x") [] ∷ []) ≡ Err (record { path = codes "/brokers/topics/t/partitions/0/x"; why = Stray }) }
+    ensures stray_behind { translate (row (codes "/config/topics/t") (codes "x") ∷ row (codes "/config/topics/t/x") [] ∷ []) ≡ Err (record { path = codes "/config/topics/t/x"; why = Stray }) }
+{}
+
+/// What a state's own form is at fault in comes before what its topic says of it.
+pub fn faults_of_states()
+    ensures leader_form { translate (row (codes "/brokers/topics/t") (counting_data (codes "{\"0\":[2,1]}")) ∷ row (codes "/brokers/topics/t/partitions/0/state") (state_data (codes "-3") (codes "[9]")) ∷ [])
+        ≡ Err (record { path = codes "/brokers/topics/t/partitions/0/state"; why = Body (BadField (codes "leader")) }) }
+    ensures twice { translate (row (codes "/brokers/topics/t") (counting_data (codes "{\"0\":[2,1]}")) ∷ row (codes "/brokers/topics/t/partitions/0/state") (state_data (codes "1") (codes "[1,1]")) ∷ [])
+        ≡ Err (record { path = codes "/brokers/topics/t/partitions/0/state"; why = Body (BadField (codes "isr")) }) }
+    ensures none_in_sync { translate (row (codes "/brokers/topics/t") (counting_data (codes "{\"0\":[2,1]}")) ∷ row (codes "/brokers/topics/t/partitions/0/state") (state_data (codes "-1") (codes "[]")) ∷ [])
+        ≡ Ok (counting_topic (codes "t") ∷ meta.Partition (record { partition_id = pos 0; topic_id = counting_id; replicas = pos 2 ∷ pos 1 ∷ []; isr = []; removing = []; adding = []; leader = negsuc 0; recovery = pos 1; leader_epoch = pos 2; partition_epoch = pos 0 }) ∷ []) }
+    ensures unassigned { translate (row (codes "/brokers/topics/t") (counting_data (codes "{}")) ∷ row (codes "/brokers/topics/t/partitions/0/state") (state_data (codes "9") (codes "[9]")) ∷ []) ≡ Ok (counting_topic (codes "t") ∷ []) }
+{}
+
+/// What is added to or removed from partitions that aren't there is dropped, and has to be of its form.
+pub fn reassignments()
+    ensures dropped { translate (row (codes "/brokers/topics/t") (counting_data (codes "{\"0\":[1]},\"adding_replicas\":{\"7\":[9,9]}")) ∷ []) ≡ Ok (counting_topic (codes "t") ∷ replicated (pos 0) (pos 1 ∷ []) (pos 1) (pos 0) ∷ []) }
+    ensures form { translate (row (codes "/brokers/topics/t") (counting_data (codes "{\"0\":[1]},\"adding_replicas\":{\"7\":[-1]}")) ∷ []) ≡ Err (record { path = codes "/brokers/topics/t"; why = Body (BadField (codes "adding_replicas")) }) }
+    ensures foreign { translate (row (codes "/brokers/topics/t") (counting_data (codes "{\"0\":[1]},\"removing_replicas\":{\"0\":[9]}")) ∷ []) ≡ Err (record { path = codes "/brokers/topics/t"; why = Body (BadField (codes "removing_replicas")) }) }
+{}
+
+/// Entries are numbered over all resources, prefixed ones first, since their paths come first; a default user has no
+/// credentials; and a block may begin behind its end.
+pub fn further_znodes()
+    ensures entries { translate (row (codes "/kafka-acl-extended/prefixed/Topic/b") (entry_data (codes "\"Read\"")) ∷ row (codes "/kafka-acl/Group/g") [] ∷ row (codes "/kafka-acl/Topic/a") (entry_data (codes "\"Write\"")) ∷ [])
+        ≡ Ok (meta.AccessControlEntry (record { id = record { bytes = 75 ∷ 82 ∷ 65 ∷ 70 ∷ 84 ∷ 77 ∷ 73 ∷ 71 ∷ 0 ∷ 0 ∷ 0 ∷ 0 ∷ 0 ∷ 0 ∷ 0 ∷ 0 ∷ [] }; resource_type = pos 2; resource_name = codes "b"; pattern_type = pos 4; principal = codes "User:alice"; host = codes "*"; operation = pos 3; permission = pos 3 })
+        ∷ allowed 1 (codes "a") (pos 4) ∷ []) }
+    ensures default_broker { translate (row (codes "/config/brokers/<default>") (config_data (codes "{\"b\":\"2\",\"a\":\"1\"}")) ∷ []) ≡ Ok (broker_member [] (codes "a") (Some (codes "1")) ∷ broker_member [] (codes "b") (Some (codes "2")) ∷ []) }
+    ensures default_user { translate (row (codes "/config/users/<default>") (config_data (codes "{\"SCRAM-SHA-256\":\"salt=,stored_key=,server_key=,iterations=1\"}")) ∷ []) ≡ Err (record { path = codes "/config/users/<default>"; why = Body (UnknownKey (codes "SCRAM-SHA-256")) }) }
+    ensures no_name { translate (row (codes "/config/clients/c") (config_data (codes "{\"\":\"2\"}")) ∷ []) ≡ Err (record { path = codes "/config/clients/c"; why = Body (UnknownKey []) }) }
+    ensures first_id { translate (row (codes "/latest_producer_id_block") (block_data (codes "0")) ∷ []) ≡ Ok (block (pos 1) ∷ []) }
 {}

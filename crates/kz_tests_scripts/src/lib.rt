@@ -6,4 +6,6 @@ mod brokers;
 #[cfg(test)]
 mod clients;
 #[cfg(test)]
+mod entities;
+#[cfg(test)]
 mod made;

@@ -134,15 +134,15 @@ fn the_last_write_records_the_offset(rt: HostRuntime) {
     }
 }
 
-// The tree, the log, and the declared and running controllers.
+/// The tree, the log, and the declared and running controllers.
 #[derive(Drop)]
-struct Stores {
-    tree: MemoryTree,
-    log: MemoryLog,
-    peers: Peers,
+pub struct Stores {
+    pub tree: MemoryTree,
+    pub log: MemoryLog,
+    pub peers: Peers,
 }
 
-fn new_stores(rt: &impl Abort, alloc: Global, declared: &[i32], running: &[i32]) -> Stores {
+pub fn new_stores(rt: &impl Abort, alloc: Global, declared: &[i32], running: &[i32]) -> Stores {
     Stores {
         tree: MemoryTree::new(alloc),
         log: MemoryLog::new(alloc),
@@ -165,8 +165,8 @@ fn step(rt: &impl Abort, driver: &mut Driver, stores: &mut Stores, replies: &mut
     }
 }
 
-// Makes as many steps as there are lines, and compares what they tell, as a turn's lines write it.
-fn tells(rt: &impl Abort, alloc: Global, driver: &mut Driver, stores: &mut Stores, lines: &str)
+/// Makes as many steps as there are lines, and compares what they tell, as a turn's lines write it.
+pub fn tells(rt: &impl Abort, alloc: Global, driver: &mut Driver, stores: &mut Stores, lines: &str)
     requires { IsViewOf stores.old.log driver.old.view }
     ensures view { IsViewOf stores.new.log driver.new.view }
     ensures views { (v : View) → IsViewOf stores.old.log v → IsViewOf stores.new.log v }
@@ -179,8 +179,8 @@ fn tells(rt: &impl Abort, alloc: Global, driver: &mut Driver, stores: &mut Store
     assert!(rt; told.as_slice() == lines.as_bytes());
 }
 
-// The log elects a leader, which begins with these records.
-fn elect(rt: &impl Abort, stores: &mut Stores, items: &[MetaRecord])
+/// The log elects a leader, which begins with these records.
+pub fn elect(rt: &impl Abort, stores: &mut Stores, items: &[MetaRecord])
     requires { 0 < length items.now }
     ensures views { (v : View) → IsViewOf stores.old.log v → IsViewOf stores.new.log v }
     ensures first { IsViewOf stores.new.log new_view }
@@ -194,8 +194,8 @@ fn elect(rt: &impl Abort, stores: &mut Stores, items: &[MetaRecord])
     let _kept = stores.log.epoch();
 }
 
-// A controller that is elected with this epoch.
-fn elected(alloc: Global, id: i32, epoch: i32) -> Driver
+/// A controller that is elected with this epoch.
+pub fn elected(alloc: Global, id: i32, epoch: i32) -> Driver
     requires { pos 1 ≤ℤ epoch }
     ensures { result.view ≡ new_view }
 {
@@ -214,7 +214,8 @@ fn elected_later(alloc: Global, stores: &Stores, id: i32, epoch: i32) -> Driver
     elected(alloc, id, epoch)
 }
 
-const MIGRATING: [MetaRecord; 2] = [MetaRecord::NoOp, MetaRecord::ZkMigrationState { state: 1 }];
+/// The records of a first election.
+pub const MIGRATING: [MetaRecord; 2] = [MetaRecord::NoOp, MetaRecord::ZkMigrationState { state: 1 }];
 
 const NEXT: [MetaRecord; 1] = [MetaRecord::NoOp];
 
@@ -233,8 +234,8 @@ const MIGRATION: &str = "1 moved WAIT_FOR_BROKERS
 1 moved DUAL_WRITE
 ";
 
-// Whether a znode has this body.
-fn has_body(tree: &MemoryTree, path: &str, body: &str) -> bool {
+/// Whether a znode has this body.
+pub fn has_body(tree: &MemoryTree, path: &str, body: &str) -> bool {
     match tree.tree().row(path.as_bytes()) {
         Some(row) => row.body.as_slice() == body.as_bytes(),
         None => false,
@@ -287,8 +288,8 @@ fn append_all(rt: &impl Abort, stores: &mut Stores, items: &[MetaRecord])
     }
 }
 
-// Appends a record as the leader of the epoch 1.
-fn append(rt: &impl Abort, stores: &mut Stores, item: MetaRecord)
+/// Appends a record as the leader of the epoch 1.
+pub fn append(rt: &impl Abort, stores: &mut Stores, item: MetaRecord)
     ensures { (v : View) → IsViewOf stores.old.log v → IsViewOf stores.new.log v }
 {
     append_all(rt, stores, &[item]);
@@ -324,8 +325,8 @@ fn a_driver_waits_for_controllers(rt: HostRuntime) {
     drop(stores);
 }
 
-// Creates a znode.
-fn create(rt: &impl Abort, alloc: Global, tree: &mut MemoryTree, path: &str, body: &str) {
+/// Creates a znode.
+pub fn create(rt: &impl Abort, alloc: Global, tree: &mut MemoryTree, path: &str, body: &str) {
     let mut ops = Sequence::new(alloc);
     let create = Op::Create {
         path: path_of(rt, alloc, path),

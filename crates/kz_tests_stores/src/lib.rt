@@ -2,6 +2,8 @@
 #![tactic(auto)]
 
 #[cfg(test)]
+mod cluster;
+#[cfg(test)]
 mod drivers;
 #[cfg(test)]
 mod made;

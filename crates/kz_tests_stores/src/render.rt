@@ -1,7 +1,7 @@
 //! The znodes of metadata, and their limits.
 use crate::made::{are_znodes, image_of, long_body, made, path_of, put};
 use kz_image::Image;
-use kz_render::{bare_roots, first_excess, render, whole_path};
+use kz_render::{bare_roots, first_excess, fits, render, render_one, whole_path};
 use kz_types::{Rendered, Sequence};
 use std::alloc::Global;
 use std::process::Abort;
@@ -66,6 +66,28 @@ fn configurations_have_their_paths_and_texts(rt: HostRuntime) {
     let znodes = made(&rt, render(alloc, &image_of(&rt, alloc, &CONFIGS)));
     assert!(rt; znodes.len() == 20);
     assert!(rt; are_znodes(&znodes[..5], &CONFIGURED));
+}
+
+// Whether a path is rendered with this data.
+fn is_rendered(rt: &impl Abort, alloc: Global, image: &Image, path: &str, text: &str) -> bool {
+    match made(rt, render_one(alloc, image, &path_of(rt, alloc, path))) {
+        Some(body) => body.as_slice() == text.as_bytes(),
+        None => false,
+    }
+}
+
+#[test]
+fn single_paths_are_rendered(rt: HostRuntime) {
+    let alloc = rt.alloc();
+    let image = image_of(&rt, alloc, &CONFIGS);
+    for (path, text) in &CONFIGURED {
+        assert!(rt; is_rendered(&rt, alloc, &image, path, text));
+    }
+    let absent = path_of(&rt, alloc, "/config/brokers/2");
+    assert!(rt; made(&rt, render_one(alloc, &image, &absent)).is_none());
+    assert!(rt; fits(alloc, &image).is_ok());
+    drop(absent);
+    drop(image);
 }
 
 // So many znodes with bodies of so many bytes, and one more.

@@ -7,8 +7,8 @@ use Rattle.kz_types.specs.declared.machine.Verdict.{Verdict}
 use Rattle.kz_types.specs.declared.machine.Verdict.TheVariants.{Closed, Ahead, Disagrees}
 use Rattle.kz_spec_stores.specs.Tree.{Tree, area as area_of}
 use Rattle.kz_spec_stores.specs.Log.{Log, batch_ends, image_at}
-use Rattle.kz_spec_znodes.specs.Rendering.{render}
-use Rattle.kz_spec_machine.specs.Verdicts.{body_at, same_bodies, agrees_at}
+use Rattle.kz_spec_znodes.specs.Rendering.{body_at, render}
+use Rattle.kz_spec_machine.specs.Verdicts.{same_bodies, agrees_at}
 use Rattle.kz_world.specs.declared.comparison.Found.{Found}
 
 -- whether two lists of znodes agree at a path, absence included

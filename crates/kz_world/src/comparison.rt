@@ -6,8 +6,8 @@ ghost use Rattle.kz_ordered.specs.Order.{bytes_cmp};
 ghost use Rattle.kz_ordered.specs.Ordered.{all_put, put as put_in, Rises};
 ghost use Rattle.kz_spec_stores.specs.Tree.{area as area_of, recorded, unclosed, path_of_rendered};
 ghost use Rattle.kz_spec_stores.specs.Log.{image_at, batch_ends};
-ghost use Rattle.kz_spec_znodes.specs.Rendering.{render};
-ghost use Rattle.kz_spec_machine.specs.Verdicts.{body_at, paths_at, verdict_at, verdict_of};
+ghost use Rattle.kz_spec_znodes.specs.Rendering.{body_at, render};
+ghost use Rattle.kz_spec_machine.specs.Verdicts.{paths_at, verdict_at, verdict_of};
 ghost use Rattle.kz_world.specs.Agreement.{agrees_in, all_first, marked, all_found, found_at, is_disagreeing, ahead_of, found_verdict};
 
 use kz_log::LogRows;

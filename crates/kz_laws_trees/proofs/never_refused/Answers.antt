@@ -1,0 +1,8 @@
+use Rattle.kz_laws_trees.proofs.NeverRefused.{difference_taken, write_taken}
+use Rattle.kz_laws_trees.proofs.never_refused.Goals as goal
+
+pub returns-clause-difference : goal.returns-clause-difference
+returns-clause-difference c = difference_taken
+
+pub returns-clause-write : goal.returns-clause-write
+returns-clause-write c = write_taken
