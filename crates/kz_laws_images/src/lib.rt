@@ -1,0 +1,23 @@
+//! Laws of the metadata: what records make of it, told as look-ups. It holds for each entity what the accepted records last
+//! say of it.
+//!
+//! A law is the contract of a function that does nothing.
+#![tactic(auto)]
+
+ghost use Rattle.kz_laws_images.specs.ImageLaws.{EmptyIsInOrder, AppliedKeepsOrder, AllAppliedKeepsOrder, BrokerIsSaid, AclIsSaid, ProducerIsSaid, StateIsSaid};
+
+/// The empty metadata is in order, and a metadata in order stays so under every record.
+pub fn order_is_kept()
+    ensures empty { EmptyIsInOrder }
+    ensures applied { AppliedKeepsOrder }
+    ensures all_applied { AllAppliedKeepsOrder }
+{}
+
+/// A registered broker is its last registration, an access control entry is the last one of its id that wasn't removed, the
+/// next producer id and the state of the migration are the last that were said.
+pub fn entries_are_said()
+    ensures broker { BrokerIsSaid }
+    ensures acl { AclIsSaid }
+    ensures producer { ProducerIsSaid }
+    ensures state { StateIsSaid }
+{}
