@@ -9,3 +9,5 @@ pub mod Kept
 pub mod Steps
 pub mod Tests
 pub mod Entities
+pub mod Members
+pub mod Changes

@@ -40,7 +40,7 @@ pairs_by : (b : Bool) (c : Configuration) (found : Option Configuration) → Ris
 pairs_by true c found p q = p
 pairs_by false c found p q = q
 
-pairs_rise : (k : List ℕ) (xs : List Configuration) → All IsFilled xs → Rises bytes_cmp name_of_pair (pairs_at k xs)
+pub pairs_rise : (k : List ℕ) (xs : List Configuration) → All IsFilled xs → Rises bytes_cmp name_of_pair (pairs_at k xs)
 pairs_rise k [] h = tt
 pairs_rise k (x ∷ xs) h = pairs_by (is_eq (bytes_cmp k x.name)) x (find bytes_cmp name_of_configuration k xs) (All-head IsFilled x xs h).1 (pairs_rise k xs (All-tail IsFilled x xs h))
 

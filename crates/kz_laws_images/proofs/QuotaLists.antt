@@ -60,7 +60,7 @@ rows_rise_by : (b : Bool) (change : ClientQuotaRecord) (qs : List QuotaRow) → 
 rows_rise_by true change qs h = Rises-without bytes_order key_of_quota change.key qs h
 rows_rise_by false change qs h = Rises-put bytes_order key_of_quota (record { key = change.key; value = change.value }) qs h
 
-found_rows_rise : (found : Option QuotaEntry) → HasIfFound IsQuotaFilled found → Rises bytes_cmp key_of_quota (quotas_in found)
+pub found_rows_rise : (found : Option QuotaEntry) → HasIfFound IsQuotaFilled found → Rises bytes_cmp key_of_quota (quotas_in found)
 found_rows_rise None h = tt
 found_rows_rise (Some q) h = h.1
 

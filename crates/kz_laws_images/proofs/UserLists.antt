@@ -26,7 +26,7 @@ found_scrams_rise : (found : Option ScramEntry) → HasIfFound IsUserFilled foun
 found_scrams_rise None h = tt
 found_scrams_rise (Some u) h = h.1
 
-scrams_rise : (name : List ℕ) (xs : List ScramEntry) → AreUsersInOrder xs → Rises int_cmp mechanism_of_pair (scrams_at name xs)
+pub scrams_rise : (name : List ℕ) (xs : List ScramEntry) → AreUsersInOrder xs → Rises int_cmp mechanism_of_pair (scrams_at name xs)
 scrams_rise name xs order = found_scrams_rise (find bytes_cmp name_of_user name xs) (found_has IsUserFilled bytes_cmp name_of_user name xs order.filled)
 
 users_in_order : (name : List ℕ) (ss : List ScramPair) (xs : List ScramEntry) → Rises int_cmp mechanism_of_pair ss → AreUsersInOrder xs → AreUsersInOrder (with_scrams name ss xs)

@@ -4,7 +4,7 @@
 //! A law is the contract of a function that does nothing.
 #![tactic(auto)]
 
-ghost use Rattle.kz_laws_images.specs.ImageLaws.{EmptyIsInOrder, AppliedKeepsOrder, AllAppliedKeepsOrder, BrokerIsSaid, AclIsSaid, ProducerIsSaid, StateIsSaid};
+ghost use Rattle.kz_laws_images.specs.ImageLaws.{EmptyIsInOrder, AppliedKeepsOrder, AllAppliedKeepsOrder, BrokerIsSaid, AclIsSaid, ProducerIsSaid, StateIsSaid, BrokerMemberIsSaid, ScramIsSaid, QuotaIsSaid};
 
 /// The empty metadata is in order, and a metadata in order stays so under every record.
 pub fn order_is_kept()
@@ -20,4 +20,12 @@ pub fn entries_are_said()
     ensures acl { AclIsSaid }
     ensures producer { ProducerIsSaid }
     ensures state { StateIsSaid }
+{}
+
+/// A member of a broker's configuration, a user's credential by a mechanism and an entity's quota are the last that were set
+/// and not removed since.
+pub fn members_are_said()
+    ensures member { BrokerMemberIsSaid }
+    ensures scram { ScramIsSaid }
+    ensures quota { QuotaIsSaid }
 {}
