@@ -150,7 +150,7 @@ row_changed_legal : (epoch : ℤ) (r : PartitionChangeRecord) (t : TopicEntry) (
 row_changed_legal epoch r t None numbered legal fits = legal
 row_changed_legal epoch r t (Some p) numbered legal fits = partition_put_legal r.partition_id (changed_row epoch r p.row) t numbered fits legal
 
-change_named : (number : ℤ) (change : PartitionRow → PartitionRow) (found : Option PartitionRow) (t : TopicEntry) → ((change_partition number change found t).name ≡ t.name) × ((change_partition number change found t).id ≡ t.id)
+pub change_named : (number : ℤ) (change : PartitionRow → PartitionRow) (found : Option PartitionRow) (t : TopicEntry) → ((change_partition number change found t).name ≡ t.name) × ((change_partition number change found t).id ≡ t.id)
 change_named number change None t = (refl, refl)
 change_named number change (Some row) t = (refl, refl)
 
@@ -179,10 +179,10 @@ topic_configured_legal c xs named rises legal =
     (found_has _ bytes_cmp name_of_topic c.resource_name xs (among_legal xs legal.each))) legal
 
 -- no topic has an id that isn't found
-same_itself : (id : Id) → same_id id id ≡ true
+pub same_itself : (id : Id) → same_id id id ≡ true
 same_itself id = (bytes_eq-Decides id.bytes id.bytes).1 refl
 
-id_not_found : (id : Id) (xs : List TopicEntry) → find_by (λ (t : TopicEntry). same_id t.id id) xs ≡ None → All (λ (u : TopicEntry). id ≢ u.id) xs
+pub id_not_found : (id : Id) (xs : List TopicEntry) → find_by (λ (t : TopicEntry). same_id t.id id) xs ≡ None → All (λ (u : TopicEntry). id ≢ u.id) xs
 id_not_found id [] h = All-nil (λ (u : TopicEntry). id ≢ u.id)
 id_not_found id (x ∷ xs) h =
     elim (cases_Bool (same_id x.id id)) [

@@ -11,3 +11,6 @@ pub mod Tests
 pub mod Entities
 pub mod Members
 pub mod Changes
+pub mod TopicFinds
+pub mod Topics
+pub mod TopicMembers

@@ -44,7 +44,7 @@ module _ {V : Type 0} (look : Image → V) (word : ℤ → MetaRecord → V → 
 -- ---- records whose effect goes by a test
 
 module _ {V : Type 0} (look : Image → V) (v : V) (i : Image) where
-  either_config : (b : Bool) (topics : List TopicEntry) (configs : List Configuration) → look (record i { topics = topics }) ≡ v → look (record i { broker_configs = configs }) ≡ v
+  pub either_config : (b : Bool) (topics : List TopicEntry) (configs : List Configuration) → look (record i { topics = topics }) ≡ v → look (record i { broker_configs = configs }) ≡ v
       → look (cond b (record i { topics = topics }) (record i { broker_configs = configs })) ≡ v
   either_config true topics configs h g = h
   either_config false topics configs h g = g

@@ -1,5 +1,5 @@
 -- Look-ups after a change, told by a test of the keys.
-use Rattle.std.proofs.Common.{◌≡◌, Bool, true, false, cond, List, Option, Some, None, Ordering, option_map, refl, sym, subst}
+use Rattle.std.proofs.Common.{◌≡◌, ◌&&◌, Bool, true, false, cond, List, Option, Some, None, Ordering, option_map, refl, sym, ap, ◌∙◌, subst}
 use Rattle.std.specs.Bool.{Decides}
 use Rattle.std.proofs.lemmas.Bool.{false≢true}
 use Rattle.kz_ordered.specs.Order.{TotalOrder}
@@ -19,3 +19,18 @@ module _ {A K : Type 0} {cmp : K → K → Ordering} (o : TotalOrder cmp) (key :
 pub map_by : {A B : Type 0} (f : A → B) (b : Bool) (x y : Option A) → option_map f (cond b x y) ≡ cond b (option_map f x) (option_map f y)
 map_by f true x y = refl
 map_by f false x y = refl
+
+-- what is looked up in what a test gives
+module _ {A V : Type 0} (look : Option A → V) where
+  pub look_by : (b : Bool) (x y : Option A) → look (cond b x y) ≡ cond b (look x) (look y)
+  look_by true x y = refl
+  look_by false x y = refl
+
+  -- where an item may have come in place of the old one
+  pub replaced : (b c : Bool) (v : V) (old new : Option A) (a : A) → new ≡ cond b (Some a) old → (b ≡ true → look (Some a) ≡ cond c v (look old)) → look new ≡ cond (b && c) v (look old)
+  replaced true c v old new a e h = ap look e ∙ h refl
+  replaced false c v old new a e h = ap look e
+
+  pub replaced_alike : (b : Bool) (old new : Option A) (a : A) → new ≡ cond b (Some a) old → (b ≡ true → look (Some a) ≡ look old) → look new ≡ look old
+  replaced_alike true old new a e h = ap look e ∙ h refl
+  replaced_alike false old new a e h = ap look e

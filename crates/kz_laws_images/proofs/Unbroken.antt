@@ -57,3 +57,13 @@ pub row_epochs : (row : PartitionRow) → is_row row ≡ true → (is_epoch row.
 row_epochs row h =
     let last = both_hold (is_assigned row && is_recovery row.recovery && is_epoch row.leader_epoch) (is_epoch row.partition_epoch) h in
     ((both_hold (is_assigned row && is_recovery row.recovery) (is_epoch row.leader_epoch) last.0).1, last.1)
+
+none_lacking : (misnamed lacking repeated misvalued : Bool) → first_broken ((misnamed, BadName) ∷ (lacking, Absent) ∷ (repeated, Exists) ∷ (misvalued, BadValue) ∷ []) ≡ None → lacking ≡ false
+none_lacking true lacking repeated misvalued e = cc
+none_lacking false true repeated misvalued e = cc
+none_lacking false false repeated misvalued e = refl
+
+-- it speaks of nothing that isn't there
+pub lacks_none : (i : Image) (r : MetaRecord) → broken i r ≡ None → lacks i r ≡ false
+unfolding broken
+lacks_none i r e = none_lacking (is_misnamed r) (lacks i r) (repeats i r) (is_misvalued i r) e

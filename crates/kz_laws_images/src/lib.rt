@@ -4,7 +4,7 @@
 //! A law is the contract of a function that does nothing.
 #![tactic(auto)]
 
-ghost use Rattle.kz_laws_images.specs.ImageLaws.{EmptyIsInOrder, AppliedKeepsOrder, AllAppliedKeepsOrder, BrokerIsSaid, AclIsSaid, ProducerIsSaid, StateIsSaid, BrokerMemberIsSaid, ScramIsSaid, QuotaIsSaid};
+ghost use Rattle.kz_laws_images.specs.ImageLaws.{EmptyIsInOrder, AppliedKeepsOrder, AllAppliedKeepsOrder, BrokerIsSaid, AclIsSaid, ProducerIsSaid, StateIsSaid, BrokerMemberIsSaid, ScramIsSaid, QuotaIsSaid, TopicIdIsSaid, TopicNameIsSaid, PartitionIsSaid, TopicMemberIsSaid};
 
 /// The empty metadata is in order, and a metadata in order stays so under every record.
 pub fn order_is_kept()
@@ -28,4 +28,17 @@ pub fn members_are_said()
     ensures member { BrokerMemberIsSaid }
     ensures scram { ScramIsSaid }
     ensures quota { QuotaIsSaid }
+{}
+
+/// The id of a topic and its name are the last that were given and not removed since, and a partition is what its last record
+/// made of it, with each change after that.
+pub fn topics_are_said()
+    ensures id { TopicIdIsSaid }
+    ensures name { TopicNameIsSaid }
+    ensures partition { PartitionIsSaid }
+{}
+
+/// A member of a topic's configuration is the last that was set since the topic was made.
+pub fn topic_members_are_said()
+    ensures { TopicMemberIsSaid }
 {}
