@@ -2,6 +2,7 @@
 use Rattle.std.proofs.Common.{◌≡◌, ℤ, Bool, true, false, cond, List, [], ◌∷◌, Option, Some, None, refl, ap, ◌∙◌}
 use Rattle.std.specs.Prelude.{pos, int_le, ◌&&◌}
 use Rattle.std.specs.Ordering.{int_eq}
+use Rattle.kz_types.specs.declared.log.Entry.{Entry}
 use Rattle.kz_types.specs.declared.image.TopicEntry.{TopicEntry}
 use Rattle.kz_types.specs.declared.image.Configuration.{Configuration}
 use Rattle.kz_types.specs.declared.image_fault.ImageRule.{ImageRule}
@@ -12,7 +13,10 @@ use Rattle.kz_spec_stores.specs.Metadata.{Image, topic_named}
 use Rattle.kz_spec_stores.specs.ImageRules.{broken}
 use Rattle.kz_spec_stores.specs.Image.{with_changed, topic_configured, configured, effect, unless_broken, applied, all_applied}
 use Rattle.kz_spec_stores.specs.InOrder.{IsInOrder}
-use Rattle.kz_laws_images.specs.Said.{before_unless_broken, accepted, said}
+use Rattle.kz_spec_stores.specs.Settlement.{counted}
+use Rattle.kz_spec_stores.specs.Log.{Log, entries, all_entries_applied, image_at}
+use Rattle.kz_laws_images.specs.Said.{before_unless_broken, accepted, said, accepted_entries, said_by_entries}
+use Rattle.kz_laws_images.specs.ImageLaws.{IsWhatIsSaid}
 use Rattle.kz_laws_images.proofs.Kept.{kept}
 
 applied_by : (epoch : ℤ) (r : MetaRecord) (i : Image) (found : Option ImageRule) → broken i r ≡ found → IsInOrder i → IsInOrder (unless_broken found (effect epoch r i) i)
@@ -30,16 +34,45 @@ all_applied_keeps epoch (r ∷ rs) i order = all_applied_keeps epoch rs (applied
 abbrev pub IsStep : {V : Type 0} → (Image → V) → (ℤ → MetaRecord → V → V) → Type 0
 IsStep look word = (epoch : ℤ) (r : MetaRecord) (i : Image) → IsInOrder i → broken i r ≡ None → look (effect epoch r i) ≡ word epoch r (look i)
 
-module _ {V : Type 0} (look : Image → V) (word : ℤ → MetaRecord → V → V) (step : IsStep look word) where
-  one_more : (epoch : ℤ) (r : MetaRecord) (rs : List MetaRecord) (i : Image) (found : Option ImageRule) → broken i r ≡ found → IsInOrder i
-      → look (all_applied epoch rs (unless_broken found (effect epoch r i) i)) ≡ said (word epoch) (accepted epoch rs (unless_broken found (effect epoch r i) i)) (look (unless_broken found (effect epoch r i) i))
-      → look (all_applied epoch rs (unless_broken found (effect epoch r i) i)) ≡ said (word epoch) (before_unless_broken found r (accepted epoch rs (unless_broken found (effect epoch r i) i))) (look i)
-  one_more epoch r rs i None e order rest = rest ∙ ap (said (word epoch) (accepted epoch rs (effect epoch r i))) (step epoch r i order e)
-  one_more epoch r rs i (Some rule) e order rest = rest
+-- what a record says unless it breaks a rule
+abbrev said_unless_broken : {V : Type 0} → Option ImageRule → V → V → V
+said_unless_broken None says before = says
+said_unless_broken (Some rule) says before = before
 
-  pub all_said : (epoch : ℤ) (rs : List MetaRecord) (i : Image) → IsInOrder i → look (all_applied epoch rs i) ≡ said (word epoch) (accepted epoch rs i) (look i)
+module _ {V : Type 0} (look : Image → V) (word : ℤ → MetaRecord → V → V) (step : IsStep look word) where
+  applied_says_by : (epoch : ℤ) (r : MetaRecord) (i : Image) (found : Option ImageRule) → broken i r ≡ found → IsInOrder i → look (unless_broken found (effect epoch r i) i) ≡ said_unless_broken found (word epoch r (look i)) (look i)
+  applied_says_by epoch r i None e order = step epoch r i order e
+  applied_says_by epoch r i (Some rule) e order = refl
+
+  applied_says : (epoch : ℤ) (r : MetaRecord) (i : Image) → IsInOrder i → look (applied epoch r i) ≡ said_unless_broken (broken i r) (word epoch r (look i)) (look i)
+  applied_says epoch r i order = applied_says_by epoch r i (broken i r) refl order
+
+  first_said : (epoch : ℤ) (found : Option ImageRule) (r : MetaRecord) (rs : List MetaRecord) (v : V) → said (word epoch) rs (said_unless_broken found (word epoch r v) v) ≡ said (word epoch) (before_unless_broken found r rs) v
+  first_said epoch None r rs v = refl
+  first_said epoch (Some rule) r rs v = refl
+
+  first_entry_said : (found : Option ImageRule) (e : Entry) (es : List Entry) (v : V) → said_by_entries word es (said_unless_broken found (word e.epoch e.item v) v) ≡ said_by_entries word (before_unless_broken found e es) v
+  first_entry_said None e es v = refl
+  first_entry_said (Some rule) e es v = refl
+
+  all_said : (epoch : ℤ) (rs : List MetaRecord) (i : Image) → IsInOrder i → look (all_applied epoch rs i) ≡ said (word epoch) (accepted epoch rs i) (look i)
   all_said epoch [] i order = refl
-  all_said epoch (r ∷ rs) i order = one_more epoch r rs i (broken i r) refl order (all_said epoch rs (applied epoch r i) (applied_keeps epoch r i order))
+  all_said epoch (r ∷ rs) i order =
+      let rest = accepted epoch rs (applied epoch r i) in
+      all_said epoch rs (applied epoch r i) (applied_keeps epoch r i order) ∙ ap (said (word epoch) rest) (applied_says epoch r i order) ∙ first_said epoch (broken i r) r rest (look i)
+
+  entries_said : (es : List Entry) (i : Image) → IsInOrder i → look (all_entries_applied es i) ≡ said_by_entries word (accepted_entries es i) (look i)
+  entries_said [] i order = refl
+  entries_said (e ∷ es) i order =
+      let rest = accepted_entries es (applied e.epoch e.item i) in
+      entries_said es (applied e.epoch e.item i) (applied_keeps e.epoch e.item i order) ∙ ap (said_by_entries word rest) (applied_says e.epoch e.item i order) ∙ first_entry_said (broken i e.item) e rest (look i)
+
+  log_says : (l : Log) (at : ℤ) → IsInOrder l.base_image → look (image_at l at) ≡ said_by_entries word (accepted_entries (counted (entries l.batches) at) l.base_image) (look l.base_image)
+  unfolding image_at
+  log_says l at order = entries_said (counted (entries l.batches) at) l.base_image order
+
+  pub is_said : IsWhatIsSaid look word
+  is_said = record { after_records = all_said; in_logs = log_says }
 
 -- ---- records whose effect goes by a test
 

@@ -20,13 +20,15 @@ use Rattle.kz_ordered.proofs.Lookup.{key_of_found, found_is_contained}
 use Rattle.kz_spec_stores.specs.Metadata.{Image, name_of_topic, pairs_of_topic, topic_named, topic_with, topic_id_of, partition_at}
 use Rattle.kz_spec_stores.specs.ImageRules.{new_row, changed_row}
 use Rattle.kz_spec_stores.specs.Image.{put_topic, new_topic, with_changed, put_partition, change_partition, partition_changed, topic_configured, configured, all_applied}
+use Rattle.kz_spec_stores.specs.Settlement.{counted}
+use Rattle.kz_spec_stores.specs.Log.{entries, image_at}
 use Rattle.kz_spec_stores.specs.InOrder.{IsTopicInOrder, IsInOrder}
-use Rattle.kz_laws_images.specs.Said.{accepted, said}
+use Rattle.kz_laws_images.specs.Said.{accepted, said, accepted_entries, said_by_entries}
 use Rattle.kz_laws_images.specs.Words.{value_in, TopicMember, topic_member_of, topic_member_word}
-use Rattle.kz_laws_images.specs.ImageLaws.{TopicMemberIsSaid}
+use Rattle.kz_laws_images.specs.ImageLaws.{IsWhatIsSaid, TopicMemberIsSaid}
 use Rattle.kz_laws_images.proofs.Legal.{topic_id}
 use Rattle.kz_laws_images.proofs.Unbroken.{lacks_none}
-use Rattle.kz_laws_images.proofs.Steps.{IsStep, state_leaves, all_said}
+use Rattle.kz_laws_images.proofs.Steps.{IsStep, state_leaves, is_said}
 use Rattle.kz_laws_images.proofs.Tests.{find-put_by, look_by, replaced}
 use Rattle.kz_laws_images.proofs.Changes.{value_with_member, value_of_some}
 use Rattle.kz_laws_images.proofs.TopicFinds.{replaced_by_name, removed_by_name}
@@ -87,8 +89,12 @@ named_member_step name member epoch (meta.RemoveTopic removed) i order fine = re
 named_member_step name member epoch (meta.ZkMigrationState s) i order fine = state_leaves (named_member name member) (named_member name member i) i epoch s refl refl
 named_member_step name member epoch r i order fine = refl
 
+named_member_said : (name member : List ℕ) → IsWhatIsSaid (named_member name member) (λ epoch. topic_member_word name member)
+named_member_said name member = is_said (named_member name member) (λ epoch. topic_member_word name member) (named_member_step name member)
+
 pub topic_member_said : TopicMemberIsSaid
-topic_member_said name member epoch rs i order =
-    member_is_in name member (all_applied epoch rs i)
-    ∙ all_said (named_member name member) (λ epoch. topic_member_word name member) (named_member_step name member) epoch rs i order
-    ∙ ap (said (topic_member_word name member) (accepted epoch rs i)) (sym (member_is_in name member i))
+topic_member_said name member = record {
+  after_records = λ epoch rs i order. member_is_in name member (all_applied epoch rs i) ∙ (named_member_said name member).after_records epoch rs i order ∙ ap (said (topic_member_word name member) (accepted epoch rs i)) (sym (member_is_in name member i));
+  in_logs = λ l at order. member_is_in name member (image_at l at) ∙ (named_member_said name member).in_logs l at order
+      ∙ ap (said_by_entries (λ (epoch : ℤ). topic_member_word name member) (accepted_entries (counted (entries l.batches) at) l.base_image)) (sym (member_is_in name member l.base_image));
+}
