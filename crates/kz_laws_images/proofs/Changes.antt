@@ -44,7 +44,7 @@ configuration_with name pairs = record { name = name; pairs = pairs }
 abbrev pub members_of : Configuration → List Pair
 members_of c = c.pairs
 
-configurations_hold : Holds name_of_configuration members_of configuration_with with_pairs
+pub configurations_hold : Holds name_of_configuration members_of configuration_with with_pairs
 configurations_hold = record { whole = λ c. refl; key_made = λ k ps. refl; none = λ k xs. refl; some = λ k p ps xs. refl }
 
 pairs_found : Finds configuration_with pairs_of
@@ -63,7 +63,7 @@ pub value_of_some : (member : List ℕ) (ps : List Pair) → option_and_then (va
 value_of_some member [] = refl
 value_of_some member (p ∷ ps) = refl
 
-broker_member : (name member : List ℕ) (i : Image) → member_of (pos 4) name member i ≡ value_in member (pairs_at name i.broker_configs)
+pub broker_member : (name member : List ℕ) (i : Image) → member_of (pos 4) name member i ≡ value_in member (pairs_at name i.broker_configs)
 broker_member name member i = value_of_some member (pairs_at name i.broker_configs)
 
 configured_member : (name member : List ℕ) (r : ConfigRecord) (i : Image) → IsInOrder i
@@ -98,10 +98,10 @@ broker_member_step name member epoch r i order fine = refl
 scrams_found : Finds user_with scrams_in
 scrams_found = record { none = refl; some = λ k ss. refl }
 
-abbrev scram_in : ℤ → List ScramPair → Option ScramRow
+abbrev pub scram_in : ℤ → List ScramPair → Option ScramRow
 scram_in mechanism scrams = option_map (λ (s : ScramPair). s.value) (find int_cmp mechanism_of_pair mechanism scrams)
 
-scram_found : (mechanism : ℤ) (found : Option ScramEntry) → option_and_then (λ (u : ScramEntry). scram_in mechanism u.scrams) found ≡ scram_in mechanism (scrams_in found)
+pub scram_found : (mechanism : ℤ) (found : Option ScramEntry) → option_and_then (λ (u : ScramEntry). scram_in mechanism u.scrams) found ≡ scram_in mechanism (scrams_in found)
 scram_found mechanism None = refl
 scram_found mechanism (Some u) = refl
 
@@ -137,7 +137,7 @@ quota_found : (quota : List ℕ) (found : Option QuotaEntry) → option_and_then
 quota_found quota None = refl
 quota_found quota (Some q) = refl
 
-entity_quota : (entity : EntityKey) (quota : List ℕ) (i : Image) → is_legal entity ≡ true → quota_of entity quota i ≡ quota_in quota (quotas_in (find bytes_cmp path_of_quotas (path_of entity) i.quotas))
+pub entity_quota : (entity : EntityKey) (quota : List ℕ) (i : Image) → is_legal entity ≡ true → quota_of entity quota i ≡ quota_in quota (quotas_in (find bytes_cmp path_of_quotas (path_of entity) i.quotas))
 entity_quota entity quota i legal =
     let found = find bytes_cmp path_of_quotas (path_of entity) i.quotas in
     ap (λ b. option_and_then (quota_in quota) (cond b (option_map (λ (q : QuotaEntry). q.quotas) found) None)) legal ∙ quota_found quota found

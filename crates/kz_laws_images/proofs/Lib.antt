@@ -14,3 +14,4 @@ pub mod Changes
 pub mod TopicFinds
 pub mod Topics
 pub mod TopicMembers
+pub mod Alike

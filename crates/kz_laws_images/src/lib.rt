@@ -5,6 +5,7 @@
 #![tactic(auto)]
 
 ghost use Rattle.kz_laws_images.specs.ImageLaws.{EmptyIsInOrder, AppliedKeepsOrder, AllAppliedKeepsOrder, BrokerIsSaid, AclIsSaid, ProducerIsSaid, StateIsSaid, BrokerMemberIsSaid, ScramIsSaid, QuotaIsSaid, TopicIdIsSaid, TopicNameIsSaid, PartitionIsSaid, TopicMemberIsSaid};
+ghost use Rattle.kz_laws_images.specs.Alike.{AlikeAreOne};
 
 /// The empty metadata is in order, and a metadata in order stays so under every record.
 pub fn order_is_kept()
@@ -41,4 +42,9 @@ pub fn topics_are_said()
 /// A member of a topic's configuration is the last that was set since the topic was made.
 pub fn topic_members_are_said()
     ensures { TopicMemberIsSaid }
+{}
+
+/// Look-ups tell all of a metadata: two in order of which each answers the same are one.
+pub fn look_ups_tell_all()
+    ensures { AlikeAreOne }
 {}
