@@ -36,36 +36,46 @@ pub record IsWhatIsSaid {V : Type 0} (look : Image → V) (word : ℤ → MetaRe
   pub in_logs : (l : Log) (at : ℤ) → IsInOrder l.base_image
       → look (image_at l at) ≡ said_by_entries word (accepted_entries (counted (entries l.batches) at) l.base_image) (look l.base_image)
 
+-- The broker of an id.
 abbrev pub BrokerIsSaid : Type 0
 BrokerIsSaid = (id : ℤ) → IsWhatIsSaid (broker_of id) (λ epoch. broker_word id)
 
+-- The access control entry of an id.
 abbrev pub AclIsSaid : Type 0
 AclIsSaid = (id : Id) → IsWhatIsSaid (acl_of id) (λ epoch. acl_word id)
 
+-- The next producer id.
 abbrev pub ProducerIsSaid : Type 0
 ProducerIsSaid = IsWhatIsSaid (λ (i : Image). i.next_producer) (λ epoch. producer_word)
 
+-- The state of the migration.
 abbrev pub StateIsSaid : Type 0
 StateIsSaid = IsWhatIsSaid (λ (i : Image). i.state) (λ epoch. state_word)
 
--- of a broker, or, where the name is empty, of all
+-- A member of a broker's configuration, or, where the name is empty, of that of all.
 abbrev pub BrokerMemberIsSaid : Type 0
 BrokerMemberIsSaid = (name member : List ℕ) → IsWhatIsSaid (member_of (pos 4) name member) (λ epoch. broker_member_word name member)
 
+-- A user's credential by a mechanism.
 abbrev pub ScramIsSaid : Type 0
 ScramIsSaid = (name : List ℕ) (mechanism : ℤ) → IsWhatIsSaid (scram_of name mechanism) (λ epoch. scram_word name mechanism)
 
+-- An entity's quota by its key.
 abbrev pub QuotaIsSaid : Type 0
 QuotaIsSaid = (entity : EntityKey) (quota : List ℕ) → is_legal entity ≡ true → IsWhatIsSaid (quota_of entity quota) (λ epoch. quota_word entity quota)
 
+-- The id of the topic of a name.
 abbrev pub TopicIdIsSaid : Type 0
 TopicIdIsSaid = (name : List ℕ) → IsWhatIsSaid (topic_id_of name) (λ epoch. topic_id_word name)
 
+-- The name of the topic of an id.
 abbrev pub TopicNameIsSaid : Type 0
 TopicNameIsSaid = (id : Id) → IsWhatIsSaid (topic_name_of id) (λ epoch. topic_name_word id)
 
+-- A partition by the id of its topic and its number.
 abbrev pub PartitionIsSaid : Type 0
 PartitionIsSaid = (id : Id) (number : ℤ) → IsWhatIsSaid (partition_of id number) (λ epoch. partition_word epoch id number)
 
+-- The topic of a name with a member of its configuration.
 abbrev pub TopicMemberIsSaid : Type 0
 TopicMemberIsSaid = (name member : List ℕ) → IsWhatIsSaid (topic_member_of name member) (λ epoch. topic_member_word name member)

@@ -4,6 +4,8 @@
 //! A law is the contract of a function that does nothing.
 #![tactic(auto)]
 
+mod examples;
+
 ghost use Rattle.kz_laws_images.specs.ImageLaws.{EmptyIsInOrder, AppliedKeepsOrder, AllAppliedKeepsOrder, BrokerIsSaid, AclIsSaid, ProducerIsSaid, StateIsSaid, BrokerMemberIsSaid, ScramIsSaid, QuotaIsSaid, TopicIdIsSaid, TopicNameIsSaid, PartitionIsSaid, TopicMemberIsSaid};
 ghost use Rattle.kz_laws_images.specs.Alike.{AlikeAreOne};
 
