@@ -1,0 +1,17 @@
+pub mod Lists
+pub mod Entries
+pub mod TopicLists
+pub mod QuotaLists
+pub mod UserLists
+pub mod Unbroken
+pub mod Legal
+pub mod Kept
+pub mod Steps
+pub mod Tests
+pub mod Entities
+pub mod Members
+pub mod Changes
+pub mod TopicFinds
+pub mod Topics
+pub mod TopicMembers
+pub mod Alike

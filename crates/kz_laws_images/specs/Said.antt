@@ -1,0 +1,38 @@
+-- What the records that count say, one after another, of one thing.
+use Rattle.std.specs.Prelude.{ℤ, List, [], ◌∷◌, Option, Some, None}
+use Rattle.kz_types.specs.declared.log.Entry.{Entry}
+use Rattle.kz_types.specs.declared.image_fault.ImageRule.{ImageRule}
+use Rattle.kz_types.specs.declared.record.MetaRecord.{MetaRecord}
+use Rattle.kz_spec_stores.specs.Metadata.{Image}
+use Rattle.kz_spec_stores.specs.ImageRules.{broken}
+use Rattle.kz_spec_stores.specs.Image.{applied}
+
+-- a record before these, unless it breaks a rule
+abbrev pub before_unless_broken : {A : Type 0} → Option ImageRule → A → List A → List A
+before_unless_broken None r rest = r ∷ rest
+before_unless_broken (Some rule) r rest = rest
+
+-- ---- records of one epoch
+
+-- The records that break no rule, each judged after the accepted ones before it.
+abbrev pub accepted : ℤ → List MetaRecord → Image → List MetaRecord
+accepted epoch [] i = []
+accepted epoch (r ∷ rs) i = before_unless_broken (broken i r) r (accepted epoch rs (applied epoch r i))
+
+-- What records say of a thing, one after another, from what was said before them: a word is what one record says of it,
+-- from what was said before that record.
+abbrev pub said : {V : Type 0} → (MetaRecord → V → V) → List MetaRecord → V → V
+said word [] before = before
+said word (r ∷ rs) before = said word rs (word r before)
+
+-- ---- entries of a log, each with its epoch
+
+-- The entries whose record breaks no rule, each judged after the accepted ones before it.
+abbrev pub accepted_entries : List Entry → Image → List Entry
+accepted_entries [] i = []
+accepted_entries (e ∷ es) i = before_unless_broken (broken i e.item) e (accepted_entries es (applied e.epoch e.item i))
+
+-- What their records say of a thing, one after another, each in its epoch.
+abbrev pub said_by_entries : {V : Type 0} → (ℤ → MetaRecord → V → V) → List Entry → V → V
+said_by_entries word [] before = before
+said_by_entries word (e ∷ es) before = said_by_entries word es (word e.epoch e.item before)
