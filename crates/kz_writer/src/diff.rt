@@ -1,13 +1,14 @@
 //! The difference of two renderings.
-ghost use Rattle.std.specs.Prelude.{◌≡◌, ◌++◌, IfOk, OnOk, OnErr};
+ghost use Rattle.std.specs.Prelude.{◌≡◌, ◌++◌, map, option_map, IfOk, OnOk, OnErr};
 ghost use Rattle.kz_ordered.specs.Order.{bytes_cmp};
-ghost use Rattle.kz_ordered.specs.Ordered.{Rises};
-ghost use Rattle.kz_spec_stores.specs.Tree.{path_of_rendered};
+ghost use Rattle.kz_ordered.specs.Ordered.{find as find_in, Rises};
+ghost use Rattle.kz_spec_stores.specs.Tree.{path_of_row, path_of_rendered, rendered_row};
 ghost use Rattle.kz_spec_znodes.specs.Difference.{diff, chunk as chunk_of};
 ghost use Rattle.kz_writer.specs.Parts.{deletes, puts, delete_of, put_of};
 
+use crate::znode::Znode;
 use kz_sorted::find;
-use kz_types::{Duplicate, NoMemory, Op, Rendered};
+use kz_types::{Duplicate, NoMemory, Op, Rendered, Row};
 use std::alloc::Global;
 
 /// The most operations of one write.
@@ -20,19 +21,27 @@ pub fn chunk(ops: &[Op]) -> &[Op]
     &ops[..ops.len().min(MAX_CHUNK)]
 }
 
+// The znode with this path.
+fn find_znode<'a, Z: Znode>(znodes: &'a [Z], path: &[u8]) -> Option<&'a Z>
+    requires { Rises bytes_cmp Z.key znodes.now }
+    ensures { option_map (λ z. Z.rendered z.now) result ≡ find_in bytes_cmp path_of_rendered path.now (map Z.rendered znodes.entry.now) }
+{
+    find(znodes, path)
+}
+
 // A delete of a znode that isn't wanted.
-fn push_delete(
+fn push_delete<Z: Znode>(
     alloc: Global,
     ops: &mut Vec<Op>,
-    znode: &Rendered,
+    znode: &Z,
     want: &[Rendered],
 ) -> Result<(), NoMemory>
     requires { Rises bytes_cmp path_of_rendered want.now }
-    ensures { OnOk result (ops.new.items ≡ ops.old.items ++ delete_of znode.now want.now) }
+    ensures { OnOk result (ops.new.items ≡ ops.old.items ++ delete_of (Z.rendered znode.now) want.now) }
 {
-    if find(want, znode.path.bytes()).is_none() {
+    if find(want, znode.path().bytes()).is_none() {
         ops.push(Op::Delete {
-            path: znode.path.copy(alloc)?,
+            path: znode.path().copy(alloc)?,
             version: -1,
         })?;
     }
@@ -40,16 +49,16 @@ fn push_delete(
 }
 
 // A create or a set of a znode that is absent or has another body.
-fn push_put(
+fn push_put<Z: Znode>(
     alloc: Global,
     ops: &mut Vec<Op>,
-    have: &[Rendered],
+    have: &[Z],
     znode: &Rendered,
 ) -> Result<(), NoMemory>
-    requires { Rises bytes_cmp path_of_rendered have.now }
-    ensures { OnOk result (ops.new.items ≡ ops.old.items ++ put_of have.now znode.now) }
+    requires { Rises bytes_cmp Z.key have.now }
+    ensures { OnOk result (ops.new.items ≡ ops.old.items ++ put_of (map Z.rendered have.now) znode.now) }
 {
-    match find(have, znode.path.bytes()) {
+    match find_znode(have, znode.path.bytes()) {
         None => {
             ops.push(Op::Create {
                 path: znode.path.copy(alloc)?,
@@ -58,7 +67,7 @@ fn push_put(
             })?;
         }
         Some(present) => {
-            if present.body.as_slice() != znode.body.as_slice() {
+            if present.body() != znode.body.as_slice() {
                 ops.push(Op::Set {
                     path: znode.path.copy(alloc)?,
                     body: znode.body.copy(alloc)?,
@@ -70,14 +79,14 @@ fn push_put(
     Ok(())
 }
 
-fn push_deletes(
+fn push_deletes<Z: Znode>(
     alloc: Global,
     ops: &mut Vec<Op>,
-    have: &[Rendered],
+    have: &[Z],
     want: &[Rendered],
 ) -> Result<(), NoMemory>
     requires { Rises bytes_cmp path_of_rendered want.now }
-    ensures { OnOk result (ops.new.items ≡ ops.old.items ++ deletes have.now want.now) }
+    ensures { OnOk result (ops.new.items ≡ ops.old.items ++ deletes (map Z.rendered have.now) want.now) }
 {
     let count = have.len();
     for done in 0..count {
@@ -86,19 +95,31 @@ fn push_deletes(
     Ok(())
 }
 
-fn push_puts(
+fn push_puts<Z: Znode>(
     alloc: Global,
     ops: &mut Vec<Op>,
-    have: &[Rendered],
+    have: &[Z],
     want: &[Rendered],
 ) -> Result<(), NoMemory>
-    requires { Rises bytes_cmp path_of_rendered have.now }
-    ensures { OnOk result (ops.new.items ≡ ops.old.items ++ puts have.now want.now) }
+    requires { Rises bytes_cmp Z.key have.now }
+    ensures { OnOk result (ops.new.items ≡ ops.old.items ++ puts (map Z.rendered have.now) want.now) }
 {
     for znode in want {
         push_put(alloc, ops, have, znode)?;
     }
     Ok(())
+}
+
+// The operations that make `want` of `have`.
+fn operations<Z: Znode>(alloc: Global, have: &[Z], want: &[Rendered]) -> Result<Vec<Op>, NoMemory>
+    requires have_rises { Rises bytes_cmp Z.key have.now }
+    requires want_rises { Rises bytes_cmp path_of_rendered want.now }
+    ensures { IfOk result (λ ops. ops.items ≡ diff (map Z.rendered have.now) want.now) }
+{
+    let mut ops = Vec::new(alloc);
+    push_deletes(alloc, &mut ops, have, want)?;
+    push_puts(alloc, &mut ops, have, want)?;
+    Ok(ops)
 }
 
 /// The operations that make `want` of `have`, each at any version: deletes by falling path, then creates and sets by
@@ -112,8 +133,15 @@ pub fn diff_renderings(
     requires want_rises { Rises bytes_cmp path_of_rendered want.now }
     ensures { IfOk result (λ ops. ops.items ≡ diff have.now want.now) }
 {
-    let mut ops = Vec::new(alloc);
-    push_deletes(alloc, &mut ops, have, want)?;
-    push_puts(alloc, &mut ops, have, want)?;
-    Ok(ops)
+    operations(alloc, have, want)
+}
+
+/// The operations that make `want` of the migrated area, each at any version: deletes by falling path, then creates and
+/// sets by rising path.
+pub fn diff_ops(alloc: Global, area: &[Row], want: &[Rendered]) -> Result<Vec<Op>, NoMemory>
+    requires area_rises { Rises bytes_cmp path_of_row area.now }
+    requires want_rises { Rises bytes_cmp path_of_rendered want.now }
+    ensures { IfOk result (λ ops. ops.items ≡ diff (map rendered_row area.now) want.now) }
+{
+    operations(alloc, area, want)
 }

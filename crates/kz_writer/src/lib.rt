@@ -2,5 +2,6 @@
 #![tactic(auto)]
 
 mod diff;
+mod znode;
 
-pub use diff::{MAX_CHUNK, chunk, diff_renderings};
+pub use diff::{MAX_CHUNK, chunk, diff_ops, diff_renderings};

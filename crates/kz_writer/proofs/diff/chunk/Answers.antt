@@ -1,4 +1,4 @@
-use Rattle.std.proofs.Common.{length, take, sym, ap, ◌∙◌}
+use Rattle.std.proofs.Common.{take, ap, ◌∙◌}
 use Rattle.kz_writer.proofs.Steps.{first_ops}
 use Rattle.kz_writer.proofs.diff.chunk.Goals as goal
 
