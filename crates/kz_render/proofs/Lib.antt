@@ -1,2 +1,3 @@
 pub mod BrokerPaths
 pub mod OrderedZnodes
+pub mod Ties

@@ -4,6 +4,7 @@
 mod configs;
 mod fits;
 mod roots;
+mod sorted;
 mod znodes;
 
 pub use fits::{Excess, MAX_BODIES, MAX_BODY, MAX_ZNODES, first_excess, whole_path};
