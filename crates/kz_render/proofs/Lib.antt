@@ -1,3 +1,5 @@
 pub mod BrokerPaths
 pub mod OrderedZnodes
+pub mod PathForms
 pub mod Ties
+pub mod TopicPaths

@@ -3,8 +3,11 @@
 
 mod configs;
 mod fits;
+mod paths;
+mod push;
 mod roots;
 mod sorted;
+mod topics;
 mod znodes;
 
 pub use fits::{Excess, MAX_BODIES, MAX_BODY, MAX_ZNODES, first_excess, whole_path};
