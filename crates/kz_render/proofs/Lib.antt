@@ -1,5 +1,6 @@
 pub mod BrokerPaths
-pub mod OrderedZnodes
 pub mod PathForms
+pub mod QuotaLists
+pub mod QuotaPaths
 pub mod Ties
 pub mod TopicPaths

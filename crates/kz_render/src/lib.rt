@@ -4,12 +4,12 @@
 mod configs;
 mod fits;
 mod paths;
+mod producer;
 mod push;
+mod quotas;
 mod roots;
 mod sorted;
 mod topics;
-mod znodes;
 
 pub use fits::{Excess, MAX_BODIES, MAX_BODY, MAX_ZNODES, first_excess, whole_path};
 pub use roots::bare_roots;
-pub use znodes::render;

@@ -142,7 +142,7 @@ fn push_topic_znode(
     let path = topic_path(alloc, &topic.name)?;
     let partitions = partitions_path(alloc, &topic.name)?;
     let text = topic_body(alloc, topic)?;
-    push_znode(znodes, path, text)?;
+    push_znode(znodes, path, text.into_bytes())?;
     push_bare(alloc, znodes, partitions)
 }
 
@@ -163,7 +163,7 @@ fn push_partition(
     let number = number_path(alloc, partitions, name, partition.number)?;
     let text = state_body(alloc, &partition.row)?;
     push_bare(alloc, znodes, number)?;
-    push_znode(znodes, state, text)
+    push_znode(znodes, state, text.into_bytes())
 }
 
 // Adds the znodes of a topic's partitions.
@@ -213,7 +213,7 @@ fn push_topic_config(
     }
     let path = topic_config_path(alloc, name)?;
     let text = config_text(alloc, pairs)?;
-    push_znode(znodes, path, text)
+    push_znode(znodes, path, text.into_bytes())
 }
 
 // Adds the znodes of a topic, of its partitions and of its configuration.
