@@ -2,5 +2,6 @@ pub mod BrokerPaths
 pub mod PathForms
 pub mod QuotaLists
 pub mod QuotaPaths
+pub mod Gathered
 pub mod Ties
 pub mod TopicPaths

@@ -1,12 +1,14 @@
 //! The znodes that stand for the metadata.
 #![tactic(auto)]
 
+mod acls;
 mod configs;
 mod fits;
 mod paths;
 mod producer;
 mod push;
 mod quotas;
+mod resources;
 mod roots;
 mod sorted;
 mod topics;
