@@ -3,7 +3,7 @@
 
 mod acls;
 mod configs;
-mod fits;
+mod limits;
 mod paths;
 mod producer;
 mod push;
@@ -12,6 +12,11 @@ mod resources;
 mod roots;
 mod sorted;
 mod topics;
+mod znodes;
 
-pub use fits::{Excess, MAX_BODIES, MAX_BODY, MAX_ZNODES, first_excess, whole_path};
+pub use limits::{
+    Excess, FitFault, MAX_BODIES, MAX_BODY, MAX_ZNODES, first_excess, fits, whole_path,
+};
+pub use kz_types::Rendered;
 pub use roots::bare_roots;
+pub use znodes::{render, render_one};

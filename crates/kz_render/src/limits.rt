@@ -1,11 +1,13 @@
 //! Whether a rendering keeps the limits.
-ghost use Rattle.std.specs.Prelude.{◌≡◌, length, IfOk, nat_lt, option_map, codes, true};
+ghost use Rattle.std.specs.Prelude.{◌≡◌, length, IfOk, IfErr, OnOk, None, nat_lt, option_map, codes, true};
 ghost use Rattle.std.specs.List.{find, sum_by};
 ghost use Rattle.kz_types.specs.PathRule.{is_path};
 ghost use Rattle.kz_types.specs.declared.tree.Rendered.{Rendered as RenderedValue};
-ghost use Rattle.kz_spec_znodes.specs.Rendering.{is_long, max_bodies, excess_of};
-ghost use Rattle.kz_render.specs.Limits.{excess_of_told};
+ghost use Rattle.kz_spec_znodes.specs.Rendering.{is_long, max_bodies, excess_of, excess};
+ghost use Rattle.kz_render.specs.Limits.{excess_of_told, IsExcess};
 
+use crate::znodes::render;
+use kz_image::Image;
 use kz_types::{Duplicate, NoMemory, Rendered, Text, ZPath};
 use std::alloc::Global;
 
@@ -68,4 +70,34 @@ pub fn first_excess(alloc: Global, znodes: &[Rendered]) -> Result<Option<Excess>
         None => return Ok(None),
     };
     Ok(Some(Excess { number, path }))
+}
+
+/// Why the rendering of the metadata isn't written.
+#[derive(Drop)]
+pub enum FitFault {
+    /// It passes a limit: 2 for the data of one znode, 3 for the number of znodes, 6 for all data together. The path is
+    /// that of the first znode whose data is too long, or `/brokers/topics`.
+    Over {
+        number: u8,
+        path: ZPath,
+    },
+    /// Memory ran out.
+    NoMemory,
+}
+
+/// Whether the rendering of the metadata keeps the limits: at most 1,048,575 bytes of each znode's data, 200,000 znodes,
+/// and 67,108,864 bytes of all data. `Over` is the first limit that it passes, in this order.
+pub fn fits(alloc: Global, image: &Image) -> Result<(), FitFault>
+    ensures fits { OnOk result (excess image.now ≡ None) }
+    ensures over { IfErr result (λ fault. IsExcess fault (excess image.now)) }
+{
+    let znodes = match render(alloc, image) {
+        Ok(znodes) => znodes,
+        Err(NoMemory) => return Err(FitFault::NoMemory),
+    };
+    match first_excess(alloc, &znodes) {
+        Ok(Some(Excess { number, path })) => Err(FitFault::Over { number, path }),
+        Ok(None) => Ok(()),
+        Err(NoMemory) => Err(FitFault::NoMemory),
+    }
 }

@@ -1,0 +1,66 @@
+//! All znodes of the metadata.
+ghost use Rattle.std.specs.Prelude.{◌≡◌, ◌++◌, IfOk, OnOk, map, option_map};
+ghost use Rattle.std.specs.List.{flat_map};
+ghost use Rattle.kz_ordered.specs.Order.{bytes_cmp};
+ghost use Rattle.kz_ordered.specs.Ordered.{Rises};
+ghost use Rattle.kz_spec_stores.specs.Tree.{path_of_rendered};
+ghost use Rattle.kz_spec_znodes.specs.Rendering.{topic_znodes, config_znode, quota_znodes, entity_znodes, render, body_at_path};
+ghost use Rattle.kz_render.specs.Gathered.{PutAlike};
+
+use crate::acls::push_acls;
+use crate::configs::push_configs;
+use crate::producer::push_producer;
+use crate::quotas::push_quotas;
+use crate::roots::bare_roots;
+use crate::sorted::put_all;
+use crate::topics::push_topics;
+use kz_image::Image;
+use kz_sorted::find;
+use kz_types::{NoMemory, Rendered, ZPath, copy_all};
+use std::alloc::Global;
+
+// Adds the znodes of topics, of brokers' configurations, of quotas and of users.
+fn push_named(alloc: Global, znodes: &mut Vec<Rendered>, image: &Image) -> Result<(), NoMemory>
+    ensures { OnOk result (znodes.new.items ≡ znodes.old.items ++ (flat_map topic_znodes image.now.topics ++ (map config_znode image.now.broker_configs ++ quota_znodes image.now.quotas image.now.users))) }
+{
+    push_topics(alloc, znodes, image.topics())?;
+    push_configs(alloc, znodes, image.broker_configs())?;
+    push_quotas(alloc, znodes, image.quota_entries(), image.users())
+}
+
+// Adds the znodes of all entities.
+fn push_entities(alloc: Global, znodes: &mut Vec<Rendered>, image: &Image) -> Result<(), NoMemory>
+    ensures { OnOk result (PutAlike znodes.new.items (znodes.old.items ++ entity_znodes image.now)) }
+{
+    push_named(alloc, znodes, image)?;
+    push_acls(alloc, znodes, image.acls())?;
+    push_producer(alloc, znodes, image.next_producer())?;
+    Ok(())
+}
+
+/// The znodes of the metadata, in path order: the 17 roots, and those of the entities. `NoMemory` is the only error.
+pub fn render(alloc: Global, image: &Image) -> Result<Vec<Rendered>, NoMemory>
+    ensures znodes { IfOk result (λ znodes. znodes.items ≡ render image.now) }
+    ensures rising { IfOk result (λ znodes. Rises bytes_cmp path_of_rendered znodes.items) }
+{
+    let mut znodes = bare_roots(alloc)?;
+    push_entities(alloc, &mut znodes, image)?;
+    let znodes = put_all(alloc, znodes)?;
+    Ok(znodes)
+}
+
+/// The data that a path is rendered with, where it is rendered. All znodes are rendered for it. `NoMemory` is the only
+/// error.
+pub fn render_one(
+    alloc: Global,
+    image: &Image,
+    path: &ZPath,
+) -> Result<Option<Vec<u8>>, NoMemory>
+    ensures { IfOk result (λ body. option_map (λ bytes. bytes.items) body ≡ body_at_path image.now path.now) }
+{
+    let znodes = render(alloc, image)?;
+    match find(&znodes, path.bytes()) {
+        Some(znode) => Ok(Some(copy_all(alloc, znode.body.as_slice())?)),
+        None => Ok(None),
+    }
+}
