@@ -1,5 +1,5 @@
 -- What the entries of quotas and credentials of every metadata keep.
-use Rattle.std.proofs.Common.{◌≡◌, ℕ, ◌<◌, Bool, true, false, not, ◌&&◌, ◌||◌, List, [], ◌∷◌, Option, Some, None, length, get_or, sym, refl, arith}
+use Rattle.std.proofs.Common.{◌≡◌, ℕ, ◌<◌, Bool, true, false, not, ◌&&◌, ◌||◌, List, [], ◌∷◌, Option, Some, None, length, sym, refl, arith}
 use Rattle.std.specs.List.{All}
 use Rattle.std.proofs.lemmas.Bool.{and_parts, false≢true}
 use Rattle.std.proofs.lemmas.List.Elements.{All-head, All-contains}
@@ -18,7 +18,7 @@ use Rattle.kz_ordered.proofs.Order.{bytes_order}
 use Rattle.kz_json.specs.Entries.{are_quotas}
 use Rattle.kz_spec_stores.specs.Metadata.{path_of_quotas}
 use Rattle.kz_spec_stores.specs.Image.{quotas_in}
-use Rattle.kz_spec_stores.specs.ImageRules.{is_user, is_empty, is_dots, is_mechanism}
+use Rattle.kz_spec_stores.specs.ImageRules.{is_empty, is_dots, is_mechanism}
 use Rattle.kz_spec_stores.specs.InOrder.{IsUserFilled}
 use Rattle.kz_spec_stores.specs.Legal.{IsQuotaEntry, IsScramEntry, IsScramOf}
 

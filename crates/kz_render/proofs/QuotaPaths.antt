@@ -1,5 +1,5 @@
 -- The paths of entities with quotas, and of users, keep the rule of paths.
-use Rattle.std.proofs.Common.{◌≡◌, ℕ, ◌<◌, ◌++◌, List, Option, Some, true, codes, sym, ap, ◌∙◌, arith, append_assoc}
+use Rattle.std.proofs.Common.{◌≡◌, ℕ, ◌++◌, List, Option, Some, true, codes, sym, ap, ◌∙◌, arith, append_assoc}
 use Rattle.kz_types.specs.PathRule.{is_path}
 use Rattle.kz_types.specs.Paths.{path_of, key_of, has_path, is_legal, is_absent_or, is_not_empty, part_or_default, sanitised}
 use Rattle.kz_types.specs.declared.key.EntityKey.TheVariants.{User, UserClient}

@@ -1,5 +1,5 @@
 -- The paths of a topic keep the rule of paths.
-use Rattle.std.proofs.Common.{◌≡◌, ℕ, ◌+◌, ◌<◌, ◌≤◌, ◌==◌, nat_le, nat_lt, ℤ, pos, negsuc, Bool, true, false, not, ◌&&◌, ◌||◌, List, [], ◌∷◌, ◌++◌, length, codes, decimal, refl, sym, ap, ◌∙◌, subst, inl, inr, arith, length-append, append_assoc, ◌≤ℤ◌}
+use Rattle.std.proofs.Common.{◌≡◌, ℕ, ◌<◌, ◌≤◌, nat_le, nat_lt, ℤ, pos, negsuc, true, false, not, ◌&&◌, List, [], ◌∷◌, ◌++◌, length, codes, decimal, refl, sym, ap, ◌∙◌, inl, inr, arith, length-append, append_assoc, ◌≤ℤ◌}
 use Rattle.std.specs.List.{list_all}
 use Rattle.std.specs.Str.{bytes_eq}
 use Rattle.std.specs.Fmt.{signed_decimal}
@@ -8,7 +8,7 @@ use Rattle.std.proofs.lemmas.Bool.Decides.{nat_tests}
 use Rattle.std.proofs.lemmas.Fmt.{length-decimal-le}
 use Rattle.std.proofs.lemmas.Int.{ints}
 use Rattle.kz_types.specs.PathRule.{is_path, is_part, is_shown}
-use Rattle.kz_types.specs.Paths.{path_of, has_path, is_topic_name, is_topic_byte, is_letter_or_digit, is_not_negative}
+use Rattle.kz_types.specs.Paths.{path_of, has_path, is_topic_name, is_topic_byte, is_not_negative}
 use Rattle.kz_types.specs.declared.key.EntityKey.TheVariants.{Topic, Partition, TopicConfig}
 use Rattle.kz_types.proofs.OnLiterals.{values_on_literals}
 use Rattle.kz_types.proofs.NumberLemmas.{canonical_complete, canonical_digits}

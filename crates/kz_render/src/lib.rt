@@ -14,9 +14,9 @@ mod sorted;
 mod topics;
 mod znodes;
 
+pub use kz_types::Rendered;
 pub use limits::{
     Excess, FitFault, MAX_BODIES, MAX_BODY, MAX_ZNODES, first_excess, fits, whole_path,
 };
-pub use kz_types::Rendered;
 pub use roots::bare_roots;
 pub use znodes::{render, render_one};

@@ -77,10 +77,7 @@ pub fn first_excess(alloc: Global, znodes: &[Rendered]) -> Result<Option<Excess>
 pub enum FitFault {
     /// It passes a limit: 2 for the data of one znode, 3 for the number of znodes, 6 for all data together. The path is
     /// that of the first znode whose data is too long, or `/brokers/topics`.
-    Over {
-        number: u8,
-        path: ZPath,
-    },
+    Over { number: u8, path: ZPath },
     /// Memory ran out.
     NoMemory,
 }

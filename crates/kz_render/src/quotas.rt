@@ -28,11 +28,7 @@ use std::alloc::Global;
 
 // The text of quotas and credentials. It is the same for each entity that has some.
 #[tactic(auto, unfolding(kz_spec_values::specs::Bodies::is_of_kind))]
-fn quota_text(
-    alloc: Global,
-    quotas: &[QuotaRow],
-    scrams: &[ScramPair],
-) -> Result<Vec<u8>, NoMemory>
+fn quota_text(alloc: Global, quotas: &[QuotaRow], scrams: &[ScramPair]) -> Result<Vec<u8>, NoMemory>
     requires { are_quotas quotas.now ≡ true }
     ensures { IfOk result (λ text. text.items ≡ written (body.Quota quotas.now scrams.now)) }
 {
@@ -101,11 +97,7 @@ fn push_parents(
 }
 
 // Adds the znode of an entity with quotas.
-fn push_own(
-    alloc: Global,
-    znodes: &mut Vec<Rendered>,
-    entry: &QuotaEntry,
-) -> Result<(), NoMemory>
+fn push_own(alloc: Global, znodes: &mut Vec<Rendered>, entry: &QuotaEntry) -> Result<(), NoMemory>
     requires { are_quotas entry.now.quotas ≡ true }
     ensures { OnOk result (znodes.new.items ≡ znodes.old.items ++ own_znodes entry.now) }
 {

@@ -217,11 +217,7 @@ fn push_topic_config(
 }
 
 // Adds the znodes of a topic, of its partitions and of its configuration.
-fn push_topic(
-    alloc: Global,
-    znodes: &mut Vec<Rendered>,
-    topic: &TopicEntry,
-) -> Result<(), NoMemory>
+fn push_topic(alloc: Global, znodes: &mut Vec<Rendered>, topic: &TopicEntry) -> Result<(), NoMemory>
     requires named { is_topic_name topic.now.name ≡ true }
     requires partitions { All IsPartition topic.now.partitions }
     ensures { OnOk result (znodes.new.items ≡ znodes.old.items ++ topic_znodes topic.now) }

@@ -51,11 +51,7 @@ pub fn render(alloc: Global, image: &Image) -> Result<Vec<Rendered>, NoMemory>
 
 /// The data that a path is rendered with, where it is rendered. All znodes are rendered for it. `NoMemory` is the only
 /// error.
-pub fn render_one(
-    alloc: Global,
-    image: &Image,
-    path: &ZPath,
-) -> Result<Option<Vec<u8>>, NoMemory>
+pub fn render_one(alloc: Global, image: &Image, path: &ZPath) -> Result<Option<Vec<u8>>, NoMemory>
     ensures { IfOk result (λ body. option_map (λ bytes. bytes.items) body ≡ body_at_path image.now path.now) }
 {
     let znodes = render(alloc, image)?;
