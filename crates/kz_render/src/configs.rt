@@ -1,6 +1,6 @@
 //! The znodes of brokers' configurations.
-ghost use Rattle.std.specs.Prelude.{◌≡◌, ◌∷◌, ◌++◌, [], true, map, IfOk, OnOk};
-ghost use Rattle.kz_types.specs.Paths.{path_of, is_legal};
+ghost use Rattle.std.specs.Prelude.{◌≡◌, ◌∷◌, ◌++◌, [], map, IfOk, OnOk};
+ghost use Rattle.kz_types.specs.Paths.{path_of};
 ghost use Rattle.kz_spec_values.specs.Bodies.{written};
 ghost use Rattle.kz_spec_znodes.specs.Rendering.{broker_key, config_znode};
 

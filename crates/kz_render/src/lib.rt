@@ -7,11 +7,14 @@ mod limits;
 mod paths;
 mod producer;
 mod push;
+mod quota_body;
 mod quotas;
 mod resources;
 mod roots;
 mod sorted;
+mod topic_paths;
 mod topics;
+mod users;
 mod znodes;
 
 pub use kz_types::Rendered;

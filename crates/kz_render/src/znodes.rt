@@ -38,7 +38,8 @@ fn push_entities(alloc: Global, znodes: &mut Vec<Rendered>, image: &Image) -> Re
     Ok(())
 }
 
-/// The znodes of the metadata, in path order: the 17 roots, and those of the entities. `NoMemory` is the only error.
+/// The znodes of the metadata, in path order: the 17 roots, and those of the entities, as a migration writes them to
+/// ZooKeeper (KIP-866). `NoMemory` is the only error.
 pub fn render(alloc: Global, image: &Image) -> Result<Vec<Rendered>, NoMemory>
     ensures znodes { IfOk result (λ znodes. znodes.items ≡ render image.now) }
     ensures rising { IfOk result (λ znodes. Rises bytes_cmp path_of_rendered znodes.items) }

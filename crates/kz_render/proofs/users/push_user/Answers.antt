@@ -1,5 +1,5 @@
 use Rattle.kz_render.proofs.QuotaLists.{scram_user}
-use Rattle.kz_render.proofs.quotas.push_user.Goals as goal
+use Rattle.kz_render.proofs.users.push_user.Goals as goal
 
 pub user_path-requires-clause-legal : goal.user_path-requires-clause-legal
 user_path-requires-clause-legal c = (scram_user c.args.user.now c.requires.filled c.requires.legal).0

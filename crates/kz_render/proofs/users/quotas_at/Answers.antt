@@ -5,7 +5,7 @@ use Rattle.kz_json.specs.Entries.{are_quotas}
 use Rattle.kz_spec_stores.specs.Metadata.{path_of_quotas}
 use Rattle.kz_spec_stores.specs.Image.{quotas_in}
 use Rattle.kz_render.proofs.QuotaLists.{found_quotas}
-use Rattle.kz_render.proofs.quotas.quotas_at.Goals as goal
+use Rattle.kz_render.proofs.users.quotas_at.Goals as goal
 
 pub returns-in-Some-clause-range : goal.returns-in-Some-clause-range
 returns-in-Some-clause-range c =

@@ -2,7 +2,7 @@ use Rattle.std.proofs.Common.{rules, ◌≡◌, ◌++◌, codes, sym, subst, tru
 use Rattle.std.specs.Fmt.{signed_decimal}
 use Rattle.kz_types.specs.PathRule.{is_path}
 use Rattle.kz_render.proofs.TopicPaths.{number_rule}
-use Rattle.kz_render.proofs.topics.number_path.Goals as goal
+use Rattle.kz_render.proofs.topic_paths.number_path.Goals as goal
 
 pub path_behind-requires : goal.path_behind-requires
 path_behind-requires c =
