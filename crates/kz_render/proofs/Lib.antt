@@ -1,2 +1,8 @@
 pub mod BrokerPaths
-pub mod OrderedZnodes
+pub mod PathForms
+pub mod QuotaLists
+pub mod QuotaPaths
+pub mod Entities
+pub mod Gathered
+pub mod Ties
+pub mod TopicPaths

@@ -1,14 +1,13 @@
 //! The znodes of brokers' configurations.
-ghost use Rattle.std.specs.Prelude.{◌≡◌, true, IfOk, MatchResult};
-ghost use Rattle.kz_types.specs.Paths.{path_of, is_legal};
-ghost use Rattle.kz_types.specs.PathRule.{is_path};
+ghost use Rattle.std.specs.Prelude.{◌≡◌, ◌∷◌, ◌++◌, [], map, IfOk, OnOk};
+ghost use Rattle.kz_types.specs.Paths.{path_of};
+ghost use Rattle.kz_spec_values.specs.Bodies.{written};
 ghost use Rattle.kz_spec_znodes.specs.Rendering.{broker_key, config_znode};
 
+use crate::paths::entity_path;
+use crate::push::push_znode;
 use kz_json::config_text;
-use kz_path::path_of;
-use kz_types::{
-    Configuration, EntityKey, NoMemory, PathFault, Rendered, Sequence, Text, ZPath, number_in,
-};
+use kz_types::{Configuration, EntityKey, NoMemory, Rendered, Text, ZPath, number_in};
 use std::alloc::Global;
 
 // The key of the configuration of a broker, or of all brokers.
@@ -25,27 +24,40 @@ fn broker_key(name: &Text) -> EntityKey
     }
 }
 
-// The path of a broker's configuration, which keeps the rule of paths.
+// The path of a broker's configuration.
+#[tactic(auto, using(crate::proofs::BrokerPaths::broker_rule, crate::proofs::BrokerPaths::broker_legal))]
 fn config_path(alloc: Global, name: &Text) -> Result<ZPath, NoMemory>
     ensures { IfOk result (λ path. path ≡ path_of (broker_key name.now)) }
 {
     let key = broker_key(name);
-    match path_of(alloc, &key) {
-        Ok(path) => Ok(path),
-        Err(PathFault::NoMemory) => Err(NoMemory),
-        Err(PathFault::BadName { .. }) => unreachable!(),
-    }
+    let path = entity_path(alloc, &key)?;
+    Ok(path)
 }
 
-/// The znode of a broker's configuration.
+// Adds the znode of a broker's configuration.
 #[tactic(auto, unfolding(kz_spec_values::specs::Bodies::written))]
-pub fn config_znode(alloc: Global, config: &Configuration) -> Result<Rendered, NoMemory>
-    ensures { IfOk result (λ znode. znode ≡ config_znode config.now) }
+fn push_config(
+    alloc: Global,
+    znodes: &mut Vec<Rendered>,
+    config: &Configuration,
+) -> Result<(), NoMemory>
+    ensures { OnOk result (znodes.new.items ≡ znodes.old.items ++ config_znode config.now ∷ []) }
 {
     let path = config_path(alloc, &config.name)?;
     let text = config_text(alloc, config.pairs.as_slice())?;
-    Ok(Rendered {
-        path,
-        body: Sequence::from_vec(text.into_bytes()),
-    })
+    push_znode(znodes, path, text.into_bytes())
+}
+
+/// Adds the znodes of all configurations of brokers.
+pub fn push_configs(
+    alloc: Global,
+    znodes: &mut Vec<Rendered>,
+    configs: &[Configuration],
+) -> Result<(), NoMemory>
+    ensures { OnOk result (znodes.new.items ≡ znodes.old.items ++ map config_znode configs.now) }
+{
+    for config in configs {
+        push_config(alloc, znodes, config)?;
+    }
+    Ok(())
 }

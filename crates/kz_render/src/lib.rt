@@ -1,11 +1,25 @@
 //! The znodes that stand for the metadata.
 #![tactic(auto)]
 
+mod acls;
 mod configs;
-mod fits;
+mod limits;
+mod paths;
+mod producer;
+mod push;
+mod quota_body;
+mod quotas;
+mod resources;
 mod roots;
+mod sorted;
+mod topic_paths;
+mod topics;
+mod users;
 mod znodes;
 
-pub use fits::{Excess, MAX_BODIES, MAX_BODY, MAX_ZNODES, first_excess, whole_path};
+pub use kz_types::Rendered;
+pub use limits::{
+    Excess, FitFault, MAX_BODIES, MAX_BODY, MAX_ZNODES, first_excess, fits, whole_path,
+};
 pub use roots::bare_roots;
-pub use znodes::render;
+pub use znodes::{render, render_one};

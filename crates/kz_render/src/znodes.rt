@@ -1,54 +1,63 @@
 //! All znodes of the metadata.
-ghost use Rattle.std.specs.Prelude.{◌≡◌, IfOk, OnOk, OnErr, map};
+ghost use Rattle.std.specs.Prelude.{◌≡◌, ◌++◌, IfOk, OnOk, map, option_map};
+ghost use Rattle.std.specs.List.{flat_map};
 ghost use Rattle.kz_ordered.specs.Order.{bytes_cmp};
-ghost use Rattle.kz_ordered.specs.Ordered.{all_put, put, Rises};
+ghost use Rattle.kz_ordered.specs.Ordered.{Rises};
 ghost use Rattle.kz_spec_stores.specs.Tree.{path_of_rendered};
-ghost use Rattle.kz_spec_znodes.specs.Rendering.{bare, config_znode, render};
+ghost use Rattle.kz_spec_znodes.specs.Rendering.{topic_znodes, config_znode, quota_znodes, entity_znodes, render, body_at_path};
+ghost use Rattle.kz_render.specs.Gathered.{PutAlike};
 
-use crate::configs::config_znode;
+use crate::acls::push_acls;
+use crate::configs::push_configs;
+use crate::producer::push_producer;
+use crate::quotas::push_quotas;
 use crate::roots::bare_roots;
+use crate::sorted::put_all;
+use crate::topics::push_topics;
 use kz_image::Image;
-use kz_sorted::put;
-use kz_types::{Configuration, NoMemory, Rendered};
+use kz_sorted::find;
+use kz_types::{NoMemory, Rendered, ZPath, copy_all};
 use std::alloc::Global;
 
-// Puts the znode of a configuration at its place.
-#[tactic(auto, using(crate::proofs::OrderedZnodes::rises_put_znode))]
-fn put_config(
-    alloc: Global,
-    znodes: &mut Vec<Rendered>,
-    config: &Configuration,
-) -> Result<(), NoMemory>
-    requires { Rises bytes_cmp path_of_rendered znodes.old.items }
-    ensures put { OnOk result (znodes.new.items ≡ put bytes_cmp path_of_rendered (config_znode config.now) znodes.old.items) }
-    ensures rises { OnOk result (Rises bytes_cmp path_of_rendered znodes.new.items) }
+// Adds the znodes of topics, of brokers' configurations, of quotas and of users.
+fn push_named(alloc: Global, znodes: &mut Vec<Rendered>, image: &Image) -> Result<(), NoMemory>
+    ensures { OnOk result (znodes.new.items ≡ znodes.old.items ++ (flat_map topic_znodes image.now.topics ++ (map config_znode image.now.broker_configs ++ quota_znodes image.now.quotas image.now.users))) }
 {
-    put(znodes, config_znode(alloc, config)?)
+    push_topics(alloc, znodes, image.topics())?;
+    push_configs(alloc, znodes, image.broker_configs())?;
+    push_quotas(alloc, znodes, image.quota_entries(), image.users())
 }
 
-// Adds the znodes of these configurations.
-fn put_configs(
-    alloc: Global,
-    znodes: &mut Vec<Rendered>,
-    configs: &[Configuration],
-) -> Result<(), NoMemory>
-    requires { Rises bytes_cmp path_of_rendered znodes.old.items }
-    ensures put { OnOk result (znodes.new.items ≡ all_put bytes_cmp path_of_rendered (map config_znode configs.now) znodes.old.items) }
-    ensures rises { OnOk result (Rises bytes_cmp path_of_rendered znodes.new.items) }
+// Adds the znodes of all entities.
+fn push_entities(alloc: Global, znodes: &mut Vec<Rendered>, image: &Image) -> Result<(), NoMemory>
+    ensures { OnOk result (PutAlike znodes.new.items (znodes.old.items ++ entity_znodes image.now)) }
 {
-    for config in configs {
-        put_config(alloc, znodes, config)?;
-    }
+    push_named(alloc, znodes, image)?;
+    push_acls(alloc, znodes, image.acls())?;
+    push_producer(alloc, znodes, image.next_producer())?;
     Ok(())
 }
 
-/// The znodes of the metadata, in path order.
-#[tactic(auto, unfolding(kz_spec_znodes::specs::Rendering::render))]
+/// The znodes of the metadata, in path order: the 17 roots, and those of the entities, as a migration writes them to
+/// ZooKeeper (KIP-866). `NoMemory` is the only error.
 pub fn render(alloc: Global, image: &Image) -> Result<Vec<Rendered>, NoMemory>
     ensures znodes { IfOk result (λ znodes. znodes.items ≡ render image.now) }
     ensures rising { IfOk result (λ znodes. Rises bytes_cmp path_of_rendered znodes.items) }
 {
     let mut znodes = bare_roots(alloc)?;
-    put_configs(alloc, &mut znodes, image.broker_configs())?;
+    push_entities(alloc, &mut znodes, image)?;
+    let znodes = put_all(alloc, znodes)?;
     Ok(znodes)
+}
+
+/// The data that a path is rendered with, where it is rendered. All znodes are rendered for it. `NoMemory` is the only
+/// error.
+pub fn render_one(alloc: Global, image: &Image, path: &ZPath) -> Result<Option<Vec<u8>>, NoMemory>
+    ensures { IfOk result (λ body. option_map (λ bytes. bytes.items) body ≡ body_at_path image.now path.now) }
+{
+    let znodes = render(alloc, image)?;
+    match find(&znodes, path.bytes()) {
+        Some(znode) => Ok(Some(copy_all(alloc, znode.body.as_slice())?)),
+        None => Ok(None),
+    }
 }

@@ -1,0 +1,172 @@
+//! The znodes of topics.
+ghost use Rattle.std.specs.Prelude.{◌≡◌, ◌∷◌, ◌++◌, [], All, IfOk, OnOk, map, true, string_bytes};
+ghost use Rattle.std.specs.List.{flat_map};
+ghost use Rattle.kz_types.specs.Paths.{is_topic_name, is_not_negative};
+ghost use Rattle.kz_types.specs.declared.bodies.Body.TheVariants as body;
+ghost use Rattle.kz_spec_values.specs.Bodies.{written};
+ghost use Rattle.kz_spec_stores.specs.Legal.{IsPartition, IsTopic};
+ghost use Rattle.kz_spec_znodes.specs.Rendering.{bare, assignment_of, topic_znode, partitions_path, state_body, partition_znodes, topic_config_znodes, topic_znodes};
+
+use crate::push::{push_bare, push_znode};
+use crate::topic_paths::{number_path, partitions_path, state_path, topic_config_path, topic_path};
+use kz_json::{PartitionState, config_text, state_text, topic_text};
+use kz_types::{
+    AssignmentRow, Duplicate, NoMemory, Pair, PartitionEntry, PartitionRow, Rendered, Text,
+    TopicEntry, ZPath,
+};
+use std::alloc::Global;
+
+// What a topic's body says of a partition.
+fn assignment_of(alloc: Global, partition: &PartitionEntry) -> Result<AssignmentRow, NoMemory>
+    ensures { IfOk result (λ row. row ≡ assignment_of partition.now) }
+{
+    Ok(AssignmentRow {
+        number: partition.number,
+        replicas: partition.row.replicas.copy(alloc)?,
+        adding: partition.row.adding.copy(alloc)?,
+        removing: partition.row.removing.copy(alloc)?,
+    })
+}
+
+// What a topic's body says of its partitions.
+fn assignments_of(
+    alloc: Global,
+    partitions: &[PartitionEntry],
+) -> Result<Vec<AssignmentRow>, NoMemory>
+    ensures { IfOk result (λ rows. rows.items ≡ map assignment_of partitions.now) }
+{
+    let mut rows = Vec::new(alloc);
+    for partition in partitions {
+        rows.push(assignment_of(alloc, partition)?)?;
+    }
+    Ok(rows)
+}
+
+// The text of a topic's body.
+#[tactic(auto, unfolding(kz_spec_values::specs::Bodies::written))]
+fn topic_body(alloc: Global, topic: &TopicEntry) -> Result<String, NoMemory>
+    ensures { IfOk result (λ text. string_bytes text ≡ written (body.Topic topic.now.id (map assignment_of topic.now.partitions))) }
+{
+    let rows = assignments_of(alloc, topic.partitions.as_slice())?;
+    topic_text(alloc, &topic.id, &rows)
+}
+
+// The text of the body of a partition's state.
+#[tactic(auto, unfolding(kz_spec_values::specs::Bodies::written))]
+fn state_body(alloc: Global, row: &PartitionRow) -> Result<String, NoMemory>
+    ensures { IfOk result (λ text. string_bytes text ≡ written (state_body row.now)) }
+{
+    state_text(
+        alloc,
+        &PartitionState {
+            leader: row.leader,
+            leader_epoch: row.leader_epoch,
+            controller_epoch: row.controller_epoch,
+            isr: row.isr.as_slice(),
+            recovery: row.recovery,
+        },
+    )
+}
+
+// Adds the znode of a topic and the parent of its partitions.
+fn push_topic_znode(
+    alloc: Global,
+    znodes: &mut Vec<Rendered>,
+    topic: &TopicEntry,
+) -> Result<(), NoMemory>
+    requires { is_topic_name topic.now.name ≡ true }
+    ensures { OnOk result (znodes.new.items ≡ znodes.old.items ++ (topic_znode topic.now ∷ bare (partitions_path topic.now.name) ∷ [])) }
+{
+    let path = topic_path(alloc, &topic.name)?;
+    let partitions = partitions_path(alloc, &topic.name)?;
+    let text = topic_body(alloc, topic)?;
+    push_znode(znodes, path, text.into_bytes())?;
+    push_bare(alloc, znodes, partitions)
+}
+
+// Adds the znode of a partition's number, and its state below it.
+fn push_partition(
+    alloc: Global,
+    znodes: &mut Vec<Rendered>,
+    name: &Text,
+    partitions: &ZPath,
+    partition: &PartitionEntry,
+) -> Result<(), NoMemory>
+    requires named { is_topic_name name.now ≡ true }
+    requires numbered { is_not_negative partition.now.number ≡ true }
+    requires partitions { partitions.now ≡ partitions_path name.now }
+    ensures { OnOk result (znodes.new.items ≡ znodes.old.items ++ partition_znodes name.now partition.now) }
+{
+    let state = state_path(alloc, name, partition.number)?;
+    let number = number_path(alloc, partitions, name, partition.number)?;
+    let text = state_body(alloc, &partition.row)?;
+    push_bare(alloc, znodes, number)?;
+    push_znode(znodes, state, text.into_bytes())
+}
+
+// Adds the znodes of a topic's partitions.
+fn push_partitions(
+    alloc: Global,
+    znodes: &mut Vec<Rendered>,
+    name: &Text,
+    path: &ZPath,
+    partitions: &[PartitionEntry],
+) -> Result<(), NoMemory>
+    requires named { is_topic_name name.now ≡ true }
+    requires legal { All IsPartition partitions.now }
+    requires path { path.now ≡ partitions_path name.now }
+    ensures { OnOk result (znodes.new.items ≡ znodes.old.items ++ flat_map (partition_znodes name.now) partitions.now) }
+{
+    for partition in partitions {
+        push_partition(alloc, znodes, name, path, partition)?;
+    }
+    Ok(())
+}
+
+// Adds the znode of a topic's configuration, where it isn't empty.
+#[tactic(auto, unfolding(kz_spec_values::specs::Bodies::written))]
+fn push_topic_config(
+    alloc: Global,
+    znodes: &mut Vec<Rendered>,
+    name: &Text,
+    pairs: &[Pair],
+) -> Result<(), NoMemory>
+    requires { is_topic_name name.now ≡ true }
+    ensures { OnOk result (znodes.new.items ≡ znodes.old.items ++ topic_config_znodes name.now pairs.now) }
+{
+    if pairs.is_empty() {
+        return Ok(());
+    }
+    let path = topic_config_path(alloc, name)?;
+    let text = config_text(alloc, pairs)?;
+    push_znode(znodes, path, text.into_bytes())
+}
+
+// Adds the znodes of a topic, of its partitions and of its configuration.
+fn push_topic(alloc: Global, znodes: &mut Vec<Rendered>, topic: &TopicEntry) -> Result<(), NoMemory>
+    requires named { is_topic_name topic.now.name ≡ true }
+    requires partitions { All IsPartition topic.now.partitions }
+    ensures { OnOk result (znodes.new.items ≡ znodes.old.items ++ topic_znodes topic.now) }
+{
+    let name = &topic.name;
+    let path = partitions_path(alloc, name)?;
+    let partitions = topic.partitions.as_slice();
+    push_topic_znode(alloc, znodes, topic)?;
+    push_partitions(alloc, znodes, name, &path, partitions)?;
+    push_topic_config(alloc, znodes, name, topic.pairs.as_slice())
+}
+
+/// Adds the znodes of all topics.
+pub fn push_topics(
+    alloc: Global,
+    znodes: &mut Vec<Rendered>,
+    topics: &[TopicEntry],
+) -> Result<(), NoMemory>
+    requires { All IsTopic topics.now }
+    ensures { OnOk result (znodes.new.items ≡ znodes.old.items ++ flat_map topic_znodes topics.now) }
+{
+    for topic in topics {
+        push_topic(alloc, znodes, topic)?;
+    }
+    Ok(())
+}
