@@ -1,15 +1,24 @@
-//! The records of a broker's configuration.
-ghost use Rattle.std.specs.Prelude.{◌≡◌, IfOk, Ok, map, string_bytes};
+//! The records of a configuration.
+ghost use Rattle.std.specs.Prelude.{◌≡◌, pos, IfOk, map, string_bytes};
 ghost use Rattle.std.specs.Fmt.{signed_decimal};
-ghost use Rattle.kz_types.specs.declared.key.EntityKey.TheVariants.{BrokerConfig};
-ghost use Rattle.kz_spec_values.specs.Bodies.{read_body};
-ghost use Rattle.kz_spec_znodes.specs.Translation.{broker_name, config_record, config_records, records_of_config};
+ghost use Rattle.kz_types.specs.declared.key.EntityKey.TheVariants.{Topic};
+ghost use Rattle.kz_ordered.specs.Order.{bytes_cmp};
+ghost use Rattle.kz_ordered.specs.Ordered.{Rises};
+ghost use Rattle.kz_spec_stores.specs.Tree.{path_of_row};
+ghost use Rattle.kz_spec_znodes.specs.Translation.{row_of, broker_name, config_record, config_records, records_of_config, records_if_there};
 
-use kz_json::read_config;
+use crate::found::topic_row;
 use kz_types::{
-    Body, BodyFault, ConfigRecord, Duplicate, MetaRecord, NoMemory, Pair, ReadWhy, Sequence, Text,
+    Body, BodyFault, ConfigRecord, Duplicate, MetaRecord, NoMemory, Pair, ReadWhy, Row, Sequence,
+    Text,
 };
 use std::alloc::Global;
+
+/// The code of a topic as a resource.
+const TOPIC: i8 = 2;
+
+/// The code of a broker as a resource.
+const BROKER: i8 = 4;
 
 // The text of an id.
 fn id_text(alloc: Global, id: i32) -> Result<String, NoMemory>
@@ -29,12 +38,17 @@ fn broker_name(alloc: Global, broker: Option<i32>) -> Result<Text, NoMemory>
 }
 
 // The record of a member of a configuration.
-fn config_record(alloc: Global, broker: Option<i32>, pair: &Pair) -> Result<MetaRecord, NoMemory>
-    ensures { IfOk result (λ made. made ≡ config_record broker pair.now) }
+fn config_record(
+    alloc: Global,
+    resource: i8,
+    name: &Text,
+    pair: &Pair,
+) -> Result<MetaRecord, NoMemory>
+    ensures { IfOk result (λ made. made ≡ config_record resource name.now pair.now) }
 {
     Ok(MetaRecord::Config(ConfigRecord {
-        resource_type: 4,
-        resource_name: broker_name(alloc, broker)?,
+        resource_type: resource,
+        resource_name: name.copy(alloc)?,
         name: pair.name.copy(alloc)?,
         value: Some(pair.value.copy(alloc)?),
     }))
@@ -42,14 +56,15 @@ fn config_record(alloc: Global, broker: Option<i32>, pair: &Pair) -> Result<Meta
 
 fn member_records(
     alloc: Global,
-    broker: Option<i32>,
+    resource: i8,
+    name: &Text,
     pairs: &[Pair],
 ) -> Result<Sequence<MetaRecord>, NoMemory>
-    ensures { IfOk result (λ records. records ≡ map (config_record broker) pairs.now) }
+    ensures { IfOk result (λ records. records ≡ map (config_record resource name.now) pairs.now) }
 {
     let mut records = Sequence::new(alloc);
     for pair in pairs {
-        records.push(config_record(alloc, broker, pair)?)?;
+        records.push(config_record(alloc, resource, name, pair)?)?;
     }
     Ok(records)
 }
@@ -57,32 +72,62 @@ fn member_records(
 // The members rise, so an empty name comes first.
 fn config_records(
     alloc: Global,
-    broker: Option<i32>,
+    resource: i8,
+    name: &Text,
     pairs: &[Pair],
 ) -> Result<Result<Sequence<MetaRecord>, ReadWhy>, NoMemory>
-    ensures { IfOk result (λ records. records ≡ config_records broker pairs.now) }
+    ensures { IfOk result (λ records. records ≡ config_records resource name.now pairs.now) }
 {
     match pairs {
         [first, ..] if first.name.bytes().is_empty() => {
             let name = first.name.copy(alloc)?;
             Ok(Err(ReadWhy::Body(BodyFault::UnknownKey { name })))
         }
-        _ => Ok(Ok(member_records(alloc, broker, pairs)?)),
+        _ => Ok(Ok(member_records(alloc, resource, name, pairs)?)),
     }
 }
 
-/// The records of a broker's configuration of this body, or why it can't be read.
-pub fn records_of_body(
+// The records of the configuration of a resource with this name, or why there are none.
+fn records_of_config(
+    alloc: Global,
+    resource: i8,
+    name: &Text,
+    read: Result<Body, BodyFault>,
+) -> Result<Result<Sequence<MetaRecord>, ReadWhy>, NoMemory>
+    ensures { IfOk result (λ records. records ≡ records_of_config resource name.now read) }
+{
+    match read {
+        Ok(Body::Config { pairs }) => config_records(alloc, resource, name, pairs.as_slice()),
+        Ok(_) => Ok(Ok(Sequence::new(alloc))),
+        Err(fault) => Ok(Err(ReadWhy::Body(fault))),
+    }
+}
+
+/// The records of the configuration of a broker, or of all, or why there are none.
+pub fn records_of_broker(
     alloc: Global,
     broker: Option<i32>,
-    bytes: &[u8],
+    read: Result<Body, BodyFault>,
 ) -> Result<Result<Sequence<MetaRecord>, ReadWhy>, NoMemory>
-    ensures { IfOk result (λ records. records ≡ records_of_config broker (read_body (BrokerConfig broker) bytes.now)) }
+    ensures { IfOk result (λ records. records ≡ records_of_config (pos 4) (broker_name broker) read) }
 {
-    match read_config(alloc, bytes) {
-        Ok(Body::Config { pairs }) => config_records(alloc, broker, pairs.as_slice()),
-        Ok(_) => Ok(Ok(Sequence::new(alloc))),
-        Err(BodyFault::NoMemory) => Err(NoMemory),
-        Err(fault) => Ok(Err(ReadWhy::Body(fault))),
+    let name = broker_name(alloc, broker)?;
+    records_of_config(alloc, BROKER, &name, read)
+}
+
+/// The records of the configuration of a topic, or why there are none. That of a topic without a znode is left over from
+/// a topic that was removed.
+pub fn records_if_there(
+    alloc: Global,
+    rows: &[Row],
+    name: &Text,
+    read: Result<Body, BodyFault>,
+) -> Result<Result<Sequence<MetaRecord>, ReadWhy>, NoMemory>
+    requires { Rises bytes_cmp path_of_row rows.now }
+    ensures { IfOk result (λ records. records ≡ records_if_there (row_of (Topic name.now) rows.now) name.now read) }
+{
+    match topic_row(alloc, rows, name.as_str())? {
+        Some(_) => records_of_config(alloc, TOPIC, name, read),
+        None => Ok(Ok(Sequence::new(alloc))),
     }
 }

@@ -1,17 +1,20 @@
 //! The records of all znodes.
-ghost use Rattle.std.specs.Prelude.{◌≡◌, IfOk, OnOk, IfErr, Ok, Err, MatchOption};
+ghost use Rattle.std.specs.Prelude.{◌≡◌, IfOk, IfErr, Ok, Err, MatchOption};
+ghost use Rattle.kz_ordered.specs.Order.{bytes_cmp};
+ghost use Rattle.kz_ordered.specs.Ordered.{Rises};
+ghost use Rattle.kz_spec_stores.specs.Tree.{path_of_row};
 ghost use Rattle.kz_spec_stores.specs.Image.{all_applied, empty_image};
 ghost use Rattle.kz_spec_stores.specs.Log.{max_epoch};
 ghost use Rattle.kz_spec_znodes.specs.Rendering.{render, excess};
-ghost use Rattle.kz_spec_znodes.specs.Translation.{Translated, row_records, joined, all_records, bounded, translate};
+ghost use Rattle.kz_spec_znodes.specs.Translation.{bounded, translate};
 ghost use Rattle.kz_types.specs.declared.fault.ReadWhy.TheVariants.{Over};
-ghost use Rattle.kz_reader.specs.Faults.{IsReadFault, IsRowFault, after_records};
+ghost use Rattle.kz_reader.specs.Faults.{IsReadFault};
 
 use crate::fault::ReadFault;
-use crate::rows::row_records;
+use crate::reading::all_records;
 use kz_image::Image;
 use kz_render::{Excess, first_excess, render, whole_path};
-use kz_types::{Duplicate, MetaRecord, NoMemory, ReadWhy, Rendered, Row, ZPath};
+use kz_types::{MetaRecord, NoMemory, ReadWhy, Rendered, Row};
 use std::alloc::Global;
 
 /// The records beside the translated ones that the limit leaves room for.
@@ -19,46 +22,6 @@ const FURTHER_RECORDS: usize = 4;
 
 /// The most records of a log.
 const MAX_RECORDS: usize = 1_000_000;
-
-// The znode of this path can't be translated.
-fn untranslatable(alloc: Global, path: &ZPath, why: ReadWhy) -> ReadFault
-    ensures { IsReadFault (Err (record { path = path.now; why = why })) result }
-{
-    match path.copy(alloc) {
-        Ok(path) => ReadFault::Untranslatable { path, why },
-        Err(NoMemory) => ReadFault::NoMemory,
-    }
-}
-
-// Adds the records of a znode.
-fn push_row(alloc: Global, records: &mut Vec<MetaRecord>, row: &Row) -> Result<(), ReadFault>
-    ensures ok { OnOk result ((rest : Translated) → after_records records.old.items (joined row.now.path (row_records row.now) rest) ≡ after_records records.new.items rest) }
-    ensures err { IfErr result (IsRowFault row.now) }
-{
-    match row_records(alloc, row) {
-        Ok(Ok(more)) => {
-            let mut more = more.into_vec();
-            match records.append(&mut more) {
-                Ok(()) => Ok(()),
-                Err(_) => Err(ReadFault::NoMemory),
-            }
-        }
-        Ok(Err(why)) => Err(untranslatable(alloc, &row.path, why)),
-        Err(NoMemory) => Err(ReadFault::NoMemory),
-    }
-}
-
-// The records of these znodes, or the first that can't be translated.
-fn all_records(alloc: Global, rows: &[Row]) -> Result<Vec<MetaRecord>, ReadFault>
-    ensures ok { IfOk result (λ made. all_records rows.now ≡ Ok made.items) }
-    ensures err { IfErr result (IsReadFault (all_records rows.now)) }
-{
-    let mut records = Vec::new(alloc);
-    for row in rows {
-        push_row(alloc, &mut records, row)?;
-    }
-    Ok(records)
-}
 
 // The znodes of the metadata that these records make.
 fn rendered(alloc: Global, records: &[MetaRecord]) -> Result<Vec<Rendered>, NoMemory>
@@ -87,13 +50,23 @@ fn passed_limit(alloc: Global, records: &[MetaRecord]) -> Result<Option<Excess>,
     }
 }
 
-/// The records of the znodes of the migrated area, which are given in path order.
+/// The records of the znodes of the migrated area, which are given in path order: topics with their partitions, the
+/// configurations of topics and brokers, quotas and credentials, access control entries with new ids, and the block of
+/// producer ids behind the last that was given out.
+///
+/// The leader and the replicas in sync of a partition are those of its state, with its data version as the partition's
+/// epoch; where it has no state, its first replica leads. The configuration of a topic and the state of a partition
+/// that aren't there are passed over.
+///
+/// # Errors
 ///
 /// `Untranslatable` names the first znode that can't be translated, and why: one that isn't migrated though it stands in
-/// the migrated area, or a body that can't be read. Where each can be, it names the first limit that all of them pass: 2, 3
-/// and 6 of the znodes that the records would be rendered as, and 7 where the log would have no room for them.
+/// the migrated area, a body that can't be read or doesn't fit its partition, or a topic with the id of an earlier one.
+/// Where each can be, it names the first limit that all of them pass: 2, 3 and 6 of the znodes that the records would be
+/// rendered as, and 7 where the log would have no room for them. `NoMemory`, at any time: memory ran out.
 #[tactic(auto, unfolding(kz_spec_znodes::specs::Translation::translate))]
 pub fn translate(alloc: Global, rows: &[Row]) -> Result<Vec<MetaRecord>, ReadFault>
+    requires rising { Rises bytes_cmp path_of_row rows.now }
     ensures ok { IfOk result (λ records. translate rows.now ≡ Ok records.items) }
     ensures err { IfErr result (IsReadFault (translate rows.now)) }
 {

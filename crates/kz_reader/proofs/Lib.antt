@@ -1,0 +1,6 @@
+pub mod IdSets
+pub mod OneMore
+pub mod NoKey
+pub mod NextRow
+pub mod BodyKinds
+pub mod Keeping

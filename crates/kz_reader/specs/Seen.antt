@@ -1,0 +1,54 @@
+-- What is known of the znodes that were read.
+use Rattle.std.specs.Prelude.{◌≡◌, ⊤, ℕ, Bool, false, List, [], Option, Some, None, option_and_then, take, Ok, Err}
+use Rattle.std.specs.BTreeSet.{BTreeSet, contains}
+use Rattle.kz_types.specs.declared.id.Id.{Id}
+use Rattle.kz_types.specs.declared.tree.Row.{Row}
+use Rattle.kz_types.specs.declared.bodies.Body.{Body}
+use Rattle.kz_types.specs.declared.bodies.Body.TheVariants as body
+use Rattle.kz_types.specs.declared.key.EntityKey.TheVariants.{Topic}
+use Rattle.kz_types.specs.declared.kind.Kind.{Kind}
+use Rattle.kz_types.specs.declared.kind.Kind.TheVariants as kind
+use Rattle.kz_types.specs.declared.fault.ReadWhy.TheVariants as why
+use Rattle.kz_ordered.specs.Order.{bytes_cmp}
+use Rattle.kz_spec_znodes.specs.Translation.{RowRecords, body_of_row, row_of, assignments_in, is_taken, entries_in, count_of_entries}
+use Rattle.kz_spec_stores.specs.Metadata.{same_id}
+use Rattle.kz_reader.specs.declared.assignments.Assignments.{Assignments}
+use Rattle.kz_reader.specs.declared.seen.Note.{Note}
+use Rattle.kz_reader.specs.declared.seen.Seen.{Seen}
+
+-- these are the assignments of their topic
+abbrev pub IsOf : List Row → Assignments → Type 0
+IsOf rows a = a.partitions ≡ assignments_in (option_and_then body_of_row (row_of (Topic a.topic) rows))
+
+-- where there are assignments, they are those of their topic
+abbrev pub IsOfIfAny : List Row → Option Assignments → Type 0
+IsOfIfAny rows None = ⊤
+IsOfIfAny rows (Some a) = IsOf rows a
+
+-- whether an id is among these
+abbrev pub is_among : BTreeSet (List ℕ) → Id → Bool
+is_among ids id = contains bytes_cmp ids id.bytes
+
+-- whether there is an id, and it is this one
+abbrev pub is_this : Id → Option Id → Bool
+is_this other None = false
+is_this other (Some id) = same_id other id
+
+-- the id of a topic
+abbrev pub id_in : Option Body → Option Id
+id_in (Some (body.Topic id partitions)) = Some id
+id_in b = None
+
+-- what a body adds to what is known
+abbrev pub note_of : Option Body → Note
+note_of b = record { id = id_in b; entries = entries_in b }
+
+-- what is known is so of the first of these znodes
+pub record HasSeen (rows : List Row) (seen : Seen) : Type 0 where
+  pub ids : (id : Id) → is_among seen.ids id ≡ is_taken id (take seen.done rows)
+  pub entries : seen.entries ≡ count_of_entries (take seen.done rows)
+
+-- the records of a znode of this kind that is no entity's
+abbrev pub records_without_key : Kind → RowRecords
+records_without_key kind.Stray = Err why.Stray
+records_without_key k = Ok []
