@@ -5,7 +5,8 @@ use Rattle.kz_types.proofs.OnLiterals.{values_on_literals}
 use Rattle.kz_spec_lines.specs.Ops.{op_of}
 use Rattle.kz_spec_lines.specs.Records.{record_of}
 use Rattle.kz_spec_lines.specs.Events.{line_event}
-use Rattle.kz_spec_lines.specs.Written.{record_data, written_event}
+use Rattle.kz_spec_lines.specs.WrittenRecords.{record_data}
+use Rattle.kz_spec_lines.specs.Written.{written_event}
 use Rattle.kz_spec_lines.specs.Replies.{reply_lines, summary_line}
 
 unfoldable pub lines_on_literals : ⊤
