@@ -55,15 +55,15 @@ with_ints name ns ms = put name (ints_data ns) ms
 -- ---- tagged fields, which are left out at their default
 
 -- a whole number, by default this one
-abbrev pub with_tagged_whole : List ℕ → ℤ → ℤ → Members → Members
+unfoldable pub with_tagged_whole : List ℕ → ℤ → ℤ → Members → Members
 with_tagged_whole name default n ms = if int_eq n default then ms else with_whole name n ms
 
 -- a list of whole numbers, by default null
-abbrev pub with_tagged_ints : List ℕ → Option (List ℤ) → Members → Members
+unfoldable pub with_tagged_ints : List ℕ → Option (List ℤ) → Members → Members
 with_tagged_ints name None ms = ms
 with_tagged_ints name (Some ns) ms = with_ints name ns ms
 
 -- a text, by default null
-abbrev pub with_tagged_text : List ℕ → Option (List ℕ) → Members → Members
+unfoldable pub with_tagged_text : List ℕ → Option (List ℕ) → Members → Members
 with_tagged_text name None ms = ms
 with_tagged_text name (Some text) ms = with_text name text ms

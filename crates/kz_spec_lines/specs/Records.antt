@@ -10,27 +10,42 @@ use Rattle.kz_spec_lines.specs.BrokerRecords.{register_broker_of, config_of, pro
 use Rattle.kz_spec_lines.specs.UserRecords.{user_scram_credential_of, remove_user_scram_credential_of, client_quota_of, access_control_entry_of, remove_access_control_entry_of}
 use Rattle.kz_spec_lines.specs.LogRecords.{no_op_of, zk_migration_state_of, begin_transaction_of, end_transaction_of, abort_transaction_of}
 
--- the records by their names
-abbrev pub record_forms : List (List ℕ × (Data → Option MetaRecord))
-record_forms =
-    (codes "RegisterBroker", register_broker_of)
-    ∷ (codes "Topic", topic_of)
-    ∷ (codes "Partition", partition_of)
-    ∷ (codes "Config", config_of)
-    ∷ (codes "PartitionChange", partition_change_of)
-    ∷ (codes "RemoveTopic", remove_topic_of)
-    ∷ (codes "UserScramCredential", user_scram_credential_of)
-    ∷ (codes "ClientQuota", client_quota_of)
-    ∷ (codes "ProducerIds", producer_ids_of)
-    ∷ (codes "AccessControlEntry", access_control_entry_of)
-    ∷ (codes "RemoveAccessControlEntry", remove_access_control_entry_of)
-    ∷ (codes "NoOp", no_op_of)
+-- the records of the migration and of transactions, by their names
+unfoldable pub log_forms : List (List ℕ × (Data → Option MetaRecord))
+log_forms =
+    (codes "NoOp", no_op_of)
     ∷ (codes "ZkMigrationState", zk_migration_state_of)
-    ∷ (codes "RemoveUserScramCredential", remove_user_scram_credential_of)
     ∷ (codes "BeginTransaction", begin_transaction_of)
     ∷ (codes "EndTransaction", end_transaction_of)
     ∷ (codes "AbortTransaction", abort_transaction_of)
     ∷ []
+
+-- those of users and clients, and the ones above
+unfoldable pub user_forms : List (List ℕ × (Data → Option MetaRecord))
+user_forms =
+    (codes "UserScramCredential", user_scram_credential_of)
+    ∷ (codes "ClientQuota", client_quota_of)
+    ∷ (codes "AccessControlEntry", access_control_entry_of)
+    ∷ (codes "RemoveAccessControlEntry", remove_access_control_entry_of)
+    ∷ (codes "RemoveUserScramCredential", remove_user_scram_credential_of)
+    ∷ log_forms
+
+-- those of topics, and the ones above
+unfoldable pub topic_forms : List (List ℕ × (Data → Option MetaRecord))
+topic_forms =
+    (codes "Topic", topic_of)
+    ∷ (codes "Partition", partition_of)
+    ∷ (codes "PartitionChange", partition_change_of)
+    ∷ (codes "RemoveTopic", remove_topic_of)
+    ∷ user_forms
+
+-- all records by their names
+abbrev pub record_forms : List (List ℕ × (Data → Option MetaRecord))
+record_forms =
+    (codes "RegisterBroker", register_broker_of)
+    ∷ (codes "Config", config_of)
+    ∷ (codes "ProducerIds", producer_ids_of)
+    ∷ topic_forms
 
 -- the record that a JSON value is
 unfoldable pub record_of : Data → Option MetaRecord

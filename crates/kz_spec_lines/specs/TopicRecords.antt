@@ -1,6 +1,7 @@
 -- Records of topics and their partitions, as a script writes them.
-use Rattle.std.specs.Prelude.{◌==◌, pos, negsuc, Option, Some, None, if◌then◌else◌, codes}
+use Rattle.std.specs.Prelude.{ℤ, List, ◌==◌, pos, negsuc, Option, Some, None, if◌then◌else◌, codes}
 use Rattle.serde_json.specs.Data.{Data}
+use Rattle.kz_types.specs.declared.id.Id.{Id}
 use Rattle.kz_types.specs.declared.record.MetaRecord.{MetaRecord}
 use Rattle.kz_types.specs.declared.record.MetaRecord.TheVariants.{Topic, Partition, PartitionChange, RemoveTopic}
 use Rattle.kz_spec_lines.specs.Json.{member_count, text_member}
@@ -14,8 +15,17 @@ topic_of d = if member_count d == 3
     Some (Topic (record { name = name; topic_id = topic })))
     else None
 
--- `kind`, `partitionId`, `topicId`, the lists `replicas`, `isr`, `removing` and `adding`, `leader`, `leaderEpoch` and
--- `partitionEpoch`; `recovery` may be absent, which is 0
+-- a partition with these lists of brokers: `leader`, `leaderEpoch` and `partitionEpoch`; `recovery` may be absent, which
+-- is 0
+unfoldable pub partition_with : ℤ → Id → (replicas isr removing adding : List ℤ) → Data → Option MetaRecord
+partition_with partition topic replicas isr removing adding d =
+    field (codes "leader") int32 d >>= λ leader.
+    tagged (codes "recovery") (pos 0) int8 d >>= λ recovery.
+    field (codes "leaderEpoch") int32 d >>= λ leader_epoch.
+    field (codes "partitionEpoch") int32 d >>= λ partition_epoch.
+    Some (Partition (record { partition_id = partition; topic_id = topic; replicas = replicas; isr = isr; removing = removing; adding = adding; leader = leader; recovery = recovery; leader_epoch = leader_epoch; partition_epoch = partition_epoch }))
+
+-- `kind`, `partitionId`, `topicId`, the lists `replicas`, `isr`, `removing` and `adding`, and the rest
 abbrev pub partition_of : Data → Option MetaRecord
 partition_of d = if member_count d == tagged_count (codes "recovery") d 10
     then (field (codes "partitionId") int32 d >>= λ partition.
@@ -24,11 +34,7 @@ partition_of d = if member_count d == tagged_count (codes "recovery") d 10
     field (codes "isr") ints d >>= λ isr.
     field (codes "removing") ints d >>= λ removing.
     field (codes "adding") ints d >>= λ adding.
-    field (codes "leader") int32 d >>= λ leader.
-    tagged (codes "recovery") (pos 0) int8 d >>= λ recovery.
-    field (codes "leaderEpoch") int32 d >>= λ leader_epoch.
-    field (codes "partitionEpoch") int32 d >>= λ partition_epoch.
-    Some (Partition (record { partition_id = partition; topic_id = topic; replicas = replicas; isr = isr; removing = removing; adding = adding; leader = leader; recovery = recovery; leader_epoch = leader_epoch; partition_epoch = partition_epoch })))
+    partition_with partition topic replicas isr removing adding d)
     else None
 
 -- `kind`, `partitionId` and `topicId`; each other may be absent: the lists `isr`, `replicas`, `removing` and `adding`,
