@@ -1,3 +1,5 @@
 mod Base64
 mod Json
+mod Floats
+mod PlainRecords
 mod Plain

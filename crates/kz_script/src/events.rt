@@ -1,12 +1,11 @@
 //! The events that lines are.
 ghost use Rattle.std.specs.Prelude.{◌≡◌, ◌∷◌, [], IfOk, None, Some, Err};
 ghost use Rattle.serde_json.specs.View.{view, items_view};
-ghost use Rattle.kz_spec_lines.specs.Events.{controller_of, now_of, timed_count, only_id, quorum_of, start_of, elect_of, turn_of, is_changeable, changeable_of, records_in, change_of, register_of, check_of, session_of, open_of, expire_of, ops_in, zk_of, event_of, line_event};
+ghost use Rattle.kz_spec_lines.specs.Events.{controller_of, now_of, timed_count, only_id, quorum_of, start_of, elect_of, turn_of, records_in, change_of, register_of, check_of, session_of, open_of, expire_of, ops_in, zk_of, event_of, line_event};
 
 use crate::fault::LineFault;
 use crate::members::{id_of, member_count, read_json, text_member, time_of};
-use crate::open::open_op_of;
-use crate::ops::session_in;
+use crate::ops::{op_of, session_in};
 use crate::records::record_of;
 use kz_types::{Event, MetaRecord, NoMemory, Op, Sequence};
 use serde_json::Value;
@@ -94,38 +93,13 @@ fn turn_of(value: &Value) -> Option<Event>
     Some(Event::Turn { controller, now })
 }
 
-// Whether a change may hold a record: one of the configuration of brokers.
-fn is_changeable(item: &MetaRecord) -> bool
-    ensures { result ≡ is_changeable item.now }
-{
-    match item {
-        MetaRecord::Config(config) => config.resource_type == 4,
-        _ => false,
-    }
-}
-
-fn changeable_of(alloc: Global, value: &Value) -> Result<Option<MetaRecord>, NoMemory>
-    ensures { IfOk result (λ made. made ≡ changeable_of (view value.now)) }
-{
-    match record_of(alloc, value)? {
-        Some(record) => {
-            if is_changeable(&record) {
-                Ok(Some(record))
-            } else {
-                Ok(None)
-            }
-        }
-        None => Ok(None),
-    }
-}
-
-// The records of a list, or `None` where one of them is none that a change may hold.
+// The records of a list, or `None` where one of them is none.
 fn records_in(alloc: Global, values: &[Value]) -> Result<Option<Sequence<MetaRecord>>, NoMemory>
     ensures { IfOk result (λ records. records ≡ records_in (items_view values.now)) }
 {
     let mut records = Sequence::new(alloc);
     for value in values {
-        match changeable_of(alloc, value)? {
+        match record_of(alloc, value)? {
             Some(record) => records.push(record)?,
             None => return Ok(None),
         }
@@ -218,7 +192,7 @@ fn ops_in(alloc: Global, values: &[Value]) -> Result<Option<Sequence<Op>>, NoMem
 {
     let mut ops = Sequence::new(alloc);
     for value in values {
-        match open_op_of(alloc, value)? {
+        match op_of(alloc, value)? {
             Some(op) => ops.push(op)?,
             None => return Ok(None),
         }

@@ -1,14 +1,20 @@
 //! Reads and writes the lines of a script, and writes the lines that the program prints.
 #![tactic(auto)]
 
+mod brokers;
+mod entries;
 mod events;
 mod fault;
+mod fields;
 mod members;
-mod open;
 mod ops;
+mod puts;
 mod records;
 mod replies;
 mod statuses;
+mod topics;
+mod transactions;
+mod users;
 mod written;
 
 pub use events::read_event;

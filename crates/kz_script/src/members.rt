@@ -1,13 +1,11 @@
 //! JSON values and their members.
-ghost use Rattle.std.specs.Prelude.{◌≡◌, IfOk, OnOk, ℤ, option_and_then, option_map, pos, negsuc};
-ghost use Rattle.serde_json.specs.View.{view, members_view};
-ghost use Rattle.kz_spec_lines.specs.Written.{with_text, with_whole};
+ghost use Rattle.std.specs.Prelude.{◌≡◌, IfOk, option_map};
+ghost use Rattle.serde_json.specs.View.{view};
 ghost use Rattle.kz_spec_lines.specs.Json.{json_of, member_count, whole_up_to, text_or_null, text_member};
-ghost use Rattle.kz_spec_lines.specs.Records.{signed_byte};
 ghost use Rattle.kz_spec_lines.specs.Events.{id_of, time_of};
 
 use kz_types::NoMemory;
-use serde_json::{Map, Value};
+use serde_json::Value;
 use std::alloc::Global;
 
 /// The JSON value of a line, or `None` where it is none.
@@ -65,18 +63,6 @@ pub fn time_of(value: Option<&Value>) -> Option<i64>
     }
 }
 
-/// A whole number of a signed byte.
-pub fn signed_byte(value: &Value) -> Option<i8>
-    ensures { result ≡ signed_byte (view value.now) }
-{
-    let number = value.as_i64()?;
-    if number >= -128 && number <= 127 {
-        Some(number as i8)
-    } else {
-        None
-    }
-}
-
 /// A text or null.
 pub fn text_or_null(value: &Value) -> Option<Option<&str>>
     ensures { option_map (λ o. option_map (λ t. t.now) o) result ≡ text_or_null (view value.now) }
@@ -93,31 +79,4 @@ pub fn text_member<'a>(value: &'a Value, name: &str) -> Option<&'a str>
     ensures { option_map (λ t. t.now) result ≡ text_member name.now (view value.now) }
 {
     value.get(name).and_then(Value::as_str)
-}
-
-/// Puts a member that is a text.
-pub fn put_text(
-    members: &mut Map<String, Value>,
-    alloc: Global,
-    name: &str,
-    text: &str,
-) -> Result<(), NoMemory>
-    ensures { OnOk result (members_view members.new.entries ≡ with_text name.now text.now (members_view members.old.entries)) }
-{
-    let value = Value::String(String::from_str(alloc, text)?);
-    serde_json::put(members, alloc, name, value)?;
-    Ok(())
-}
-
-/// Puts a member that is a whole number.
-pub fn put_whole(
-    members: &mut Map<String, Value>,
-    alloc: Global,
-    name: &str,
-    number: i64,
-) -> Result<(), NoMemory>
-    ensures { OnOk result (members_view members.new.entries ≡ with_whole name.now number (members_view members.old.entries)) }
-{
-    serde_json::put(members, alloc, name, Value::from(number))?;
-    Ok(())
 }

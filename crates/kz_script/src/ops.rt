@@ -1,13 +1,10 @@
 //! Operations of a ZooKeeper multi, as a script writes them.
 ghost use Rattle.std.specs.Prelude.{◌≡◌, IfOk, Some, None, option_map};
-ghost use Rattle.base64.specs.Engines.{standard};
-ghost use Rattle.base64.specs.GeneralPurpose.{decoded_of};
 ghost use Rattle.serde_json.specs.View.{view};
 ghost use Rattle.kz_spec_lines.specs.Ops.{session_in, path_in, version_in, body_by, body_in, owner_by, bodied_count, create_of, set_of, delete_of, check_of, op_of};
 
+use crate::fields::bytes;
 use crate::members::{member_count, text_member};
-use base64::DecodeAllocError;
-use base64::engine::general_purpose::STANDARD;
 use kz_types::{NoMemory, Op, PathFault, Sequence, ZPath};
 use serde_json::Value;
 use std::alloc::Global;
@@ -59,26 +56,6 @@ fn text_body(alloc: Global, value: &Value) -> Result<Option<Sequence<u8>>, NoMem
     Ok(Some(Sequence::from_vec(Vec::from_slice(alloc, text.as_bytes())?)))
 }
 
-// The bytes that base64 with its padding spells, where it spells them as they are written.
-fn decoded(alloc: Global, text: &[u8]) -> Result<Option<Sequence<u8>>, NoMemory>
-    ensures { IfOk result (λ bytes. bytes ≡ decoded_of standard text.now) }
-{
-    match STANDARD.decode(alloc, text) {
-        Ok(bytes) => Ok(Some(Sequence::from_vec(bytes))),
-        Err(DecodeAllocError::DecodeError(_)) => Ok(None),
-        Err(DecodeAllocError::OutOfMemory) => Err(NoMemory),
-    }
-}
-
-fn bytes_body(alloc: Global, value: &Value) -> Result<Option<Sequence<u8>>, NoMemory>
-    ensures { IfOk result (λ body. body ≡ body_by None (Some (view value.now))) }
-{
-    match value.as_str() {
-        Some(text) => decoded(alloc, text.as_bytes()),
-        None => Ok(None),
-    }
-}
-
 // The body: `text`, or `bytes` in base64 with its padding, or nothing.
 fn body_in(alloc: Global, value: &Value) -> Result<Option<Sequence<u8>>, NoMemory>
     ensures { IfOk result (λ body. body ≡ body_in (view value.now)) }
@@ -86,7 +63,7 @@ fn body_in(alloc: Global, value: &Value) -> Result<Option<Sequence<u8>>, NoMemor
     match (value.get("text"), value.get("bytes")) {
         (None, None) => Ok(Some(Sequence::new(alloc))),
         (Some(text), None) => text_body(alloc, text),
-        (None, Some(bytes)) => bytes_body(alloc, bytes),
+        (None, Some(coded)) => bytes(alloc, coded),
         (Some(_), Some(_)) => Ok(None),
     }
 }

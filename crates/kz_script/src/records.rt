@@ -1,48 +1,92 @@
 //! Records of the metadata log, as a script writes them.
-ghost use Rattle.std.specs.Prelude.{◌≡◌, IfOk, Some, None, Err, option_map};
+ghost use Rattle.std.specs.Prelude.{◌≡◌, IfOk, Some, None, Err};
 ghost use Rattle.serde_json.specs.View.{view, members_view};
-ghost use Rattle.kz_spec_lines.specs.Records.{config_of, record_of};
-ghost use Rattle.kz_spec_lines.specs.Written.{text_or_null_data, config_members, record_data};
+ghost use Rattle.kz_spec_lines.specs.Json.{by_name};
+ghost use Rattle.kz_spec_lines.specs.Records.{log_forms, user_forms, topic_forms, record_forms, record_of};
+ghost use Rattle.kz_spec_lines.specs.WrittenRecords.{members_of_record, record_data};
 
+use crate::brokers::{
+    config_members, config_of, producer_ids_members, producer_ids_of, register_broker_members,
+    register_broker_of,
+};
+use crate::entries::{
+    access_control_entry_members, access_control_entry_of, remove_access_control_entry_members,
+    remove_access_control_entry_of,
+};
 use crate::fault::LineFault;
-use crate::members::{member_count, put_text, put_whole, signed_byte, text_member, text_or_null};
-use kz_types::{ConfigRecord, MetaRecord, NoMemory, Text};
+use crate::members::text_member;
+use crate::puts::kind_member;
+use crate::topics::{
+    partition_change_members, partition_change_of, partition_members, partition_of,
+    remove_topic_members, remove_topic_of, topic_members, topic_of,
+};
+use crate::transactions::{
+    abort_transaction_members, abort_transaction_of, begin_transaction_members,
+    begin_transaction_of, end_transaction_of, no_op_of, zk_migration_state_members,
+    zk_migration_state_of,
+};
+use crate::users::{
+    client_quota_members, client_quota_of, remove_user_scram_credential_members,
+    remove_user_scram_credential_of, user_scram_credential_members, user_scram_credential_of,
+};
+use kz_types::{MetaRecord, NoMemory};
 use serde_json::{Map, Value};
 use std::alloc::Global;
 
-fn nullable_text(alloc: Global, text: Option<&str>) -> Result<Option<Text>, NoMemory>
-    ensures { IfOk result (λ made. made ≡ option_map (λ t. t.now) text.entry) }
+// The record of this name that a value is, of those of the migration and of transactions.
+#[tactic(auto, unfolding(kz_spec_lines::specs::Records::log_forms))]
+fn log_record_of(alloc: Global, kind: &str, value: &Value) -> Result<Option<MetaRecord>, NoMemory>
+    ensures { IfOk result (λ made. made ≡ by_name log_forms kind.now (view value.now)) }
 {
-    match text {
-        Some(text) => Ok(Some(Text::from_str(alloc, text)?)),
-        None => Ok(None),
+    match kind {
+        "NoOp" => Ok(no_op_of(value)),
+        "ZkMigrationState" => Ok(zk_migration_state_of(value)),
+        "BeginTransaction" => begin_transaction_of(alloc, value),
+        "EndTransaction" => Ok(end_transaction_of(value)),
+        "AbortTransaction" => abort_transaction_of(alloc, value),
+        _ => Ok(None),
     }
 }
 
-fn config_of(alloc: Global, value: &Value) -> Result<Option<MetaRecord>, NoMemory>
-    ensures { IfOk result (λ made. made ≡ config_of (view value.now)) }
+// The same, also of those of users and clients.
+#[tactic(auto, unfolding(kz_spec_lines::specs::Records::user_forms))]
+fn user_record_of(alloc: Global, kind: &str, value: &Value) -> Result<Option<MetaRecord>, NoMemory>
+    ensures { IfOk result (λ made. made ≡ by_name user_forms kind.now (view value.now)) }
 {
-    if member_count(value) != 5 {
-        return Ok(None);
+    match kind {
+        "UserScramCredential" => user_scram_credential_of(alloc, value),
+        "ClientQuota" => client_quota_of(alloc, value),
+        "AccessControlEntry" => access_control_entry_of(alloc, value),
+        "RemoveAccessControlEntry" => Ok(remove_access_control_entry_of(value)),
+        "RemoveUserScramCredential" => remove_user_scram_credential_of(alloc, value),
+        _ => log_record_of(alloc, kind, value),
     }
-    let Some(resource_type) = value.get("resourceType").and_then(signed_byte) else {
-        return Ok(None);
-    };
-    let Some(resource_name) = text_member(value, "resourceName") else {
-        return Ok(None);
-    };
-    let Some(name) = text_member(value, "name") else {
-        return Ok(None);
-    };
-    let Some(set_to) = value.get("value").and_then(text_or_null) else {
-        return Ok(None);
-    };
-    Ok(Some(MetaRecord::Config(ConfigRecord {
-        resource_type,
-        resource_name: Text::from_str(alloc, resource_name)?,
-        name: Text::from_str(alloc, name)?,
-        value: nullable_text(alloc, set_to)?,
-    })))
+}
+
+// The same, also of those of topics.
+#[tactic(auto, unfolding(kz_spec_lines::specs::Records::topic_forms))]
+fn topic_record_of(alloc: Global, kind: &str, value: &Value) -> Result<Option<MetaRecord>, NoMemory>
+    ensures { IfOk result (λ made. made ≡ by_name topic_forms kind.now (view value.now)) }
+{
+    match kind {
+        "Topic" => topic_of(alloc, value),
+        "Partition" => partition_of(alloc, value),
+        "PartitionChange" => partition_change_of(alloc, value),
+        "RemoveTopic" => Ok(remove_topic_of(value)),
+        _ => user_record_of(alloc, kind, value),
+    }
+}
+
+// The record of this name that a value is, or `None` where it is none.
+fn named_record_of(alloc: Global, kind: &str, value: &Value) -> Result<Option<MetaRecord>, NoMemory>
+    ensures { IfOk result (λ made. made ≡ by_name record_forms kind.now (view value.now)) }
+{
+    match kind {
+        "RegisterBroker" => register_broker_of(alloc, value),
+        "Config" => config_of(alloc, value),
+        "ProducerIds" => Ok(producer_ids_of(value)),
+        _ => topic_record_of(alloc, kind, value),
+    }
 }
 
 /// The record that a JSON value is, or `None` where it is none.
@@ -50,16 +94,14 @@ fn config_of(alloc: Global, value: &Value) -> Result<Option<MetaRecord>, NoMemor
 pub fn record_of(alloc: Global, value: &Value) -> Result<Option<MetaRecord>, NoMemory>
     ensures { IfOk result (λ made. made ≡ record_of (view value.now)) }
 {
-    let Some(kind) = text_member(value, "kind") else {
-        return Ok(None);
-    };
-    match kind {
-        "Config" => config_of(alloc, value),
-        _ => Ok(None),
+    match text_member(value, "kind") {
+        Some(kind) => named_record_of(alloc, kind, value),
+        None => Ok(None),
     }
 }
 
-/// The record that a JSON value is, as lines have records.
+/// The record that a JSON value is, as lines have records: an object with the record's name as `kind` and exactly its
+/// fields (KIP-631, KIP-868, KIP-866), of which tagged ones may be absent, which is their default.
 ///
 /// `BadLine`: it is none. `NoMemory`: memory ran out.
 pub fn read_item(alloc: Global, value: &Value) -> Result<MetaRecord, LineFault>
@@ -73,45 +115,41 @@ pub fn read_item(alloc: Global, value: &Value) -> Result<MetaRecord, LineFault>
     }
 }
 
-fn text_or_null_value(alloc: Global, text: &Option<Text>) -> Result<Value, NoMemory>
-    ensures { IfOk result (λ value. view value ≡ text_or_null_data text.now) }
+fn members_of_record(alloc: Global, item: &MetaRecord) -> Result<Map<String, Value>, NoMemory>
+    ensures { IfOk result (λ members. members_view members.entries ≡ members_of_record item.now) }
 {
-    match text {
-        Some(text) => Ok(Value::String(String::from_str(alloc, text.as_str())?)),
-        None => Ok(Value::Null),
+    match item {
+        MetaRecord::RegisterBroker(broker) => register_broker_members(alloc, broker),
+        MetaRecord::Topic(topic) => topic_members(alloc, topic),
+        MetaRecord::Partition(partition) => partition_members(alloc, partition),
+        MetaRecord::Config(config) => config_members(alloc, config),
+        MetaRecord::PartitionChange(change) => partition_change_members(alloc, change),
+        MetaRecord::RemoveTopic { topic_id } => remove_topic_members(alloc, topic_id),
+        MetaRecord::UserScramCredential(credential) => user_scram_credential_members(
+            alloc, credential,
+        ),
+        MetaRecord::ClientQuota(quota) => client_quota_members(alloc, quota),
+        MetaRecord::ProducerIds(ids) => producer_ids_members(alloc, ids),
+        MetaRecord::AccessControlEntry(entry) => access_control_entry_members(alloc, entry),
+        MetaRecord::RemoveAccessControlEntry { id } => remove_access_control_entry_members(
+            alloc, id,
+        ),
+        MetaRecord::NoOp => kind_member(alloc, "NoOp"),
+        MetaRecord::ZkMigrationState { state } => zk_migration_state_members(alloc, *state),
+        MetaRecord::RemoveUserScramCredential { name, mechanism } => {
+            remove_user_scram_credential_members(alloc, name, *mechanism)
+        }
+        MetaRecord::BeginTransaction { name } => begin_transaction_members(alloc, name),
+        MetaRecord::EndTransaction => kind_member(alloc, "EndTransaction"),
+        MetaRecord::AbortTransaction { reason } => abort_transaction_members(alloc, reason),
     }
 }
 
-fn config_members(alloc: Global, config: &ConfigRecord) -> Result<Map<String, Value>, NoMemory>
-    ensures { IfOk result (λ members. members_view members.entries ≡ config_members config.now) }
-{
-    let set_to = text_or_null_value(alloc, &config.value)?;
-    let mut members: Map<String, Value> = Map::new(alloc);
-    put_text(&mut members, alloc, "kind", "Config")?;
-    put_text(&mut members, alloc, "name", config.name.as_str())?;
-    put_text(
-        &mut members,
-        alloc,
-        "resourceName",
-        config.resource_name.as_str(),
-    )?;
-    put_whole(
-        &mut members,
-        alloc,
-        "resourceType",
-        config.resource_type as i64,
-    )?;
-    serde_json::put(&mut members, alloc, "value", set_to)?;
-    Ok(members)
-}
-
-/// A record as a JSON value, as lines have records. One that lines can't hold yet is null.
-#[tactic(auto, unfolding(kz_spec_lines::specs::Written::record_data))]
+/// A record as a JSON value, as lines have records. Tagged fields are left out at their default; the value of a quota is
+/// `value`, its text, or `whole` and `micros` where no text is this value.
+#[tactic(auto, unfolding(kz_spec_lines::specs::WrittenRecords::record_data))]
 pub fn write_item(alloc: Global, item: &MetaRecord) -> Result<Value, NoMemory>
     ensures { IfOk result (λ value. view value ≡ record_data item.now) }
 {
-    match item {
-        MetaRecord::Config(config) => Ok(Value::Object(config_members(alloc, config)?)),
-        _ => Ok(Value::Null),
-    }
+    Ok(Value::Object(members_of_record(alloc, item)?))
 }

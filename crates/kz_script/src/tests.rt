@@ -114,8 +114,8 @@ static LINES: [(&[u8], &str); 19] = [
         r#"{"event":"zk","ops":[{"op":"delete","path":"/controller","version":0},{"op":"check","path":"/migration","version":1},{"op":"set","path":"/a","text":"b","version":0}]}"#,
     ),
     (
-        b"{\"event\":\"zk\",\"ops\":[{\"op\":\"create\",\"path\":\"/config/brokers/<default>\",\"text\":\"\"},{\"op\":\"create\",\"path\":\"/config/brokers/0\"},{\"op\":\"create\",\"path\":\"/kafka-acl/Group\"},{\"op\":\"create\",\"path\":\"/latest_producer_id_block\",\"bytes\":\"\"}]}",
-        r#"{"event":"zk","ops":[{"op":"create","path":"/config/brokers/<default>"},{"op":"create","path":"/config/brokers/0"},{"op":"create","path":"/kafka-acl/Group"},{"op":"create","path":"/latest_producer_id_block"}]}"#,
+        b"{\"event\":\"zk\",\"ops\":[{\"op\":\"create\",\"path\":\"/config/brokers/<default>\",\"text\":\"\"},{\"op\":\"create\",\"path\":\"/config/brokers/0\"},{\"op\":\"create\",\"path\":\"/kafka-acl/Group\"},{\"op\":\"create\",\"path\":\"/latest_producer_id_block\",\"bytes\":\"\"},{\"op\":\"create\",\"path\":\"/config/topics/t\",\"text\":\"{}\"}]}",
+        r#"{"event":"zk","ops":[{"op":"create","path":"/config/brokers/<default>"},{"op":"create","path":"/config/brokers/0"},{"op":"create","path":"/kafka-acl/Group"},{"op":"create","path":"/latest_producer_id_block"},{"op":"create","path":"/config/topics/t","text":"{}"}]}"#,
     ),
 ];
 
@@ -158,8 +158,8 @@ static BAD_LINES: [&[u8]; 50] = [
     b"{\"event\":\"quorum\",\"ids\":[2147483648]}",
     b"{\"event\":\"change\",\"controller\":1,\"records\":[]}",
     b"{\"event\":\"change\",\"controller\":1,\"records\":{}}",
-    b"{\"event\":\"change\",\"controller\":1,\"records\":[{\"kind\":\"NoOp\"}]}",
-    b"{\"event\":\"change\",\"controller\":1,\"records\":[{\"kind\":\"Config\",\"resourceType\":4,\"resourceName\":\"1\",\"name\":\"a\",\"value\":null},{\"kind\":\"NoOp\"}]}",
+    b"{\"event\":\"change\",\"controller\":1,\"records\":[{\"kind\":\"Nop\"}]}",
+    b"{\"event\":\"change\",\"controller\":1,\"records\":[{\"kind\":\"Config\",\"resourceType\":4,\"resourceName\":\"1\",\"name\":\"a\",\"value\":null},{\"kind\":\"NoOp\",\"name\":null}]}",
     b"{\"event\":\"register\",\"controller\":1,\"broker\":1}",
     b"{\"event\":\"register\",\"controller\":1,\"broker\":1,\"migrating\":1}",
     b"{\"event\":\"register\",\"controller\":1,\"broker\":1,\"migrating\":\"true\"}",
@@ -186,32 +186,46 @@ fn other_lines_are_bad(rt: HostRuntime) {
     }
 }
 
-static BAD_CONFIGS: [&str; 6] = [
-    "\"resourceType\":4,\"resourceName\":\"1\",\"name\":\"a\"",
-    "\"resourceType\":4,\"resourceName\":\"1\",\"name\":\"a\",\"value\":1",
-    "\"resourceType\":4,\"resourceName\":\"1\",\"name\":\"a\",\"value\":\"1\",\"x\":0",
-    "\"resourceType\":2,\"resourceName\":\"1\",\"name\":\"a\",\"value\":\"1\"",
-    "\"resourceType\":260,\"resourceName\":\"1\",\"name\":\"a\",\"value\":\"1\"",
-    "\"resourceType\":4,\"resourceName\":1,\"name\":\"a\",\"value\":\"1\"",
+static BAD_RECORDS: [&str; 20] = [
+    "\"Config\",\"resourceType\":4,\"resourceName\":\"1\",\"name\":\"a\"",
+    "\"Config\",\"resourceType\":4,\"resourceName\":\"1\",\"name\":\"a\",\"value\":1",
+    "\"Config\",\"resourceType\":4,\"resourceName\":\"1\",\"name\":\"a\",\"value\":\"1\",\"x\":0",
+    "\"Config\",\"resourceType\":260,\"resourceName\":\"1\",\"name\":\"a\",\"value\":\"1\"",
+    "\"Config\",\"resourceType\":4,\"resourceName\":1,\"name\":\"a\",\"value\":\"1\"",
+    "\"config\",\"resourceType\":4,\"resourceName\":\"1\",\"name\":\"a\",\"value\":\"1\"",
+    "\"ZkMigrationState\",\"state\":-129",
+    "\"ZkMigrationState\",\"state\":1.0",
+    "\"RemoveTopic\",\"topicId\":\"y3IYK2HR4KbPLcUQjJR0Rw==\"",
+    "\"RemoveTopic\",\"topicId\":\"y3IYK2HR4KbPLcUQjJR0Rx\"",
+    "\"RemoveTopic\",\"topicId\":null",
+    "\"PartitionChange\",\"partitionId\":2147483648,\"topicId\":\"y3IYK2HR4KbPLcUQjJR0Rw\"",
+    "\"PartitionChange\",\"partitionId\":0,\"topicId\":\"y3IYK2HR4KbPLcUQjJR0Rw\",\"leader\":null",
+    "\"PartitionChange\",\"partitionId\":0,\"topicId\":\"y3IYK2HR4KbPLcUQjJR0Rw\",\"isr\":[null]",
+    "\"ProducerIds\",\"brokerId\":0,\"brokerEpoch\":0,\"next\":9223372036854775808",
+    "\"BeginTransaction\",\"reason\":null",
+    "\"ClientQuota\",\"entity\":[],\"key\":\"k\",\"remove\":false,\"whole\":0,\"micros\":999999",
+    "\"ClientQuota\",\"entity\":[],\"key\":\"k\",\"remove\":false,\"whole\":-1,\"value\":\"1\"",
+    "\"ClientQuota\",\"entity\":[{\"kind\":\"user\"}],\"key\":\"k\",\"remove\":false,\"value\":\"1\"",
+    "\"UserScramCredential\",\"name\":\"u\",\"mechanism\":1,\"salt\":\"zA\",\"storedKey\":\"\",\"serverKey\":\"\",\"iterations\":1",
 ];
 
-// A `change` with a configuration of these members.
-fn change_line(alloc: Global, members: &str) -> Result<String, AllocError> {
+// A `change` with a record of this name and these members.
+fn change_line(alloc: Global, record: &str) -> Result<String, AllocError> {
     format!(in alloc;
-        "{{\"event\":\"change\",\"controller\":1,\"records\":[{{\"kind\":\"Config\",{members}}}]}}"
+        "{{\"event\":\"change\",\"controller\":1,\"records\":[{{\"kind\":{record}}}]}}"
     )
 }
 
 #[test]
-fn other_configurations_are_bad(rt: HostRuntime) {
+fn other_records_are_bad(rt: HostRuntime) {
     let alloc = rt.alloc();
-    for members in &BAD_CONFIGS {
-        let line = made(&rt, change_line(alloc, members));
+    for record in &BAD_RECORDS {
+        let line = made(&rt, change_line(alloc, record));
         assert!(rt; is_read_as(&rt, alloc, line.as_bytes(), "bad"));
     }
 }
 
-static BAD_OPS: [&str; 28] = [
+static BAD_OPS: [&str; 21] = [
     "\"op\":\"get\",\"path\":\"/a\"",
     "\"op\":\"create\"",
     "\"op\":\"create\",\"path\":\"a\"",
@@ -233,13 +247,6 @@ static BAD_OPS: [&str; 28] = [
     "\"op\":\"delete\",\"path\":\"/a\",\"version\":0,\"text\":\"\"",
     "\"op\":\"check\",\"path\":\"/a\"",
     "\"op\":\"check\",\"path\":\"/a\",\"version\":1e0",
-    "\"op\":\"create\",\"path\":\"/config/brokers/01\"",
-    "\"op\":\"create\",\"path\":\"/config/brokers/2147483648\"",
-    "\"op\":\"create\",\"path\":\"/config/topics/t\"",
-    "\"op\":\"delete\",\"path\":\"/config/users/u\",\"version\":0",
-    "\"op\":\"check\",\"path\":\"/kafka-acl/Topic/t\",\"version\":0",
-    "\"op\":\"create\",\"path\":\"/latest_producer_id_block\",\"text\":\"a\"",
-    "\"op\":\"set\",\"path\":\"/latest_producer_id_block\",\"bytes\":\"/w==\",\"version\":0",
 ];
 
 // A multi of one operation of these members.
@@ -278,17 +285,51 @@ fn a_line_nests_at_most_127_deep(rt: HostRuntime) {
     }
 }
 
-const ITEM: &str =
-    r#"{"kind":"Config","name":"a","resourceName":"t","resourceType":2,"value":"\""}"#;
+// A record of each name, as it is written.
+static ITEMS: [&str; 27] = [
+    r#"{"brokerEpoch":-9223372036854775808,"brokerId":1,"endpoints":[{"host":"","name":"<default>","port":0,"protocol":20029}],"features":[],"fenced":true,"inShutdown":false,"incarnation":"n8ANoI0kqSRqkMlXrm2y3Q","kind":"RegisterBroker","migrating":true,"rack":null}"#,
+    r#"{"kind":"Topic","name":"<default>","topicId":"uOBLcj282uwPdlnDnouTWQ"}"#,
+    r#"{"adding":[],"isr":[],"kind":"Partition","leader":0,"leaderEpoch":1,"partitionEpoch":-2147483648,"partitionId":0,"removing":[-1],"replicas":[],"topicId":"y3IYK2HR4KbPLcUQjJR0Rw"}"#,
+    r#"{"adding":[],"isr":[],"kind":"Partition","leader":-1991385077,"leaderEpoch":-2147450880,"partitionEpoch":-1994696194,"partitionId":0,"recovery":1,"removing":[-1],"replicas":[1],"topicId":"1ZE-zbBrDBtsYiHOgLVs_Q"}"#,
+    r#"{"kind":"Config","name":"orders","resourceName":"\"\\\n\t\u0001~","resourceType":0,"value":null}"#,
+    r#"{"adding":[],"isr":[2147483647],"kind":"PartitionChange","leader":1,"partitionId":-812714267,"topicId":"puwl02HA1pqziBSGfm1oLg"}"#,
+    r#"{"kind":"RemoveTopic","topicId":"F4onqyf_-CtheOFZwoVtSg"}"#,
+    r#"{"iterations":0,"kind":"UserScramCredential","mechanism":127,"name":"orders","salt":"q5d8NUPfHQBHaPzKQe///Q==","serverKey":"","storedKey":"rUtU2OTOac/51JuXKlPDtw=="}"#,
+    r#"{"entity":[{"kind":"ip","name":"1.2.3.4"}],"key":"","kind":"ClientQuota","remove":true,"value":"9223372036854775807"}"#,
+    r#"{"entity":[{"kind":"user","name":null}],"key":"user","kind":"ClientQuota","micros":2147483647,"remove":false,"whole":0}"#,
+    r#"{"entity":[{"kind":"other","name":"chient-id"},{"kind":"user","name":"u"}],"key":"client-id","kind":"ClientQuota","micros":2147483647,"remove":false,"whole":-9223372036854775808}"#,
+    r#"{"brokerEpoch":0,"brokerId":0,"kind":"ProducerIds","next":1}"#,
+    r#"{"host":"orders","id":"Vdl5COooXCZRM9in6HvN4Q","kind":"AccessControlEntry","operation":5,"patternType":-1,"permission":0,"principal":"client-id","resourceName":"client-id","resourceType":127}"#,
+    r#"{"id":"OTHxflQvrJHUlD2AMFl8MA","kind":"RemoveAccessControlEntry"}"#,
+    r#"{"kind":"NoOp"}"#,
+    r#"{"kind":"ZkMigrationState","state":-1}"#,
+    r#"{"kind":"RemoveUserScramCredential","mechanism":-128,"name":"orders"}"#,
+    r#"{"kind":"BeginTransaction"}"#,
+    r#"{"kind":"BeginTransaction","name":"ZK Migration"}"#,
+    r#"{"kind":"EndTransaction"}"#,
+    r#"{"kind":"AbortTransaction"}"#,
+    r#"{"kind":"AbortTransaction","reason":"a"}"#,
+    "{\"brokerEpoch\":1,\"brokerId\":0,\"endpoints\":[],\"features\":[{\"max\":32767,\"min\":-32768,\"name\":\"\u{20ac}\"},{\"max\":32767,\"min\":32767,\"name\":\"\u{20ac}\"}],\"fenced\":true,\"inShutdown\":true,\"incarnation\":\"tcof63bQPOBdBZjD4Xp7eQ\",\"kind\":\"RegisterBroker\",\"migrating\":false,\"rack\":null}",
+    "{\"kind\":\"PartitionChange\",\"leader\":-1505092173,\"partitionId\":-2147483648,\"recovery\":-128,\"removing\":[-2147483648,-94534014,0],\"topicId\":\"Exhd-EOvftVFa9WPg7VavA\"}",
+    "{\"adding\":[],\"kind\":\"PartitionChange\",\"partitionId\":2147483647,\"recovery\":127,\"replicas\":[-2147483648],\"topicId\":\"RTUAaNksbXdBg3jX1f5kdA\"}",
+    "{\"entity\":[{\"kind\":\"user\",\"name\":null}],\"key\":\"\u{20ac}\",\"kind\":\"ClientQuota\",\"remove\":false,\"value\":\"9223372036854775807.000001\"}",
+    "{\"entity\":[{\"kind\":\"user\",\"name\":\"u\"},{\"kind\":\"client-id\",\"name\":null}],\"key\":\"\u{1f600}\",\"kind\":\"ClientQuota\",\"micros\":-2147483648,\"remove\":false,\"whole\":-9223372036854775808}",
+];
+
+// Whether a JSON text is read as a record that is written so.
+fn is_kept(rt: &impl Abort, alloc: Global, text: &str) -> bool {
+    let value = made(rt, Value::from_slice(alloc, text.as_bytes()));
+    let item = made(rt, read_item(alloc, &value));
+    let written = made(rt, write_item(alloc, &item));
+    let bytes = made(rt, written.to_vec(alloc));
+    bytes.as_slice() == text.as_bytes()
+}
 
 #[test]
-fn a_record_is_read_and_written(rt: HostRuntime) {
-    let alloc = rt.alloc();
-    let value = made(&rt, Value::from_slice(alloc, ITEM.as_bytes()));
-    let item = made(&rt, read_item(alloc, &value));
-    let written = made(&rt, write_item(alloc, &item));
-    let text = made(&rt, written.to_vec(alloc));
-    assert!(rt; text.as_slice() == ITEM.as_bytes());
+fn records_are_read_and_written(rt: HostRuntime) {
+    for item in &ITEMS {
+        assert!(rt; is_kept(&rt, rt.alloc(), item));
+    }
 }
 
 // A step of each kind; the last two print nothing.

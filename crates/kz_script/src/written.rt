@@ -1,16 +1,15 @@
 //! Events, written as lines.
 ghost use Rattle.std.specs.Prelude.{◌≡◌, IfOk, OnOk, MatchOption, map, true, false, codes, string_bytes};
 ghost use Rattle.std.specs.Str.{is_utf8};
-ghost use Rattle.base64.specs.Engines.{standard};
-ghost use Rattle.base64.specs.GeneralPurpose.{encode_of};
 ghost use Rattle.serde_json.specs.Data.{boolean, object, array, put};
 ghost use Rattle.serde_json.specs.View.{view, members_view, items_of};
 ghost use Rattle.serde_json.specs.Written.{compact_text, has_float};
-ghost use Rattle.kz_spec_lines.specs.Written.{whole_data, with_whole, event_members, controller_members, with_now, with_body, with_owner, op_members, op_data, record_data, members_of_event, written_event};
+ghost use Rattle.kz_spec_lines.specs.Members.{with_whole};
+ghost use Rattle.kz_spec_lines.specs.WrittenRecords.{record_data};
+ghost use Rattle.kz_spec_lines.specs.Written.{event_members, controller_members, with_now, with_body, with_owner, op_members, op_data, members_of_event, written_event};
 
-use crate::members::{put_text, put_whole};
+use crate::puts::{ints_value, put_bytes, put_text, put_whole};
 use crate::records::write_item;
-use base64::engine::general_purpose::STANDARD;
 use kz_types::{Event, MetaRecord, NoMemory, Op, ZPath};
 use serde_json::{Map, Value};
 use std::alloc::Global;
@@ -66,17 +65,6 @@ fn session_members(alloc: Global, name: &str, session: i64) -> Result<Map<String
     Ok(members)
 }
 
-// The items of a list of ids.
-fn id_values(alloc: Global, ids: &[i32]) -> Result<Value, NoMemory>
-    ensures { IfOk result (λ value. view value ≡ array (items_of (map whole_data ids.now))) }
-{
-    let mut values = Vec::new(alloc);
-    for id in ids {
-        values.push(Value::from(*id as i64))?;
-    }
-    Ok(Value::Array(values))
-}
-
 fn record_values(alloc: Global, records: &[MetaRecord]) -> Result<Value, NoMemory>
     ensures { IfOk result (λ value. view value ≡ array (items_of (map record_data records.now))) }
 {
@@ -97,13 +85,6 @@ fn text_of(body: &[u8]) -> Option<&str>
     }
 }
 
-// Bytes in base64 with its padding.
-fn encoded(alloc: Global, bytes: &[u8]) -> Result<String, NoMemory>
-    ensures { IfOk result (λ text. string_bytes text ≡ encode_of standard bytes.now) }
-{
-    Ok(STANDARD.encode(alloc, bytes)?)
-}
-
 // Puts a body, unless it is empty.
 fn put_body(members: &mut Map<String, Value>, alloc: Global, body: &[u8]) -> Result<(), NoMemory>
     ensures { OnOk result (members_view members.new.entries ≡ with_body body.now (members_view members.old.entries)) }
@@ -113,10 +94,7 @@ fn put_body(members: &mut Map<String, Value>, alloc: Global, body: &[u8]) -> Res
     }
     match text_of(body) {
         Some(text) => put_text(members, alloc, "text", text),
-        None => {
-            let bytes = encoded(alloc, body)?;
-            put_text(members, alloc, "bytes", bytes.as_str())
-        }
+        None => put_bytes(members, alloc, "bytes", body),
     }
 }
 
@@ -269,7 +247,7 @@ fn members_of_event(alloc: Global, event: &Event) -> Result<Map<String, Value>, 
 {
     match event {
         Event::Quorum { ids } => {
-            let ids = id_values(alloc, ids.as_slice())?;
+            let ids = ints_value(alloc, ids.as_slice())?;
             list_members(alloc, "quorum", "ids", ids)
         }
         Event::Start { controller } => controller_members(alloc, "start", *controller),
@@ -315,7 +293,7 @@ fn value_text(alloc: Global, value: &Value) -> Result<Vec<u8>, NoMemory>
 
 /// The line of an event, without its end: compact JSON, with the members of an object in the order of their names'
 /// bytes. `now` is left out where it is 0, and the body of an operation where it is empty; a body that isn't UTF-8 is
-/// written in base64. A record that lines can't hold yet is written as null.
+/// written in base64.
 #[tactic(auto, unfolding(kz_spec_lines::specs::Written::written_event), using(crate::proofs::Plain::event_no_float))]
 pub fn write_event(alloc: Global, event: &Event) -> Result<Vec<u8>, NoMemory>
     ensures { IfOk result (λ line. line.items ≡ written_event event.now) }

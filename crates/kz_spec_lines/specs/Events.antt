@@ -1,20 +1,11 @@
 -- Which event a line of a script is: a JSON object with the event's name as `event`, and exactly its members.
-use Rattle.std.specs.Prelude.{ℕ, Bool, true, false, not, ◌&&◌, ◌||◌, ◌==◌, ℤ, pos, List, [], ◌∷◌, length, Option, Some, None, option_map, option_and_then, is_some, if◌then◌else◌, codes}
-use Rattle.std.specs.Ordering.{int_eq}
-use Rattle.std.specs.Str.{bytes_eq}
+use Rattle.std.specs.Prelude.{ℕ, ◌==◌, ℤ, pos, List, [], ◌∷◌, Option, Some, None, option_map, option_and_then, if◌then◌else◌, codes}
 use Rattle.serde_json.specs.Data.{Data, Items, no_items, item}
 use Rattle.serde_json.specs.Find.{get, as_array, as_bool}
 use Rattle.kz_types.specs.declared.machine.Event.{Event}
 use Rattle.kz_types.specs.declared.machine.Event.TheVariants.{Quorum, Start, Elect, Turn, Register, Change, Check, ZkOpen, ZkExpire, Zk}
-use Rattle.kz_types.specs.declared.record.ConfigRecord.{ConfigRecord}
 use Rattle.kz_types.specs.declared.record.MetaRecord.{MetaRecord}
-use Rattle.kz_types.specs.declared.record.MetaRecord.TheVariants.{Config}
-use Rattle.kz_types.specs.Numbers.{canonical}
-use Rattle.kz_types.specs.Paths.{roots, is_among, is_migrated, key_of}
-use Rattle.kz_types.specs.declared.key.EntityKey.{EntityKey}
-use Rattle.kz_types.specs.declared.key.EntityKey.TheVariants.{Topic, Partition, TopicConfig, BrokerConfig, Client, User, UserClient, Ip, Acl, Producer}
 use Rattle.kz_types.specs.declared.tree.Op.{Op}
-use Rattle.kz_types.specs.declared.tree.Op.TheVariants as op
 use Rattle.kz_spec_lines.specs.Ops.{session_in, op_of}
 use Rattle.kz_spec_lines.specs.Json.{json_of, member_count, count_with, whole_up_to, text_member, by_name}
 use Rattle.kz_spec_lines.specs.Records.{record_of}
@@ -69,19 +60,10 @@ turn_of d = if member_count d == timed_count 2 d
     then option_and_then (λ c. option_map (λ t. Turn c t) (now_of d)) (controller_of d)
     else None
 
--- a record that a change may hold: one of the configuration of brokers
-abbrev pub is_changeable : MetaRecord → Bool
-is_changeable (Config c) = int_eq c.resource_type (pos 4)
-is_changeable r = false
-
--- the record that a JSON value is, where a change may hold it
-abbrev pub changeable_of : Data → Option MetaRecord
-changeable_of d = option_and_then (λ r. if is_changeable r then Some r else None) (record_of d)
-
 -- the records in a list
 abbrev pub records_in : Items → Option (List MetaRecord)
 records_in no_items = Some []
-records_in (item d ds) = option_and_then (λ r. option_map (λ rs. r ∷ rs) (records_in ds)) (changeable_of d)
+records_in (item d ds) = option_and_then (λ r. option_map (λ rs. r ∷ rs) (records_in ds)) (record_of d)
 
 -- at least one
 abbrev pub some_records : List MetaRecord → Option (List MetaRecord)
@@ -120,41 +102,10 @@ open_of d = if member_count d == 2 then option_map (λ s. ZkOpen s) (session_of 
 abbrev pub expire_of : Data → Option Event
 expire_of d = if member_count d == 2 then option_map (λ s. ZkExpire s) (session_of d) else None
 
--- the key of the configuration of a broker, or of all
-abbrev pub is_broker_key : Option EntityKey → Bool
-is_broker_key None = false
-is_broker_key (Some (BrokerConfig broker)) = true
-is_broker_key (Some (Topic name)) = false
-is_broker_key (Some (Partition topic number)) = false
-is_broker_key (Some (TopicConfig name)) = false
-is_broker_key (Some (Client client)) = false
-is_broker_key (Some (User user)) = false
-is_broker_key (Some (UserClient user client)) = false
-is_broker_key (Some (Ip address)) = false
-is_broker_key (Some (Acl pattern kind name)) = false
-is_broker_key (Some Producer) = false
-
--- a path outside of the migrated area, a root, or the znode of a broker's configuration: others aren't taken yet
-abbrev pub is_open_path : List ℕ → Bool
-is_open_path path = not (is_migrated path) || is_among roots path || is_broker_key (key_of path)
-
--- the block of producer ids has no data yet
-abbrev pub is_open_body : List ℕ → List ℕ → Bool
-is_open_body path body = not (bytes_eq path (codes "/latest_producer_id_block")) || (length body == 0)
-
-abbrev pub is_open_op : Op → Bool
-is_open_op (op.Create path body owner) = is_open_path path && is_open_body path body
-is_open_op (op.Set path body version) = is_open_path path && is_open_body path body
-is_open_op (op.Delete path version) = is_open_path path
-is_open_op (op.Check path version) = is_open_path path
-
-abbrev pub open_op_of : Data → Option Op
-open_op_of d = option_and_then (λ o. if is_open_op o then Some o else None) (op_of d)
-
 -- the operations in a list
 abbrev pub ops_in : Items → Option (List Op)
 ops_in no_items = Some []
-ops_in (item d ds) = option_and_then (λ o. option_map (λ os. o ∷ os) (ops_in ds)) (open_op_of d)
+ops_in (item d ds) = option_and_then (λ o. option_map (λ os. o ∷ os) (ops_in ds)) (op_of d)
 
 -- at least one
 abbrev pub some_ops : List Op → Option Event

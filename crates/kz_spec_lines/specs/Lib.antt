@@ -1,8 +1,15 @@
 pub mod Lines
 pub mod Json
+pub mod Fields
+pub mod TopicRecords
+pub mod BrokerRecords
+pub mod UserRecords
+pub mod LogRecords
 pub mod Records
 pub mod Ops
 pub mod Events
+pub mod Members
+pub mod WrittenRecords
 pub mod Written
 pub mod Replies
 pub mod Statuses

@@ -2,33 +2,17 @@
 use Rattle.std.specs.Prelude.{ℕ, ◌==◌, ℤ, pos, List, length, map, Option, Some, None, if◌then◌else◌, codes}
 use Rattle.std.specs.Ordering.{int_eq}
 use Rattle.std.specs.Str.{is_utf8}
-use Rattle.serde_json.specs.Data.{boolean, Data, null, number, string, array, object, Members, no_members, put}
-use Rattle.serde_json.specs.Find.{of_integer}
+use Rattle.serde_json.specs.Data.{boolean, Data, array, object, Members, no_members, put}
 use Rattle.serde_json.specs.View.{items_of}
 use Rattle.serde_json.specs.Written.{compact_text}
-use Rattle.base64.specs.Engines.{standard}
-use Rattle.base64.specs.GeneralPurpose.{encode_of}
 use Rattle.kz_types.specs.declared.machine.Event.{Event}
 use Rattle.kz_types.specs.declared.machine.Event.TheVariants.{Quorum, Start, Elect, Turn, Register, Change, Check, ZkOpen, ZkExpire, Zk}
-use Rattle.kz_types.specs.declared.record.ConfigRecord.{ConfigRecord}
-use Rattle.kz_types.specs.declared.record.MetaRecord.{MetaRecord}
-use Rattle.kz_types.specs.declared.record.MetaRecord.TheVariants.{Config}
 use Rattle.kz_types.specs.declared.tree.Op.{Op}
 use Rattle.kz_types.specs.declared.tree.Op.TheVariants as op
+use Rattle.kz_spec_lines.specs.Members.{whole_data, with_text, with_whole, with_bytes}
+use Rattle.kz_spec_lines.specs.WrittenRecords.{record_data}
 
 -- ---- members
-
--- a whole number
-abbrev pub whole_data : ℤ → Data
-whole_data n = number (of_integer n)
-
--- members and one more, a text
-abbrev pub with_text : List ℕ → List ℕ → Members → Members
-with_text name text ms = put name (string text) ms
-
--- members and one more, a whole number
-abbrev pub with_whole : List ℕ → ℤ → Members → Members
-with_whole name n ms = put name (whole_data n) ms
 
 -- the members of an event of this name, before others are put
 abbrev pub event_members : List ℕ → Members
@@ -42,23 +26,6 @@ controller_members name controller = with_whole (codes "controller") controller 
 abbrev pub with_now : ℤ → Members → Members
 with_now now ms = if int_eq now (pos 0) then ms else with_whole (codes "now") now ms
 
--- ---- records
-
--- a text, or null
-abbrev pub text_or_null_data : Option (List ℕ) → Data
-text_or_null_data None = null
-text_or_null_data (Some text) = string text
-
-abbrev pub config_members : ConfigRecord → Members
-config_members c =
-    put (codes "value") (text_or_null_data c.value) (with_whole (codes "resourceType") c.resource_type
-    (with_text (codes "resourceName") c.resource_name (with_text (codes "name") c.name (with_text (codes "kind") (codes "Config") no_members))))
-
--- A record as a JSON value. One that lines can't hold yet is null.
-unfoldable pub record_data : MetaRecord → Data
-record_data (Config c) = object (config_members c)
-record_data r = null
-
 -- ---- operations
 
 -- members and a body: as `text` where it is UTF-8, else in base64 as `bytes`; an empty one is left out
@@ -66,7 +33,7 @@ abbrev pub with_body : List ℕ → Members → Members
 with_body body ms =
     if length body == 0 then ms
     else if is_utf8 body then with_text (codes "text") body ms
-    else with_text (codes "bytes") (encode_of standard body) ms
+    else with_bytes (codes "bytes") body ms
 
 -- members and an owner, if there is one
 abbrev pub with_owner : Option ℤ → Members → Members

@@ -18,13 +18,15 @@ pub fn sessions()
     ensures extra { line_event (codes "{\"event\":\"zk-open\",\"session\":1,\"now\":0}") ≡ None }
 {}
 
-/// Multis: each operation, each form of a body, and paths of each kind that is taken.
+/// Multis: each operation, each form of a body, and paths inside and outside of the migrated area.
 #[tactic(auto, unfolding(crate::proofs::OnLiterals::lines_on_literals))]
 pub fn multis()
     ensures several { line_event (codes "{\"event\":\"zk\",\"ops\":[{\"op\":\"create\",\"path\":\"/a\",\"text\":\"b\",\"owner\":7},{\"op\":\"set\",\"path\":\"/config/brokers/1\",\"bytes\":\"/w==\",\"version\":-1},{\"op\":\"delete\",\"path\":\"/controller\",\"version\":0},{\"op\":\"check\",\"path\":\"/config/topics\",\"version\":2147483647}]}")
         ≡ Some (Zk (Create (codes "/a") (codes "b") (Some (pos 7)) ∷ Set (codes "/config/brokers/1") (255 ∷ []) (negsuc 0) ∷ Delete (codes "/controller") (pos 0) ∷ Check (codes "/config/topics") (pos 2147483647) ∷ [])) }
     ensures empty { line_event (codes "{\"event\":\"zk\",\"ops\":[{\"op\":\"create\",\"path\":\"/config/brokers/<default>\"},{\"op\":\"set\",\"path\":\"/latest_producer_id_block\",\"text\":\"\",\"version\":0}]}")
         ≡ Some (Zk (Create (codes "/config/brokers/<default>") [] None ∷ Set (codes "/latest_producer_id_block") [] (pos 0) ∷ [])) }
+    ensures migrated { line_event (codes "{\"event\":\"zk\",\"ops\":[{\"op\":\"create\",\"path\":\"/brokers/topics/t\"},{\"op\":\"create\",\"path\":\"/config/brokers/01\"},{\"op\":\"create\",\"path\":\"/latest_producer_id_block\",\"text\":\"1\"}]}")
+        ≡ Some (Zk (Create (codes "/brokers/topics/t") [] None ∷ Create (codes "/config/brokers/01") [] None ∷ Create (codes "/latest_producer_id_block") (codes "1") None ∷ [])) }
 {}
 
 /// Lines that are no multi.
@@ -52,12 +54,4 @@ pub fn no_operations()
     ensures exponent { line_event (codes "{\"event\":\"zk\",\"ops\":[{\"op\":\"check\",\"path\":\"/a\",\"version\":1e0}]}") ≡ None }
     ensures large { line_event (codes "{\"event\":\"zk\",\"ops\":[{\"op\":\"check\",\"path\":\"/a\",\"version\":2147483648}]}") ≡ None }
     ensures no_path { line_event (codes "{\"event\":\"zk\",\"ops\":[{\"op\":\"check\",\"path\":\"/a/\",\"version\":0}]}") ≡ None }
-{}
-
-/// Paths and a body that aren't taken yet.
-#[tactic(auto, unfolding(crate::proofs::OnLiterals::lines_on_literals))]
-pub fn not_yet()
-    ensures topic { line_event (codes "{\"event\":\"zk\",\"ops\":[{\"op\":\"create\",\"path\":\"/brokers/topics/t\"}]}") ≡ None }
-    ensures stray { line_event (codes "{\"event\":\"zk\",\"ops\":[{\"op\":\"create\",\"path\":\"/config/brokers/01\"}]}") ≡ None }
-    ensures block { line_event (codes "{\"event\":\"zk\",\"ops\":[{\"op\":\"create\",\"path\":\"/latest_producer_id_block\",\"text\":\"1\"}]}") ≡ None }
 {}

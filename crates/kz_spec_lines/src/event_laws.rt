@@ -66,8 +66,7 @@ pub fn no_events()
 pub fn no_changes()
     ensures none { line_event (codes "{\"event\":\"change\",\"controller\":1,\"records\":[]}") ≡ None }
     ensures no_value { line_event (codes "{\"event\":\"change\",\"controller\":1,\"records\":[{\"kind\":\"Config\",\"resourceType\":4,\"resourceName\":\"\",\"name\":\"a\"}]}") ≡ None }
-    ensures topic { line_event (codes "{\"event\":\"change\",\"controller\":1,\"records\":[{\"kind\":\"Config\",\"resourceType\":2,\"resourceName\":\"1\",\"name\":\"a\",\"value\":null}]}") ≡ None }
-    ensures other { line_event (codes "{\"event\":\"change\",\"controller\":1,\"records\":[{\"kind\":\"NoOp\"}]}") ≡ None }
+    ensures no_record { line_event (codes "{\"event\":\"change\",\"controller\":1,\"records\":[{\"kind\":\"NoOp\"},{\"kind\":\"Nop\"}]}") ≡ None }
 {}
 
 /// Registrations, and changes of several records.

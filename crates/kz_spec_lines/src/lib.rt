@@ -6,5 +6,6 @@
 mod client_laws;
 mod event_laws;
 mod line_laws;
+mod record_laws;
 mod reply_laws;
 mod written_laws;

@@ -1,6 +1,6 @@
 use Rattle.std.proofs.Common.{◌∙◌, ap, Some}
 use Rattle.kz_script.proofs.Base64.{decoded_is, decoded_none}
-use Rattle.kz_script.proofs.ops.decoded.Goals as goal
+use Rattle.kz_script.proofs.fields.decoded.Goals as goal
 
 pub returns-in-Ok : goal.returns-in-Ok
 returns-in-Ok c = ap (λ b. Some b) c.from_vec.ensures ∙ decoded_is c.args.text.now c.in-Ok.bytes.items c.in-Ok.ensures.ok
