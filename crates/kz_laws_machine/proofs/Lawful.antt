@@ -17,7 +17,7 @@ use Rattle.kz_spec_lines.specs.Ops.{session_in, path_in, version_in, body_in, ow
 use Rattle.kz_spec_lines.specs.Ops as ops
 use Rattle.kz_types.specs.declared.tree.Op.{Op}
 use Rattle.kz_types.specs.declared.tree.Op.TheVariants.{Create, Set, Delete, Check}
-use Rattle.kz_spec_lines.specs.Events.{id_of, time_of, controller_of, now_of, timed_count, only_id, quorum_of, start_of, elect_of, turn_of, records_in, some_records, change_of, register_of, check_of, session_of, open_of, expire_of, is_open_op, open_op_of, ops_in, some_ops, zk_of, event_forms, event_of, line_event}
+use Rattle.kz_spec_lines.specs.Events.{id_of, time_of, controller_of, now_of, timed_count, only_id, quorum_of, start_of, elect_of, turn_of, records_in, some_records, change_of, register_of, check_of, session_of, open_of, expire_of, ops_in, some_ops, zk_of, event_forms, event_of, line_event}
 use Rattle.kz_spec_machine.specs.Sound.{IsId, IsTime, IsSession, IsOwner, IsVersion, IsLawfulOp, IsLawful}
 use Rattle.kz_spec_runs.specs.InStep.{events_on, events_of, script_events}
 
@@ -203,12 +203,9 @@ op_lawful d = after (λ (x : List ℕ). ⊤) IsLawfulOp (λ name. by_name op_for
 one_more : {A : Type 0} (P : A → Type 0) (first : Option A) (rest : Option (List A)) → OfSome P first → OfSome (All P) rest → OfSome (All P) (option_and_then (λ x. option_map (λ xs. x ∷ xs) rest) first)
 one_more P first rest is all = after P (All P) (λ x. option_map (λ xs. x ∷ xs) rest) first is (λ x so. mapped (All P) (All P) (λ xs. x ∷ xs) rest all (λ xs each. All-cons P x xs so each))
 
-open_op_lawful : (d : Data) → OfSome IsLawfulOp (open_op_of d)
-open_op_lawful d = after IsLawfulOp IsLawfulOp (λ o. if is_open_op o then Some o else None) (op_of d) (op_lawful d) (λ o is. where_true IsLawfulOp (is_open_op o) (Some o) (λ taken. is))
-
 ops_lawful : (ds : Items) → OfSome (All IsLawfulOp) (ops_in ds)
 ops_lawful no_items = All-nil IsLawfulOp
-ops_lawful (item d ds) = one_more IsLawfulOp (open_op_of d) (ops_in ds) (open_op_lawful d) (ops_lawful ds)
+ops_lawful (item d ds) = one_more IsLawfulOp (op_of d) (ops_in ds) (op_lawful d) (ops_lawful ds)
 
 some_lawful : (os : List Op) → All IsLawfulOp os → OfSome IsLawful (some_ops os)
 some_lawful [] all = tt

@@ -9,7 +9,7 @@ use crate::drivers::{is_one_of, is_running, least_running, place_of};
 use crate::parts::Parts;
 use kz_image::{Image, valid};
 use kz_log::MetaLog;
-use kz_render::{first_excess, render};
+use kz_render::{FitFault, fits};
 use kz_tree::ZTree;
 use kz_types::{Answer, Duplicate, ImageFault, ImageRule, MetaRecord, NoMemory};
 use std::alloc::Global;
@@ -130,12 +130,10 @@ fn excess_refusal(
 {
     let mut after = image.copy(alloc)?;
     after.apply_all(epoch, records)?;
-    let znodes = render(alloc, &after)?;
-    match first_excess(alloc, &znodes)? {
-        Some(excess) => Ok(Some(Answer::Over {
-            number: excess.number,
-        })),
-        None => Ok(None),
+    match fits(alloc, &after) {
+        Ok(()) => Ok(None),
+        Err(FitFault::Over { number, .. }) => Ok(Some(Answer::Over { number })),
+        Err(FitFault::NoMemory) => Err(NoMemory),
     }
 }
 
