@@ -1,3 +1,5 @@
 pub mod Values
+pub mod Changes
+pub mod Records
 pub mod Plain
 pub mod Read

@@ -10,45 +10,32 @@ use Rattle.serde_json.specs.Data.{boolean, object, array, put}
 use Rattle.serde_json.specs.View.{items_of}
 use Rattle.kz_types.specs.declared.machine.Event.{Event}
 use Rattle.kz_types.specs.declared.machine.Event.TheVariants.{Quorum, Start, Elect, Turn, Register, Change, Check, ZkOpen, ZkExpire, Zk}
-use Rattle.kz_types.specs.declared.record.ConfigRecord.{ConfigRecord}
 use Rattle.kz_types.specs.declared.record.MetaRecord.{MetaRecord}
-use Rattle.kz_types.specs.declared.record.MetaRecord.TheVariants.{Config}
 use Rattle.kz_types.specs.declared.tree.Op.{Op}
 use Rattle.kz_types.specs.declared.tree.Op.TheVariants as op
 use Rattle.kz_spec_lines.specs.Json.{whole_up_to, whole_within}
 use Rattle.kz_spec_lines.specs.Ops.{op_of}
-use Rattle.kz_spec_lines.specs.Records.{config_of, record_of}
-use Rattle.kz_spec_lines.specs.Events.{id_of, changeable_of, records_in, some_records, is_open_op, open_op_of, ops_in, some_ops, event_of, line_event}
-use Rattle.kz_spec_lines.specs.Written.{whole_data, with_text, with_whole, controller_members, config_members, record_data, with_owner, op_members, op_data, members_of_event, written_event}
+use Rattle.kz_spec_lines.specs.Events.{id_of, records_in, some_records, ops_in, some_ops, event_of, line_event}
+use Rattle.kz_spec_lines.specs.Members.{whole_data, with_text, with_whole}
+use Rattle.kz_spec_lines.specs.WrittenRecords.{record_data}
+use Rattle.kz_spec_lines.specs.Written.{controller_members, with_owner, op_members, op_data, members_of_event, written_event}
 use Rattle.kz_laws_bodies.proofs.Plain.{plain_is_read}
-use Rattle.kz_laws_lines.specs.Writable.{IsId, IsTime, IsVersion, IsConfigRecord, IsChange, AreChanges, AreSomeChanges, IsPath, IsOwner, IsOp, AreOps, AreSomeOps, IsEvent}
-use Rattle.kz_laws_lines.proofs.Values.{up_to_is, session_is, within_is, long_version, long_byte, decoded_is, no_bytes}
+use Rattle.kz_laws_lines.specs.Writable.{IsId, IsTime, IsVersion, Each, IsRecord, AreSomeRecords, IsPath, IsOwner, IsOp, AreSomeOps, IsEvent}
+use Rattle.kz_laws_lines.proofs.Values.{up_to_is, session_is, within_is, long_version, decoded_is, no_bytes}
+use Rattle.kz_laws_lines.proofs.Records.{record_is_read}
 use Rattle.kz_laws_lines.proofs.Plain.{event_is_plain}
 
 -- ---- records
 
-config_with : (type : ℤ) (resource name : List ℕ) (value : Option (List ℕ)) → IsConfigRecord (record { resource_type = type; resource_name = resource; name = name; value = value })
-    → config_of (object (config_members (record { resource_type = type; resource_name = resource; name = name; value = value })))
-    ≡ Some (Config (record { resource_type = type; resource_name = resource; name = name; value = value }))
-config_with type resource name None h = rw (within_is (negsuc 127) (pos 127) type (long_byte type h.resource_type) h.resource_type) refl
-config_with type resource name (Some text) h = rw (within_is (negsuc 127) (pos 127) type (long_byte type h.resource_type) h.resource_type) refl
+records_are_read : (rs : List MetaRecord) → Each IsRecord rs → records_in (items_of (map record_data rs)) ≡ Some rs
+records_are_read [] h = refl
+records_are_read (r ∷ rs) h =
+    ap (option_and_then (λ s. option_map (λ ss. s ∷ ss) (records_in (items_of (map record_data rs))))) (record_is_read r h.0)
+    ∙ ap (option_map (λ ss. r ∷ ss)) (records_are_read rs h.1)
 
-pub record_is_read : (c : ConfigRecord) → IsConfigRecord c → record_of (record_data (Config c)) ≡ Some (Config c)
-unfolding record_of record_data
-record_is_read c h = config_with c.resource_type c.resource_name c.name c.value h
-
-change_is_read : (r : MetaRecord) → IsChange r → changeable_of (record_data r) ≡ Some r
-change_is_read r h = subst (λ s. changeable_of (record_data s) ≡ Some s) (sym h.1) (rw (record_is_read h.0 h.2, h.3) refl)
-
-changes_are_read : (rs : List MetaRecord) → AreChanges rs → records_in (items_of (map record_data rs)) ≡ Some rs
-changes_are_read [] h = refl
-changes_are_read (r ∷ rs) h =
-    ap (option_and_then (λ s. option_map (λ ss. s ∷ ss) (records_in (items_of (map record_data rs))))) (change_is_read r h.0)
-    ∙ ap (option_map (λ ss. r ∷ ss)) (changes_are_read rs h.1)
-
-some_are_read : (rs : List MetaRecord) → AreSomeChanges rs → option_and_then some_records (records_in (items_of (map record_data rs))) ≡ Some rs
+some_are_read : (rs : List MetaRecord) → AreSomeRecords rs → option_and_then some_records (records_in (items_of (map record_data rs))) ≡ Some rs
 some_are_read [] h = absurd h
-some_are_read (r ∷ rs) h = ap (option_and_then some_records) (changes_are_read (r ∷ rs) h)
+some_are_read (r ∷ rs) h = ap (option_and_then some_records) (records_are_read (r ∷ rs) h)
 
 -- ---- operations
 
@@ -81,16 +68,11 @@ op_is_read (op.Set path body version) h = set_by path body version _ _ refl refl
 op_is_read (op.Delete path version) h = rw (h.0, version_is version h.1) refl
 op_is_read (op.Check path version) h = rw (h.0, version_is version h.1) refl
 
-open_is_read : (o : Op) → IsOp o → is_open_op o ≡ true → open_op_of (op_data o) ≡ Some o
-open_is_read o h is =
-    ap (option_and_then (λ p. cond (is_open_op p) (Some p) None)) (op_is_read o h)
-    ∙ (λ i. cond (is i) (Some o) None)
-
-ops_are_read : (os : List Op) → AreOps os → ops_in (items_of (map op_data os)) ≡ Some os
+ops_are_read : (os : List Op) → Each IsOp os → ops_in (items_of (map op_data os)) ≡ Some os
 ops_are_read [] h = refl
 ops_are_read (o ∷ os) h =
-    ap (option_and_then (λ p. option_map (λ ps. p ∷ ps) (ops_in (items_of (map op_data os))))) (open_is_read o h.0 h.1)
-    ∙ ap (option_map (λ ps. o ∷ ps)) (ops_are_read os h.2)
+    ap (option_and_then (λ p. option_map (λ ps. p ∷ ps) (ops_in (items_of (map op_data os))))) (op_is_read o h.0)
+    ∙ ap (option_map (λ ps. o ∷ ps)) (ops_are_read os h.1)
 
 -- ---- events
 
@@ -119,7 +101,7 @@ register_by : (c b now : ℤ) (m : Bool) (zero : Bool) → int_eq now (pos 0) �
 register_by c b now m true is id broker time = rw (id_is c id, id_is b broker) (ap (λ t. Some (Register c b m t)) (is_zero now is))
 register_by c b now m false is id broker time = rw (id_is c id, id_is b broker, time_is now time) refl
 
-change_by : (c now : ℤ) (rs : List MetaRecord) (zero : Bool) → int_eq now (pos 0) ≡ zero → IsId c → AreSomeChanges rs → IsTime now
+change_by : (c now : ℤ) (rs : List MetaRecord) (zero : Bool) → int_eq now (pos 0) ≡ zero → IsId c → AreSomeRecords rs → IsTime now
     → event_of (object (put (codes "records") (array (items_of (map record_data rs))) (cond zero (controller_members (codes "change") c) (with_whole (codes "now") now (controller_members (codes "change") c)))))
     ≡ Some (Change c rs now)
 change_by c now rs true is id changes time = rw (id_is c id, some_are_read rs changes) (ap (λ t. Some (Change c rs t)) (is_zero now is))

@@ -5,18 +5,18 @@
 
 ghost use Rattle.std.specs.Prelude.{◌≡◌, Some};
 ghost use Rattle.kz_types.specs.declared.machine.Event.{Event};
-ghost use Rattle.kz_types.specs.declared.record.ConfigRecord.{ConfigRecord};
-ghost use Rattle.kz_types.specs.declared.record.MetaRecord.TheVariants.{Config};
+ghost use Rattle.kz_types.specs.declared.record.MetaRecord.{MetaRecord};
 ghost use Rattle.kz_types.specs.declared.tree.Op.{Op};
 ghost use Rattle.kz_spec_lines.specs.Ops.{op_of};
 ghost use Rattle.kz_spec_lines.specs.Records.{record_of};
 ghost use Rattle.kz_spec_lines.specs.Events.{line_event};
-ghost use Rattle.kz_spec_lines.specs.Written.{op_data, record_data, written_event};
-ghost use Rattle.kz_laws_lines.specs.Writable.{IsConfigRecord, IsOp, IsEvent};
+ghost use Rattle.kz_spec_lines.specs.WrittenRecords.{record_data};
+ghost use Rattle.kz_spec_lines.specs.Written.{op_data, written_event};
+ghost use Rattle.kz_laws_lines.specs.Writable.{IsRecord, IsOp, IsEvent};
 
-/// A record of a configuration is read as it was written.
+/// A record is read as it was written, of each of the 17 kinds.
 pub fn record_is_read()
-    ensures { (config : ConfigRecord) → IsConfigRecord config → record_of (record_data (Config config)) ≡ Some (Config config) }
+    ensures { (r : MetaRecord) → IsRecord r → record_of (record_data r) ≡ Some r }
 {}
 
 /// An operation is read as it was written.

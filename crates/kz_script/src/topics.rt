@@ -105,14 +105,14 @@ pub fn partition_of(alloc: Global, value: &Value) -> Result<Option<MetaRecord>, 
 
 // How many members a change of a partition has, with those that may be absent.
 fn change_count(value: &Value) -> usize
-    ensures { result ≡ tagged_count (codes "isr") (view value.now) (tagged_count (codes "leader") (view value.now) (tagged_count (codes "replicas") (view value.now) (tagged_count (codes "removing") (view value.now) (tagged_count (codes "adding") (view value.now) (tagged_count (codes "recovery") (view value.now) 3))))) }
+    ensures { result ≡ tagged_count (codes "recovery") (view value.now) (tagged_count (codes "adding") (view value.now) (tagged_count (codes "removing") (view value.now) (tagged_count (codes "replicas") (view value.now) (tagged_count (codes "leader") (view value.now) (tagged_count (codes "isr") (view value.now) 3))))) }
 {
-    let count = tagged_count(value, "recovery", 3);
-    let count = tagged_count(value, "adding", count);
-    let count = tagged_count(value, "removing", count);
-    let count = tagged_count(value, "replicas", count);
+    let count = tagged_count(value, "isr", 3);
     let count = tagged_count(value, "leader", count);
-    tagged_count(value, "isr", count)
+    let count = tagged_count(value, "replicas", count);
+    let count = tagged_count(value, "removing", count);
+    let count = tagged_count(value, "adding", count);
+    tagged_count(value, "recovery", count)
 }
 
 /// A `PartitionChange`.

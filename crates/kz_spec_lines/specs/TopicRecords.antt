@@ -40,7 +40,7 @@ partition_of d = if member_count d == tagged_count (codes "recovery") d 10
 -- `kind`, `partitionId` and `topicId`; each other may be absent: the lists `isr`, `replicas`, `removing` and `adding`,
 -- which is null, `leader`, which is -2, and `recovery`, which is -1
 abbrev pub partition_change_of : Data → Option MetaRecord
-partition_change_of d = if member_count d == tagged_count (codes "isr") d (tagged_count (codes "leader") d (tagged_count (codes "replicas") d (tagged_count (codes "removing") d (tagged_count (codes "adding") d (tagged_count (codes "recovery") d 3)))))
+partition_change_of d = if member_count d == tagged_count (codes "recovery") d (tagged_count (codes "adding") d (tagged_count (codes "removing") d (tagged_count (codes "replicas") d (tagged_count (codes "leader") d (tagged_count (codes "isr") d 3)))))
     then (field (codes "partitionId") int32 d >>= λ partition.
     field (codes "topicId") uuid d >>= λ topic.
     tagged (codes "isr") None ints_or_null d >>= λ isr.

@@ -1,4 +1,4 @@
-use Rattle.kz_laws_lines.proofs.Read.{record_is_read}
+use Rattle.kz_laws_lines.proofs.Records.{record_is_read}
 use Rattle.kz_laws_lines.proofs.record_is_read.Goals as goal
 
 pub returns : goal.returns
