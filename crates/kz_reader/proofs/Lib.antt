@@ -4,3 +4,4 @@ pub mod NoKey
 pub mod NextRow
 pub mod BodyKinds
 pub mod Keeping
+pub mod Numbered

@@ -10,7 +10,7 @@ rest_cut : (rows : List Row) (done : ℕ) (row : Row) → done < length rows →
 rest_cut rows done row h e = rw (add-one, drop-cons rows done row h) (ap (λ r. r ∷ drop (suc done) rows) (sym e))
 
 -- what is still to come begins with the znode
-pub first_of_rest : (rows : List Row) (done : ℕ) (row : Row) → done < length rows → row ≡ get_or rows done row
+first_of_rest : (rows : List Row) (done : ℕ) (row : Row) → done < length rows → row ≡ get_or rows done row
     → records_behind rows (take done rows) (drop done rows) ≡ joined row.path (row_records rows (take done rows) row) (records_behind rows (take (done + 1) rows) (drop (done + 1) rows))
 first_of_rest rows done row h e =
     ap (λ rest. records_behind rows (take done rows) rest) (rest_cut rows done row h e)

@@ -1,16 +1,17 @@
 -- What is known of the znodes that were read.
-use Rattle.std.specs.Prelude.{◌≡◌, ⊤, ℕ, Bool, false, List, [], Option, Some, None, option_and_then, take, Ok, Err}
+use Rattle.std.specs.Prelude.{◌≡◌, ⊤, ℕ, ℤ, Bool, false, List, [], Option, Some, None, take, Ok, Err}
+use Rattle.std.specs.BTreeMap.{get}
 use Rattle.std.specs.BTreeSet.{BTreeSet, contains}
+use Rattle.std.specs.Ordering.{int_cmp}
 use Rattle.kz_types.specs.declared.id.Id.{Id}
 use Rattle.kz_types.specs.declared.tree.Row.{Row}
 use Rattle.kz_types.specs.declared.bodies.Body.{Body}
 use Rattle.kz_types.specs.declared.bodies.Body.TheVariants as body
-use Rattle.kz_types.specs.declared.key.EntityKey.TheVariants.{Topic}
 use Rattle.kz_types.specs.declared.kind.Kind.{Kind}
 use Rattle.kz_types.specs.declared.kind.Kind.TheVariants as kind
 use Rattle.kz_types.specs.declared.fault.ReadWhy.TheVariants as why
 use Rattle.kz_ordered.specs.Order.{bytes_cmp}
-use Rattle.kz_spec_znodes.specs.Translation.{RowRecords, body_of_row, row_of, assignments_in, is_taken, entries_in, count_of_entries}
+use Rattle.kz_spec_znodes.specs.Translation.{RowRecords, assigned, is_taken, entries_in, count_of_entries}
 use Rattle.kz_spec_stores.specs.Metadata.{same_id}
 use Rattle.kz_reader.specs.declared.assignments.Assignments.{Assignments}
 use Rattle.kz_reader.specs.declared.seen.Note.{Note}
@@ -18,7 +19,7 @@ use Rattle.kz_reader.specs.declared.seen.Seen.{Seen}
 
 -- these are the assignments of their topic
 abbrev pub IsOf : List Row → Assignments → Type 0
-IsOf rows a = a.partitions ≡ assignments_in (option_and_then body_of_row (row_of (Topic a.topic) rows))
+IsOf rows a = (number : ℤ) → get int_cmp a.rows number ≡ assigned a.topic number rows
 
 -- where there are assignments, they are those of their topic
 abbrev pub IsOfIfAny : List Row → Option Assignments → Type 0
