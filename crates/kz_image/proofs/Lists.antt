@@ -1,22 +1,18 @@
--- What a record changes in the lists of the metadata, at the place of its key, and that they stay in order.
-use Rattle.std.proofs.Common.{◌≡◌, ℕ, zero, suc, ◌+◌, ◌<◌, ℤ, ◌++◌, take, Bool, true, false, cond, List, [], ◌∷◌, Option, Some, None, Ok, Err, Ordering, Less, Equal, Greater, is_eq, length, get_or, set, insert, remove, refl, sym, ap, ◌∙◌, arith}
-use Rattle.std.specs.Ordering.{match_ordering}
-use Rattle.std.specs.List.{All}
-use Rattle.std.proofs.lemmas.List.Elements.{All-cons, All-head, All-tail}
+-- What a record changes in the lists of configurations, at the place of its key, and records applied one after another.
+use Rattle.std.proofs.Common.{◌≡◌, ℕ, zero, suc, ◌+◌, ◌<◌, ℤ, ◌++◌, take, List, [], ◌∷◌, Some, None, Ok, Err, length, get_or, set, insert, remove, refl, sym, ap, ◌∙◌, arith}
 use Rattle.kz_types.specs.declared.bodies.Pair.{Pair}
 use Rattle.kz_types.specs.declared.image.Configuration.{Configuration}
 use Rattle.kz_types.specs.declared.record.ConfigRecord.{ConfigRecord}
 use Rattle.kz_types.specs.declared.record.MetaRecord.{MetaRecord}
 use Rattle.std.proofs.lemmas.List.{take_more}
 use Rattle.kz_ordered.specs.Order.{bytes_cmp}
-use Rattle.kz_ordered.specs.Ordered.{find, put, without, Rises}
+use Rattle.kz_ordered.specs.Ordered.{Rises}
 use Rattle.kz_ordered.specs.Spot.{IsSpot}
 use Rattle.kz_ordered.proofs.Order.{bytes_order}
-use Rattle.kz_ordered.proofs.Lookup.{Rises-put, Rises-without}
 use Rattle.kz_ordered.proofs.Spot.{find_by_spot, find_by_gap, put_by_spot, put_by_gap, without_by_spot, without_by_gap}
-use Rattle.kz_spec_stores.specs.Image.{name_of_configuration, name_of_pair, with_member, with_pairs, configured, Image, applied, all_applied}
+use Rattle.kz_spec_stores.specs.Image.{name_of_configuration, with_member, with_pairs, configured, Image, applied, all_applied}
 use Rattle.kz_spec_stores.specs.Metadata.{pairs_of, pairs_at}
-use Rattle.kz_spec_stores.specs.InOrder.{IsFilled, AreInOrder}
+use Rattle.kz_spec_stores.specs.InOrder.{AreInOrder}
 
 -- ---- a configuration that is there
 
@@ -75,56 +71,6 @@ absent_configured change xs i s has =
     sym (without_by_gap bytes_order name_of_configuration change.resource_name xs i s)
     ∙ ap (λ v. with_pairs change.resource_name (with_member change.name v []) xs) (sym has)
     ∙ ap (λ c. with_pairs change.resource_name (with_member change.name change.value (pairs_of c)) xs) (sym (find_by_gap bytes_order name_of_configuration change.resource_name xs i s))
-
--- ---- the order is kept
-
-module _ {A K : Type 0} (P : A → Type 0) (cmp : K → K → Ordering) (key : A → K) where
-  put_by : (o : Ordering) (x y : A) (ys zs : List A) → P x → All P (y ∷ ys) → All P zs → All P (match_ordering o (x ∷ y ∷ ys) (x ∷ ys) (y ∷ zs))
-  put_by Less x y ys zs p q r = All-cons P x (y ∷ ys) p q
-  put_by Equal x y ys zs p q r = All-cons P x ys p (All-tail P y ys q)
-  put_by Greater x y ys zs p q r = All-cons P y zs (All-head P y ys q) r
-
-  pub All-put : (x : A) (ys : List A) → P x → All P ys → All P (put cmp key x ys)
-  All-put x [] p q = All-cons P x [] p q
-  All-put x (y ∷ ys) p q = put_by (cmp (key x) (key y)) x y ys (put cmp key x ys) p q (All-put x ys p (All-tail P y ys q))
-
-  without_by : (b : Bool) (x : A) (xs zs : List A) → All P (x ∷ xs) → All P zs → All P (cond b xs (x ∷ zs))
-  without_by true x xs zs q r = All-tail P x xs q
-  without_by false x xs zs q r = All-cons P x zs (All-head P x xs q) r
-
-  pub All-without : (k : K) (xs : List A) → All P xs → All P (without cmp key k xs)
-  All-without k [] q = q
-  All-without k (x ∷ xs) q = without_by (is_eq (cmp k (key x))) x xs (without cmp key k xs) q (All-without k xs (All-tail P x xs q))
-
--- ---- a configuration's members
-
-pairs_by : (b : Bool) (c : Configuration) (found : Option Configuration) → Rises bytes_cmp name_of_pair c.pairs → Rises bytes_cmp name_of_pair (pairs_of found) → Rises bytes_cmp name_of_pair (pairs_of (cond b (Some c) found))
-pairs_by true c found p q = p
-pairs_by false c found p q = q
-
-pairs_rise : (k : List ℕ) (xs : List Configuration) → All IsFilled xs → Rises bytes_cmp name_of_pair (pairs_at k xs)
-pairs_rise k [] h = tt
-pairs_rise k (x ∷ xs) h = pairs_by (is_eq (bytes_cmp k x.name)) x (find bytes_cmp name_of_configuration k xs) (All-head IsFilled x xs h).1 (pairs_rise k xs (All-tail IsFilled x xs h))
-
-pub member_rises : (name : List ℕ) (value : Option (List ℕ)) (ps : List Pair) → Rises bytes_cmp name_of_pair ps → Rises bytes_cmp name_of_pair (with_member name value ps)
-member_rises name (Some value) ps h = Rises-put bytes_order name_of_pair (record { name = name; value = value }) ps h
-member_rises name None ps h = Rises-without bytes_order name_of_pair name ps h
-
-with_pairs_in_order : (k : List ℕ) (ps : List Pair) (xs : List Configuration) → Rises bytes_cmp name_of_pair ps → AreInOrder xs → AreInOrder (with_pairs k ps xs)
-with_pairs_in_order k [] xs h order = record {
-  rising = Rises-without bytes_order name_of_configuration k xs order.rising;
-  filled = All-without IsFilled bytes_cmp name_of_configuration k xs order.filled;
-}
-with_pairs_in_order k (p ∷ ps) xs h order =
-    let c : Configuration = record { name = k; pairs = p ∷ ps } in record {
-      rising = Rises-put bytes_order name_of_configuration c xs order.rising;
-      filled = All-put IsFilled bytes_cmp name_of_configuration c xs (omega arith, h) order.filled;
-    }
-
-pub configured_in_order : (change : ConfigRecord) (xs : List Configuration) → AreInOrder xs → AreInOrder (configured change xs)
-configured_in_order change xs order =
-    with_pairs_in_order change.resource_name (with_member change.name change.value (pairs_at change.resource_name xs)) xs
-    (member_rises change.name change.value (pairs_at change.resource_name xs) (pairs_rise change.resource_name xs order.filled)) order
 
 -- ---- records, one after another
 

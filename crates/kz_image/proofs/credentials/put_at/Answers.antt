@@ -3,7 +3,8 @@ use Rattle.std.specs.Ordering.{int_cmp}
 use Rattle.kz_types.specs.declared.bodies.ScramPair.{ScramPair}
 use Rattle.kz_ordered.specs.Ordered.{put}
 use Rattle.kz_spec_stores.specs.Metadata.{mechanism_of_pair}
-use Rattle.kz_image.proofs.UserLists.{set_scrams, scrams_of, put_some}
+use Rattle.kz_laws_images.proofs.UserLists.{scrams_of}
+use Rattle.kz_image.proofs.UserLists.{set_scrams, put_some}
 use Rattle.kz_image.proofs.credentials.put_at.Goals as goal
 
 pub returns-clause-ok : goal.returns-clause-ok

@@ -4,7 +4,8 @@ use mir.Val.{SFits}
 use Rattle.std.specs.Ordering.{int_cmp}
 use Rattle.kz_ordered.specs.Ordered.{without}
 use Rattle.kz_spec_stores.specs.Metadata.{mechanism_of_pair}
-use Rattle.kz_image.proofs.UserLists.{set_scrams, remove_scrams, user_with}
+use Rattle.kz_laws_images.proofs.UserLists.{user_with}
+use Rattle.kz_image.proofs.UserLists.{set_scrams, remove_scrams}
 use Rattle.kz_image.proofs.credentials.remove_at.Goals as goal
 
 pub returns-then-len-eq0 : goal.returns-then-len-eq0

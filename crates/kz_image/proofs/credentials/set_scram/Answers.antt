@@ -1,5 +1,6 @@
 use Rattle.std.proofs.Common.{◌∙◌, ap, ◌∷◌, []}
-use Rattle.kz_image.proofs.UserLists.{insert_scram, user_with}
+use Rattle.kz_laws_images.proofs.UserLists.{user_with}
+use Rattle.kz_image.proofs.UserLists.{insert_scram}
 use Rattle.kz_image.proofs.credentials.set_scram.Goals as goal
 
 pub returns-in_ok-insert-in-Err-clause-ok : goal.returns-in_ok-insert-in-Err-clause-ok

@@ -3,7 +3,7 @@ use Rattle.std.proofs.lemmas.Int.{to_z-of_z}
 use mir.Val.{SFits}
 use Rattle.std.specs.Prelude.{if◌then◌else◌}
 use Rattle.kz_spec_stores.specs.ImageRules.{is_epoch, changed_row, states_leader}
-use Rattle.kz_image.proofs.Unbroken.{row_epochs}
+use Rattle.kz_laws_images.proofs.Unbroken.{row_epochs}
 use Rattle.kz_image.proofs.partitions.next_leader_epoch.Goals as goal
 
 pub leader_epoch_raised-requires : goal.leader_epoch_raised-requires

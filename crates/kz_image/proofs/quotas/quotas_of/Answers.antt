@@ -3,7 +3,8 @@ use Rattle.std.specs.Prelude.{option_map}
 use Rattle.kz_types.specs.Paths.{path_of, is_legal}
 use Rattle.kz_types.specs.declared.key.EntityKey.{EntityKey}
 use Rattle.kz_spec_stores.specs.InOrder.{is_below_quota_root}
-use Rattle.kz_image.proofs.QuotaLists.{other_path_not_found, rows_of, none_guarded, topic_path, partition_path, topic_config_path, broker_config_path, acl_path, producer_path}
+use Rattle.kz_laws_images.proofs.QuotaLists.{rows_of}
+use Rattle.kz_image.proofs.QuotaLists.{other_path_not_found, none_guarded, topic_path, partition_path, topic_config_path, broker_config_path, acl_path, producer_path}
 use Rattle.kz_image.proofs.quotas.quotas_of.Goals as goal
 
 pub returns-in-Topic : goal.returns-in-Topic

@@ -2,8 +2,8 @@ use Rattle.std.proofs.Common.{◌≡◌, None, subst, sym}
 use Rattle.std.specs.Prelude.{pos}
 use Rattle.kz_types.specs.declared.record.MetaRecord.TheVariants as meta
 use Rattle.kz_spec_stores.specs.ImageRules.{broken}
-use Rattle.kz_image.proofs.Unbroken.{quota_unbroken}
-use Rattle.kz_image.proofs.Kept.{kept}
+use Rattle.kz_laws_images.proofs.Unbroken.{quota_unbroken}
+use Rattle.kz_laws_images.proofs.Kept.{kept}
 use Rattle.kz_image.proofs.image.Image.change_quota.Goals as goal
 
 pub change_quota-requires-clause-named : goal.change_quota-requires-clause-named

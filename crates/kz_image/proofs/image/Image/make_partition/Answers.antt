@@ -1,5 +1,5 @@
 use Rattle.kz_types.specs.declared.record.MetaRecord.TheVariants as meta
-use Rattle.kz_image.proofs.Kept.{kept}
+use Rattle.kz_laws_images.proofs.Kept.{kept}
 use Rattle.kz_image.proofs.image.Image.make_partition.Goals as goal
 
 pub invariant_of-self-2 : goal.invariant_of-self-2

@@ -2,7 +2,7 @@ use Rattle.std.proofs.Common.{◌≡◌, None, subst, sym}
 use Rattle.std.specs.Prelude.{pos}
 use Rattle.kz_types.specs.declared.record.MetaRecord.TheVariants as meta
 use Rattle.kz_spec_stores.specs.ImageRules.{broken}
-use Rattle.kz_image.proofs.Kept.{kept}
+use Rattle.kz_laws_images.proofs.Kept.{kept}
 use Rattle.kz_image.proofs.image.Image.make_topic.Goals as goal
 
 pub invariant_of-self-2 : goal.invariant_of-self-2

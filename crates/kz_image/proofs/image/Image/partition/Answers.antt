@@ -1,7 +1,7 @@
 use Rattle.std.proofs.Common.{subst, sym}
 use Rattle.std.specs.List.{All}
 use Rattle.kz_spec_stores.specs.InOrder.{IsTopicInOrder}
-use Rattle.kz_image.proofs.Entries.{HasIfFound, found_by_has}
+use Rattle.kz_laws_images.proofs.Entries.{HasIfFound, found_by_has}
 use Rattle.kz_image.proofs.image.Image.partition.Goals as goal
 
 pub partition_at-requires : goal.partition_at-requires

@@ -1,4 +1,4 @@
-use Rattle.kz_image.proofs.Kept.{acl_removed_kept}
+use Rattle.kz_laws_images.proofs.Kept.{acl_removed_kept}
 use Rattle.kz_image.proofs.image.Image.remove_acl.Goals as goal
 
 pub invariant_of-self : goal.invariant_of-self

@@ -4,7 +4,7 @@ use Rattle.std.proofs.lemmas.Int.{to_z-of_z}
 use mir.Val.{SFits}
 use Rattle.kz_types.specs.declared.record.MetaRecord.TheVariants as meta
 use Rattle.kz_spec_stores.specs.ImageRules.{broken}
-use Rattle.kz_image.proofs.Kept.{kept}
+use Rattle.kz_laws_images.proofs.Kept.{kept}
 use Rattle.kz_image.proofs.image.Image.set_next_producer.Goals as goal
 
 pub invariant_of-self : goal.invariant_of-self
