@@ -153,7 +153,7 @@ end events=2 steps=0 zxid=0 offset=-1 recorded=none
         "",
     ),
     (
-        "{\"event\":\"check\"}\n{\"event\":\"zk\",\"ops\":[{\"op\":\"create\",\"path\":\"/config/topics/t\"}]}\n",
+        "{\"event\":\"check\"}\n{\"event\":\"zk\",\"ops\":[{\"op\":\"create\",\"path\":\"/config//t\"}]}\n",
         Status::Script { line: 2 },
         "1 unmigrated\n",
     ),
