@@ -1,7 +1,5 @@
 //! The migration of a worked cluster of all kinds of entities.
-use crate::drivers::{
-    MIGRATING, append, create, elect, elected, has_body, new_stores, tells,
-};
+use crate::drivers::{MIGRATING, append, create, elect, elected, has_body, new_stores, tells};
 use crate::made::made;
 use kz_session::MemoryTree;
 use kz_tree::ZTree;

@@ -215,7 +215,10 @@ fn elected_later(alloc: Global, stores: &Stores, id: i32, epoch: i32) -> Driver
 }
 
 /// The records of a first election.
-pub const MIGRATING: [MetaRecord; 2] = [MetaRecord::NoOp, MetaRecord::ZkMigrationState { state: 1 }];
+pub const MIGRATING: [MetaRecord; 2] = [
+    MetaRecord::NoOp,
+    MetaRecord::ZkMigrationState { state: 1 },
+];
 
 const NEXT: [MetaRecord; 1] = [MetaRecord::NoOp];
 

@@ -108,8 +108,6 @@ fn a_cluster_is_translated(rt: HostRuntime) {
     drop(rows);
 }
 
-const NO_RECORD: &str = "{\"controller\":0,\"event\":\"change\",\"records\":[]}";
-
 // A topic without partitions, of the id whose bytes are 1.
 const TOPIC: &str = "{\"version\":3,\"partitions\":{},\"topic_id\":\"AQEBAQEBAQEBAQEBAQEBAQ\"}";
 
@@ -118,32 +116,54 @@ static TRANSLATED: [(&[(&str, &str)], &str); 16] = [
     // names of brokers
     (
         &[
-            ("/config/brokers/1", "{\"version\":1,\"config\":{\"b\":\"2\",\"a\":\"\"},\"note\":1}"),
+            (
+                "/config/brokers/1",
+                "{\"version\":1,\"config\":{\"b\":\"2\",\"a\":\"\"},\"note\":1}",
+            ),
             ("/config/brokers/10", ""),
-            ("/config/brokers/<default>", "{\"version\":1,\"config\":{\"c\":\"\\u00fc\"}}"),
+            (
+                "/config/brokers/<default>",
+                "{\"version\":1,\"config\":{\"c\":\"\\u00fc\"}}",
+            ),
         ],
         "{\"controller\":0,\"event\":\"change\",\"records\":[{\"kind\":\"Config\",\"name\":\"a\",\"resourceName\":\"1\",\"resourceType\":4,\"value\":\"\"},{\"kind\":\"Config\",\"name\":\"b\",\"resourceName\":\"1\",\"resourceType\":4,\"value\":\"2\"},{\"kind\":\"Config\",\"name\":\"c\",\"resourceName\":\"\",\"resourceType\":4,\"value\":\"\u{fc}\"}]}",
     ),
     // a user's client, and the block of producer ids
     (
         &[
-            ("/config/users/<default>/clients/a%2Fb", "{\"version\":1,\"config\":{\"request_percentage\":\"0.5\"}}"),
-            ("/latest_producer_id_block", "{\"version\":1,\"broker\":3,\"block_start\":\"0\",\"block_end\":\"999\"}"),
+            (
+                "/config/users/<default>/clients/a%2Fb",
+                "{\"version\":1,\"config\":{\"request_percentage\":\"0.5\"}}",
+            ),
+            (
+                "/latest_producer_id_block",
+                "{\"version\":1,\"broker\":3,\"block_start\":\"0\",\"block_end\":\"999\"}",
+            ),
         ],
         "{\"controller\":0,\"event\":\"change\",\"records\":[{\"entity\":[{\"kind\":\"user\",\"name\":null},{\"kind\":\"client-id\",\"name\":\"a/b\"}],\"key\":\"request_percentage\",\"kind\":\"ClientQuota\",\"remove\":false,\"value\":\"0.5\"},{\"brokerEpoch\":-1,\"brokerId\":-1,\"kind\":\"ProducerIds\",\"next\":1000}]}",
     ),
     // partitions by number, one without a state
     (
         &[
-            ("/brokers/topics/t", "{\"version\":1,\"partitions\":{\"10\":[3],\"2\":[2,1]},\"topic_id\":\"AQEBAQEBAQEBAQEBAQEBAQ\"}"),
-            ("/brokers/topics/t/partitions/2/state", "{\"version\":1,\"leader\":-2,\"leader_epoch\":7,\"controller_epoch\":0,\"isr\":[1],\"leader_recovery_state\":1}"),
+            (
+                "/brokers/topics/t",
+                "{\"version\":1,\"partitions\":{\"10\":[3],\"2\":[2,1]},\"topic_id\":\"AQEBAQEBAQEBAQEBAQEBAQ\"}",
+            ),
+            (
+                "/brokers/topics/t/partitions/2/state",
+                "{\"version\":1,\"leader\":-2,\"leader_epoch\":7,\"controller_epoch\":0,\"isr\":[1],\"leader_recovery_state\":1}",
+            ),
         ],
         "{\"controller\":0,\"event\":\"change\",\"records\":[{\"kind\":\"Topic\",\"name\":\"t\",\"topicId\":\"AQEBAQEBAQEBAQEBAQEBAQ\"},{\"adding\":[],\"isr\":[1],\"kind\":\"Partition\",\"leader\":-1,\"leaderEpoch\":7,\"partitionEpoch\":0,\"partitionId\":2,\"recovery\":1,\"removing\":[],\"replicas\":[2,1],\"topicId\":\"AQEBAQEBAQEBAQEBAQEBAQ\"},{\"adding\":[],\"isr\":[3],\"kind\":\"Partition\",\"leader\":3,\"leaderEpoch\":0,\"partitionEpoch\":0,\"partitionId\":10,\"removing\":[],\"replicas\":[3],\"topicId\":\"AQEBAQEBAQEBAQEBAQEBAQ\"}]}",
     ),
     // what is left over isn't read
     (
-        &[("/brokers/topics/t/partitions/0/state", "x"), ("/config/topics/t", "x")],
-        NO_RECORD,
+        &[
+            ("/brokers/topics/t", TOPIC),
+            ("/brokers/topics/t/partitions/0/state", "x"),
+            ("/config/topics/u", "x"),
+        ],
+        "{\"controller\":0,\"event\":\"change\",\"records\":[{\"kind\":\"Topic\",\"name\":\"t\",\"topicId\":\"AQEBAQEBAQEBAQEBAQEBAQ\"}]}",
     ),
     (
         &[("/config/brokers/00", ""), ("/config/brokers/1", "{")],
@@ -166,11 +186,17 @@ static TRANSLATED: [(&[(&str, &str)], &str); 16] = [
         "1 untranslatable \"/config/brokers/1\" missing \"config\"\n",
     ),
     (
-        &[("/config/clients/c", "{\"version\":1,\"config\":{\"x\":\"1\"}}")],
+        &[(
+            "/config/clients/c",
+            "{\"version\":1,\"config\":{\"x\":\"1\"}}",
+        )],
         "1 untranslatable \"/config/clients/c\" unknown-key \"x\"\n",
     ),
     (
-        &[("/config/brokers/1", "{\"version\":1,\"config\":{\"\":\"x\"}}")],
+        &[(
+            "/config/brokers/1",
+            "{\"version\":1,\"config\":{\"\":\"x\"}}",
+        )],
         "1 untranslatable \"/config/brokers/1\" unknown-key \"\"\n",
     ),
     (
@@ -178,26 +204,44 @@ static TRANSLATED: [(&[(&str, &str)], &str); 16] = [
         "1 untranslatable \"/brokers/topics/b\" same-id\n",
     ),
     (
-        &[("/brokers/topics/t", "{\"version\":2,\"partitions\":{\"0\":[1]},\"adding_replicas\":{},\"removing_replicas\":{}}")],
+        &[(
+            "/brokers/topics/t",
+            "{\"version\":2,\"partitions\":{\"0\":[1]},\"adding_replicas\":{},\"removing_replicas\":{}}",
+        )],
         "1 untranslatable \"/brokers/topics/t\" no-topic-id\n",
     ),
     // brokers in sync and a leader that are no replicas
     (
         &[
-            ("/brokers/topics/t", "{\"version\":3,\"partitions\":{\"0\":[1]},\"topic_id\":\"AQEBAQEBAQEBAQEBAQEBAQ\"}"),
-            ("/brokers/topics/t/partitions/0/state", "{\"version\":1,\"leader\":2,\"leader_epoch\":0,\"controller_epoch\":0,\"isr\":[2]}"),
+            (
+                "/brokers/topics/t",
+                "{\"version\":3,\"partitions\":{\"0\":[1]},\"topic_id\":\"AQEBAQEBAQEBAQEBAQEBAQ\"}",
+            ),
+            (
+                "/brokers/topics/t/partitions/0/state",
+                "{\"version\":1,\"leader\":2,\"leader_epoch\":0,\"controller_epoch\":0,\"isr\":[2]}",
+            ),
         ],
         "1 untranslatable \"/brokers/topics/t/partitions/0/state\" bad-field \"isr\"\n",
     ),
     (
         &[
-            ("/brokers/topics/t", "{\"version\":3,\"partitions\":{\"0\":[1]},\"topic_id\":\"AQEBAQEBAQEBAQEBAQEBAQ\"}"),
-            ("/brokers/topics/t/partitions/0/state", "{\"version\":1,\"leader\":2,\"leader_epoch\":0,\"controller_epoch\":0,\"isr\":[1]}"),
+            (
+                "/brokers/topics/t",
+                "{\"version\":3,\"partitions\":{\"0\":[1]},\"topic_id\":\"AQEBAQEBAQEBAQEBAQEBAQ\"}",
+            ),
+            (
+                "/brokers/topics/t/partitions/0/state",
+                "{\"version\":1,\"leader\":2,\"leader_epoch\":0,\"controller_epoch\":0,\"isr\":[1]}",
+            ),
         ],
         "1 untranslatable \"/brokers/topics/t/partitions/0/state\" bad-field \"leader\"\n",
     ),
     (
-        &[("/latest_producer_id_block", "{\"version\":1,\"broker\":3,\"block_start\":\"0\",\"block_end\":\"9223372036854774808\"}")],
+        &[(
+            "/latest_producer_id_block",
+            "{\"version\":1,\"broker\":3,\"block_start\":\"0\",\"block_end\":\"9223372036854774808\"}",
+        )],
         "1 untranslatable \"/latest_producer_id_block\" bad-field \"block_end\"\n",
     ),
 ];
