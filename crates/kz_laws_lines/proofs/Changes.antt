@@ -1,5 +1,5 @@
 -- What is written of a change of a partition is read as that change: each of its fields but two may be absent.
-use Rattle.std.proofs.Common.{◌≡◌, ℕ, ◌==◌, ◌+◌, suc, ℤ, pos, negsuc, Bool, true, false, cond, List, [], ◌∷◌, Option, Some, None, refl, sym, ap, ◌∙◌, codes, arith}
+use Rattle.std.proofs.Common.{◌≡◌, ℕ, ◌+◌, suc, ℤ, negsuc, Bool, true, false, cond, List, [], ◌∷◌, Option, Some, None, refl, sym, ap, ◌∙◌, codes, arith}
 use Rattle.std.specs.Prelude.{⊤, option_and_then, option_map, if◌then◌else◌}
 use Rattle.std.specs.Ordering.{nat_cmp, match_ordering, int_eq}
 use Rattle.std.specs.Str.{bytes_eq}
@@ -22,7 +22,7 @@ use Rattle.kz_spec_lines.specs.Members.{whole_data, ints_data, with_whole, with_
 use Rattle.kz_spec_lines.specs.TopicRecords.{partition_change_of}
 use Rattle.kz_spec_lines.specs.Records.{record_forms, topic_forms, record_of}
 use Rattle.kz_spec_lines.specs.WrittenRecords.{◌|>◌, kind_member, partition_change_members, record_data}
-use Rattle.kz_laws_lines.specs.Writable.{Each, IsInt8, IsInt32, AreIntsOrNull, IsPartitionChange}
+use Rattle.kz_laws_lines.specs.Writable.{AreIntsOrNull, IsPartitionChange}
 use Rattle.kz_laws_lines.proofs.Values.{int8_is, int32_is, ints_is, uuid_is}
 
 -- ---- members that may be absent
@@ -172,10 +172,26 @@ change_from : (c : PartitionChangeRecord) (ms : Members) → IsPartitionChange c
     → partition_change_of (object ms) ≡ Some (PartitionChange c)
 unfolding whole_part
 change_from c ms h count partition topic isr leader replicas removing adding recovery =
-    rw (count, partition, topic, isr, leader, replicas, removing, adding, recovery, eq-eqb (count_parts (parts_of c) 3) (count_parts (parts_of c) 3) refl,
-    int32_is c.partition_id h.partition_id, uuid_is c.topic_id h.topic_id, ints_read c.isr h.isr,
-    whole_read (negsuc 1) c.leader int32 _ refl (int32_is c.leader h.leader), ints_read c.replicas h.replicas, ints_read c.removing h.removing,
-    ints_read c.adding h.adding, whole_read (negsuc 0) c.recovery int8 _ refl (int8_is c.recovery h.recovery)) refl
+    rw (
+      count,
+      partition,
+      topic,
+      isr,
+      leader,
+      replicas,
+      removing,
+      adding,
+      recovery,
+      eq-eqb (count_parts (parts_of c) 3) (count_parts (parts_of c) 3) refl,
+      int32_is c.partition_id h.partition_id,
+      uuid_is c.topic_id h.topic_id,
+      ints_read c.isr h.isr,
+      whole_read (negsuc 1) c.leader int32 _ refl (int32_is c.leader h.leader),
+      ints_read c.replicas h.replicas,
+      ints_read c.removing h.removing,
+      ints_read c.adding h.adding,
+      whole_read (negsuc 0) c.recovery int8 _ refl (int8_is c.recovery h.recovery),
+    ) refl
 
 -- what is found at a name among the members of a change
 found : (c : PartitionChangeRecord) (q : List ℕ) → get_member q (with_parts (parts_of c) (base c)) ≡ look q (parts_of c) (get_member q (base c))

@@ -1,5 +1,5 @@
 -- What is written of an event is read as that event.
-use Rattle.std.proofs.Common.{◌≡◌, ℕ, ◌==◌, ℤ, pos, negsuc, Bool, true, false, cond, List, [], ◌∷◌, length, Option, Some, None, refl, sym, ap, subst, ◌∙◌, codes}
+use Rattle.std.proofs.Common.{◌≡◌, ℕ, ◌==◌, ℤ, pos, negsuc, Bool, true, false, cond, List, [], ◌∷◌, length, Option, Some, None, refl, sym, ap, subst, ◌∙◌, codes, arith}
 use Rattle.std.specs.Prelude.{map, option_map, option_and_then}
 use Rattle.std.specs.Ordering.{int_eq}
 use Rattle.std.specs.Str.{is_utf8}
@@ -19,10 +19,10 @@ use Rattle.kz_spec_lines.specs.Events.{id_of, records_in, some_records, ops_in, 
 use Rattle.kz_spec_lines.specs.Members.{whole_data, with_text, with_whole}
 use Rattle.kz_spec_lines.specs.WrittenRecords.{record_data}
 use Rattle.kz_spec_lines.specs.Written.{controller_members, with_owner, op_members, op_data, members_of_event, written_event}
-use Rattle.kz_laws_bodies.proofs.Plain.{plain_is_read}
 use Rattle.kz_laws_lines.specs.Writable.{IsId, IsTime, IsVersion, Each, IsRecord, AreSomeRecords, IsPath, IsOwner, IsOp, AreSomeOps, IsEvent}
 use Rattle.kz_laws_lines.proofs.Values.{up_to_is, session_is, within_is, long_version, decoded_is, no_bytes}
 use Rattle.kz_laws_lines.proofs.Records.{record_is_read}
+use Rattle.kz_laws_lines.proofs.Deep.{plain_within}
 use Rattle.kz_laws_lines.proofs.Plain.{event_is_plain}
 
 -- ---- records
@@ -125,4 +125,4 @@ event_says (Zk os) h = zk_says os h
 
 pub event_is_read : (e : Event) → IsEvent e → line_event (written_event e) ≡ Some e
 unfolding line_event written_event
-event_is_read e h = ap (option_and_then event_of) (plain_is_read (object (members_of_event e)) (event_is_plain e h)) ∙ event_says e h
+event_is_read e h = ap (option_and_then event_of) (plain_within 5 (object (members_of_event e)) (omega arith) (event_is_plain e h)) ∙ event_says e h

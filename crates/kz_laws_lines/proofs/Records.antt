@@ -1,14 +1,11 @@
 -- What is written of a record is read as that record.
-use Rattle.std.proofs.Common.{◌≡◌, ℕ, ℤ, pos, negsuc, Bool, true, false, cond, List, Option, Some, None, refl, sym, ap, ◌∙◌, codes}
-use Rattle.std.specs.Prelude.{map, option_and_then}
+use Rattle.std.proofs.Common.{◌≡◌, ℕ, ℤ, pos, Bool, true, false, cond, List, Option, Some, None, refl, sym, ap, codes}
 use Rattle.std.specs.Ordering.{int_eq}
-use Rattle.std.specs.Result.{result_ok}
 use Rattle.std.proofs.lemmas.Bool.Decides.{Decides-int_eq}
 use Rattle.serde_json.specs.Data.{Members, object}
 use Rattle.kz_types.specs.QuotaEntities.{is_client_first, turned, user_first}
-use Rattle.kz_types.specs.Quotas.{is_quota, quota_of, quota_text}
+use Rattle.kz_types.specs.Quotas.{is_quota, quota_text}
 use Rattle.kz_types.proofs.QuotaTexts.{quota_restored}
-use Rattle.kz_types.specs.declared.row.QuotaValue.{QuotaValue}
 use Rattle.kz_types.specs.declared.id.Id.{Id}
 use Rattle.kz_types.specs.declared.record.Endpoint.{Endpoint}
 use Rattle.kz_types.specs.declared.record.Feature.{Feature}
@@ -16,7 +13,6 @@ use Rattle.kz_types.specs.declared.record.RegisterBrokerRecord.{RegisterBrokerRe
 use Rattle.kz_types.specs.declared.record.TopicRecord.{TopicRecord}
 use Rattle.kz_types.specs.declared.record.PartitionRecord.{PartitionRecord}
 use Rattle.kz_types.specs.declared.record.ConfigRecord.{ConfigRecord}
-use Rattle.kz_types.specs.declared.record.PartitionChangeRecord.{PartitionChangeRecord}
 use Rattle.kz_types.specs.declared.record.UserScramCredentialRecord.{UserScramCredentialRecord}
 use Rattle.kz_types.specs.declared.record.QuotaEntity.{QuotaEntity}
 use Rattle.kz_types.specs.declared.record.ClientQuotaRecord.{ClientQuotaRecord}
@@ -25,14 +21,14 @@ use Rattle.kz_types.specs.declared.record.AccessControlEntryRecord.{AccessContro
 use Rattle.kz_types.specs.declared.record.MetaRecord.{MetaRecord}
 use Rattle.kz_types.specs.declared.record.MetaRecord.TheVariants.{RegisterBroker, Topic, Partition, Config, PartitionChange, RemoveTopic, UserScramCredential, ClientQuota, ProducerIds, AccessControlEntry, RemoveAccessControlEntry, NoOp, ZkMigrationState, RemoveUserScramCredential, BeginTransaction, EndTransaction, AbortTransaction}
 use Rattle.kz_spec_lines.specs.Json.{text_or_null}
-use Rattle.kz_spec_lines.specs.Members.{text_or_null_data, with_tagged_whole, with_tagged_ints, with_tagged_text, with_whole, with_text, with_ints, with_id, with_flag}
-use Rattle.kz_spec_lines.specs.TopicRecords.{topic_of, partition_with, partition_of, partition_change_of, remove_topic_of}
+use Rattle.kz_spec_lines.specs.Members.{text_or_null_data, with_tagged_whole, with_tagged_text, with_whole, with_text, with_ints, with_id, with_flag}
+use Rattle.kz_spec_lines.specs.TopicRecords.{topic_of, partition_with, remove_topic_of}
 use Rattle.kz_spec_lines.specs.BrokerRecords.{endpoint_of, feature_of, register_broker_of, config_of, producer_ids_of}
-use Rattle.kz_spec_lines.specs.UserRecords.{user_scram_credential_of, remove_user_scram_credential_of, entity_of, client_quota_of, access_control_entry_of, remove_access_control_entry_of}
-use Rattle.kz_spec_lines.specs.LogRecords.{zk_migration_state_of, begin_transaction_of, abort_transaction_of}
+use Rattle.kz_spec_lines.specs.UserRecords.{user_scram_credential_of, remove_user_scram_credential_of, entity_of, access_control_entry_of, remove_access_control_entry_of}
+use Rattle.kz_spec_lines.specs.LogRecords.{zk_migration_state_of}
 use Rattle.kz_spec_lines.specs.Records.{log_forms, user_forms, topic_forms, record_of}
-use Rattle.kz_spec_lines.specs.WrittenRecords.{◌|>◌, kind_member, topic_members, partition_members, partition_change_members, endpoint_members, endpoint_data, feature_members, feature_data, register_broker_members, config_members, producer_ids_members, user_scram_credential_members, entity_members, entity_data, with_entities, with_quota, client_quota_members, access_control_entry_members, members_of_record, record_data}
-use Rattle.kz_laws_lines.specs.Writable.{IsTextOrNull, Each, IsInt8, IsInt16, IsInt32, AreIntsOrNull, IsUuid, IsTopic, IsPartition, IsPartitionChange, IsEndpoint, IsFeature, IsRegisterBroker, IsConfigRecord, IsProducerIds, IsUserScramCredential, IsEntity, IsClientQuota, IsAccessControlEntry, IsRecord}
+use Rattle.kz_spec_lines.specs.WrittenRecords.{◌|>◌, kind_member, topic_members, endpoint_data, feature_data, register_broker_members, config_members, producer_ids_members, user_scram_credential_members, entity_data, with_entities, access_control_entry_members, record_data}
+use Rattle.kz_laws_lines.specs.Writable.{IsInt8, IsUuid, IsTopic, IsPartition, IsEndpoint, IsFeature, IsRegisterBroker, IsConfigRecord, IsProducerIds, IsUserScramCredential, IsEntity, IsClientQuota, IsAccessControlEntry, IsRecord}
 use Rattle.kz_laws_lines.proofs.Changes.{change_says}
 use Rattle.kz_laws_lines.proofs.Values.{int8_is, int16_is, int32_is, int64_is, uint16_is, each_is, ints_is, bytes_are, uuid_is}
 
@@ -92,8 +88,14 @@ nullable_is (Some text) = refl
 
 broker_says : (b : RegisterBrokerRecord) → IsRegisterBroker b → register_broker_of (object (register_broker_members b)) ≡ Some (RegisterBroker b)
 broker_says b h =
-    rw (int32_is b.broker_id h.broker_id, uuid_is b.incarnation h.incarnation, int64_is b.broker_epoch h.broker_epoch,
-    each_is IsEndpoint endpoint_data endpoint_of endpoint_is b.endpoints h.endpoints, each_is IsFeature feature_data feature_of feature_is b.features h.features, nullable_is b.rack) refl
+    rw (
+      int32_is b.broker_id h.broker_id,
+      uuid_is b.incarnation h.incarnation,
+      int64_is b.broker_epoch h.broker_epoch,
+      each_is IsEndpoint endpoint_data endpoint_of endpoint_is b.endpoints h.endpoints,
+      each_is IsFeature feature_data feature_of feature_is b.features h.features,
+      nullable_is b.rack,
+    ) refl
 
 config_says : (c : ConfigRecord) → IsConfigRecord c → config_of (object (config_members c)) ≡ Some (Config c)
 config_says c h = rw (int8_is c.resource_type h.resource_type, nullable_is c.value) refl

@@ -55,13 +55,15 @@ Each P (x ∷ xs) = P x × Each P xs
 
 -- ---- fields
 
--- whole numbers of the range of their type
+-- a whole number of 8 bits
 abbrev pub IsInt8 : ℤ → Type 0
 IsInt8 n = IsBetween (negsuc 127) (pos 127) n
 
+-- of 16 bits
 abbrev pub IsInt16 : ℤ → Type 0
 IsInt16 n = IsBetween (negsuc 32767) (pos 32767) n
 
+-- of 32 bits
 abbrev pub IsInt32 : ℤ → Type 0
 IsInt32 n = IsBetween (negsuc 2147483647) (pos 2147483647) n
 
@@ -77,10 +79,12 @@ pub record IsUuid (i : Id) : Type 0 where
 
 -- ---- records: those whose fields have their types
 
+-- a topic
 pub record IsTopic (t : TopicRecord) : Type 0 where
   pub name : IsText t.name
   pub topic_id : IsUuid t.topic_id
 
+-- a partition
 pub record IsPartition (p : PartitionRecord) : Type 0 where
   pub partition_id : IsInt32 p.partition_id
   pub topic_id : IsUuid p.topic_id
@@ -93,6 +97,7 @@ pub record IsPartition (p : PartitionRecord) : Type 0 where
   pub leader_epoch : IsInt32 p.leader_epoch
   pub partition_epoch : IsInt32 p.partition_epoch
 
+-- a change of a partition
 pub record IsPartitionChange (c : PartitionChangeRecord) : Type 0 where
   pub partition_id : IsInt32 c.partition_id
   pub topic_id : IsUuid c.topic_id
@@ -103,17 +108,20 @@ pub record IsPartitionChange (c : PartitionChangeRecord) : Type 0 where
   pub adding : AreIntsOrNull c.adding
   pub recovery : IsInt8 c.recovery
 
+-- an address that a broker listens at
 pub record IsEndpoint (e : Endpoint) : Type 0 where
   pub name : IsText e.name
   pub host : IsText e.host
   pub port : e.port ≤ 65535
   pub protocol : IsInt16 e.protocol
 
+-- a feature of a broker
 pub record IsFeature (f : Feature) : Type 0 where
   pub name : IsText f.name
   pub min_is : IsInt16 f.min
   pub max_is : IsInt16 f.max
 
+-- a registration of a broker
 pub record IsRegisterBroker (b : RegisterBrokerRecord) : Type 0 where
   pub broker_id : IsInt32 b.broker_id
   pub incarnation : IsUuid b.incarnation
@@ -122,17 +130,20 @@ pub record IsRegisterBroker (b : RegisterBrokerRecord) : Type 0 where
   pub features : Each IsFeature b.features
   pub rack : IsTextOrNull b.rack
 
+-- a member of a configuration
 pub record IsConfigRecord (c : ConfigRecord) : Type 0 where
   pub resource_type : IsInt8 c.resource_type
   pub resource_name : IsText c.resource_name
   pub name : IsText c.name
   pub value : IsTextOrNull c.value
 
+-- a block of producer ids
 pub record IsProducerIds (p : ProducerIdsRecord) : Type 0 where
   pub broker_id : IsInt32 p.broker_id
   pub broker_epoch : IsLong p.broker_epoch
   pub next : IsLong p.next
 
+-- a credential
 pub record IsUserScramCredential (u : UserScramCredentialRecord) : Type 0 where
   pub name : IsText u.name
   pub mechanism : IsInt8 u.mechanism
@@ -141,11 +152,12 @@ pub record IsUserScramCredential (u : UserScramCredentialRecord) : Type 0 where
   pub server_key : IsBytes u.server_key
   pub iterations : IsInt32 u.iterations
 
+-- a part of whom a quota speaks of
 pub record IsEntity (e : QuotaEntity) : Type 0 where
   pub kind : IsText e.kind
   pub name : IsTextOrNull e.name
 
--- of a user and a client id the user stands first
+-- a quota: of a user and a client id the user stands first
 pub record IsClientQuota (q : ClientQuotaRecord) : Type 0 where
   pub parts : Each IsEntity q.entity
   pub order : is_client_first q.entity ≡ false
@@ -153,6 +165,7 @@ pub record IsClientQuota (q : ClientQuotaRecord) : Type 0 where
   pub whole : IsLong q.value.whole
   pub micros : IsInt32 q.value.micros
 
+-- an access control entry
 pub record IsAccessControlEntry (a : AccessControlEntryRecord) : Type 0 where
   pub id : IsUuid a.id
   pub resource_type : IsInt8 a.resource_type

@@ -112,7 +112,7 @@ fn features_at(alloc: Global, value: &Value) -> Result<Option<Sequence<Feature>>
     }
 }
 
-/// A `RegisterBroker`.
+/// The `RegisterBroker` that a value is, or `None` where it is none.
 pub fn register_broker_of(alloc: Global, value: &Value) -> Result<Option<MetaRecord>, NoMemory>
     ensures { IfOk result (λ made. made ≡ register_broker_of (view value.now)) }
 {
@@ -159,7 +159,7 @@ pub fn register_broker_of(alloc: Global, value: &Value) -> Result<Option<MetaRec
     })))
 }
 
-/// A `Config`.
+/// The `Config` that a value is, or `None` where it is none.
 pub fn config_of(alloc: Global, value: &Value) -> Result<Option<MetaRecord>, NoMemory>
     ensures { IfOk result (λ made. made ≡ config_of (view value.now)) }
 {
@@ -186,7 +186,7 @@ pub fn config_of(alloc: Global, value: &Value) -> Result<Option<MetaRecord>, NoM
     })))
 }
 
-/// A `ProducerIds`.
+/// The `ProducerIds` that a value is, or `None` where it is none.
 pub fn producer_ids_of(value: &Value) -> Option<MetaRecord>
     ensures { result ≡ producer_ids_of (view value.now) }
 {
@@ -268,6 +268,7 @@ fn put_features(
     Ok(())
 }
 
+/// The members of a `RegisterBroker`.
 pub fn register_broker_members(
     alloc: Global,
     broker: &RegisterBrokerRecord,
@@ -287,6 +288,7 @@ pub fn register_broker_members(
     Ok(members)
 }
 
+/// The members of a `Config`.
 pub fn config_members(alloc: Global, config: &ConfigRecord) -> Result<Map<String, Value>, NoMemory>
     ensures { IfOk result (λ members. members_view members.entries ≡ config_members config.now) }
 {
@@ -308,6 +310,7 @@ pub fn config_members(alloc: Global, config: &ConfigRecord) -> Result<Map<String
     Ok(members)
 }
 
+/// The members of a `ProducerIds`.
 pub fn producer_ids_members(
     alloc: Global,
     ids: &ProducerIdsRecord,

@@ -12,7 +12,7 @@ use kz_types::{AccessControlEntryRecord, Id, MetaRecord, NoMemory, Text};
 use serde_json::{Map, Value};
 use std::alloc::Global;
 
-/// An `AccessControlEntry`.
+/// The `AccessControlEntry` that a value is, or `None` where it is none.
 pub fn access_control_entry_of(alloc: Global, value: &Value) -> Result<Option<MetaRecord>, NoMemory>
     ensures { IfOk result (λ made. made ≡ access_control_entry_of (view value.now)) }
 {
@@ -55,7 +55,7 @@ pub fn access_control_entry_of(alloc: Global, value: &Value) -> Result<Option<Me
     })))
 }
 
-/// A `RemoveAccessControlEntry`.
+/// The `RemoveAccessControlEntry` that a value is, or `None` where it is none.
 pub fn remove_access_control_entry_of(value: &Value) -> Option<MetaRecord>
     ensures { result ≡ remove_access_control_entry_of (view value.now) }
 {
@@ -66,6 +66,7 @@ pub fn remove_access_control_entry_of(value: &Value) -> Option<MetaRecord>
     Some(MetaRecord::RemoveAccessControlEntry { id })
 }
 
+/// The members of an `AccessControlEntry`.
 pub fn access_control_entry_members(
     alloc: Global,
     entry: &AccessControlEntryRecord,
@@ -99,6 +100,7 @@ pub fn access_control_entry_members(
     Ok(members)
 }
 
+/// The members of a `RemoveAccessControlEntry`.
 pub fn remove_access_control_entry_members(
     alloc: Global,
     entry: &Id,

@@ -17,7 +17,7 @@ use kz_types::{
 use serde_json::{Map, Value};
 use std::alloc::Global;
 
-/// A `Topic`.
+/// The `Topic` that a value is, or `None` where it is none.
 pub fn topic_of(alloc: Global, value: &Value) -> Result<Option<MetaRecord>, NoMemory>
     ensures { IfOk result (λ made. made ≡ topic_of (view value.now)) }
 {
@@ -67,7 +67,7 @@ fn partition_with(
     }))
 }
 
-/// A `Partition`.
+/// The `Partition` that a value is, or `None` where it is none.
 pub fn partition_of(alloc: Global, value: &Value) -> Result<Option<MetaRecord>, NoMemory>
     ensures { IfOk result (λ made. made ≡ partition_of (view value.now)) }
 {
@@ -115,7 +115,7 @@ fn change_count(value: &Value) -> usize
     tagged_count(value, "recovery", count)
 }
 
-/// A `PartitionChange`.
+/// The `PartitionChange` that a value is, or `None` where it is none.
 pub fn partition_change_of(alloc: Global, value: &Value) -> Result<Option<MetaRecord>, NoMemory>
     ensures { IfOk result (λ made. made ≡ partition_change_of (view value.now)) }
 {
@@ -158,7 +158,7 @@ pub fn partition_change_of(alloc: Global, value: &Value) -> Result<Option<MetaRe
     })))
 }
 
-/// A `RemoveTopic`.
+/// The `RemoveTopic` that a value is, or `None` where it is none.
 pub fn remove_topic_of(value: &Value) -> Option<MetaRecord>
     ensures { result ≡ remove_topic_of (view value.now) }
 {
@@ -169,6 +169,7 @@ pub fn remove_topic_of(value: &Value) -> Option<MetaRecord>
     Some(MetaRecord::RemoveTopic { topic_id })
 }
 
+/// The members of a `Topic`.
 pub fn topic_members(alloc: Global, topic: &TopicRecord) -> Result<Map<String, Value>, NoMemory>
     ensures { IfOk result (λ members. members_view members.entries ≡ topic_members topic.now) }
 {
@@ -209,6 +210,7 @@ fn put_epochs(
     )
 }
 
+/// The members of a `Partition`.
 pub fn partition_members(
     alloc: Global,
     partition: &PartitionRecord,
@@ -236,6 +238,7 @@ pub fn partition_members(
     Ok(members)
 }
 
+/// The members of a `PartitionChange`.
 pub fn partition_change_members(
     alloc: Global,
     change: &PartitionChangeRecord,
@@ -259,6 +262,7 @@ pub fn partition_change_members(
     Ok(members)
 }
 
+/// The members of a `RemoveTopic`.
 pub fn remove_topic_members(alloc: Global, topic: &Id) -> Result<Map<String, Value>, NoMemory>
     ensures { IfOk result (λ members. members_view members.entries ≡ with_id (codes "topicId") topic.now (kind_member (codes "RemoveTopic"))) }
 {

@@ -12,7 +12,7 @@ use kz_types::{MetaRecord, NoMemory, Text};
 use serde_json::{Map, Value};
 use std::alloc::Global;
 
-/// A `NoOp`.
+/// The `NoOp` that a value is, or `None` where it is none.
 pub fn no_op_of(value: &Value) -> Option<MetaRecord>
     ensures { result ≡ no_op_of (view value.now) }
 {
@@ -23,7 +23,7 @@ pub fn no_op_of(value: &Value) -> Option<MetaRecord>
     }
 }
 
-/// A `ZkMigrationState`.
+/// The `ZkMigrationState` that a value is, or `None` where it is none.
 pub fn zk_migration_state_of(value: &Value) -> Option<MetaRecord>
     ensures { result ≡ zk_migration_state_of (view value.now) }
 {
@@ -34,7 +34,7 @@ pub fn zk_migration_state_of(value: &Value) -> Option<MetaRecord>
     Some(MetaRecord::ZkMigrationState { state })
 }
 
-/// A `BeginTransaction`.
+/// The `BeginTransaction` that a value is, or `None` where it is none.
 pub fn begin_transaction_of(alloc: Global, value: &Value) -> Result<Option<MetaRecord>, NoMemory>
     ensures { IfOk result (λ made. made ≡ begin_transaction_of (view value.now)) }
 {
@@ -49,7 +49,7 @@ pub fn begin_transaction_of(alloc: Global, value: &Value) -> Result<Option<MetaR
     }
 }
 
-/// An `EndTransaction`.
+/// The `EndTransaction` that a value is, or `None` where it is none.
 pub fn end_transaction_of(value: &Value) -> Option<MetaRecord>
     ensures { result ≡ end_transaction_of (view value.now) }
 {
@@ -60,7 +60,7 @@ pub fn end_transaction_of(value: &Value) -> Option<MetaRecord>
     }
 }
 
-/// An `AbortTransaction`.
+/// The `AbortTransaction` that a value is, or `None` where it is none.
 pub fn abort_transaction_of(alloc: Global, value: &Value) -> Result<Option<MetaRecord>, NoMemory>
     ensures { IfOk result (λ made. made ≡ abort_transaction_of (view value.now)) }
 {
@@ -75,6 +75,7 @@ pub fn abort_transaction_of(alloc: Global, value: &Value) -> Result<Option<MetaR
     }
 }
 
+/// The members of a `ZkMigrationState`.
 pub fn zk_migration_state_members(alloc: Global, state: i8) -> Result<Map<String, Value>, NoMemory>
     ensures { IfOk result (λ members. members_view members.entries ≡ with_whole (codes "state") state (kind_member (codes "ZkMigrationState"))) }
 {
@@ -83,6 +84,7 @@ pub fn zk_migration_state_members(alloc: Global, state: i8) -> Result<Map<String
     Ok(members)
 }
 
+/// The members of a `BeginTransaction`.
 pub fn begin_transaction_members(
     alloc: Global,
     name: &Option<Text>,
@@ -94,6 +96,7 @@ pub fn begin_transaction_members(
     Ok(members)
 }
 
+/// The members of an `AbortTransaction`.
 pub fn abort_transaction_members(
     alloc: Global,
     reason: &Option<Text>,

@@ -18,7 +18,7 @@ use kz_types::{
 use serde_json::{Map, Value};
 use std::alloc::Global;
 
-/// A `UserScramCredential`.
+/// The `UserScramCredential` that a value is, or `None` where it is none.
 pub fn user_scram_credential_of(
     alloc: Global,
     value: &Value,
@@ -56,7 +56,7 @@ pub fn user_scram_credential_of(
     })))
 }
 
-/// A `RemoveUserScramCredential`.
+/// The `RemoveUserScramCredential` that a value is, or `None` where it is none.
 pub fn remove_user_scram_credential_of(
     alloc: Global,
     value: &Value,
@@ -159,7 +159,7 @@ fn quota_value_of(value: &Value) -> Option<QuotaValue>
     }
 }
 
-/// A `ClientQuota`.
+/// The `ClientQuota` that a value is, or `None` where it is none.
 pub fn client_quota_of(alloc: Global, value: &Value) -> Result<Option<MetaRecord>, NoMemory>
     ensures { IfOk result (λ made. made ≡ client_quota_of (view value.now)) }
 {
@@ -183,6 +183,7 @@ pub fn client_quota_of(alloc: Global, value: &Value) -> Result<Option<MetaRecord
     })))
 }
 
+/// The members of a `UserScramCredential`.
 pub fn user_scram_credential_members(
     alloc: Global,
     credential: &UserScramCredentialRecord,
@@ -219,6 +220,7 @@ pub fn user_scram_credential_members(
     Ok(members)
 }
 
+/// The members of a `RemoveUserScramCredential`.
 pub fn remove_user_scram_credential_members(
     alloc: Global,
     name: &Text,
@@ -280,6 +282,7 @@ fn put_quota(
     }
 }
 
+/// The members of a `ClientQuota`.
 pub fn client_quota_members(
     alloc: Global,
     quota: &ClientQuotaRecord,

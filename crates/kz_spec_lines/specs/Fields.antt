@@ -15,19 +15,23 @@ value >>= made = option_and_then made value
 
 -- ---- values
 
--- whole numbers of the range of their type
+-- a whole number of 8 bits with a sign
 abbrev pub int8 : Data → Option ℤ
 int8 d = whole_within (negsuc 127) (pos 127) d
 
+-- a whole number of 16 bits with a sign
 abbrev pub int16 : Data → Option ℤ
 int16 d = whole_within (negsuc 32767) (pos 32767) d
 
+-- a whole number of 16 bits without a sign
 abbrev pub uint16 : Data → Option ℕ
 uint16 d = option_and_then (λ n. if nat_le n 65535 then Some n else None) (option_and_then as_u64 (as_number d))
 
+-- a whole number of 32 bits with a sign
 abbrev pub int32 : Data → Option ℤ
 int32 d = whole_within (negsuc 2147483647) (pos 2147483647) d
 
+-- a whole number of 64 bits with a sign
 abbrev pub int64 : Data → Option ℤ
 int64 d = option_and_then as_i64 (as_number d)
 

@@ -31,12 +31,14 @@ kind_member name = with_text (codes "kind") name no_members
 
 -- ---- topics
 
+-- a topic
 abbrev pub topic_members : TopicRecord → Members
 topic_members t =
     kind_member (codes "Topic")
     |> with_text (codes "name") t.name
     |> with_id (codes "topicId") t.topic_id
 
+-- a partition; its recovery state is 0 by default
 abbrev pub partition_members : PartitionRecord → Members
 partition_members p =
     kind_member (codes "Partition")
@@ -51,6 +53,7 @@ partition_members p =
     |> with_whole (codes "leaderEpoch") p.leader_epoch
     |> with_whole (codes "partitionEpoch") p.partition_epoch
 
+-- a change of a partition: a list is null by default, the leader -2 and the recovery state -1
 abbrev pub partition_change_members : PartitionChangeRecord → Members
 partition_change_members c =
     kind_member (codes "PartitionChange")
@@ -65,6 +68,7 @@ partition_change_members c =
 
 -- ---- brokers
 
+-- the members of an endpoint
 abbrev pub endpoint_members : Endpoint → Members
 endpoint_members e =
     no_members
@@ -73,9 +77,11 @@ endpoint_members e =
     |> with_whole (codes "port") (pos e.port)
     |> with_whole (codes "protocol") e.protocol
 
+-- an endpoint as a JSON value
 abbrev pub endpoint_data : Endpoint → Data
 endpoint_data e = object (endpoint_members e)
 
+-- the members of a feature
 abbrev pub feature_members : Feature → Members
 feature_members f =
     no_members
@@ -83,15 +89,19 @@ feature_members f =
     |> with_whole (codes "min") f.min
     |> with_whole (codes "max") f.max
 
+-- a feature as a JSON value
 abbrev pub feature_data : Feature → Data
 feature_data f = object (feature_members f)
 
+-- members, and a list of endpoints
 abbrev pub with_endpoints : List Endpoint → Members → Members
 with_endpoints endpoints ms = put (codes "endpoints") (array (items_of (map endpoint_data endpoints))) ms
 
+-- members, and a list of features
 abbrev pub with_features : List Feature → Members → Members
 with_features features ms = put (codes "features") (array (items_of (map feature_data features))) ms
 
+-- a registration of a broker
 abbrev pub register_broker_members : RegisterBrokerRecord → Members
 register_broker_members b =
     kind_member (codes "RegisterBroker")
@@ -105,6 +115,7 @@ register_broker_members b =
     |> with_flag (codes "fenced") b.fenced
     |> with_flag (codes "inShutdown") b.in_shutdown
 
+-- a member of a configuration
 abbrev pub config_members : ConfigRecord → Members
 config_members c =
     kind_member (codes "Config")
@@ -113,6 +124,7 @@ config_members c =
     |> with_text (codes "name") c.name
     |> with_text_or_null (codes "value") c.value
 
+-- a block of producer ids
 abbrev pub producer_ids_members : ProducerIdsRecord → Members
 producer_ids_members p =
     kind_member (codes "ProducerIds")
@@ -122,6 +134,7 @@ producer_ids_members p =
 
 -- ---- users and clients
 
+-- a credential
 abbrev pub user_scram_credential_members : UserScramCredentialRecord → Members
 user_scram_credential_members u =
     kind_member (codes "UserScramCredential")
@@ -132,15 +145,18 @@ user_scram_credential_members u =
     |> with_bytes (codes "serverKey") u.server_key
     |> with_whole (codes "iterations") u.iterations
 
+-- the members of a part of whom a quota speaks of
 abbrev pub entity_members : QuotaEntity → Members
 entity_members e =
     no_members
     |> with_text (codes "kind") e.kind
     |> with_text_or_null (codes "name") e.name
 
+-- such a part as a JSON value
 abbrev pub entity_data : QuotaEntity → Data
 entity_data e = object (entity_members e)
 
+-- members, and a list of these parts
 abbrev pub with_entities : List QuotaEntity → Members → Members
 with_entities parts ms = put (codes "entity") (array (items_of (map entity_data parts))) ms
 
@@ -150,6 +166,7 @@ with_quota q ms =
     if is_quota q then with_text (codes "value") (quota_text q) ms
     else with_whole (codes "micros") q.micros (with_whole (codes "whole") q.whole ms)
 
+-- a quota
 abbrev pub client_quota_members : ClientQuotaRecord → Members
 client_quota_members q =
     kind_member (codes "ClientQuota")
@@ -158,6 +175,7 @@ client_quota_members q =
     |> with_quota q.value
     |> with_flag (codes "remove") q.remove
 
+-- an access control entry
 abbrev pub access_control_entry_members : AccessControlEntryRecord → Members
 access_control_entry_members a =
     kind_member (codes "AccessControlEntry")
