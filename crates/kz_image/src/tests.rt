@@ -1,9 +1,9 @@
 use super::{Image, valid};
 use kz_types::{
     AccessControlEntryRecord, ClientQuotaRecord, ConfigRecord, Duplicate, EntityKey, Id,
-    ImageFault, ImageRule, MetaRecord, PartitionChangeRecord, PartitionRecord, PartitionRow,
-    ProducerIdsRecord, QuotaEntities, QuotaEntity, QuotaValue, RegisterBrokerRecord, Sequence,
-    Text, TopicRecord, UserScramCredentialRecord,
+    ImageFault, ImageRule, MetaRecord, PartitionChangeRecord, PartitionRecord, ProducerIdsRecord,
+    QuotaEntities, QuotaEntity, QuotaValue, RegisterBrokerRecord, Sequence, Text, TopicRecord,
+    UserScramCredentialRecord,
 };
 use std::alloc::Global;
 use std::process::Abort;
@@ -30,11 +30,7 @@ fn text_if(rt: &impl Abort, alloc: Global, value: Option<&str>) -> Option<Text> 
 }
 
 fn list(rt: &impl Abort, alloc: Global, ids: &[i32]) -> Sequence<i32> {
-    let mut list = Sequence::new(alloc);
-    for id in ids {
-        made(rt, list.push(*id));
-    }
-    list
+    Sequence::from_vec(made(rt, ids.to_vec(alloc)))
 }
 
 fn list_if(rt: &impl Abort, alloc: Global, ids: Option<&[i32]>) -> Option<Sequence<i32>> {
@@ -394,9 +390,24 @@ static KEPT: [Step; 12] = [
     Step::Producer(-1, -1, 9223372036854774808),
 ];
 
-fn image(rt: &impl Abort, alloc: Global, steps: &[Step]) -> Image {
+// Takes a record in, which must not fail.
+fn take_one(rt: &impl Abort, alloc: Global, image: &mut Image, epoch: i32, step: &Step) {
+    let item = record(rt, alloc, step);
+    made(rt, image.apply(epoch, &item));
+    drop(item);
+}
+
+// Takes records in, in epoch 7, which must not fail.
+fn take_all(rt: &impl Abort, alloc: Global, image: &mut Image, steps: &[Step]) {
+    let items = records(rt, alloc, steps);
+    made(rt, image.apply_all(7, &items));
+    drop(items);
+}
+
+// The metadata of these records.
+fn image_of(rt: &impl Abort, alloc: Global, steps: &[Step]) -> Image {
     let mut image = Image::new(alloc);
-    made(rt, image.apply_all(7, &records(rt, alloc, steps)));
+    take_all(rt, alloc, &mut image, steps);
     image
 }
 
@@ -407,9 +418,12 @@ fn is_judged(
     steps: &[Step],
     verdict: Result<(), ImageFault>,
 ) -> bool {
-    let before = image(rt, alloc, &BEFORE);
+    let before = image_of(rt, alloc, &BEFORE);
     let items = records(rt, alloc, steps);
-    valid(alloc, &before, &items) == verdict
+    let is_judged = valid(alloc, &before, &items) == verdict;
+    drop(items);
+    drop(before);
+    is_judged
 }
 
 // Whether a record is told to break this rule, behind two that break none.
@@ -474,8 +488,12 @@ fn first_breaks(
     index: usize,
     why: ImageRule,
 ) -> bool {
-    let verdict = Err(ImageFault::BadRecord { index, why });
-    valid(alloc, &Image::new(alloc), &records(rt, alloc, steps)) == verdict
+    let empty = Image::new(alloc);
+    let items = records(rt, alloc, steps);
+    let is_told = valid(alloc, &empty, &items) == Err(ImageFault::BadRecord { index, why });
+    drop(items);
+    drop(empty);
+    is_told
 }
 
 #[test]
@@ -488,9 +506,10 @@ fn the_first_bad_record_is_told(rt: HostRuntime) {
 
 // ---- effects
 
-// Those in sync, the leader, and the epochs of the leader, the partition and the controller.
-fn is_row(row: Option<&PartitionRow>, isr: &[i32], numbers: [i32; 4]) -> bool {
-    match row {
+// Whether the partition of the first topic has these in sync, and this leader and epochs of the leader, the partition and the
+// controller.
+fn has_row(image: &Image, number: i32, isr: &[i32], numbers: [i32; 4]) -> bool {
+    match image.partition(id(1), number) {
         Some(row) => {
             row.isr.as_slice() == isr
                 && [
@@ -507,24 +526,22 @@ fn is_row(row: Option<&PartitionRow>, isr: &[i32], numbers: [i32; 4]) -> bool {
 #[test]
 fn partitions_are_changed(rt: HostRuntime) {
     let alloc = rt.alloc();
-    let mut image = image(&rt, alloc, &BEFORE);
-    assert!(rt; is_row(image.partition(id(1), 0), &[1, 2], [1, 4, 0, 7]));
-    made(
+    let mut image = image_of(&rt, alloc, &BEFORE);
+    assert!(rt; has_row(&image, 0, &[1, 2], [1, 4, 0, 7]));
+    take_one(&rt, alloc, &mut image, 8, &Step::Isr(1, 0, &[1]));
+    assert!(rt; has_row(&image, 0, &[1], [1, 4, 1, 8]));
+    take_one(
         &rt,
-        image.apply(8, &record(&rt, alloc, &Step::Isr(1, 0, &[1]))),
+        alloc,
+        &mut image,
+        9,
+        &Step::Leader(1, 0, Some(&[2]), 2),
     );
-    assert!(rt; is_row(image.partition(id(1), 0), &[1], [1, 4, 1, 8]));
-    made(
-        &rt,
-        image.apply(9, &record(&rt, alloc, &Step::Leader(1, 0, Some(&[2]), 2))),
-    );
-    assert!(rt; is_row(image.partition(id(1), 0), &[2], [2, 5, 2, 9]));
-    made(
-        &rt,
-        image.apply(9, &record(&rt, alloc, &Step::Leader(1, 1, None, 2))),
-    );
-    assert!(rt; is_row(image.partition(id(1), 1), &[1, 2], [1, 2147483647, 0, 7]));
+    assert!(rt; has_row(&image, 0, &[2], [2, 5, 2, 9]));
+    take_one(&rt, alloc, &mut image, 9, &Step::Leader(1, 1, None, 2));
+    assert!(rt; has_row(&image, 1, &[1, 2], [1, 2147483647, 0, 7]));
     assert!(rt; image.partition(id(1), 2).is_none());
+    drop(image);
 }
 
 static MEMBERS: [Step; 13] = [
@@ -555,34 +572,78 @@ fn counts(image: &Image) -> [usize; 6] {
     ]
 }
 
+// Whether the topic of this name has this id.
+fn has_topic(rt: &impl Abort, alloc: Global, image: &Image, name: &str, last: u8) -> bool {
+    let name = text(rt, alloc, name);
+    let has = image.topic(&name) == Some(id(last));
+    drop(name);
+    has
+}
+
+// Whether a resource has a configuration.
+fn has_configs(rt: &impl Abort, alloc: Global, image: &Image, kind: i8, name: &str) -> bool {
+    let name = text(rt, alloc, name);
+    let has = image.configs(kind, &name).is_some();
+    drop(name);
+    has
+}
+
+// Whether an entity has quotas.
+fn has_quotas(image: &Image, key: EntityKey) -> bool {
+    let has = image.quotas(&key).is_some();
+    drop(key);
+    has
+}
+
 fn user(rt: &impl Abort, alloc: Global, name: &str) -> EntityKey {
     EntityKey::User {
         user: Some(text(rt, alloc, name)),
     }
 }
 
+// Whether a user has a credential by this mechanism.
+fn has_scram(rt: &impl Abort, alloc: Global, image: &Image, name: &str, mechanism: i8) -> bool {
+    let name = text(rt, alloc, name);
+    let has = image.scram(&name, mechanism).is_some();
+    drop(name);
+    has
+}
+
+// A copy of the metadata, in its place.
+fn copied(rt: &impl Abort, alloc: Global, image: Image) -> Image {
+    let copy = made(rt, image.copy(alloc));
+    drop(image);
+    copy
+}
+
+// The metadata of the records that are there before each case, and of members of each kind.
+fn full(rt: &impl Abort, alloc: Global) -> Image {
+    let mut image = image_of(rt, alloc, &BEFORE);
+    take_all(rt, alloc, &mut image, &MEMBERS);
+    image
+}
+
 #[test]
 fn each_kind_of_record_is_taken_in(rt: HostRuntime) {
     let alloc = rt.alloc();
-    let mut first = image(&rt, alloc, &BEFORE);
-    made(&rt, first.apply_all(7, &records(&rt, alloc, &MEMBERS)));
-    let image = made(&rt, first.copy(alloc));
+    let image = copied(&rt, alloc, full(&rt, alloc));
     assert!(rt; counts(&image) == [1, 1, 1, 1, 1, 1]);
-    assert!(rt; image.topic(&text(&rt, alloc, "t")) == Some(id(1)));
+    assert!(rt; has_topic(&rt, alloc, &image, "t", 1));
     assert!(rt; image.topic_name(id(1)).is_some());
-    assert!(rt; image.configs(2, &text(&rt, alloc, "t")).is_some());
-    assert!(rt; image.configs(4, &text(&rt, alloc, "5")).is_some());
-    assert!(rt; image.configs(4, &text(&rt, alloc, "t")).is_none());
-    assert!(rt; image.quotas(&user(&rt, alloc, "a")).is_some());
-    assert!(rt; image.quotas(&user(&rt, alloc, "b")).is_none());
-    assert!(rt; image.quotas(&EntityKey::Producer).is_none());
-    assert!(rt; image.scram(&text(&rt, alloc, "a"), 1).is_some());
-    assert!(rt; image.scram(&text(&rt, alloc, "a"), 2).is_none());
+    assert!(rt; has_configs(&rt, alloc, &image, 2, "t"));
+    assert!(rt; has_configs(&rt, alloc, &image, 4, "5"));
+    assert!(rt; !has_configs(&rt, alloc, &image, 4, "t"));
+    assert!(rt; has_quotas(&image, user(&rt, alloc, "a")));
+    assert!(rt; !has_quotas(&image, user(&rt, alloc, "b")));
+    assert!(rt; !has_quotas(&image, EntityKey::Producer));
+    assert!(rt; has_scram(&rt, alloc, &image, "a", 1));
+    assert!(rt; !has_scram(&rt, alloc, &image, "a", 2));
     assert!(rt; image.acl(id(1)).is_some());
     assert!(rt; image.next_producer() == Some(2000));
     assert!(rt; image.state() == 2);
     assert!(rt; image.is_migrating(2));
     assert!(rt; !image.is_migrating(3));
+    drop(image);
 }
 
 static REMOVALS: [Step; 6] = [
@@ -597,14 +658,11 @@ static REMOVALS: [Step; 6] = [
 #[test]
 fn what_is_removed_leaves_nothing(rt: HostRuntime) {
     let alloc = rt.alloc();
-    let mut image = image(&rt, alloc, &BEFORE);
-    made(&rt, image.apply_all(7, &records(&rt, alloc, &MEMBERS)));
-    made(&rt, image.apply_all(7, &records(&rt, alloc, &REMOVALS)));
+    let mut image = full(&rt, alloc);
+    take_all(&rt, alloc, &mut image, &REMOVALS);
     assert!(rt; counts(&image) == [0, 0, 0, 0, 0, 1]);
-    made(
-        &rt,
-        image.apply(7, &record(&rt, alloc, &Step::Topic("t", 1))),
-    );
-    assert!(rt; image.configs(2, &text(&rt, alloc, "t")).is_none());
+    take_one(&rt, alloc, &mut image, 7, &Step::Topic("t", 1));
+    assert!(rt; !has_configs(&rt, alloc, &image, 2, "t"));
     assert!(rt; image.partition(id(1), 0).is_none());
+    drop(image);
 }
