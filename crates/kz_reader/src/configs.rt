@@ -1,6 +1,5 @@
 //! The records of a configuration.
-ghost use Rattle.std.specs.Prelude.{◌≡◌, pos, IfOk, map, string_bytes};
-ghost use Rattle.std.specs.Fmt.{signed_decimal};
+ghost use Rattle.std.specs.Prelude.{◌≡◌, pos, IfOk, map};
 ghost use Rattle.kz_types.specs.declared.key.EntityKey.TheVariants.{Topic};
 ghost use Rattle.kz_ordered.specs.Order.{bytes_cmp};
 ghost use Rattle.kz_ordered.specs.Ordered.{Rises};
@@ -8,6 +7,7 @@ ghost use Rattle.kz_spec_stores.specs.Tree.{path_of_row};
 ghost use Rattle.kz_spec_znodes.specs.Translation.{row_of, broker_name, config_record, config_records, records_of_config, records_if_there};
 
 use crate::found::topic_row;
+use crate::numbers::number_text;
 use kz_types::{
     Body, BodyFault, ConfigRecord, Duplicate, MetaRecord, NoMemory, Pair, ReadWhy, Row, Sequence,
     Text,
@@ -20,19 +20,12 @@ const TOPIC: i8 = 2;
 /// The code of a broker as a resource.
 const BROKER: i8 = 4;
 
-// The text of an id.
-fn id_text(alloc: Global, id: i32) -> Result<String, NoMemory>
-    ensures { IfOk result (λ text. string_bytes text ≡ signed_decimal id) }
-{
-    Ok(format!(in alloc; "{id}")?)
-}
-
 // The name of a broker in a record: empty for all brokers.
 fn broker_name(alloc: Global, broker: Option<i32>) -> Result<Text, NoMemory>
     ensures { IfOk result (λ name. name ≡ broker_name broker) }
 {
     match broker {
-        Some(id) => Ok(Text::from_string(id_text(alloc, id)?)),
+        Some(id) => Ok(Text::from_string(number_text(alloc, id)?)),
         None => Ok(Text::from_str(alloc, "")?),
     }
 }

@@ -1,6 +1,5 @@
 //! Znodes of entities among all znodes.
 ghost use Rattle.std.specs.Prelude.{◌≡◌, ◌++◌, IfOk, option_map, string_bytes, codes};
-ghost use Rattle.std.specs.Fmt.{signed_decimal};
 ghost use Rattle.kz_types.specs.Paths.{path_of};
 ghost use Rattle.kz_types.specs.declared.key.EntityKey.TheVariants.{Topic, Partition};
 ghost use Rattle.kz_ordered.specs.Order.{bytes_cmp};
@@ -8,6 +7,7 @@ ghost use Rattle.kz_ordered.specs.Ordered.{Rises};
 ghost use Rattle.kz_spec_stores.specs.Tree.{path_of_row, row_at};
 ghost use Rattle.kz_spec_znodes.specs.Translation.{row_of};
 
+use crate::numbers::number_text;
 use kz_sorted::find;
 use kz_types::{NoMemory, Row};
 use std::alloc::Global;
@@ -18,13 +18,6 @@ fn topic_path(alloc: Global, name: &str) -> Result<String, NoMemory>
     ensures { IfOk result (λ text. string_bytes text ≡ path_of (Topic name.now)) }
 {
     Ok(format!(in alloc; "/brokers/topics/{name}")?)
-}
-
-// The text of a number.
-fn number_text(alloc: Global, number: i32) -> Result<String, NoMemory>
-    ensures { IfOk result (λ text. string_bytes text ≡ signed_decimal number) }
-{
-    Ok(format!(in alloc; "{number}")?)
 }
 
 // The text of the path of a state, where the number of its partition is a text.

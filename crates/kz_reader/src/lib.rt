@@ -8,6 +8,7 @@ mod configs;
 mod fault;
 mod found;
 mod ids;
+mod numbers;
 mod producer;
 mod quotas;
 mod reading;
