@@ -142,6 +142,7 @@ pub struct Stores {
     pub peers: Peers,
 }
 
+/// An empty tree, a log without a leader, and these controllers.
 pub fn new_stores(rt: &impl Abort, alloc: Global, declared: &[i32], running: &[i32]) -> Stores {
     Stores {
         tree: MemoryTree::new(alloc),
