@@ -618,7 +618,8 @@ fn copied(rt: &impl Abort, alloc: Global, image: Image) -> Image {
 
 // The metadata of the records that are there before each case, and of members of each kind.
 fn full(rt: &impl Abort, alloc: Global) -> Image {
-    let mut image = image_of(rt, alloc, &BEFORE);
+    let mut image = Image::new(alloc);
+    take_all(rt, alloc, &mut image, &BEFORE);
     take_all(rt, alloc, &mut image, &MEMBERS);
     image
 }
