@@ -1,0 +1,13 @@
+//! Laws of renderings, translations and differences.
+//!
+//! A law is the contract of a function that does nothing.
+#![tactic(auto)]
+
+ghost use Rattle.kz_laws_znodes.specs.Operations.{DifferenceIsMade, ChunkLeavesRest};
+
+/// The operations of a difference make the second rendering of the first. Once the operations of the next write are made, at
+/// most 64, the difference is the rest of them.
+pub fn chunk_leaves_rest()
+    ensures whole { DifferenceIsMade }
+    ensures rest { ChunkLeavesRest }
+{}
