@@ -1,11 +1,11 @@
 -- What the bodies that are read say: their lists rise, and their values are in range.
-use Rattle.std.proofs.Common.{◌≡◌, ◌≢◌, ◌⊎◌, ℕ, zero, suc, ◌+◌, ◌/◌, ◌%◌, ◌≤◌, ◌<◌, ◌==◌, nat_le, nat_lt, ℤ, ◌≤ℤ◌, pos, negsuc, Bool, true, false, cond, not, ◌&&◌, ◌||◌, List, [], ◌∷◌, ◌++◌, length, map, Option, Some, None, Result, Ok, Err, Ordering, Less, Equal, Greater, refl, sym, ap, ◌∙◌, subst, inl, inr, arith, codes}
+use Rattle.std.proofs.Common.{◌≡◌, ◌≢◌, ◌⊎◌, ℕ, zero, suc, ◌/◌, ◌%◌, ◌==◌, nat_le, ℤ, ◌≤ℤ◌, pos, negsuc, Bool, true, false, ◌&&◌, List, [], ◌∷◌, length, map, Option, Some, None, Result, Ok, Err, Ordering, Less, Greater, refl, sym, ap, ◌∙◌, subst, inl, inr, arith, codes}
 use Rattle.std.specs.Prelude.{⊤, IfSome, int_le, int_lt, option_map, option_and_then, if◌then◌else◌, bytes_eq}
-use Rattle.std.specs.Ordering.{int_cmp, int_eq, match_ordering}
+use Rattle.std.specs.Ordering.{int_cmp, match_ordering}
 use Rattle.std.specs.List.{list_all, slice_split}
 use Rattle.std.specs.Fmt.{signed_decimal}
 use Rattle.std.specs.Result.{result_ok}
-use Rattle.std.proofs.lemmas.Bool.{and_parts, and_from, leb-true, le-leb}
+use Rattle.std.proofs.lemmas.Bool.{and_parts, and_from, le-leb}
 use Rattle.std.proofs.lemmas.Option.{IfSome_then}
 use Rattle.std.proofs.lemmas.Int.{ints}
 use Rattle.serde_json.specs.Data.{Data, null, boolean, number, string, array, object, Items, no_items, item, Members, no_members, member}
@@ -35,17 +35,17 @@ use Rattle.kz_ordered.specs.Ordered.{put, Rises, RisesAbove}
 use Rattle.kz_ordered.proofs.Order.{int_order, bytes_order, less_differs}
 use Rattle.kz_ordered.proofs.Lookup.{Rises-put}
 use Rattle.kz_ordered.proofs.Maps.{Rises-map}
-use Rattle.kz_spec_values.specs.Bodies.{then_read, of_form, required, optional, field, greatest, within, whole, brokers_in, brokers_of, texts_in, texts_of, pairs_of, config_of, quota_of_data, are_replicas, are_some_of, are_distinct, is_in, place_row, row_of, rows_onto, rows_of, are_lists, list_at, fit, lists_for, with_lists, topic_id_of, topic_id_in, topic_of_data, state_of_data, operation_of, permission_of, text_at, entry_in, entries_in, entries_of_data, acls_of_data, digits_of_data, producer_of_data, json_of, object_of, body_of, body_of_object, body_of_json, body_unless_empty, empty_body, read_body, is_of_kind}
+use Rattle.kz_spec_values.specs.Bodies.{then_read, of_form, required, optional, field, greatest, within, whole, brokers_in, brokers_of, texts_in, texts_of, pairs_of, config_of, quota_of_data, are_replicas, are_some_of, place_row, row_of, rows_onto, rows_of, are_lists, list_at, fit, lists_for, with_lists, topic_id_of, topic_id_in, topic_of_data, state_of_data, operation_of, permission_of, text_at, entry_in, entries_in, entries_of_data, acls_of_data, digits_of_data, producer_of_data, json_of, object_of, body_of, body_of_object, body_of_json, body_unless_empty, empty_body, read_body, is_of_kind}
 use Rattle.kz_spec_values.specs.Credentials.{Entries, quota_keys, mechanism_of, mechanism_name, credential_key, value_of, bytes_of, credential_of, iterations_of, credential_of_pieces, credential_entry, quota_entry, entry_by, entry_of, joined, both, entries_of}
 use Rattle.kz_types.specs.Paths.{is_among}
-use Rattle.kz_spec_stores.specs.Metadata.{name_of_pair, key_of_quota, mechanism_of_pair}
-use Rattle.kz_spec_stores.specs.ImageRules.{is_mechanism, is_operation, is_permission}
+use Rattle.kz_spec_stores.specs.Metadata.{key_of_quota, mechanism_of_pair}
+use Rattle.kz_spec_stores.specs.ImageRules.{is_operation, is_permission}
 use Rattle.kz_spec_znodes.specs.Translation.{number_of_assignment}
 use Rattle.kz_laws_values.specs.Ranges.{IsBetween}
-use Rattle.kz_laws_bodies.specs.Readable.{IsWhole, AreBrokers, IsState, IsBlock, IsPartition, ArePartitions, IsBelow, AreRising}
+use Rattle.kz_laws_bodies.specs.Readable.{IsWhole, AreBrokers, IsState, IsBlock, ArePartitions, IsBelow, AreRising}
 use Rattle.kz_laws_bodies.proofs.Members.{Rise, IsUnder}
 use Rattle.kz_laws_bodies.proofs.Ranges.{state_in_range, block_in_range}
-use Rattle.kz_laws_znodes.proofs.Sorted.{IsSorted, AreSorted, HaveSorted, if_mapped, if_chained, if_any, always, object_sorted, get_sorted}
+use Rattle.kz_laws_znodes.proofs.Sorted.{IsSorted, if_mapped, if_chained, if_any, always, object_sorted, get_sorted}
 
 -- ---- what holds of what is read
 

@@ -1,5 +1,5 @@
 -- The members of what is read rise, at every depth.
-use Rattle.std.proofs.Common.{◌≡◌, ℕ, Bool, true, false, List, Option, Some, None, Ordering, Less, Equal, Greater}
+use Rattle.std.proofs.Common.{ℕ, Bool, true, false, List, Option, Some, None, Ordering, Less, Equal, Greater}
 use Rattle.std.specs.Ordering.{match_ordering}
 use Rattle.std.specs.Prelude.{⊤, IfSome, option_map, option_and_then, if◌then◌else◌}
 use Rattle.std.specs.Str.{is_utf8}
