@@ -26,14 +26,13 @@ use Rattle.kz_spec_stores.specs.Tree.{path_of_row, row_at}
 use Rattle.kz_spec_znodes.specs.Translation.{RowRecords, row_of, records_of_topic, config_record, config_records, records_if_there}
 use Rattle.kz_laws_paths.specs.TextKeys.{IsText}
 use Rattle.kz_laws_bodies.specs.Readable.{IsBelow, AreRising}
-use Rattle.kz_laws_znodes.specs.Translations.{AreZnodes}
 use Rattle.kz_laws_znodes.proofs.Reading.{IsBodyOf, read_is}
 use Rattle.kz_laws_znodes.proofs.Accepting.{Leads, leads_none}
 use Rattle.kz_laws_znodes.proofs.TopicSteps.{topic_of, with_topic, IsNamed, with_members, config_leads}
 use Rattle.kz_laws_znodes.proofs.Saying.{Assignment, entity_of, entity_read, entity_unread, pick, pick_row, topic_said, topic_config_said, broker_config_said, quotas_said, scrams_said, next_said, said, unsaid, said_elsewhere, said_here, said_nowhere, entries_by}
 use Rattle.kz_laws_znodes.proofs.Says.{partition_in, topic_by, SaysTopics, Says}
 use Rattle.kz_laws_znodes.proofs.Stays.{Step, silent_step, no_entity_is_silent, stay_configs, stay_quotas, stay_users, stay_entries, stay_next}
-use Rattle.kz_laws_znodes.proofs.Walk.{Split, split_at_found, HasRecords, AllHaveRecords, entity_records_are, absent_here, found_before, none_before, key_here, path_of_here}
+use Rattle.kz_laws_znodes.proofs.Walk.{AreRows, Split, split_at_found, HasRecords, AllHaveRecords, entity_records_are, absent_here, found_before, none_before, key_here, path_of_here}
 use Rattle.kz_laws_znodes.proofs.TopicRows.{config_names, topic_before_config, config_is_legal, topic_is_good}
 
 -- ---- members
@@ -86,7 +85,7 @@ record IsSaid (rows earlier : List Row) (name : List ℕ) : Type 0 where
   said_is : said topic_said (path_of (key.Topic name)) earlier ≡ Some what
 
 module _ (epoch : ℤ) (rows : List Row) (brokers : List RegisterBrokerRecord) (state : ℤ) (earlier : List Row) (r : Row) (rest : List Row) (i : Image)
-    (whole : rows ≡ earlier ++ r ∷ rest) (z : AreZnodes rows) (all : AllHaveRecords rows) (s : Says epoch rows brokers state earlier i) where
+    (whole : rows ≡ earlier ++ r ∷ rest) (z : AreRows rows) (all : AllHaveRecords rows) (s : Says epoch rows brokers state earlier i) where
   module _ (name : List ℕ) (holds : key_of r.path ≡ Some (key.TopicConfig name)) where
     at : path_of (key.TopicConfig name) ≡ r.path
     at = path_of_here rows earlier r rest whole z (key.TopicConfig name) holds

@@ -39,14 +39,13 @@ use Rattle.kz_laws_paths.specs.TextKeys.{IsSmall}
 use Rattle.kz_laws_paths.proofs.Names.{name_is_read}
 use Rattle.kz_laws_paths.proofs.Legal.{IsGoodKey}
 use Rattle.kz_laws_paths.proofs.Keys.{path_holds}
-use Rattle.kz_laws_znodes.specs.Translations.{AreZnodes}
 use Rattle.kz_laws_znodes.proofs.Reading.{IsBodyOf, IsMechanism, AreQuotasRead, AreScramsRead, IsQuotaBodyRead, IsEntryRead, AreEntriesRead, read_is}
 use Rattle.kz_laws_znodes.proofs.Accepting.{Leads, leads_append}
 use Rattle.kz_laws_znodes.proofs.OtherSteps.{configuration, with_configuration, broker_leads, quota_list, with_quota_list, IsAllowed, HasQuotas, quotas_lead, scram_list, with_scram_list, IsCredentialOf, scrams_lead, IsEntryMade, numbered, AreBelowNumber, entries_lead, producer_leads}
 use Rattle.kz_laws_znodes.proofs.Saying.{entity_of, entity_read, pick, topic_said, topic_config_said, broker_config_said, quotas_said, scrams_said, next_said, said, said_elsewhere, said_here, said_nowhere, entries_by, of_user, all_entries, entries_counted, listed, or_empty, grown_rises, grown_here, grown_elsewhere}
 use Rattle.kz_laws_znodes.proofs.Says.{broker_named, configuration_in, scrams_in_rows, SaysConfigs, SaysQuotas, SaysUsers, SaysEntries, Says}
 use Rattle.kz_laws_znodes.proofs.Stays.{Step, entries_after, stay_topics, stay_configs, stay_quotas, stay_users, stay_entries, stay_next}
-use Rattle.kz_laws_znodes.proofs.Walk.{absent_here, path_here, key_here, path_of_here}
+use Rattle.kz_laws_znodes.proofs.Walk.{AreRows, may_be_long, absent_here, keyed_here, key_here, path_of_here}
 use Rattle.kz_laws_znodes.proofs.Partitions.{le_holds, lt_fails}
 use Rattle.kz_laws_znodes.proofs.TopicRows.{same_behind}
 use Rattle.kz_laws_znodes.proofs.ConfigWalk.{members_rise, IsConfigured, configured_are}
@@ -132,10 +131,6 @@ all_allowed : (k : EntityKey) (quotas : List QuotaRow) → AreQuotasRead k quota
 all_allowed k [] h = All-nil (IsAllowed k)
 all_allowed k (q ∷ qs) h = All-cons (IsAllowed k) q qs (record { named = h.0.named; valued = h.0.valued }) (all_allowed k qs h.1)
 
-path_kept : (k : EntityKey) (path : List ℕ) → is_path path ≡ true → path_of k ≡ path → has_path k ≡ true
-unfolding has_path
-path_kept k path rule at = ap is_path at ∙ rule
-
 user_part : (name other : List ℕ) → path_of (key.User (Some name)) ≡ path_of (key.User (Some other)) → sanitised name ≡ sanitised other
 unfolding path_of
 user_part name other e = same_behind (codes "/config/users/") (sanitised name) (sanitised other) e
@@ -147,6 +142,10 @@ user_is_named : (name : List ℕ) → IsGoodKey (key.User (Some name)) → is_em
 unfolding is_legal
 user_is_named [] g = absurd (false≢true g.0)
 user_is_named (b ∷ bs) g = refl
+
+user_fits : (name : List ℕ) → has_path (key.User (Some name)) ≡ true → is_path (path_of (key.User (Some name))) ≡ true
+unfolding has_path
+user_fits name h = h
 
 -- no part of a path is one of dots
 no_dots : (name : List ℕ) → is_path (path_of (key.User (Some name))) ≡ true → is_dots name ≡ false
@@ -208,7 +207,7 @@ next_high : (end : ℤ) → int_lt max_block_end end ≡ false → int_lt max_ne
 next_high end h = grind (arith, ints)
 
 module _ (epoch : ℤ) (rows : List Row) (brokers : List RegisterBrokerRecord) (state : ℤ) (earlier : List Row) (r : Row) (rest : List Row) (i : Image)
-    (whole : rows ≡ earlier ++ r ∷ rest) (z : AreZnodes rows) (s : Says epoch rows brokers state earlier i) where
+    (whole : rows ≡ earlier ++ r ∷ rest) (z : AreRows rows) (s : Says epoch rows brokers state earlier i) where
   -- ---- the configuration of a broker
 
   module _ (broker : Option ℤ) (holds : key_of r.path ≡ Some (key.BrokerConfig broker)) (pairs : List Pair) (is : read_body (key.BrokerConfig broker) r.body ≡ Ok (body.Config pairs)) where
@@ -283,7 +282,7 @@ module _ (epoch : ℤ) (rows : List Row) (brokers : List RegisterBrokerRecord) (
   -- ---- quotas and credentials
 
   -- the quotas of an entity, and its credentials where it has any
-  module _ (k : EntityKey) (known : quota_key (quota_entity k) ≡ Some k) (holds : key_of r.path ≡ Some k) (quotas : List QuotaRow) (scrams : List ScramPair)
+  module _ (k : EntityKey) (known : quota_key (quota_entity k) ≡ Some k) (long : may_be_long k ≡ true) (holds : key_of r.path ≡ Some k) (quotas : List QuotaRow) (scrams : List ScramPair)
       (is : read_body k r.body ≡ Ok (body.Quota quotas scrams)) (h : IsQuotaBodyRead k quotas scrams) where
     quota_entity_is : entity_of r ≡ Some (record { who = k; what = body.Quota quotas scrams })
     quota_entity_is = entity_read r k (body.Quota quotas scrams) holds is
@@ -298,7 +297,7 @@ module _ (epoch : ℤ) (rows : List Row) (brokers : List RegisterBrokerRecord) (
     quota_new = s.quotas.each (path_of k) ∙ ap (λ o. listed quota_list (path_of k) (or_empty o)) (said_nowhere quotas_said (path_of k) earlier quota_absent)
 
     fits : has_path k ≡ true
-    fits = path_kept k r.path (path_here rows earlier r rest whole z) quota_at
+    fits = (keyed_here rows earlier r rest whole z k holds).fits long
 
     has_quotas : HasQuotas k
     has_quotas = record { known = known; legal = (key_here rows earlier r rest whole z k holds).0; placed = fits }
@@ -346,13 +345,13 @@ module _ (epoch : ℤ) (rows : List Row) (brokers : List RegisterBrokerRecord) (
     text = user_key.1
 
     user_at : path_of (key.User (Some name)) ≡ r.path
-    user_at = quota_at (key.User (Some name)) refl holds quotas scrams is h
+    user_at = quota_at (key.User (Some name)) refl refl holds quotas scrams is h
 
     user_absent : row_at (path_of (key.User (Some name))) earlier ≡ None
-    user_absent = quota_absent (key.User (Some name)) refl holds quotas scrams is h
+    user_absent = quota_absent (key.User (Some name)) refl refl holds quotas scrams is h
 
     user_entity : entity_of r ≡ Some (record { who = key.User (Some name); what = body.Quota quotas scrams })
-    user_entity = quota_entity_is (key.User (Some name)) refl holds quotas scrams is h
+    user_entity = quota_entity_is (key.User (Some name)) refl refl holds quotas scrams is h
 
     user_new : find bytes_cmp name_of_user name i.users ≡ None
     user_new = s.users.each name ∙ ap (λ b. cond b (scrams_in_rows earlier name) None) text ∙ ap (λ o. listed scram_list name (or_empty o)) (said_nowhere scrams_said (path_of (key.User (Some name))) earlier user_absent)
@@ -381,9 +380,9 @@ module _ (epoch : ℤ) (rows : List Row) (brokers : List RegisterBrokerRecord) (
         let after : Image = record i { users = with_scram_list name scrams i.users; quotas = with_quota_list (path_of k) quotas i.quotas } in record {
           after = after;
           leads = subst (λ rs. Leads epoch rs i after) (sym e) (leads_append epoch (map (scram_record name) scrams) (map (quota_record k) quotas) i between after
-              (scrams_lead epoch i name user_new scrams h.scrams_rise (all_credentials k name (user_is_named name user_key) (no_dots name (ap is_path user_at ∙ path_here rows earlier r rest whole z)) (fits k refl holds quotas scrams is h) scrams h.scrams_are))
-              (quotas_lead epoch between k (has_quotas k refl holds quotas scrams is h) (quota_new k refl holds quotas scrams is h) quotas h.quotas_rise (all_allowed k quotas h.quotas_are)));
-          says = with_users k refl holds quotas scrams is h (with_scram_list name scrams i.users) users_say;
+              (scrams_lead epoch i name user_new scrams h.scrams_rise (all_credentials k name (user_is_named name user_key) (no_dots name (user_fits name (fits k refl refl holds quotas scrams is h))) (fits k refl refl holds quotas scrams is h) scrams h.scrams_are))
+              (quotas_lead epoch between k (has_quotas k refl refl holds quotas scrams is h) (quota_new k refl refl holds quotas scrams is h) quotas h.quotas_rise (all_allowed k quotas h.quotas_are)));
+          says = with_users k refl refl holds quotas scrams is h (with_scram_list name scrams i.users) users_say;
         }
 
   -- ---- access control entries
@@ -394,7 +393,7 @@ module _ (epoch : ℤ) (rows : List Row) (brokers : List RegisterBrokerRecord) (
     acl_entity = entity_read r (key.Acl pattern kind name) (body.Acls entries) holds is
 
     acl_fits : has_path (key.Acl pattern kind name) ≡ true
-    acl_fits = path_kept (key.Acl pattern kind name) r.path (path_here rows earlier r rest whole z) (path_of_here rows earlier r rest whole z (key.Acl pattern kind name) holds)
+    acl_fits = (keyed_here rows earlier r rest whole z (key.Acl pattern kind name) holds).fits refl
 
     led : Leads epoch (acl_records (count_of_entries earlier) entries) i (record i { acls = i.acls ++ numbered (count_of_entries earlier) entries }) × AreBelowNumber (count_of_entries earlier + length entries) (i.acls ++ numbered (count_of_entries earlier) entries)
     led = entries_lead epoch i (count_of_entries earlier) entries few (subst (λ n. AreBelowNumber n i.acls) (sym (entries_counted earlier)) s.entries.below)

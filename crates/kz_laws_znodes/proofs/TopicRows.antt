@@ -30,12 +30,11 @@ use Rattle.kz_laws_paths.specs.TextKeys.{IsText}
 use Rattle.kz_laws_paths.proofs.Legal.{IsGoodKey}
 use Rattle.kz_laws_paths.proofs.Keys.{path_holds}
 use Rattle.kz_laws_bodies.specs.Readable.{IsPartition, ArePartitions}
-use Rattle.kz_laws_znodes.specs.Translations.{AreZnodes}
 use Rattle.kz_laws_znodes.proofs.Reading.{IsTopicBody, IsBodyOf, read_is}
 use Rattle.kz_laws_znodes.proofs.TopicSteps.{number_of_record, IsMade}
 use Rattle.kz_laws_znodes.proofs.Partitions.{le_holds, new_is_made, state_is_made, number_kept}
 use Rattle.kz_laws_znodes.proofs.Says.{partition_in}
-use Rattle.kz_laws_znodes.proofs.Walk.{Split, split_at_found, HasRecords, AllHaveRecords, entity_records_are, found_here, version_here, key_here, path_of_here}
+use Rattle.kz_laws_znodes.proofs.Walk.{AreRows, Split, split_at_found, HasRecords, AllHaveRecords, entity_records_are, found_here, version_here, key_here, path_of_here}
 
 -- ---- paths of topics
 
@@ -79,7 +78,7 @@ state_path_good : (name : List ℕ) (a : AssignmentRow) → is_topic_name name �
 unfolding is_legal
 state_path_good name a legal text h = path_holds (key.Partition name a.number) (and_from (is_topic_name name) (is_not_negative a.number) legal (le_holds (pos 0) a.number h.number_is.0)) (text, h.number_is.1)
 
-module _ (rows earlier : List Row) (r : Row) (rest : List Row) (whole : rows ≡ earlier ++ r ∷ rest) (z : AreZnodes rows) (all : AllHaveRecords rows)
+module _ (rows earlier : List Row) (r : Row) (rest : List Row) (whole : rows ≡ earlier ++ r ∷ rest) (z : AreRows rows) (all : AllHaveRecords rows)
     (name : List ℕ) (id : Id) (ps : List AssignmentRow) (holds : key_of r.path ≡ Some (key.Topic name)) (is : read_body (key.Topic name) r.body ≡ Ok (body.Topic id ps)) where
   pub good : IsTopicBody id ps
   good = read_is (key.Topic name) r.body (body.Topic id ps) is

@@ -26,13 +26,12 @@ use Rattle.kz_spec_stores.specs.Metadata.{Image, name_of_topic, same_id}
 use Rattle.kz_spec_stores.specs.Image.{put_topic}
 use Rattle.kz_spec_stores.specs.Tree.{path_of_row, row_at}
 use Rattle.kz_spec_znodes.specs.Translation.{body_of_row, is_topic_with, is_taken, topic_records}
-use Rattle.kz_laws_znodes.specs.Translations.{AreZnodes}
 use Rattle.kz_laws_znodes.proofs.Accepting.{Leads}
 use Rattle.kz_laws_znodes.proofs.TopicSteps.{topic_of, with_topic, IsFresh, topic_leads}
 use Rattle.kz_laws_znodes.proofs.Saying.{Assignment, entity_of, entity_by, entity_read, pick, pick_row, topic_said, topic_config_said, broker_config_said, quotas_said, scrams_said, next_said, said, unsaid, said_elsewhere, said_here, said_nowhere, entries_by}
 use Rattle.kz_laws_znodes.proofs.Says.{partition_in, topic_by, SaysTopics, Says}
 use Rattle.kz_laws_znodes.proofs.Stays.{Step, stay_configs, stay_quotas, stay_users, stay_entries, stay_next}
-use Rattle.kz_laws_znodes.proofs.Walk.{AllHaveRecords, absent_here, absent_behind}
+use Rattle.kz_laws_znodes.proofs.Walk.{AreRows, AllHaveRecords, absent_here, absent_behind}
 use Rattle.kz_laws_znodes.proofs.TopicRows.{topic_names, topic_before_config, good, legal, placed, partitions_made, partitions_rise, records_are}
 
 -- ---- a topic that is there by its id
@@ -109,7 +108,7 @@ module _ (epoch : ℤ) (rows earlier : List Row) (topics : List TopicEntry) (s :
 -- ---- a topic's znode
 
 module _ (epoch : ℤ) (rows : List Row) (brokers : List RegisterBrokerRecord) (state : ℤ) (earlier : List Row) (r : Row) (rest : List Row) (i : Image)
-    (whole : rows ≡ earlier ++ r ∷ rest) (z : AreZnodes rows) (all : AllHaveRecords rows) (s : Says epoch rows brokers state earlier i) where
+    (whole : rows ≡ earlier ++ r ∷ rest) (z : AreRows rows) (all : AllHaveRecords rows) (s : Says epoch rows brokers state earlier i) where
   module _ (name : List ℕ) (id : Id) (ps : List AssignmentRow) (holds : key_of r.path ≡ Some (key.Topic name)) (is : read_body (key.Topic name) r.body ≡ Ok (body.Topic id ps)) (free : is_taken id earlier ≡ false) where
     entity : entity_of r ≡ Some (record { who = key.Topic name; what = body.Topic id ps })
     entity = entity_read r (key.Topic name) (body.Topic id ps) holds is

@@ -1,14 +1,15 @@
 -- The records of znodes, one znode after another.
-use Rattle.std.proofs.Common.{◌≡◌, ℕ, true, List, [], ◌∷◌, ◌++◌, Option, Some, None, append-nil, Ordering, Less, Contains, refl, sym, ap, ◌∙◌, subst, append_assoc}
+use Rattle.std.proofs.Common.{◌≡◌, ℕ, true, List, [], ◌∷◌, ◌++◌, Option, Some, None, append-nil, Ordering, Less, Contains, refl, sym, ap, ◌∙◌, subst, append_assoc, Bool, false, All}
 use Rattle.std.specs.Prelude.{Ok, Err}
 use Rattle.std.specs.Option.{option_or}
 use Rattle.std.proofs.lemmas.List.Elements.{All-contains, Contains-append_right}
 use Rattle.kz_types.specs.declared.tree.Row.{Row}
 use Rattle.kz_types.specs.declared.key.EntityKey.{EntityKey}
+use Rattle.kz_types.specs.declared.key.EntityKey.TheVariants as key
 use Rattle.kz_types.specs.declared.kind.Kind.{Kind}
 use Rattle.kz_types.specs.declared.kind.Kind.TheVariants as kind
 use Rattle.kz_types.specs.declared.record.MetaRecord.{MetaRecord}
-use Rattle.kz_types.specs.Paths.{is_path, kind_of, key_of, path_of}
+use Rattle.kz_types.specs.Paths.{is_path, kind_of, key_of, path_of, has_path}
 use Rattle.kz_types.proofs.KeyLemmas.{path_of_key_of}
 use Rattle.kz_ordered.specs.Order.{TotalOrder, bytes_cmp}
 use Rattle.kz_ordered.specs.Ordered.{find, Rises, AllBelow}
@@ -22,6 +23,44 @@ use Rattle.kz_spec_znodes.specs.Translation.{Translated, RowRecords, records_of,
 use Rattle.kz_laws_paths.proofs.Legal.{IsGoodKey}
 use Rattle.kz_laws_paths.proofs.Texts.{key_good}
 use Rattle.kz_laws_znodes.specs.Translations.{AreZnodes}
+
+-- ---- znodes with their keys
+
+-- whether the path of an entity may be too long for it
+abbrev pub may_be_long : EntityKey → Bool
+may_be_long (key.Client client) = true
+may_be_long (key.User user) = true
+may_be_long (key.UserClient user client) = true
+may_be_long (key.Ip address) = true
+may_be_long (key.Acl pattern kind name) = true
+may_be_long k = false
+
+-- The key that a path holds is legal, its names are texts, and this is its path.
+pub record IsKeyed (path : List ℕ) (k : EntityKey) : Type 0 where
+  pub placed : path_of k ≡ path
+  pub good : IsGoodKey k
+  pub fits : may_be_long k ≡ true → has_path k ≡ true
+
+-- Znodes whose paths rise, with data versions of 32 bits, each of which holds its key.
+pub record AreRows (rows : List Row) : Type 0 where
+  pub rising : Rises bytes_cmp path_of_row rows
+  pub versions : All (λ (r : Row). is_epoch r.version ≡ true) rows
+  pub keyed : (r : Row) → Contains rows r → (k : EntityKey) → key_of r.path ≡ Some k → IsKeyed r.path k
+
+path_kept : (k : EntityKey) (path : List ℕ) → is_path path ≡ true → path_of k ≡ path → has_path k ≡ true
+unfolding has_path
+path_kept k path rule at = ap is_path at ∙ rule
+
+-- where each path keeps the rule of paths, it holds its key
+pub rows_of_znodes : (rows : List Row) → AreZnodes rows → AreRows rows
+rows_of_znodes rows z = record {
+  rising = z.rising;
+  versions = z.versions;
+  keyed = λ r has k is.
+      let rule : is_path r.path ≡ true = All-contains (λ (x : Row). is_path x.path ≡ true) rows r z.paths has in
+      let at : path_of k ≡ r.path = path_of_key_of r.path k rule is in
+      record { placed = at; good = key_good r.path k rule is; fits = λ long. path_kept k r.path rule at };
+}
 
 -- ---- a list split at an item
 
@@ -118,7 +157,7 @@ no_records rows earlier r one none e = by (kind_of r.path) e
     by kind.Reserved h = ok_none one h
     by kind.Outside h = ok_none one h
 
-module _ (rows earlier : List Row) (r : Row) (rest : List Row) (whole : rows ≡ earlier ++ r ∷ rest) (z : AreZnodes rows) where
+module _ (rows earlier : List Row) (r : Row) (rest : List Row) (whole : rows ≡ earlier ++ r ∷ rest) (z : AreRows rows) where
   rises_here : Rises bytes_cmp path_of_row (earlier ++ r ∷ rest)
   rises_here = subst (Rises bytes_cmp path_of_row) whole z.rising
 
@@ -135,9 +174,6 @@ module _ (rows earlier : List Row) (r : Row) (rest : List Row) (whole : rows ≡
 
   here : Contains rows r
   here = subst (λ xs. Contains xs r) (sym whole) (Contains-append_right earlier (r ∷ rest) r (Contains-head r rest))
-
-  pub path_here : is_path r.path ≡ true
-  path_here = All-contains (λ (x : Row). is_path x.path ≡ true) rows r z.paths here
 
   pub version_here : is_epoch r.version ≡ true
   version_here = All-contains (λ (x : Row). is_epoch x.version ≡ true) rows r z.versions here
@@ -168,8 +204,11 @@ module _ (rows earlier : List Row) (r : Row) (rest : List Row) (whole : rows ≡
       first_none (Some x) p e = absurd (some_is_none e)
 
   -- its key, where it has one
+  pub keyed_here : (k : EntityKey) → key_of r.path ≡ Some k → IsKeyed r.path k
+  keyed_here k is = z.keyed r here k is
+
   pub key_here : (k : EntityKey) → key_of r.path ≡ Some k → IsGoodKey k
-  key_here k is = key_good r.path k path_here is
+  key_here k is = (keyed_here k is).good
 
   pub path_of_here : (k : EntityKey) → key_of r.path ≡ Some k → path_of k ≡ r.path
-  path_of_here k is = path_of_key_of r.path k path_here is
+  path_of_here k is = (keyed_here k is).placed

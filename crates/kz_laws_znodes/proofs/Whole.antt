@@ -37,7 +37,7 @@ use Rattle.kz_laws_znodes.proofs.Accepting.{Accepted, Leads, leads_none, leads_a
 use Rattle.kz_laws_znodes.proofs.Saying.{entity_read, entity_unread, no_entity, pick, topic_said, topic_config_said, broker_config_said, quotas_said, scrams_said, next_said, entries_said, entries_by}
 use Rattle.kz_laws_znodes.proofs.Says.{broker_named, configuration_in, scrams_in_rows, Says}
 use Rattle.kz_laws_znodes.proofs.Stays.{Step, IsSilent, silent_step, no_entity_is_silent}
-use Rattle.kz_laws_znodes.proofs.Walk.{AllHaveRecords, all_have_records, FirstRecords, first_records, entity_records_are, no_records}
+use Rattle.kz_laws_znodes.proofs.Walk.{AreRows, rows_of_znodes, AllHaveRecords, all_have_records, FirstRecords, first_records, entity_records_are, no_records}
 use Rattle.kz_laws_znodes.proofs.TopicWalk.{topic_step}
 use Rattle.kz_laws_znodes.proofs.ConfigWalk.{topic_config_step}
 use Rattle.kz_laws_znodes.proofs.OtherWalk.{broker_config_step, quota_step, user_step, entries_step, producer_step}
@@ -52,7 +52,7 @@ counted_once n [] = refl
 counted_once n (x ∷ xs) = ap suc (counted_once (n + 1) xs)
 
 module _ (epoch : ℤ) (rows : List Row) (brokers : List RegisterBrokerRecord) (state : ℤ) (earlier : List Row) (r : Row) (rest : List Row) (i : Image)
-    (whole : rows ≡ earlier ++ r ∷ rest) (z : AreZnodes rows) (all : AllHaveRecords rows) (s : Says epoch rows brokers state earlier i) (one : List MetaRecord)
+    (whole : rows ≡ earlier ++ r ∷ rest) (z : AreRows rows) (all : AllHaveRecords rows) (s : Says epoch rows brokers state earlier i) (one : List MetaRecord)
     (few : count_of_entries earlier + length one < 2 ^ 64) where
   Done : Type 0
   Done = Step epoch rows brokers state earlier r one i
@@ -217,15 +217,15 @@ module _ (epoch : ℤ) (rows : List Row) (brokers : List RegisterBrokerRecord) (
   at_key (key.TopicConfig name) holds e = topic_config_step epoch rows brokers state earlier r rest i whole z all s name holds one e
   at_key (key.BrokerConfig broker) holds e = broker_config_step epoch rows brokers state earlier r rest i whole z s broker holds one e
   at_key (key.Client client) holds e = quotas_of_read (key.Client client) (client_form client)
-      (λ qs ss is h own. quota_step epoch rows brokers state earlier r rest i whole z s (key.Client client) refl holds qs ss is h one refl refl own) (read_body (key.Client client) r.body) refl e
+      (λ qs ss is h own. quota_step epoch rows brokers state earlier r rest i whole z s (key.Client client) refl refl holds qs ss is h one refl refl own) (read_body (key.Client client) r.body) refl e
   at_key (key.User None) holds e = quotas_of_read (key.User None) (user_form None)
-      (λ qs ss is h own. quota_step epoch rows brokers state earlier r rest i whole z s (key.User None) refl holds qs ss is h one refl refl own) (read_body (key.User None) r.body) refl e
+      (λ qs ss is h own. quota_step epoch rows brokers state earlier r rest i whole z s (key.User None) refl refl holds qs ss is h one refl refl own) (read_body (key.User None) r.body) refl e
   at_key (key.User (Some name)) holds e = quotas_of_read (key.User (Some name)) (user_form (Some name))
       (λ qs ss is h own. user_step epoch rows brokers state earlier r rest i whole z s name holds qs ss is h one own) (read_body (key.User (Some name)) r.body) refl e
   at_key (key.UserClient user client) holds e = quotas_of_read (key.UserClient user client) (user_client_form user client)
-      (λ qs ss is h own. quota_step epoch rows brokers state earlier r rest i whole z s (key.UserClient user client) refl holds qs ss is h one refl refl own) (read_body (key.UserClient user client) r.body) refl e
+      (λ qs ss is h own. quota_step epoch rows brokers state earlier r rest i whole z s (key.UserClient user client) refl refl holds qs ss is h one refl refl own) (read_body (key.UserClient user client) r.body) refl e
   at_key (key.Ip address) holds e = quotas_of_read (key.Ip address) (ip_form address)
-      (λ qs ss is h own. quota_step epoch rows brokers state earlier r rest i whole z s (key.Ip address) refl holds qs ss is h one refl refl own) (read_body (key.Ip address) r.body) refl e
+      (λ qs ss is h own. quota_step epoch rows brokers state earlier r rest i whole z s (key.Ip address) refl refl holds qs ss is h one refl refl own) (read_body (key.Ip address) r.body) refl e
   at_key (key.Acl pattern kind name) holds e = at_acls pattern kind name holds (read_body (key.Acl pattern kind name) r.body) refl e
   at_key key.Producer holds e = at_producer holds (read_body key.Producer r.body) refl e
 
@@ -286,7 +286,7 @@ pub record Ends (epoch : ℤ) (rows : List Row) (brokers : List RegisterBrokerRe
   pub leads : Leads epoch rs i after
   pub says : Says epoch rows brokers state rows after
 
-module _ (epoch : ℤ) (rows : List Row) (brokers : List RegisterBrokerRecord) (state : ℤ) (z : AreZnodes rows) (all : AllHaveRecords rows) where
+module _ (epoch : ℤ) (rows : List Row) (brokers : List RegisterBrokerRecord) (state : ℤ) (z : AreRows rows) (all : AllHaveRecords rows) where
   all_steps : (earlier todo : List Row) (i : Image) (rs : List MetaRecord) → rows ≡ earlier ++ todo → Says epoch rows brokers state earlier i → records_behind rows earlier todo ≡ Ok rs → count_of_entries earlier + length rs < 2 ^ 64
       → Ends epoch rows brokers state rs i
   all_steps earlier [] i rs whole s e few = record {
@@ -354,7 +354,7 @@ translated rows records e = by (all_records rows) refl e
     by (Err u) is h = absurd (cc)
     by (Ok rs) is h = limited rs is (excess (all_applied max_epoch rs empty_image)) h
 
-pub translation_leads : (epoch : ℤ) (rows : List Row) (brokers : List RegisterBrokerRecord) (state : ℤ) (records : List MetaRecord) → AreZnodes rows → all_records rows ≡ Ok records → length records + further_records ≤ max_records
+pub translation_leads : (epoch : ℤ) (rows : List Row) (brokers : List RegisterBrokerRecord) (state : ℤ) (records : List MetaRecord) → AreRows rows → all_records rows ≡ Ok records → length records + further_records ≤ max_records
     → Ends epoch rows brokers state records (bare_image brokers state)
 translation_leads epoch rows brokers state records z all few =
     let none : count_of_entries [] ≡ 0 = refl in
@@ -368,4 +368,4 @@ pub translated_is_accepted : (rows : List Row) (records : List MetaRecord) → A
     → first_bad 0 records (bare_image brokers state) ≡ None
 translated_is_accepted rows records z e brokers state =
     let t = translated rows records e in
-    none_bad 0 records (bare_image brokers state) (translation_leads (pos 0) rows brokers state records z t.all t.few).leads.accepted
+    none_bad 0 records (bare_image brokers state) (translation_leads (pos 0) rows brokers state records (rows_of_znodes rows z) t.all t.few).leads.accepted
