@@ -16,3 +16,5 @@ pub mod TopicWalk
 pub mod ConfigWalk
 pub mod OtherWalk
 pub mod Whole
+pub mod Within
+pub mod Scaffolds
