@@ -18,3 +18,5 @@ pub mod OtherWalk
 pub mod Whole
 pub mod Within
 pub mod Scaffolds
+pub mod Shown
+pub mod Bodies

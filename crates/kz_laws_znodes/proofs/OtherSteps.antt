@@ -66,12 +66,12 @@ with_quota_list = grown bytes_cmp path_of_quotas quota_list
 pub record IsAllowed (k : EntityKey) (q : QuotaRow) : Type 0 where
   pub named : is_among (quota_keys k) q.key ≡ true
   pub valued : is_quota q.value ≡ true
+  pub placed : has_path k ≡ true
 
 -- An entity that may have quotas.
 pub record HasQuotas (k : EntityKey) : Type 0 where
   pub known : quota_key (quota_entity k) ≡ Some k
   pub legal : is_legal k ≡ true
-  pub placed : has_path k ≡ true
 
 module _ (epoch : ℤ) (i : Image) (k : EntityKey) (h : HasQuotas k) (absent : find bytes_cmp path_of_quotas (path_of k) i.quotas ≡ None) where
   abbrev quota_state : List QuotaRow → Image
@@ -85,7 +85,7 @@ module _ (epoch : ℤ) (i : Image) (k : EntityKey) (h : HasQuotas k) (absent : f
       (grows bytes_order path_of_quotas bytes_order key_of_quota quota_list quotas_in with_quotas (λ p list. refl) refl (λ p list. refl) (λ p a rest xs. refl) (path_of k) done q i.quotas absent under))
       (leads_one epoch (quota_state done) (quota_record k q) (record {
         plain = refl;
-        named = ap (λ o. not (has_quota o q.key)) h.known ∙ (rw (h.legal, h.placed, a.named) refl);
+        named = ap (λ o. not (has_quota o q.key)) h.known ∙ (rw (h.legal, a.placed, a.named) refl);
         there = refl;
         new = refl;
         valued = ap not a.valued;

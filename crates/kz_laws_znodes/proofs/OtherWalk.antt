@@ -1,6 +1,6 @@
 -- The records of configurations of brokers, of quotas, credentials, access control entries and producer ids lead to what is
 -- said with them.
-use Rattle.std.proofs.Common.{◌≡◌, ◌≢◌, ℕ, ◌+◌, ◌<◌, ◌≤◌, ◌^◌, ℤ, ◌≤ℤ◌, pos, negsuc, ◌&&◌, ◌||◌, Bool, true, false, cond, List, [], ◌∷◌, ◌++◌, length, map, Option, Some, None, is_some, All, refl, sym, ap, ◌∙◌, subst, inl, inr, arith, codes, length-append}
+use Rattle.std.proofs.Common.{◌≡◌, ◌≢◌, ℕ, ◌+◌, ◌<◌, ◌≤◌, ◌^◌, ℤ, ◌≤ℤ◌, pos, negsuc, ◌&&◌, ◌||◌, Bool, true, false, cond, List, [], ◌∷◌, ◌++◌, length, map, Option, Some, None, is_some, All, refl, sym, ap, ◌∙◌, subst, inl, inr, arith, codes, length-append, ◌⊎◌}
 use Rattle.std.specs.Prelude.{Result, Ok, Err, int_lt, option_map, option_and_then, decimal, ◌+ℤ◌, IfSome}
 use Rattle.std.specs.Str.{is_utf8, bytes_eq}
 use Rattle.std.specs.List.{list_all}
@@ -127,9 +127,13 @@ same_ok a b e = cc
 
 -- ---- entities that have quotas
 
-all_allowed : (k : EntityKey) (quotas : List QuotaRow) → AreQuotasRead k quotas → All (IsAllowed k) quotas
-all_allowed k [] h = All-nil (IsAllowed k)
-all_allowed k (q ∷ qs) h = All-cons (IsAllowed k) q qs (record { named = h.0.named; valued = h.0.valued }) (all_allowed k qs h.1)
+all_allowed : (k : EntityKey) → has_path k ≡ true → (quotas : List QuotaRow) → AreQuotasRead k quotas → All (IsAllowed k) quotas
+all_allowed k fits [] h = All-nil (IsAllowed k)
+all_allowed k fits (q ∷ qs) h = All-cons (IsAllowed k) q qs (record { named = h.0.named; valued = h.0.valued; placed = fits }) (all_allowed k fits qs h.1)
+
+-- what a znode that says nothing says
+no_quotas : (quotas : List QuotaRow) (scrams : List ScramPair) → ◌≡◌ {A = Result Body BodyFault} (Ok (body.Quota quotas scrams)) (Ok (body.Quota [] [])) → (quotas ≡ []) × (scrams ≡ [])
+no_quotas quotas scrams e = (cc, cc)
 
 user_part : (name other : List ℕ) → path_of (key.User (Some name)) ≡ path_of (key.User (Some other)) → sanitised name ≡ sanitised other
 unfolding path_of
@@ -296,11 +300,20 @@ module _ (epoch : ℤ) (rows : List Row) (brokers : List RegisterBrokerRecord) (
     quota_new : find bytes_cmp path_of_quotas (path_of k) i.quotas ≡ None
     quota_new = s.quotas.each (path_of k) ∙ ap (λ o. listed quota_list (path_of k) (or_empty o)) (said_nowhere quotas_said (path_of k) earlier quota_absent)
 
-    fits : has_path k ≡ true
-    fits = (keyed_here rows earlier r rest whole z k holds).fits long
+    fits : (has_path k ≡ true) ⊎ ((quotas ≡ []) × (scrams ≡ []))
+    fits = elim ((keyed_here rows earlier r rest whole z k holds).fits long) [
+      | inl path ↦ inl path
+      | inr nothing ↦ inr (no_quotas quotas scrams (sym is ∙ nothing))
+    ]
+
+    allowed : All (IsAllowed k) quotas
+    allowed = elim fits [
+      | inl path ↦ all_allowed k path quotas h.quotas_are
+      | inr none ↦ subst (All (IsAllowed k)) (sym none.0) (All-nil (IsAllowed k))
+    ]
 
     has_quotas : HasQuotas k
-    has_quotas = record { known = known; legal = (key_here rows earlier r rest whole z k holds).0; placed = fits }
+    has_quotas = record { known = known; legal = (key_here rows earlier r rest whole z k holds).0 }
 
     quotas_say : SaysQuotas (earlier ++ r ∷ []) (with_quota_list (path_of k) quotas i.quotas)
     quotas_say = record {
@@ -325,7 +338,7 @@ module _ (epoch : ℤ) (rows : List Row) (brokers : List RegisterBrokerRecord) (
     }
 
     quota_records : Leads epoch (map (quota_record k) quotas) i (record i { quotas = with_quota_list (path_of k) quotas i.quotas })
-    quota_records = quotas_lead epoch i k has_quotas quota_new quotas h.quotas_rise (all_allowed k quotas h.quotas_are)
+    quota_records = quotas_lead epoch i k has_quotas quota_new quotas h.quotas_rise allowed
 
     -- of an entity without credentials
     pub quota_step : (one : List MetaRecord) → scram_records k scrams ≡ [] → of_user k scrams ≡ None → one ≡ scram_records k scrams ++ map (quota_record k) quotas → Step epoch rows brokers state earlier r one i
@@ -373,6 +386,12 @@ module _ (epoch : ℤ) (rows : List Row) (brokers : List RegisterBrokerRecord) (
           (λ ne. grown_elsewhere bytes_order name_of_user scram_list (λ n list. refl) other name scrams i.users ne ∙ s.users.each other ∙ others_stay other ne (is_utf8 other) refl);
     }
 
+    credentials : All (IsCredentialOf name) scrams
+    credentials = elim (fits (key.User (Some name)) refl refl holds quotas scrams is h) [
+      | inl path ↦ all_credentials (key.User (Some name)) name (user_is_named name user_key) (no_dots name (user_fits name path)) path scrams h.scrams_are
+      | inr none ↦ subst (All (IsCredentialOf name)) (sym none.1) (All-nil (IsCredentialOf name))
+    ]
+
     pub user_step : (one : List MetaRecord) → one ≡ map (scram_record name) scrams ++ map (quota_record (key.User (Some name))) quotas → Step epoch rows brokers state earlier r one i
     user_step one e =
         let k : EntityKey = key.User (Some name) in
@@ -380,8 +399,8 @@ module _ (epoch : ℤ) (rows : List Row) (brokers : List RegisterBrokerRecord) (
         let after : Image = record i { users = with_scram_list name scrams i.users; quotas = with_quota_list (path_of k) quotas i.quotas } in record {
           after = after;
           leads = subst (λ rs. Leads epoch rs i after) (sym e) (leads_append epoch (map (scram_record name) scrams) (map (quota_record k) quotas) i between after
-              (scrams_lead epoch i name user_new scrams h.scrams_rise (all_credentials k name (user_is_named name user_key) (no_dots name (user_fits name (fits k refl refl holds quotas scrams is h))) (fits k refl refl holds quotas scrams is h) scrams h.scrams_are))
-              (quotas_lead epoch between k (has_quotas k refl refl holds quotas scrams is h) (quota_new k refl refl holds quotas scrams is h) quotas h.quotas_rise (all_allowed k quotas h.quotas_are)));
+              (scrams_lead epoch i name user_new scrams h.scrams_rise credentials)
+              (quotas_lead epoch between k (has_quotas k refl refl holds quotas scrams is h) (quota_new k refl refl holds quotas scrams is h) quotas h.quotas_rise (allowed k refl refl holds quotas scrams is h)));
           says = with_users k refl refl holds quotas scrams is h (with_scram_list name scrams i.users) users_say;
         }
 
@@ -393,7 +412,10 @@ module _ (epoch : ℤ) (rows : List Row) (brokers : List RegisterBrokerRecord) (
     acl_entity = entity_read r (key.Acl pattern kind name) (body.Acls entries) holds is
 
     acl_fits : has_path (key.Acl pattern kind name) ≡ true
-    acl_fits = (keyed_here rows earlier r rest whole z (key.Acl pattern kind name) holds).fits refl
+    acl_fits = elim ((keyed_here rows earlier r rest whole z (key.Acl pattern kind name) holds).fits refl) [
+      | inl path ↦ path
+      | inr nothing ↦ absurd (let both : ◌≡◌ {A = Result Body BodyFault} (Ok (body.Acls entries)) (Ok (body.Quota [] [])) = sym is ∙ nothing in cc)
+    ]
 
     led : Leads epoch (acl_records (count_of_entries earlier) entries) i (record i { acls = i.acls ++ numbered (count_of_entries earlier) entries }) × AreBelowNumber (count_of_entries earlier + length entries) (i.acls ++ numbered (count_of_entries earlier) entries)
     led = entries_lead epoch i (count_of_entries earlier) entries few (subst (λ n. AreBelowNumber n i.acls) (sym (entries_counted earlier)) s.entries.below)

@@ -1,9 +1,10 @@
 -- The records of znodes, one znode after another.
-use Rattle.std.proofs.Common.{◌≡◌, ℕ, true, List, [], ◌∷◌, ◌++◌, Option, Some, None, append-nil, Ordering, Less, Contains, refl, sym, ap, ◌∙◌, subst, append_assoc, Bool, false, All}
+use Rattle.std.proofs.Common.{◌≡◌, ℕ, true, List, [], ◌∷◌, ◌++◌, Option, Some, None, append-nil, Ordering, Less, Contains, refl, sym, ap, ◌∙◌, subst, append_assoc, Bool, false, All, ◌⊎◌, inl}
 use Rattle.std.specs.Prelude.{Ok, Err}
 use Rattle.std.specs.Option.{option_or}
 use Rattle.std.proofs.lemmas.List.Elements.{All-contains, Contains-append_right}
 use Rattle.kz_types.specs.declared.tree.Row.{Row}
+use Rattle.kz_types.specs.declared.bodies.Body.TheVariants as body
 use Rattle.kz_types.specs.declared.key.EntityKey.{EntityKey}
 use Rattle.kz_types.specs.declared.key.EntityKey.TheVariants as key
 use Rattle.kz_types.specs.declared.kind.Kind.{Kind}
@@ -35,17 +36,18 @@ may_be_long (key.Ip address) = true
 may_be_long (key.Acl pattern kind name) = true
 may_be_long k = false
 
--- The key that a path holds is legal, its names are texts, and this is its path.
-pub record IsKeyed (path : List ℕ) (k : EntityKey) : Type 0 where
-  pub placed : path_of k ≡ path
+-- The key that a znode holds is legal, its names are texts, and its path is that of the znode. Where it may be too long and
+-- isn't known not to be, the znode says nothing.
+pub record IsKeyed (r : Row) (k : EntityKey) : Type 0 where
+  pub placed : path_of k ≡ r.path
   pub good : IsGoodKey k
-  pub fits : may_be_long k ≡ true → has_path k ≡ true
+  pub fits : may_be_long k ≡ true → (has_path k ≡ true) ⊎ (read_body k r.body ≡ Ok (body.Quota [] []))
 
 -- Znodes whose paths rise, with data versions of 32 bits, each of which holds its key.
 pub record AreRows (rows : List Row) : Type 0 where
   pub rising : Rises bytes_cmp path_of_row rows
   pub versions : All (λ (r : Row). is_epoch r.version ≡ true) rows
-  pub keyed : (r : Row) → Contains rows r → (k : EntityKey) → key_of r.path ≡ Some k → IsKeyed r.path k
+  pub keyed : (r : Row) → Contains rows r → (k : EntityKey) → key_of r.path ≡ Some k → IsKeyed r k
 
 path_kept : (k : EntityKey) (path : List ℕ) → is_path path ≡ true → path_of k ≡ path → has_path k ≡ true
 unfolding has_path
@@ -59,7 +61,7 @@ rows_of_znodes rows z = record {
   keyed = λ r has k is.
       let rule : is_path r.path ≡ true = All-contains (λ (x : Row). is_path x.path ≡ true) rows r z.paths has in
       let at : path_of k ≡ r.path = path_of_key_of r.path k rule is in
-      record { placed = at; good = key_good r.path k rule is; fits = λ long. path_kept k r.path rule at };
+      record { placed = at; good = key_good r.path k rule is; fits = λ long. inl (path_kept k r.path rule at) };
 }
 
 -- ---- a list split at an item
@@ -204,7 +206,7 @@ module _ (rows earlier : List Row) (r : Row) (rest : List Row) (whole : rows ≡
       first_none (Some x) p e = absurd (some_is_none e)
 
   -- its key, where it has one
-  pub keyed_here : (k : EntityKey) → key_of r.path ≡ Some k → IsKeyed r.path k
+  pub keyed_here : (k : EntityKey) → key_of r.path ≡ Some k → IsKeyed r k
   keyed_here k is = z.keyed r here k is
 
   pub key_here : (k : EntityKey) → key_of r.path ≡ Some k → IsGoodKey k
