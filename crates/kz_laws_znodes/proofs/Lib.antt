@@ -20,3 +20,7 @@ pub mod Within
 pub mod Scaffolds
 pub mod Shown
 pub mod Bodies
+pub mod QuotaFacts
+pub mod Held
+pub mod Puts
+pub mod Found
