@@ -24,3 +24,4 @@ pub mod QuotaFacts
 pub mod Held
 pub mod Puts
 pub mod Found
+pub mod FoundQuotas
