@@ -57,7 +57,7 @@ pub record Entry (i : Image) (r : Rendered) : Type 0 where
   pub holds : IsHeld r who what
 
 module _ (i : Image) (o : IsInOrder i) (w : IsWritable i) (m : MayReturn i) where
-  low_epoch : (t : TopicEntry) (p : PartitionEntry) → Contains i.topics t → Contains t.partitions p → pos 0 ≤ℤ p.row.controller_epoch
+  pub low_epoch : (t : TopicEntry) (p : PartitionEntry) → Contains i.topics t → Contains t.partitions p → pos 0 ≤ℤ p.row.controller_epoch
   low_epoch t p has within = All-contains HasEpoch t.partitions p (All-contains (λ (t : TopicEntry). All HasEpoch t.partitions) i.topics t m.epochs has) within
 
   no_quota_kind : (q : QuotaEntry) (k : EntityKey) → Contains i.quotas q → key_of q.path ≡ Some k → (j : EntityKey) → k ≡ j → has_quotas j ≡ false → ⊥

@@ -25,3 +25,4 @@ pub mod Held
 pub mod Puts
 pub mod Found
 pub mod FoundQuotas
+pub mod Again

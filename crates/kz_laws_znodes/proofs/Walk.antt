@@ -134,7 +134,7 @@ all_have_records rows rs e earlier r rest whole = each_behind rows [] rows rs e 
 
 -- ---- a znode among others
 
-kind_is_entity : (path : List ℕ) (k : EntityKey) → key_of path ≡ Some k → kind_of path ≡ kind.Entity
+pub kind_is_entity : (path : List ℕ) (k : EntityKey) → key_of path ≡ Some k → kind_of path ≡ kind.Entity
 unfolding kind_of
 kind_is_entity path k is = rw is refl
 
