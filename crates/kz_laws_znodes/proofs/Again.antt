@@ -75,7 +75,7 @@ same_by_id topics apart t u has other e =
 
 -- ---- leaders
 
-leader_kept : (replicas : List ℤ) (leader : ℤ) → AreBrokers replicas → may_lead replicas leader ≡ true → leader_of leader ≡ leader
+pub leader_kept : (replicas : List ℤ) (leader : ℤ) → AreBrokers replicas → may_lead replicas leader ≡ true → leader_of leader ≡ leader
 leader_kept replicas leader h may = by (int_eq leader (negsuc 1)) refl
   where
     same_number : (a b : ℤ) → int_eq a b ≡ true → a ≡ b
@@ -166,7 +166,7 @@ module _ (i : Image) (o : IsInOrder i) (w : IsWritable i) (m : MayReturn i) wher
 
   -- ---- each has records
 
-  body_of_held : (x : Rendered) (k : EntityKey) (b : Body) → IsHeld x k b → body_of_row (new_znode x) ≡ Some b
+  pub body_of_held : (x : Rendered) (k : EntityKey) (b : Body) → IsHeld x k b → body_of_row (new_znode x) ≡ Some b
   body_of_held x k b h = ap (option_and_then (λ j. result_ok (read_body j x.body))) h.keyed ∙ ap result_ok h.read
 
   -- the records of a znode that holds an entity
@@ -177,7 +177,7 @@ module _ (i : Image) (o : IsInOrder i) (w : IsWritable i) (m : MayReturn i) wher
       ∙ ap (records_of rows earlier k) h.read
 
   -- the znodes of a topic is an earlier one only where the topic is another
-  topic_row : (t : TopicEntry) → Contains i.topics t → row_of (key.Topic t.name) rows ≡ Some (new_znode (topic_znode t))
+  pub topic_row : (t : TopicEntry) → Contains i.topics t → row_of (key.Topic t.name) rows ≡ Some (new_znode (topic_znode t))
   topic_row t has = row_found (path_of (key.Topic t.name)) ∙ ap (option_map new_znode) (topic_found i o w m t has)
 
   not_of_topic : (t : TopicEntry) (x : Rendered) (k : EntityKey) (b : Body) → IsHeld x k b → is_topic_with t.id (Some b) ≡ false → is_topic_with t.id (body_of_row (new_znode x)) ≡ false

@@ -124,7 +124,7 @@ module _ (i : Image) (o : IsInOrder i) (w : IsWritable i) (m : MayReturn i) wher
       let s : Shown i r = shown i o w r has in
       record { shows = s; who = sym (who_is r s) ∙ ap key_of at ∙ path_holds k good.0 good.1 }
 
-  same_topic : (t u : TopicEntry) → Contains i.topics t → Contains i.topics u → u.name ≡ t.name → u ≡ t
+  pub same_topic : (t u : TopicEntry) → Contains i.topics t → Contains i.topics u → u.name ≡ t.name → u ≡ t
   same_topic t u has other e = same_some u t (sym (contained_is_found bytes_order name_of_topic i.topics u o.topics.rising other) ∙ ap (λ n. find bytes_cmp name_of_topic n i.topics) e ∙ contained_is_found bytes_order name_of_topic i.topics t o.topics.rising has)
 
   pub topic_at : (t : TopicEntry) → Contains i.topics t → (r : Rendered) (s : Shown i r) → who_of r s ≡ Some (key.Topic t.name) → r ≡ topic_znode t
@@ -216,7 +216,7 @@ module _ (i : Image) (o : IsInOrder i) (w : IsWritable i) (m : MayReturn i) wher
 
   -- ---- what is there
 
-  is_there : (x : Rendered) → Contains (entity_znodes i) x → (r : Rendered) × (find bytes_cmp path_of_rendered x.path (render i) ≡ Some r)
+  pub is_there : (x : Rendered) → Contains (entity_znodes i) x → (r : Rendered) × (find bytes_cmp path_of_rendered x.path (render i) ≡ Some r)
   unfolding render
   is_there x has = put_is_found bytes_order path_of_rendered (entity_znodes i) (map bare roots) x has
 

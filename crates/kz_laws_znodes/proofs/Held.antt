@@ -84,7 +84,7 @@ state_key : (name : List ℕ) (number : ℤ) → is_topic_name name ≡ true →
 unfolding is_legal
 state_key name number legal low text small = (and_from (is_topic_name name) (is_not_negative number) legal low, (text, small))
 
-broker_good : (broker : Option ℤ) → IsBrokerKey broker → IsGoodKey (key.BrokerConfig broker)
+pub broker_good : (broker : Option ℤ) → IsBrokerKey broker → IsGoodKey (key.BrokerConfig broker)
 unfolding is_legal
 broker_good broker h = h
 

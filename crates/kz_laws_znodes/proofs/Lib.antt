@@ -26,3 +26,4 @@ pub mod Puts
 pub mod Found
 pub mod FoundQuotas
 pub mod Again
+pub mod SameTopics

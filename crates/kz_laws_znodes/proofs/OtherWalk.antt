@@ -139,7 +139,7 @@ user_part : (name other : List ℕ) → path_of (key.User (Some name)) ≡ path_
 unfolding path_of
 user_part name other e = same_behind (codes "/config/users/") (sanitised name) (sanitised other) e
 
-same_user : (name other : List ℕ) → is_utf8 name ≡ true → is_utf8 other ≡ true → path_of (key.User (Some name)) ≡ path_of (key.User (Some other)) → name ≡ other
+pub same_user : (name other : List ℕ) → is_utf8 name ≡ true → is_utf8 other ≡ true → path_of (key.User (Some name)) ≡ path_of (key.User (Some other)) → name ≡ other
 same_user name other text also e = same_some name other (sym (name_is_read name text) ∙ ap restored (user_part name other e) ∙ name_is_read other also)
 
 user_is_named : (name : List ℕ) → IsGoodKey (key.User (Some name)) → is_empty name ≡ false
