@@ -27,3 +27,4 @@ pub mod Found
 pub mod FoundQuotas
 pub mod Again
 pub mod SameTopics
+pub mod SameQuotas
