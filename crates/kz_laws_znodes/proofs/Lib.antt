@@ -28,3 +28,4 @@ pub mod FoundQuotas
 pub mod Again
 pub mod SameTopics
 pub mod SameQuotas
+pub mod SameAcls
