@@ -1,8 +1,7 @@
 -- The znodes of a rendering can be translated.
-use Rattle.std.proofs.Common.{◌≡◌, ◌≢◌, ◌⊎◌, ℕ, zero, suc, ◌+◌, ◌<◌, ◌≤◌, ℤ, ◌≤ℤ◌, pos, negsuc, Bool, true, false, cond, not, ◌||◌, List, [], ◌∷◌, ◌++◌, length, map, get_or, Option, Some, None, Contains, All, refl, sym, ap, ◌∙◌, subst, inl, inr, codes, arith, append_assoc, eq-or-lt_of_le}
-use Rattle.std.specs.Prelude.{⊤, Result, Ok, Err, nat_lt, int_lt, ◌+ℤ◌, option_map, option_and_then, if◌then◌else◌}
-use Rattle.std.specs.Str.{bytes_eq}
-use Rattle.std.specs.List.{list_any, AllPairs}
+use Rattle.std.proofs.Common.{◌≡◌, ◌≢◌, ◌⊎◌, ℕ, ◌<◌, ◌≤◌, ℤ, ◌≤ℤ◌, pos, negsuc, Bool, true, false, cond, ◌||◌, List, [], ◌∷◌, ◌++◌, length, map, get_or, Option, Some, None, Contains, All, refl, sym, ap, ◌∙◌, subst, inl, inr, codes, arith, append_assoc, eq-or-lt_of_le}
+use Rattle.std.specs.Prelude.{Ok, Err, nat_lt, int_lt, ◌+ℤ◌, option_map, option_and_then, if◌then◌else◌}
+use Rattle.std.specs.List.{AllPairs}
 use Rattle.std.specs.Ordering.{int_cmp, int_eq}
 use Rattle.std.specs.Result.{result_ok}
 use Rattle.std.proofs.lemmas.Bool.{cases_lt, false≢true, lt-ltb}
@@ -14,7 +13,6 @@ use Rattle.kz_types.specs.declared.id.Id.{Id}
 use Rattle.kz_types.specs.declared.tree.Row.{Row}
 use Rattle.kz_types.specs.declared.tree.Rendered.{Rendered}
 use Rattle.kz_types.specs.declared.bodies.Pair.{Pair}
-use Rattle.kz_types.specs.declared.bodies.AssignmentRow.{AssignmentRow}
 use Rattle.kz_types.specs.declared.bodies.QuotaRow.{QuotaRow}
 use Rattle.kz_types.specs.declared.bodies.ScramPair.{ScramPair}
 use Rattle.kz_types.specs.declared.bodies.Body.{Body}
@@ -23,27 +21,26 @@ use Rattle.kz_types.specs.declared.image.TopicEntry.{TopicEntry}
 use Rattle.kz_types.specs.declared.image.PartitionEntry.{PartitionEntry}
 use Rattle.kz_types.specs.declared.key.EntityKey.{EntityKey}
 use Rattle.kz_types.specs.declared.key.EntityKey.TheVariants as key
-use Rattle.kz_types.specs.declared.kind.Kind.TheVariants as kind
 use Rattle.kz_types.specs.declared.fault.BodyFault.TheVariants as fault
 use Rattle.kz_types.specs.declared.fault.ReadWhy.TheVariants as why
 use Rattle.kz_types.specs.declared.record.MetaRecord.{MetaRecord}
 use Rattle.kz_types.specs.declared.record.MetaRecord.TheVariants as meta
-use Rattle.kz_types.specs.Paths.{kind_of, key_of, path_of}
+use Rattle.kz_types.specs.Paths.{key_of, path_of}
 use Rattle.kz_ordered.specs.Order.{bytes_cmp}
 use Rattle.kz_ordered.specs.Ordered.{find, Rises}
 use Rattle.kz_ordered.proofs.Order.{bytes_order, int_order}
-use Rattle.kz_ordered.proofs.Lookup.{some_is_none, same_some, found_is_contained, contained_is_found, Contains-head}
+use Rattle.kz_ordered.proofs.Lookup.{some_is_none, same_some, contained_is_found, Contains-head}
 use Rattle.kz_ordered.proofs.Append.{Rises_left}
 use Rattle.kz_ordered.proofs.Maps.{find-map, Rises-map}
-use Rattle.kz_spec_values.specs.Bodies.{read_body, is_in, are_some_of}
+use Rattle.kz_spec_values.specs.Bodies.{read_body, is_in}
 use Rattle.kz_spec_stores.specs.Tree.{path_of_row, row_at, path_of_rendered}
 use Rattle.kz_spec_stores.specs.Metadata.{Image, same_id, number_of_partition}
 use Rattle.kz_spec_stores.specs.ImageRules.{is_empty, is_epoch}
 use Rattle.kz_spec_stores.specs.InOrder.{IsInOrder}
-use Rattle.kz_spec_stores.specs.Legal.{IsMember, IsConfiguration, IsNext}
-use Rattle.kz_spec_znodes.specs.Rendering.{znode, topic_znode, assignment_of, state_body, quotas_of_user, acl_key, render}
-use Rattle.kz_spec_znodes.specs.Translation.{RowRecords, Translated, row_of, body_of_row, is_topic_with, is_taken, topic_records, number_of_assignment, assignments_in, assigned, may_lead, leader_of, records_of_state, records_if_assigned, config_record, config_records, records_of_config, records_if_there, scram_records, quota_record, bad_field, max_block_end, records_of_producer, broker_name, acl_records, count_of_entries, records_of, entity_records, records_by_kind, row_records, joined, records_behind, all_records}
-use Rattle.kz_laws_bodies.specs.Readable.{IsWhole, AreBrokers}
+use Rattle.kz_spec_stores.specs.Legal.{IsMember, IsConfiguration}
+use Rattle.kz_spec_znodes.specs.Rendering.{topic_znode, assignment_of, state_body, quotas_of_user, acl_key, render}
+use Rattle.kz_spec_znodes.specs.Translation.{row_of, body_of_row, is_topic_with, is_taken, topic_records, number_of_assignment, assignments_in, assigned, may_lead, leader_of, records_if_assigned, config_record, config_records, records_if_there, scram_records, quota_record, bad_field, max_block_end, records_of_producer, broker_name, acl_records, count_of_entries, records_of, entity_records, records_by_kind, row_records, joined, records_behind, all_records}
+use Rattle.kz_laws_bodies.specs.Readable.{AreBrokers}
 use Rattle.kz_laws_znodes.specs.RoundTrip.{new_znode, znodes_of, IsWritable, HasRoom, MayReturn}
 use Rattle.kz_laws_znodes.proofs.Within.{from_map}
 use Rattle.kz_laws_znodes.proofs.Scaffolds.{IsScaffold}
@@ -51,7 +48,7 @@ use Rattle.kz_laws_znodes.proofs.Shown.{Shown, shown_topic, shown_state, shown_t
 use Rattle.kz_laws_znodes.proofs.Bodies.{RowFacts, facts, brokers}
 use Rattle.kz_laws_znodes.proofs.Partitions.{lt_fails}
 use Rattle.kz_laws_znodes.proofs.Held.{IsHeld, has_quotas, quota_kind_of, topic_held, state_held, topic_config_held, config_held, quota_held, user_held, parent_held, resource_rows, entries_held, producer_held, blank_held}
-use Rattle.kz_laws_znodes.proofs.Found.{Entry, low_epoch, entry_of, who_of, render_rises, topic_found}
+use Rattle.kz_laws_znodes.proofs.Found.{Entry, low_epoch, entry_of, render_rises, topic_found}
 use Rattle.kz_laws_znodes.proofs.Walk.{IsKeyed, AreRows, HasRecords, AllHaveRecords, kind_is_entity, absent_here}
 
 -- ---- ids of topics
@@ -232,10 +229,10 @@ module _ (i : Image) (o : IsInOrder i) (w : IsWritable i) (m : MayReturn i) wher
         let f = partition_facts i o w t p has within in
         let g : RowFacts p.row = facts p f in
         let there : assigned t.name p.number rows ≡ Some (assignment_of p) =
-            ap (λ y. find int_cmp number_of_assignment p.number (assignments_in (option_and_then body_of_row y))) (topic_row t has)
-            ∙ ap (λ b. find int_cmp number_of_assignment p.number (assignments_in b)) (body_of_held (topic_znode t) (key.Topic t.name) (body.Topic t.id (map assignment_of t.partitions)) (topic_held i o w t has))
-            ∙ find-map int_cmp number_of_partition number_of_assignment assignment_of (λ q. refl) p.number t.partitions
-            ∙ ap (option_map assignment_of) (contained_is_found int_order number_of_partition t.partitions p (topic_facts i o w t has).order.0 within) in
+        ap (λ y. find int_cmp number_of_assignment p.number (assignments_in (option_and_then body_of_row y))) (topic_row t has)
+        ∙ ap (λ b. find int_cmp number_of_assignment p.number (assignments_in b)) (body_of_held (topic_znode t) (key.Topic t.name) (body.Topic t.id (map assignment_of t.partitions)) (topic_held i o w t has))
+        ∙ find-map int_cmp number_of_partition number_of_assignment assignment_of (λ q. refl) p.number t.partitions
+        ∙ ap (option_map assignment_of) (contained_is_found int_order number_of_partition t.partitions p (topic_facts i o w t has).order.0 within) in
         let lead : may_lead p.row.replicas (leader_of p.row.leader) ≡ true = ap (may_lead p.row.replicas) (leader_kept p.row.replicas p.row.leader (brokers p f) g.leader) ∙ g.leader in
         ap (λ a. records_if_assigned a (Ok (state_body p.row))) there ∙ (rw (g.isr, lead) refl)
 

@@ -1,17 +1,14 @@
 -- What is written for the metadata may be read.
-use Rattle.std.proofs.Common.{◌≡◌, ◌⊎◌, ℕ, ◌≤◌, ℤ, ◌≤ℤ◌, pos, negsuc, Bool, true, false, ◌&&◌, ◌||◌, List, [], ◌∷◌, ◌++◌, map, Option, Some, None, Ordering, Less, Contains, All, refl, sym, ap, ◌∙◌, subst, inl, inr, arith, codes}
-use Rattle.std.specs.Prelude.{⊤, ◌<ℤ◌, int_le, int_lt, IfSome, ◌+ℤ◌}
+use Rattle.std.proofs.Common.{◌≡◌, ℕ, ℤ, ◌≤ℤ◌, pos, negsuc, Bool, true, false, ◌||◌, List, [], ◌∷◌, map, Less, Contains, All, refl, sym, subst, arith}
+use Rattle.std.specs.Prelude.{◌<ℤ◌, int_le}
 use Rattle.std.specs.Ordering.{int_cmp, int_eq}
-use Rattle.std.specs.List.{list_all, list_any}
-use Rattle.std.proofs.lemmas.Bool.{and_parts, and_from}
+use Rattle.std.specs.List.{list_all}
+use Rattle.std.proofs.lemmas.Bool.{and_parts}
 use Rattle.std.proofs.lemmas.Int.{ints}
-use Rattle.std.proofs.lemmas.List.Elements.{All-contains, All-head, All-tail}
+use Rattle.std.proofs.lemmas.List.Elements.{All-head, All-tail}
 use Rattle.kz_types.specs.declared.row.PartitionRow.{PartitionRow}
-use Rattle.kz_types.specs.declared.row.AclRow.{AclRow}
 use Rattle.kz_types.specs.declared.bodies.Pair.{Pair}
-use Rattle.kz_types.specs.declared.bodies.AssignmentRow.{AssignmentRow}
 use Rattle.kz_types.specs.declared.image.PartitionEntry.{PartitionEntry}
-use Rattle.kz_types.specs.Paths.{is_not_negative}
 use Rattle.kz_ordered.specs.Order.{bytes_cmp}
 use Rattle.kz_ordered.specs.Ordered.{Rises, RisesAbove}
 use Rattle.std.proofs.lemmas.Cmp.{int_ranked}
@@ -20,13 +17,12 @@ use Rattle.kz_ordered.proofs.Lookup.{rest_rises, rises_above_smaller, Contains-h
 use Rattle.kz_spec_values.specs.Bodies.{is_in, are_distinct, are_replicas, are_some_of}
 use Rattle.kz_spec_stores.specs.Metadata.{number_of_partition, name_of_pair}
 use Rattle.kz_spec_stores.specs.ImageRules.{is_epoch, is_replica, is_assigned, is_recovery, is_row}
-use Rattle.kz_spec_stores.specs.Legal.{IsPartition}
 use Rattle.kz_spec_znodes.specs.Rendering.{assignment_of}
 use Rattle.kz_spec_znodes.specs.Translation.{may_lead}
 use Rattle.kz_laws_values.specs.Ranges.{IsBetween}
 use Rattle.kz_laws_bodies.specs.Readable.{IsWhole, AreBrokers, IsState, IsBefore, AreInOrder, ArePartitions, AreTexts, IsBelow, AreRising, IsConfiguration}
 use Rattle.kz_laws_bodies.specs.Readable as readable
-use Rattle.kz_laws_znodes.specs.RoundTrip.{FitsInt, IsPartitionWritable, IsMemberWritable}
+use Rattle.kz_laws_znodes.specs.RoundTrip.{FitsInt, IsMemberWritable}
 use Rattle.kz_laws_znodes.proofs.Shown.{PartitionFacts}
 
 -- ---- numbers

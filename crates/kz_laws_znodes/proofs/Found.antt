@@ -1,11 +1,11 @@
 -- What a rendering has at the path of each entity.
-use Rattle.std.proofs.Common.{◌≡◌, ◌≢◌, ◌⊎◌, ℕ, ◌+◌, ℤ, ◌≤ℤ◌, pos, negsuc, Bool, true, false, cond, List, [], ◌∷◌, ◌++◌, map, Option, Some, None, Contains, All, refl, sym, ap, ◌∙◌, subst, inl, inr, codes, rules}
-use Rattle.std.specs.Prelude.{⊤, Result, Ok, Err, ◌+ℤ◌, option_map, option_and_then}
+use Rattle.std.proofs.Common.{◌≡◌, ◌≢◌, ◌⊎◌, ℕ, ℤ, ◌≤ℤ◌, pos, negsuc, false, List, [], ◌∷◌, ◌++◌, map, Option, Some, None, Contains, All, refl, sym, ap, ◌∙◌, subst, inl, inr, rules}
+use Rattle.std.specs.Prelude.{◌+ℤ◌}
 use Rattle.std.specs.List.{flat_map, filter}
 use Rattle.std.specs.Str.{bytes_eq}
 use Rattle.std.specs.Ordering.{int_cmp}
 use Rattle.std.proofs.lemmas.Bool.{false≢true}
-use Rattle.std.proofs.lemmas.List.Elements.{All-contains, Contains-append_left, Contains-append_right, Contains-append_cases}
+use Rattle.std.proofs.lemmas.List.Elements.{All-contains, Contains-append_left, Contains-append_right}
 use Rattle.kz_types.specs.declared.tree.Rendered.{Rendered}
 use Rattle.kz_types.specs.declared.row.AclRow.{AclRow}
 use Rattle.kz_types.specs.declared.bodies.Pair.{Pair}
@@ -15,34 +15,30 @@ use Rattle.kz_types.specs.declared.image.Configuration.{Configuration}
 use Rattle.kz_types.specs.declared.image.TopicEntry.{TopicEntry}
 use Rattle.kz_types.specs.declared.image.PartitionEntry.{PartitionEntry}
 use Rattle.kz_types.specs.declared.image.QuotaEntry.{QuotaEntry}
-use Rattle.kz_types.specs.declared.image.ScramEntry.{ScramEntry}
 use Rattle.kz_types.specs.declared.image.AclEntry.{AclEntry}
 use Rattle.kz_types.specs.declared.key.EntityKey.{EntityKey}
 use Rattle.kz_types.specs.declared.key.EntityKey.TheVariants as key
 use Rattle.kz_types.specs.Paths.{roots, key_of, path_of}
 use Rattle.kz_ordered.specs.Order.{bytes_cmp}
-use Rattle.kz_ordered.specs.Ordered.{find, all_put, Rises}
+use Rattle.kz_ordered.specs.Ordered.{find, Rises}
 use Rattle.kz_ordered.proofs.Order.{bytes_order, int_order}
-use Rattle.kz_ordered.proofs.Lookup.{some_is_none, same_some, found_is_contained, key_of_found, contained_is_found, Contains-head, Contains-tail}
-use Rattle.kz_ordered.proofs.Puts.{Rises-all_put, all_put-append}
-use Rattle.kz_spec_values.specs.Bodies.{read_body}
+use Rattle.kz_ordered.proofs.Lookup.{same_some, found_is_contained, key_of_found, contained_is_found, Contains-head, Contains-tail}
+use Rattle.kz_ordered.proofs.Puts.{Rises-all_put}
 use Rattle.kz_spec_stores.specs.Tree.{path_of_rendered}
-use Rattle.kz_spec_stores.specs.Metadata.{Image, name_of_topic, number_of_partition, name_of_configuration, path_of_quotas, name_of_user}
-use Rattle.kz_spec_stores.specs.Image.{quotas_in, scrams_in}
+use Rattle.kz_spec_stores.specs.Metadata.{Image, name_of_topic, number_of_partition}
 use Rattle.kz_spec_stores.specs.InOrder.{IsInOrder}
-use Rattle.kz_spec_znodes.specs.Rendering.{bare, znode, topic_znode, partitions_path, number_path, assignment_of, state_body, partition_znodes, topic_config_znodes, topic_znodes, config_znode, quota_parents, own_znodes, quotas_of_user, user_znode, quota_znodes, acl_key, row_of_acl, acl_znode, producer_znodes, entity_znodes, render}
-use Rattle.kz_laws_paths.specs.TextKeys.{IsText, HasTexts}
+use Rattle.kz_spec_znodes.specs.Rendering.{bare, znode, topic_znode, partitions_path, number_path, assignment_of, state_body, partition_znodes, topic_config_znodes, topic_znodes, config_znode, quotas_of_user, user_znode, quota_znodes, acl_key, row_of_acl, acl_znode, producer_znodes, entity_znodes, render}
 use Rattle.kz_laws_paths.proofs.Legal.{IsGoodKey}
 use Rattle.kz_laws_paths.proofs.Keys.{path_holds}
 use Rattle.kz_laws_znodes.specs.RoundTrip.{IsWritable, HasEpoch, MayReturn}
 use Rattle.kz_laws_znodes.proofs.Within.{to_flat, to_map}
 use Rattle.kz_laws_znodes.proofs.Scaffolds.{IsScaffold}
-use Rattle.kz_laws_znodes.proofs.Shown.{Shown, shown_topic, shown_state, shown_topic_config, shown_config, shown_parent, shown_quotas, shown_user, shown_entries, shown_producer, shown_blank, shown_scaffold, shown, topic_facts, behind_parents, behind_quotas, of_behind, of_last}
-use Rattle.kz_laws_znodes.proofs.Held.{IsHeld, has_quotas, quota_kind_of, topic_held, state_held, topic_config_held, config_held, quota_path, quota_held, user_held, parent_held, resource_rows, facts_of_acl, entries_held, producer_held, blank_held}
+use Rattle.kz_laws_znodes.proofs.Shown.{Shown, shown_topic, shown_state, shown_topic_config, shown_config, shown_parent, shown_quotas, shown_user, shown_entries, shown_producer, shown_blank, shown_scaffold, shown, topic_facts, behind_quotas}
+use Rattle.kz_laws_znodes.proofs.Held.{IsHeld, has_quotas, quota_kind_of, topic_held, state_held, topic_config_held, config_held, quota_held, user_held, parent_held, resource_rows, entries_held, producer_held, blank_held}
 use Rattle.kz_laws_znodes.proofs.Says.{broker_named}
-use Rattle.kz_laws_znodes.proofs.Puts.{found_all_put, still_found, found_among, put_is_found}
+use Rattle.kz_laws_znodes.proofs.Puts.{put_is_found}
 
-roots_rise : Rises bytes_cmp path_of_rendered (map bare roots)
+pub roots_rise : Rises bytes_cmp path_of_rendered (map bare roots)
 unfolding roots
 roots_rise = search rules
 
@@ -60,7 +56,7 @@ module _ (i : Image) (o : IsInOrder i) (w : IsWritable i) (m : MayReturn i) wher
   pub low_epoch : (t : TopicEntry) (p : PartitionEntry) → Contains i.topics t → Contains t.partitions p → pos 0 ≤ℤ p.row.controller_epoch
   low_epoch t p has within = All-contains HasEpoch t.partitions p (All-contains (λ (t : TopicEntry). All HasEpoch t.partitions) i.topics t m.epochs has) within
 
-  no_quota_kind : (q : QuotaEntry) (k : EntityKey) → Contains i.quotas q → key_of q.path ≡ Some k → (j : EntityKey) → k ≡ j → has_quotas j ≡ false → ⊥
+  pub no_quota_kind : (q : QuotaEntry) (k : EntityKey) → Contains i.quotas q → key_of q.path ≡ Some k → (j : EntityKey) → k ≡ j → has_quotas j ≡ false → ⊥
   no_quota_kind q k has named j e none = false≢true (sym none ∙ ap has_quotas (sym e) ∙ quota_kind_of i o w q k has named)
 
   enter : (r x : Rendered) (k : EntityKey) (b : Body) → r ≡ x → IsHeld x k b → Entry i r ⊎ IsScaffold r.path

@@ -1,13 +1,12 @@
 -- What a rendering has at the path of an entity that may have quotas.
-use Rattle.std.proofs.Common.{◌≡◌, ◌≢◌, ◌⊎◌, ℕ, ◌+◌, ℤ, pos, negsuc, Bool, true, false, List, [], ◌∷◌, ◌++◌, map, Option, Some, None, Contains, All, refl, sym, ap, ◌∙◌, subst, inl, inr, codes, append_assoc}
-use Rattle.std.specs.Prelude.{⊤, Result, Ok, Err, ◌+ℤ◌, option_map, option_and_then}
-use Rattle.std.specs.List.{flat_map, filter}
+use Rattle.std.proofs.Common.{◌≡◌, ℤ, pos, negsuc, true, false, List, [], ◌++◌, map, Option, Some, None, Contains, refl, sym, ap, ◌∙◌, subst, inl, inr, append_assoc}
+use Rattle.std.specs.Prelude.{Ok, ◌+ℤ◌}
+use Rattle.std.specs.List.{flat_map}
 use Rattle.std.proofs.lemmas.Bool.{false≢true}
-use Rattle.std.proofs.lemmas.List.Elements.{All-contains, Contains-append_left, Contains-append_right, Contains-append_cases}
+use Rattle.std.proofs.lemmas.List.Elements.{Contains-append_left, Contains-append_cases}
 use Rattle.kz_types.specs.declared.tree.Rendered.{Rendered}
 use Rattle.kz_types.specs.declared.bodies.QuotaRow.{QuotaRow}
 use Rattle.kz_types.specs.declared.bodies.ScramPair.{ScramPair}
-use Rattle.kz_types.specs.declared.bodies.Body.{Body}
 use Rattle.kz_types.specs.declared.bodies.Body.TheVariants as body
 use Rattle.kz_types.specs.declared.image.QuotaEntry.{QuotaEntry}
 use Rattle.kz_types.specs.declared.image.ScramEntry.{ScramEntry}
@@ -25,17 +24,17 @@ use Rattle.kz_spec_stores.specs.Tree.{path_of_rendered}
 use Rattle.kz_spec_stores.specs.Metadata.{Image, path_of_quotas, name_of_user}
 use Rattle.kz_spec_stores.specs.Image.{quotas_in, scrams_in}
 use Rattle.kz_spec_stores.specs.InOrder.{IsInOrder}
-use Rattle.kz_spec_znodes.specs.Rendering.{bare, znode, topic_znodes, config_znode, quota_parents, znode_of_quotas, own_znodes, quotas_of_user, user_znode, quota_znodes, acl_key, acl_znode, producer_znodes, entity_znodes, render}
+use Rattle.kz_spec_znodes.specs.Rendering.{bare, znode, topic_znodes, config_znode, quota_parents, znode_of_quotas, own_znodes, quotas_of_user, user_znode, quota_znodes, acl_key, acl_znode, producer_znodes, render}
 use Rattle.kz_laws_paths.proofs.Legal.{IsGoodKey}
 use Rattle.kz_laws_paths.proofs.Keys.{path_holds}
 use Rattle.kz_laws_znodes.specs.RoundTrip.{IsWritable, MayReturn}
 use Rattle.kz_laws_znodes.proofs.Within.{from_flat, from_map, to_flat, to_map}
-use Rattle.kz_laws_znodes.proofs.Shown.{Shown, shown_topic, shown_state, shown_topic_config, shown_config, shown_parent, shown_quotas, shown_user, shown_entries, shown_producer, shown_blank, shown_scaffold, behind_parents, behind_quotas}
-use Rattle.kz_laws_znodes.proofs.Held.{IsHeld, has_quotas, quota_path, quota_held, config_held, user_held, parent_held, facts_of_acl}
+use Rattle.kz_laws_znodes.proofs.Shown.{Shown, shown_topic, shown_state, shown_topic_config, shown_config, shown_parent, shown_quotas, shown_user, shown_entries, shown_producer, shown_blank, shown_scaffold, behind_quotas}
+use Rattle.kz_laws_znodes.proofs.Held.{has_quotas, quota_path, quota_held, config_held, user_held, parent_held, facts_of_acl}
 use Rattle.kz_laws_znodes.proofs.Puts.{found_among}
-use Rattle.kz_laws_znodes.proofs.Found.{FoundAt, found_at, who_of}
+use Rattle.kz_laws_znodes.proofs.Found.{found_at, who_of}
 
-producer_key : key_of (path_of key.Producer) ≡ Some key.Producer
+pub producer_key : key_of (path_of key.Producer) ≡ Some key.Producer
 unfolding key_of path_of
 producer_key = refl
 
@@ -48,20 +47,20 @@ module _ (i : Image) (o : IsInOrder i) (w : IsWritable i) (m : MayReturn i) wher
   scrams_for (key.User (Some name)) = scrams_in (find bytes_cmp name_of_user name i.users)
   scrams_for k = []
 
-  abbrev own : List Rendered
+  abbrev pub own : List Rendered
   own = flat_map own_znodes i.quotas
 
-  abbrev users : List Rendered
+  abbrev pub users : List Rendered
   users = map (user_znode i.quotas) i.users
 
-  abbrev last : List Rendered
+  abbrev pub last : List Rendered
   last = behind_quotas i o w
 
   -- what is put before the znodes of quotas, and before those of users
-  abbrev first_base : List Rendered
+  abbrev pub first_base : List Rendered
   first_base = all_put bytes_cmp path_of_rendered (flat_map quota_parents i.quotas) (all_put bytes_cmp path_of_rendered (map config_znode i.broker_configs) (all_put bytes_cmp path_of_rendered (flat_map topic_znodes i.topics) (map bare roots)))
 
-  abbrev second_base : List Rendered
+  abbrev pub second_base : List Rendered
   second_base = all_put bytes_cmp path_of_rendered own first_base
 
   put_behind : (xs ys base : List Rendered) → all_put bytes_cmp path_of_rendered (xs ++ ys) base ≡ all_put bytes_cmp path_of_rendered ys (all_put bytes_cmp path_of_rendered xs base)
@@ -76,7 +75,7 @@ module _ (i : Image) (o : IsInOrder i) (w : IsWritable i) (m : MayReturn i) wher
       (append_assoc (flat_map quota_parents i.quotas) (own ++ users) last)
       ∙ put_behind (flat_map quota_parents i.quotas) ((own ++ users) ++ last) (all_put bytes_cmp path_of_rendered (map config_znode i.broker_configs) (all_put bytes_cmp path_of_rendered (flat_map topic_znodes i.topics) (map bare roots)))
 
-  behind_own_put : render i ≡ all_put bytes_cmp path_of_rendered (users ++ last) second_base
+  pub behind_own_put : render i ≡ all_put bytes_cmp path_of_rendered (users ++ last) second_base
   behind_own_put = behind_parents_put ∙ ap (λ xs. all_put bytes_cmp path_of_rendered xs first_base) (append_assoc own users last) ∙ put_behind own (users ++ last) first_base
 
   -- ---- what the last znodes are
@@ -200,7 +199,7 @@ module _ (i : Image) (o : IsInOrder i) (w : IsWritable i) (m : MayReturn i) wher
         let there : Contains users x = to_map (user_znode i.quotas) i.users u has in
         let place : x.path ≡ path_of k = ap path_of (sym is) in
         let among : Contains (users ++ last) r = found_among bytes_order path_of_rendered (users ++ last) second_base x r (Contains-append_left users last x there)
-            (ap (λ p. find bytes_cmp path_of_rendered p (all_put bytes_cmp path_of_rendered (users ++ last) second_base)) place ∙ ap (find bytes_cmp path_of_rendered (path_of k)) (sym behind_own_put) ∙ found) in
+        (ap (λ p. find bytes_cmp path_of_rendered p (all_put bytes_cmp path_of_rendered (users ++ last) second_base)) place ∙ ap (find bytes_cmp path_of_rendered (path_of k)) (sym behind_own_put) ∙ found) in
         elim (Contains-append_cases users last r among) [
           | inl user ↦
               let h = user_case user in

@@ -1,9 +1,8 @@
 -- What is read of each znode of a rendering.
-use Rattle.std.proofs.Common.{◌≡◌, ◌⊎◌, ℕ, ◌+◌, ℤ, ◌≤ℤ◌, pos, negsuc, Bool, true, false, not, ◌&&◌, cond, List, [], ◌∷◌, ◌++◌, map, length, ◌<◌, is_some, Option, Some, None, Contains, All, refl, sym, ap, ◌∙◌, subst, inl, inr, arith, codes}
-use Rattle.std.specs.Prelude.{⊤, Result, Ok, Err, IfSome, ◌+ℤ◌, option_map, if◌then◌else◌}
+use Rattle.std.proofs.Common.{◌≡◌, ◌⊎◌, ℕ, ℤ, ◌≤ℤ◌, pos, negsuc, Bool, true, false, cond, List, [], ◌∷◌, ◌++◌, map, length, ◌<◌, is_some, Option, Some, None, Contains, All, refl, sym, ap, ◌∙◌, subst, inl, inr, arith, codes}
+use Rattle.std.specs.Prelude.{Ok, ◌+ℤ◌, option_map, if◌then◌else◌}
 use Rattle.std.specs.Ordering.{int_cmp, int_eq}
 use Rattle.std.specs.List.{filter}
-use Rattle.std.specs.Str.{bytes_eq}
 use Rattle.std.proofs.lemmas.Bool.{and_from, false≢true}
 use Rattle.std.proofs.lemmas.Int.{ints}
 use Rattle.std.proofs.lemmas.Slice.Eq.{bytes_eq-Decides}
@@ -30,29 +29,28 @@ use Rattle.kz_types.proofs.KeyLemmas.{path_of_key_of}
 use Rattle.kz_ordered.specs.Order.{bytes_cmp}
 use Rattle.kz_ordered.specs.Ordered.{find, Rises}
 use Rattle.kz_ordered.proofs.Order.{bytes_order}
-use Rattle.kz_ordered.proofs.Lookup.{found_is_contained, key_of_found, contained_is_found, Contains-head, Contains-tail}
+use Rattle.kz_ordered.proofs.Lookup.{found_is_contained, key_of_found, Contains-head, Contains-tail}
 use Rattle.kz_spec_values.specs.Bodies.{read_body, empty_body, written, is_of_kind}
 use Rattle.kz_spec_stores.specs.Metadata.{Image, path_of_quotas, mechanism_of_pair}
 use Rattle.kz_spec_stores.specs.Image.{quotas_in}
 use Rattle.kz_spec_stores.specs.ImageRules.{is_broker_name}
 use Rattle.kz_spec_stores.specs.InOrder.{is_below_quota_root, IsFilled, IsQuotaFilled, IsUserFilled, IsInOrder}
-use Rattle.kz_spec_stores.specs.Legal.{IsPartition, IsConfiguration, IsQuotaEntry, IsScramOf, IsScramEntry, IsAcl, IsNext}
+use Rattle.kz_spec_stores.specs.Legal.{IsConfiguration, IsQuotaEntry, IsScramOf, IsScramEntry, IsAcl, IsNext}
 use Rattle.kz_spec_znodes.specs.Rendering.{bare, znode, topic_znode, assignment_of, state_body, broker_key, config_znode, quotas_of_user, user_znode, acl_key, is_of_resource, row_of_acl, acl_znode}
-use Rattle.kz_spec_znodes.specs.Translation.{broker_name}
-use Rattle.kz_laws_paths.specs.TextKeys.{IsText, IsSmall, HasTexts}
+use Rattle.kz_laws_paths.specs.TextKeys.{IsText, IsSmall}
 use Rattle.kz_laws_paths.proofs.Legal.{IsGoodKey}
 use Rattle.kz_laws_paths.proofs.Keys.{path_holds}
-use Rattle.kz_laws_bodies.specs.Readable.{IsAssignment, IsQuotaBody, AreQuotas, IsEntry, AreEntries, IsBlock}
+use Rattle.kz_laws_bodies.specs.Readable.{IsQuotaBody, AreQuotas, AreEntries, IsBlock}
 use Rattle.kz_laws_bodies.proofs.Topics.{topic_is_read}
 use Rattle.kz_laws_bodies.proofs.States.{state_is_read}
 use Rattle.kz_laws_bodies.proofs.Configs.{config_is_read}
 use Rattle.kz_laws_bodies.proofs.QuotaBodies.{quotas_are_read}
 use Rattle.kz_laws_bodies.proofs.Entries.{entries_are_read}
 use Rattle.kz_laws_bodies.proofs.Producers.{producer_is_read}
-use Rattle.kz_laws_znodes.specs.RoundTrip.{IsConfigWritable, AreQuotasWritable, IsScramWritable, IsUserWritable, IsAclWritable, IsWritable, HasEpoch, HasRoom, MayReturn}
+use Rattle.kz_laws_znodes.specs.RoundTrip.{IsConfigWritable, AreQuotasWritable, IsScramWritable, IsUserWritable, IsAclWritable, IsWritable, HasRoom}
 use Rattle.kz_laws_znodes.proofs.Walk.{may_be_long}
-use Rattle.kz_laws_znodes.proofs.Shown.{TopicFacts, PartitionFacts, topic_facts, partition_facts, quota_key_good}
-use Rattle.kz_laws_znodes.proofs.Bodies.{holds_le, assignments_in_order, assignments_are, number_whole, state_is, configuration_is}
+use Rattle.kz_laws_znodes.proofs.Shown.{topic_facts, partition_facts, quota_key_good}
+use Rattle.kz_laws_znodes.proofs.Bodies.{holds_le, assignments_in_order, assignments_are, state_is, configuration_is}
 use Rattle.kz_laws_znodes.proofs.QuotaFacts.{entity_quotas, quota_body, user_body, user_parts, AclFacts, acl_facts}
 use Rattle.kz_laws_znodes.proofs.Says.{broker_named}
 use Rattle.kz_laws_znodes.proofs.OtherWalk.{IsBrokerKey, named_only}
@@ -194,10 +192,13 @@ module _ (i : Image) (o : IsInOrder i) (w : IsWritable i) where
       let filled = All-contains IsFilled i.broker_configs c o.configs.filled has in
       let writable = All-contains IsConfigWritable i.broker_configs c w.configs has in
       let b = broker_in c legal.0 in
-      let k = named_only c.name b.0 b.2 in
-      (b.0, b.2, subst (λ k. IsHeld (znode k (body.Config c.pairs)) (key.BrokerConfig b.0) (body.Config c.pairs)) (sym b.1)
-      (held (key.BrokerConfig b.0) (body.Config c.pairs) (broker_good b.0 k.1) (never_long (key.BrokerConfig b.0) refl)
-      (config_is_read (key.BrokerConfig b.0) c.pairs (config_of_broker b.0 c.pairs) (configuration_is c.pairs writable filled.1))))
+      let k = named_only c.name b.0 b.2 in (
+        b.0,
+        b.2,
+        subst (λ k. IsHeld (znode k (body.Config c.pairs)) (key.BrokerConfig b.0) (body.Config c.pairs)) (sym b.1)
+            (held (key.BrokerConfig b.0) (body.Config c.pairs) (broker_good b.0 k.1) (never_long (key.BrokerConfig b.0) refl)
+            (config_is_read (key.BrokerConfig b.0) c.pairs (config_of_broker b.0 c.pairs) (configuration_is c.pairs writable filled.1))),
+      )
 
   -- ---- quotas and credentials
 

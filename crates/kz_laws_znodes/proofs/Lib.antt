@@ -29,3 +29,5 @@ pub mod Again
 pub mod SameTopics
 pub mod SameQuotas
 pub mod SameAcls
+pub mod Limits
+pub mod Returns

@@ -1,25 +1,20 @@
 -- The quotas, credentials and entries of the metadata are ones whose bodies are read as they are written.
-use Rattle.std.proofs.Common.{◌≡◌, ◌⊎◌, ℕ, ◌+◌, ◌*◌, ◌==◌, ℤ, ◌≤ℤ◌, pos, negsuc, Bool, true, false, not, ◌&&◌, ◌||◌, List, [], ◌∷◌, ◌++◌, map, Option, Some, None, Ordering, Less, Contains, All, length, refl, sym, ap, ◌∙◌, subst, inl, inr, arith, codes, slice_index}
-use Rattle.std.specs.Prelude.{⊤, int_le, int_lt, if◌then◌else◌}
+use Rattle.std.proofs.Common.{◌≡◌, ◌⊎◌, ℕ, ◌+◌, ◌*◌, ◌==◌, ℤ, ◌≤ℤ◌, pos, Bool, true, false, not, ◌&&◌, ◌||◌, List, [], ◌∷◌, ◌++◌, map, Some, Less, All, length, refl, sym, ap, ◌∙◌, subst, inl, inr, arith, codes, slice_index}
+use Rattle.std.specs.Prelude.{int_le, if◌then◌else◌}
 use Rattle.std.specs.Ordering.{int_cmp, int_eq}
-use Rattle.std.specs.List.{filter}
 use Rattle.std.proofs.lemmas.Bool.{and_parts, and_from, lt-ltb}
 use Rattle.std.proofs.lemmas.Int.{ints}
-use Rattle.std.proofs.lemmas.List.Elements.{All-contains, All-head, All-tail}
-use Rattle.kz_types.specs.declared.row.AclRow.{AclRow}
-use Rattle.kz_types.specs.declared.row.ScramRow.{ScramRow}
+use Rattle.std.proofs.lemmas.List.Elements.{All-head, All-tail}
 use Rattle.kz_types.specs.declared.bodies.QuotaRow.{QuotaRow}
 use Rattle.kz_types.specs.declared.bodies.ScramPair.{ScramPair}
 use Rattle.kz_types.specs.declared.image.QuotaEntry.{QuotaEntry}
-use Rattle.kz_types.specs.declared.image.ScramEntry.{ScramEntry}
 use Rattle.kz_types.specs.declared.image.AclEntry.{AclEntry}
 use Rattle.kz_types.specs.declared.key.EntityKey.{EntityKey}
 use Rattle.kz_types.specs.declared.key.EntityKey.TheVariants as key
-use Rattle.kz_types.specs.Paths.{is_part, resource_type_name, is_among, is_not_empty, is_pattern, is_resource_type, is_legal, has_path, key_of, path_of}
-use Rattle.kz_types.specs.Quotas.{is_quota}
+use Rattle.kz_types.specs.Paths.{is_part, resource_type_name, is_among, is_not_empty, is_pattern, is_resource_type, is_legal, has_path, path_of}
 use Rattle.kz_ordered.specs.Order.{bytes_cmp}
 use Rattle.kz_ordered.specs.Ordered.{Rises, RisesAbove}
-use Rattle.kz_ordered.proofs.Order.{bytes_order, int_order}
+use Rattle.kz_ordered.proofs.Order.{int_order}
 use Rattle.kz_ordered.proofs.Lookup.{rest_rises, rises_above_smaller}
 use Rattle.kz_ordered.proofs.Maps.{Rises-map}
 use Rattle.kz_spec_values.specs.Credentials.{client_keys, quota_keys, credential_key, mechanism_name, quota_pair, credential_pair}
@@ -28,8 +23,8 @@ use Rattle.kz_spec_stores.specs.ImageRules.{is_empty, is_dots, is_mechanism, is_
 use Rattle.kz_spec_stores.specs.Legal.{IsQuotaOf, IsQuotaEntry, IsScramOf, IsAcl}
 use Rattle.kz_spec_znodes.specs.Rendering.{acl_key}
 use Rattle.kz_laws_values.specs.Ranges.{IsBetween}
-use Rattle.kz_laws_bodies.specs.Readable.{IsBelow, AreRising, IsQuota, AreQuotas, IsScram, IsCredential, AreCredentials, IsQuotaBody, IsEntry, AreEntries}
-use Rattle.kz_laws_paths.specs.TextKeys.{IsText, HasTexts}
+use Rattle.kz_laws_bodies.specs.Readable.{IsBelow, AreRising, AreQuotas, IsScram, AreCredentials, IsQuotaBody}
+use Rattle.kz_laws_paths.specs.TextKeys.{IsText}
 use Rattle.kz_laws_paths.proofs.Legal.{IsGoodKey}
 use Rattle.kz_laws_znodes.specs.RoundTrip.{IsQuotaWritable, IsScramWritable, IsAclWritable}
 use Rattle.kz_laws_znodes.proofs.Bodies.{holds_le, rising}
@@ -133,12 +128,12 @@ names_rise m n h k less = by (one_or_two m h) (one_or_two n k)
     by (inr e) (inl f) = absurd (let no = at (pos 2) (pos 1) e f in cc)
     by (inr e) (inr f) = absurd (let no = at (pos 2) (pos 2) e f in cc)
 
-
 scrams_below : (m : ℤ) (scrams : List ScramPair) → is_mechanism m ≡ true → All (λ (s : ScramPair). is_mechanism s.mechanism ≡ true) scrams → RisesAbove int_cmp mechanism_of_pair m scrams → IsBelow (mechanism_name m) (map credential_pair scrams)
 scrams_below m [] h all rise = tt
-scrams_below m (s ∷ ss) h all rise =
-    (names_rise m s.mechanism h (All-head (λ (x : ScramPair). is_mechanism x.mechanism ≡ true) s ss all) rise.0,
-    scrams_below m ss h (All-tail (λ (x : ScramPair). is_mechanism x.mechanism ≡ true) s ss all) (rises_above_smaller int_order mechanism_of_pair m s.mechanism ss rise.0 rise.1))
+scrams_below m (s ∷ ss) h all rise = (
+  names_rise m s.mechanism h (All-head (λ (x : ScramPair). is_mechanism x.mechanism ≡ true) s ss all) rise.0,
+  scrams_below m ss h (All-tail (λ (x : ScramPair). is_mechanism x.mechanism ≡ true) s ss all) (rises_above_smaller int_order mechanism_of_pair m s.mechanism ss rise.0 rise.1),
+)
 
 scrams_rising : (scrams : List ScramPair) → All (λ (s : ScramPair). is_mechanism s.mechanism ≡ true) scrams → Rises int_cmp mechanism_of_pair scrams → AreRising (map credential_pair scrams)
 scrams_rising [] all rise = tt

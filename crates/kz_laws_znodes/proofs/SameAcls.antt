@@ -1,8 +1,7 @@
 -- The access control entries that return.
-use Rattle.std.proofs.Common.{◌≡◌, ◌≢◌, ◌⊎◌, ℕ, ◌+◌, ℤ, pos, negsuc, Bool, true, false, cond, List, [], ◌∷◌, ◌++◌, length, map, filter, Option, Some, None, Less, Contains, All, refl, sym, ap, ◌∙◌, subst, inl, inr, append-nil}
-use Rattle.std.specs.Prelude.{⊤, ◌+ℤ◌, option_map}
+use Rattle.std.proofs.Common.{◌≡◌, ◌≢◌, ◌⊎◌, ℕ, ◌+◌, pos, negsuc, Bool, true, false, cond, List, [], ◌∷◌, ◌++◌, map, filter, Some, Less, Contains, refl, sym, ap, ◌∙◌, subst, inl, inr, append-nil}
+use Rattle.std.specs.Prelude.{◌+ℤ◌, option_map}
 use Rattle.std.specs.Str.{bytes_eq}
-use Rattle.std.specs.List.{flat_map}
 use Rattle.std.proofs.lemmas.Bool.{false≢true}
 use Rattle.std.proofs.lemmas.Slice.Eq.{bytes_eq-Decides}
 use Rattle.std.proofs.lemmas.Grind.{flat_map-append}
@@ -15,22 +14,22 @@ use Rattle.kz_types.specs.declared.bodies.Body.TheVariants as body
 use Rattle.kz_types.specs.declared.image.AclEntry.{AclEntry}
 use Rattle.kz_types.specs.declared.key.EntityKey.{EntityKey}
 use Rattle.kz_types.specs.declared.key.EntityKey.TheVariants as key
-use Rattle.kz_types.specs.Paths.{key_of, path_of}
+use Rattle.kz_types.specs.Paths.{path_of}
 use Rattle.kz_ordered.specs.Order.{bytes_cmp}
-use Rattle.kz_ordered.specs.Ordered.{find, Rises}
-use Rattle.kz_ordered.proofs.Order.{bytes_order, less_differs, less_differs_back}
-use Rattle.kz_ordered.proofs.Lookup.{key_of_found, Contains-head, Contains-tail, Contains-nil, Contains-cons_cases}
+use Rattle.kz_ordered.specs.Ordered.{Rises}
+use Rattle.kz_ordered.proofs.Order.{bytes_order, less_differs}
+use Rattle.kz_ordered.proofs.Lookup.{Contains-head, Contains-tail, Contains-nil, Contains-cons_cases}
 use Rattle.kz_ordered.proofs.Append.{below_split, above_split, all_from_rises_above}
-use Rattle.kz_spec_stores.specs.Tree.{path_of_row, row_at, path_of_rendered}
+use Rattle.kz_spec_stores.specs.Tree.{path_of_row, row_at}
 use Rattle.kz_spec_stores.specs.Metadata.{Image}
 use Rattle.kz_spec_stores.specs.InOrder.{IsInOrder}
-use Rattle.kz_spec_znodes.specs.Rendering.{bare, znode, topic_znode, assignment_of, state_body, config_znode, quotas_of_user, user_znode, acl_key, is_of_resource, row_of_acl, acl_znode, render}
+use Rattle.kz_spec_znodes.specs.Rendering.{assignment_of, state_body, quotas_of_user, acl_key, row_of_acl, acl_znode}
 use Rattle.kz_spec_znodes.specs.Translation.{migrated_id}
 use Rattle.kz_laws_znodes.specs.RoundTrip.{new_znode, znodes_of, IsWritable, MayReturn, entries_of_resource}
-use Rattle.kz_laws_znodes.proofs.Shown.{Shown, shown_topic, shown_state, shown_topic_config, shown_config, shown_parent, shown_quotas, shown_user, shown_entries, shown_producer, shown_blank, shown_scaffold, shown}
+use Rattle.kz_laws_znodes.proofs.Shown.{Shown, shown_topic, shown_state, shown_topic_config, shown_config, shown_parent, shown_quotas, shown_user, shown_entries, shown_producer, shown_blank, shown_scaffold}
 use Rattle.kz_laws_znodes.proofs.Held.{IsHeld, topic_held, state_held, topic_config_held, config_held, quota_held, user_held, parent_held, resource_rows, facts_of_acl, entries_held, producer_held, blank_held}
-use Rattle.kz_laws_znodes.proofs.Found.{FoundAt, found_at, low_epoch, who_of, acl_at, acl_found}
-use Rattle.kz_laws_znodes.proofs.Again.{row_found, RowIs, row_is, are_rows}
+use Rattle.kz_laws_znodes.proofs.Found.{found_at, low_epoch, acl_at, acl_found}
+use Rattle.kz_laws_znodes.proofs.Again.{row_found, row_is, are_rows}
 use Rattle.kz_laws_znodes.proofs.Walk.{Split, split_at_found}
 use Rattle.kz_laws_znodes.proofs.OtherSteps.{numbered}
 use Rattle.kz_laws_znodes.proofs.Saying.{entity_read, no_entity, entries_said, entries_by, entries_of, all_entries}
@@ -191,9 +190,9 @@ module _ (i : Image) (o : IsInOrder i) (w : IsWritable i) (m : MayReturn i) wher
       let s : Split rows r = split_at_found bytes_order path_of_row (path_of k) rows r at in
       let rise : Rises bytes_cmp path_of_row (s.front ++ r ∷ s.rest) = subst (Rises bytes_cmp path_of_row) s.whole (are_rows i o w m).rising in
       let before : filter (is_on path) (all_entries s.front) ≡ [] = none_of_all path s.front (λ x within. none_of path x (subst (λ xs. Contains xs x) (sym s.whole) (Contains-append_left s.front (r ∷ s.rest) x within))
-          (λ b other place same. less_differs bytes_order x.path r.path (All-contains (λ y. bytes_cmp (path_of_row y) r.path ≡ Less) s.front x (below_split bytes_order path_of_row s.front r s.rest rise) within) (sym place ∙ same ∙ sym is))) in
+      (λ b other place same. less_differs bytes_order x.path r.path (All-contains (λ y. bytes_cmp (path_of_row y) r.path ≡ Less) s.front x (below_split bytes_order path_of_row s.front r s.rest rise) within) (sym place ∙ same ∙ sym is))) in
       let behind : filter (is_on path) (all_entries s.rest) ≡ [] = none_of_all path s.rest (λ x within. none_of path x (subst (λ xs. Contains xs x) (sym s.whole) (Contains-append_right s.front (r ∷ s.rest) x (Contains-tail r s.rest x within)))
-          (λ b other place same. less_differs bytes_order r.path x.path (All-contains (λ y. bytes_cmp r.path (path_of_row y) ≡ Less) s.rest x (all_from_rises_above bytes_order path_of_row r.path s.rest (above_split bytes_order path_of_row s.front r s.rest rise)) within) (is ∙ sym same ∙ place))) in
+      (λ b other place same. less_differs bytes_order r.path x.path (All-contains (λ y. bytes_cmp r.path (path_of_row y) ≡ Less) s.rest x (all_from_rises_above bytes_order path_of_row r.path s.rest (above_split bytes_order path_of_row s.front r s.rest rise)) within) (is ∙ sym same ∙ place))) in
       let own : entries_of r ≡ rows_on i.acls (path_of k) = held_entries (acl_znode i.acls a) k (body.Acls (resource_rows i o w a.row)) (entries_held i o w a has) in
       ap (λ xs. filter (is_on path) (all_entries xs)) s.whole
       ∙ ap (filter (is_on path)) (flat_map-append entries_of s.front (r ∷ s.rest))

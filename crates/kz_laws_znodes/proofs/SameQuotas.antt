@@ -1,6 +1,6 @@
 -- The quotas and credentials that return.
-use Rattle.std.proofs.Common.{◌≡◌, ◌≢◌, ◌⊎◌, ℕ, ◌<◌, ◌+◌, ℤ, pos, negsuc, Bool, true, false, cond, List, [], ◌∷◌, ◌++◌, length, map, Option, Some, None, Contains, All, refl, sym, ap, ◌∙◌, subst, inl, inr, arith}
-use Rattle.std.specs.Prelude.{⊤, Result, Ok, Err, ◌+ℤ◌, option_map, option_and_then}
+use Rattle.std.proofs.Common.{◌≡◌, ◌⊎◌, ℕ, ◌<◌, pos, negsuc, Bool, true, false, cond, List, [], ◌∷◌, ◌++◌, length, map, Option, Some, None, Contains, refl, sym, ap, ◌∙◌, subst, inl, inr, arith}
+use Rattle.std.specs.Prelude.{Ok, ◌+ℤ◌}
 use Rattle.std.specs.Str.{is_utf8}
 use Rattle.std.specs.List.{flat_map}
 use Rattle.std.proofs.lemmas.List.Elements.{All-contains, Contains-append_left, Contains-append_right}
@@ -8,7 +8,6 @@ use Rattle.kz_types.specs.declared.tree.Row.{Row}
 use Rattle.kz_types.specs.declared.tree.Rendered.{Rendered}
 use Rattle.kz_types.specs.declared.bodies.QuotaRow.{QuotaRow}
 use Rattle.kz_types.specs.declared.bodies.ScramPair.{ScramPair}
-use Rattle.kz_types.specs.declared.bodies.Body.{Body}
 use Rattle.kz_types.specs.declared.bodies.Body.TheVariants as body
 use Rattle.kz_types.specs.declared.image.QuotaEntry.{QuotaEntry}
 use Rattle.kz_types.specs.declared.image.ScramEntry.{ScramEntry}
@@ -18,13 +17,13 @@ use Rattle.kz_types.specs.Paths.{key_of, path_of}
 use Rattle.kz_ordered.specs.Order.{bytes_cmp}
 use Rattle.kz_ordered.specs.Ordered.{find}
 use Rattle.kz_ordered.proofs.Order.{bytes_order}
-use Rattle.kz_ordered.proofs.Lookup.{some_is_none, same_some, found_is_contained, key_of_found, contained_is_found, same_items, Contains-head}
+use Rattle.kz_ordered.proofs.Lookup.{some_is_none, found_is_contained, key_of_found, contained_is_found, same_items, Contains-head}
 use Rattle.kz_spec_values.specs.Bodies.{read_body}
-use Rattle.kz_spec_stores.specs.Tree.{path_of_row, row_at, path_of_rendered}
+use Rattle.kz_spec_stores.specs.Tree.{path_of_rendered}
 use Rattle.kz_spec_stores.specs.Metadata.{Image, path_of_quotas, name_of_user}
-use Rattle.kz_spec_stores.specs.Image.{quotas_in, scrams_in}
+use Rattle.kz_spec_stores.specs.Image.{quotas_in}
 use Rattle.kz_spec_stores.specs.InOrder.{IsQuotaFilled, IsUserFilled, IsInOrder}
-use Rattle.kz_spec_znodes.specs.Rendering.{bare, znode, topic_znode, topic_znodes, assignment_of, state_body, config_znode, quota_parents, znode_of_quotas, own_znodes, quotas_of_user, user_znode, quota_znodes, acl_key, render, entity_znodes}
+use Rattle.kz_spec_znodes.specs.Rendering.{znode, topic_znodes, assignment_of, state_body, config_znode, quota_parents, znode_of_quotas, own_znodes, user_znode, quota_znodes, acl_key, render, entity_znodes}
 use Rattle.kz_laws_paths.proofs.Legal.{IsGoodKey}
 use Rattle.kz_laws_paths.proofs.Keys.{path_holds}
 use Rattle.kz_laws_znodes.specs.RoundTrip.{new_znode, znodes_of, AreQuotasWritable, IsUserWritable, IsWritable, MayReturn}
@@ -32,11 +31,11 @@ use Rattle.kz_laws_znodes.proofs.Within.{to_flat, to_map}
 use Rattle.kz_laws_znodes.proofs.Shown.{Shown, shown_topic, shown_state, shown_topic_config, shown_config, shown_parent, shown_quotas, shown_user, shown_entries, shown_producer, shown_blank, shown_scaffold, shown, quota_key_good, behind_quotas}
 use Rattle.kz_laws_znodes.proofs.Held.{IsHeld, has_quotas, quota_kind_of, quota_path, topic_held, state_held, topic_config_held, config_held, quota_held, user_held, parent_held, resource_rows, entries_held, producer_held, blank_held}
 use Rattle.kz_laws_znodes.proofs.Found.{low_epoch, is_there}
-use Rattle.kz_laws_znodes.proofs.FoundQuotas.{quotas_at, scrams_for, no_scrams, with_scrams}
+use Rattle.kz_laws_znodes.proofs.FoundQuotas.{quotas_at, no_scrams, with_scrams}
 use Rattle.kz_laws_znodes.proofs.SameTopics.{held_says, scaffold_says, said_found, said_missing}
 use Rattle.kz_laws_znodes.proofs.OtherSteps.{quota_list, scram_list}
 use Rattle.kz_laws_znodes.proofs.OtherWalk.{same_user}
-use Rattle.kz_laws_znodes.proofs.Saying.{entity_of, entity_read, pick, pick_row, quotas_said, scrams_said, of_user, said, listed, or_empty}
+use Rattle.kz_laws_znodes.proofs.Saying.{entity_read, pick, pick_row, quotas_said, scrams_said, of_user, said, listed, or_empty}
 use Rattle.kz_laws_znodes.proofs.Says.{scrams_in_rows, SaysQuotas, SaysUsers}
 
 nothing_of_user : (k : EntityKey) → or_empty (of_user k []) ≡ []

@@ -1,13 +1,11 @@
 -- The topics and configurations that return.
-use Rattle.std.proofs.Common.{◌≡◌, ◌≢◌, ◌⊎◌, ℕ, ◌<◌, ℤ, pos, negsuc, List, [], ◌∷◌, ◌++◌, length, map, Option, Some, None, Contains, All, refl, sym, ap, ◌∙◌, subst, inl, inr, arith}
-use Rattle.std.specs.Prelude.{⊤, Result, Ok, Err, ◌+ℤ◌, option_map, option_and_then}
+use Rattle.std.proofs.Common.{◌≡◌, ◌≢◌, ◌⊎◌, ℕ, ◌<◌, ℤ, pos, negsuc, List, [], ◌∷◌, length, map, Option, Some, None, Contains, refl, sym, ap, ◌∙◌, subst, inl, inr, arith}
+use Rattle.std.specs.Prelude.{◌+ℤ◌, option_map, option_and_then}
 use Rattle.std.proofs.lemmas.List.Elements.{All-contains}
 use Rattle.std.proofs.lemmas.Simd.{map-map}
-use Rattle.kz_types.specs.declared.id.Id.{Id}
 use Rattle.kz_types.specs.declared.tree.Row.{Row}
 use Rattle.kz_types.specs.declared.tree.Rendered.{Rendered}
 use Rattle.kz_types.specs.declared.bodies.Pair.{Pair}
-use Rattle.kz_types.specs.declared.bodies.AssignmentRow.{AssignmentRow}
 use Rattle.kz_types.specs.declared.bodies.Body.{Body}
 use Rattle.kz_types.specs.declared.bodies.Body.TheVariants as body
 use Rattle.kz_types.specs.declared.image.Configuration.{Configuration}
@@ -21,22 +19,22 @@ use Rattle.kz_ordered.specs.Ordered.{find}
 use Rattle.kz_ordered.proofs.Order.{bytes_order}
 use Rattle.kz_ordered.proofs.Lookup.{some_is_none, same_some, found_is_contained, key_of_found, contained_is_found, same_items, Contains-head, Contains-tail}
 use Rattle.kz_ordered.proofs.Maps.{find-map, Rises-map}
-use Rattle.kz_spec_stores.specs.Tree.{path_of_row, row_at, path_of_rendered}
+use Rattle.kz_spec_stores.specs.Tree.{path_of_rendered}
 use Rattle.kz_spec_stores.specs.Metadata.{Image, name_of_topic, name_of_configuration}
 use Rattle.kz_spec_stores.specs.InOrder.{IsFilled, IsInOrder}
-use Rattle.kz_spec_znodes.specs.Rendering.{bare, znode, topic_znode, assignment_of, state_body, config_znode, quotas_of_user, user_znode, acl_key, render}
-use Rattle.kz_spec_znodes.specs.Translation.{row_of, body_of_row, partition_by, partition_with, leader_of, broker_name}
+use Rattle.kz_spec_znodes.specs.Rendering.{znode, topic_znode, assignment_of, state_body, quotas_of_user, acl_key, render}
+use Rattle.kz_spec_znodes.specs.Translation.{row_of, body_of_row, partition_by, partition_with}
 use Rattle.kz_laws_znodes.specs.RoundTrip.{new_znode, znodes_of, IsWritable, MayReturn, without_epochs, topic_without_epochs}
-use Rattle.kz_laws_znodes.proofs.Shown.{Shown, shown_topic, shown_state, shown_topic_config, shown_config, shown_parent, shown_quotas, shown_user, shown_entries, shown_producer, shown_blank, shown_scaffold, shown, topic_facts, partition_facts}
+use Rattle.kz_laws_znodes.proofs.Shown.{Shown, shown_topic, shown_state, shown_topic_config, shown_config, shown_parent, shown_quotas, shown_user, shown_entries, shown_producer, shown_blank, shown_scaffold, shown, partition_facts}
 use Rattle.kz_laws_znodes.proofs.Bodies.{facts, brokers}
 use Rattle.kz_laws_znodes.proofs.Held.{IsHeld, broker_good, topic_held, state_held, topic_config_held, config_held, quota_held, user_held, parent_held, resource_rows, entries_held, producer_held, blank_held}
-use Rattle.kz_laws_znodes.proofs.Found.{FoundAt, found_at, low_epoch, who_of, same_topic, state_found, topic_config_at, topic_config_found, broker_at, config_found}
-use Rattle.kz_laws_znodes.proofs.Again.{leader_kept, row_found, RowIs, row_is, body_of_held, topic_row}
-use Rattle.kz_laws_znodes.proofs.TopicSteps.{entry_of, topic_of}
+use Rattle.kz_laws_znodes.proofs.Found.{found_at, low_epoch, same_topic, state_found, topic_config_at, topic_config_found, broker_at, config_found}
+use Rattle.kz_laws_znodes.proofs.Again.{leader_kept, row_found, body_of_held, topic_row}
+use Rattle.kz_laws_znodes.proofs.TopicSteps.{entry_of}
 use Rattle.kz_laws_znodes.proofs.TopicRows.{topic_names}
 use Rattle.kz_laws_znodes.proofs.OtherSteps.{configuration}
 use Rattle.kz_laws_znodes.proofs.OtherWalk.{named_only}
-use Rattle.kz_laws_znodes.proofs.Saying.{Assignment, entity_of, entity_read, no_entity, pick, pick_row, topic_said, topic_config_said, broker_config_said, said, listed, or_empty}
+use Rattle.kz_laws_znodes.proofs.Saying.{entity_read, no_entity, pick, pick_row, topic_said, topic_config_said, broker_config_said, said, listed, or_empty}
 use Rattle.kz_laws_znodes.proofs.Says.{partition_in, topic_by, broker_named, configuration_in, SaysTopics, SaysConfigs}
 
 pub map_same : {A B : Type 0} (f g : A → B) (xs : List A) → ((x : A) → Contains xs x → f x ≡ g x) → map f xs ≡ map g xs

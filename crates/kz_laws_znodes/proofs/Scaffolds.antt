@@ -1,15 +1,13 @@
 -- The parents of entities hold none.
-use Rattle.std.proofs.Common.{◌≡◌, ◌⊎◌, ℕ, ℤ, pos, Bool, true, false, ◌&&◌, ◌||◌, List, [], ◌∷◌, ◌++◌, map, Option, Some, None, is_some, Contains, All, refl, sym, ap, ◌∙◌, subst, inl, inr, codes, append_assoc, rules}
-use Rattle.std.specs.Prelude.{⊤, option_map, IfSome, if◌then◌else◌}
+use Rattle.std.proofs.Common.{◌≡◌, ◌⊎◌, ℕ, ℤ, pos, Bool, true, false, ◌&&◌, ◌||◌, List, [], ◌∷◌, ◌++◌, Option, Some, None, is_some, Contains, All, refl, ap, ◌∙◌, inl, inr, codes, append_assoc}
+use Rattle.std.specs.Prelude.{option_map, IfSome}
 use Rattle.std.specs.Fmt.{signed_decimal}
-use Rattle.std.specs.List.{slice_split}
 use Rattle.std.proofs.lemmas.List.Elements.{All-contains, All-from_recursion}
-use Rattle.kz_types.specs.declared.key.EntityKey.{EntityKey}
 use Rattle.kz_types.specs.declared.key.EntityKey.TheVariants as key
 use Rattle.kz_types.specs.declared.kind.Kind.TheVariants as kind
-use Rattle.kz_types.specs.Numbers.{canonical, number_in}
+use Rattle.kz_types.specs.Numbers.{canonical}
 use Rattle.kz_types.specs.PathRule.{parts}
-use Rattle.kz_types.specs.Paths.{roots, is_among, is_topic_name, is_not_negative, sanitised, part_or_default, default_or, restored, key_of, key_of_parts, is_scaffold_of_parts, kind_of, is_migrated, path_of}
+use Rattle.kz_types.specs.Paths.{roots, is_among, is_topic_name, is_not_negative, sanitised, part_or_default, key_of, key_of_parts, is_scaffold_of_parts, kind_of, is_migrated, path_of}
 use Rattle.kz_spec_znodes.specs.Rendering.{partitions_path, number_path}
 use Rattle.kz_laws_paths.specs.TextKeys.{IsText, IsSmall}
 use Rattle.kz_laws_paths.proofs.Parts.{split_part, split_last, topic_has_none, number_has_none, number_is_read, sanitised_has_none, named_is_read}
@@ -85,23 +83,57 @@ scaffold path none kind_is = inl (record { none = none; kind_is = kind_is })
 each_root : All IsRootScaffold roots
 unfolding roots key_of kind_of is_migrated path_of
 each_root = All-from_recursion IsRootScaffold roots (
-    scaffold (codes "/brokers/topics") refl refl, (
-    scaffold (codes "/config/brokers") refl refl, (
-    scaffold (codes "/config/clients") refl refl, (
-    scaffold (codes "/config/ips") refl refl, (
-    scaffold (codes "/config/topics") refl refl, (
-    scaffold (codes "/config/users") refl refl, (
-    scaffold (codes "/kafka-acl-extended/prefixed/Cluster") refl refl, (
-    scaffold (codes "/kafka-acl-extended/prefixed/DelegationToken") refl refl, (
-    scaffold (codes "/kafka-acl-extended/prefixed/Group") refl refl, (
-    scaffold (codes "/kafka-acl-extended/prefixed/Topic") refl refl, (
-    scaffold (codes "/kafka-acl-extended/prefixed/TransactionalId") refl refl, (
-    scaffold (codes "/kafka-acl/Cluster") refl refl, (
-    scaffold (codes "/kafka-acl/DelegationToken") refl refl, (
-    scaffold (codes "/kafka-acl/Group") refl refl, (
-    scaffold (codes "/kafka-acl/Topic") refl refl, (
-    scaffold (codes "/kafka-acl/TransactionalId") refl refl, (
-    inr refl, tt)))))))))))))))))
+  scaffold (codes "/brokers/topics") refl refl,
+  (
+    scaffold (codes "/config/brokers") refl refl,
+    (
+      scaffold (codes "/config/clients") refl refl,
+      (
+        scaffold (codes "/config/ips") refl refl,
+        (
+          scaffold (codes "/config/topics") refl refl,
+          (
+            scaffold (codes "/config/users") refl refl,
+            (
+              scaffold (codes "/kafka-acl-extended/prefixed/Cluster") refl refl,
+              (
+                scaffold (codes "/kafka-acl-extended/prefixed/DelegationToken") refl refl,
+                (
+                  scaffold (codes "/kafka-acl-extended/prefixed/Group") refl refl,
+                  (
+                    scaffold (codes "/kafka-acl-extended/prefixed/Topic") refl refl,
+                    (
+                      scaffold (codes "/kafka-acl-extended/prefixed/TransactionalId") refl refl,
+                      (
+                        scaffold (codes "/kafka-acl/Cluster") refl refl,
+                        (
+                          scaffold (codes "/kafka-acl/DelegationToken") refl refl,
+                          (
+                            scaffold (codes "/kafka-acl/Group") refl refl,
+                            (
+                              scaffold (codes "/kafka-acl/Topic") refl refl,
+                              (
+                                scaffold (codes "/kafka-acl/TransactionalId") refl refl,
+                                (
+                                  inr refl,
+                                  tt,
+                                ),
+                              ),
+                            ),
+                          ),
+                        ),
+                      ),
+                    ),
+                  ),
+                ),
+              ),
+            ),
+          ),
+        ),
+      ),
+    ),
+  ),
+)
 
 pub root_is : (path : List ℕ) → Contains roots path → IsRootScaffold path
 root_is path has = All-contains IsRootScaffold roots path each_root has

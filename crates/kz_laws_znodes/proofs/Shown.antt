@@ -1,6 +1,6 @@
 -- What each znode of a rendering is.
-use Rattle.std.proofs.Common.{◌≡◌, ◌⊎◌, ℕ, ℤ, pos, negsuc, Bool, true, false, List, [], ◌∷◌, ◌++◌, map, Option, Some, None, Contains, All, refl, sym, ap, ◌∙◌, subst, inl, inr, codes}
-use Rattle.std.specs.Prelude.{⊤, IfSome, ◌+ℤ◌}
+use Rattle.std.proofs.Common.{◌≡◌, ℕ, ℤ, pos, negsuc, List, [], ◌∷◌, ◌++◌, map, Option, Some, None, Contains, refl, sym, ap, ◌∙◌, subst, inl, inr}
+use Rattle.std.specs.Prelude.{◌+ℤ◌}
 use Rattle.std.specs.List.{flat_map}
 use Rattle.std.proofs.lemmas.List.Elements.{All-contains, Contains-append_cases}
 use Rattle.kz_types.specs.declared.tree.Rendered.{Rendered}
@@ -16,19 +16,17 @@ use Rattle.kz_types.specs.declared.key.EntityKey.{EntityKey}
 use Rattle.kz_types.specs.declared.key.EntityKey.TheVariants as key
 use Rattle.std.proofs.lemmas.Bool.{and_parts}
 use Rattle.kz_types.specs.Paths.{roots, is_absent_or, is_not_empty, is_legal, key_of, path_of}
-use Rattle.kz_ordered.specs.Order.{bytes_cmp}
 use Rattle.kz_ordered.proofs.Order.{bytes_order}
 use Rattle.kz_ordered.proofs.Lookup.{Contains-nil, Contains-cons_cases}
 use Rattle.kz_ordered.proofs.Puts.{Contains-all_put_cases}
 use Rattle.kz_spec_stores.specs.Tree.{path_of_rendered}
 use Rattle.kz_spec_stores.specs.Metadata.{Image}
-use Rattle.kz_spec_stores.specs.InOrder.{IsTopicInOrder, IsFilled, IsQuotaFilled, IsUserFilled, IsInOrder}
-use Rattle.kz_spec_stores.specs.Legal.{IsTopic, IsPartition, IsConfiguration, IsQuotaEntry, IsScramEntry, IsAcl}
+use Rattle.kz_spec_stores.specs.InOrder.{IsTopicInOrder, IsQuotaFilled, IsInOrder}
+use Rattle.kz_spec_stores.specs.Legal.{IsTopic, IsPartition}
 use Rattle.kz_spec_znodes.specs.Rendering.{bare, znode, topic_znode, partitions_path, number_path, state_body, partition_znodes, topic_config_znodes, topic_znodes, config_znode, client_parents, quota_parents, znode_of_quotas, own_znodes, user_znode, quota_znodes, acl_znode, producer_znodes, entity_znodes, render}
-use Rattle.kz_laws_paths.specs.TextKeys.{IsText, HasTexts}
 use Rattle.kz_laws_paths.proofs.Legal.{IsGoodKey}
 use Rattle.kz_laws_paths.proofs.Texts.{key_good}
-use Rattle.kz_laws_znodes.specs.RoundTrip.{IsPartitionWritable, IsTopicWritable, IsConfigWritable, AreQuotasWritable, IsUserWritable, IsAclWritable, IsWritable}
+use Rattle.kz_laws_znodes.specs.RoundTrip.{IsPartitionWritable, IsTopicWritable, IsWritable}
 use Rattle.kz_laws_znodes.proofs.Within.{from_flat, from_map}
 use Rattle.kz_laws_znodes.proofs.Scaffolds.{IsScaffold, partitions_scaffold, number_scaffold, clients_path, clients_scaffold, root_is}
 
