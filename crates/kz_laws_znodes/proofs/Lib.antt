@@ -1,5 +1,9 @@
 pub mod Operations
 pub mod Sorted
+pub mod ReadForms
+pub mod ReadTopics
+pub mod ReadQuotas
+pub mod ReadEntries
 pub mod Reading
 pub mod Ids
 pub mod Accepting

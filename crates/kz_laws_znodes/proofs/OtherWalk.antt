@@ -39,7 +39,9 @@ use Rattle.kz_laws_paths.specs.TextKeys.{IsSmall}
 use Rattle.kz_laws_paths.proofs.Names.{name_is_read}
 use Rattle.kz_laws_paths.proofs.Legal.{IsGoodKey}
 use Rattle.kz_laws_paths.proofs.Keys.{path_holds}
-use Rattle.kz_laws_znodes.proofs.Reading.{IsBodyOf, IsMechanism, AreQuotasRead, AreScramsRead, IsQuotaBodyRead, IsEntryRead, AreEntriesRead, read_is}
+use Rattle.kz_laws_znodes.proofs.ReadQuotas.{IsMechanism, AreQuotasRead, AreScramsRead, IsQuotaBodyRead}
+use Rattle.kz_laws_znodes.proofs.ReadEntries.{IsEntryRead, AreEntriesRead}
+use Rattle.kz_laws_znodes.proofs.Reading.{IsBodyOf, read_is}
 use Rattle.kz_laws_znodes.proofs.Accepting.{Leads, leads_append}
 use Rattle.kz_laws_znodes.proofs.OtherSteps.{configuration, with_configuration, broker_leads, quota_list, with_quota_list, IsAllowed, HasQuotas, quotas_lead, scram_list, with_scram_list, IsCredentialOf, scrams_lead, IsEntryMade, numbered, AreBelowNumber, entries_lead, producer_leads}
 use Rattle.kz_laws_znodes.proofs.Saying.{entity_of, entity_read, pick, topic_said, topic_config_said, broker_config_said, quotas_said, scrams_said, next_said, said, said_elsewhere, said_here, said_nowhere, entries_by, of_user, all_entries, entries_counted, listed, or_empty, grown_rises, grown_here, grown_elsewhere}

@@ -30,7 +30,8 @@ use Rattle.kz_laws_paths.specs.TextKeys.{IsText}
 use Rattle.kz_laws_paths.proofs.Legal.{IsGoodKey}
 use Rattle.kz_laws_paths.proofs.Keys.{path_holds}
 use Rattle.kz_laws_bodies.specs.Readable.{IsPartition, ArePartitions}
-use Rattle.kz_laws_znodes.proofs.Reading.{IsTopicBody, IsBodyOf, read_is}
+use Rattle.kz_laws_znodes.proofs.ReadTopics.{IsTopicBody}
+use Rattle.kz_laws_znodes.proofs.Reading.{IsBodyOf, read_is}
 use Rattle.kz_laws_znodes.proofs.TopicSteps.{number_of_record, IsMade}
 use Rattle.kz_laws_znodes.proofs.Partitions.{le_holds, new_is_made, state_is_made, number_kept}
 use Rattle.kz_laws_znodes.proofs.Says.{partition_in}

@@ -32,7 +32,8 @@ use Rattle.kz_spec_znodes.specs.Rendering.{Excess, excess}
 use Rattle.kz_spec_znodes.specs.Translation.{RowRecords, Translated, topic_records, records_of_topic, is_taken, assigned, may_lead, leader_of, bad_field, records_of_state, records_if_assigned, scram_records, quota_record, records_of_quotas, migrated_id, acl_records, entries_in, count_of_entries, body_of_row, records_of_acls, max_block_end, records_of_producer, records_of, row_records, records_behind, all_records, further_records, bounded, within_limits, translate}
 use Rattle.kz_laws_bodies.specs.Readable.{IsBlock}
 use Rattle.kz_laws_znodes.specs.Translations.{AreZnodes, bare_image}
-use Rattle.kz_laws_znodes.proofs.Reading.{IsBodyOf, IsQuotaBodyRead, read_is}
+use Rattle.kz_laws_znodes.proofs.ReadQuotas.{IsQuotaBodyRead}
+use Rattle.kz_laws_znodes.proofs.Reading.{IsBodyOf, read_is}
 use Rattle.kz_laws_znodes.proofs.Accepting.{Accepted, Leads, leads_none, leads_append}
 use Rattle.kz_laws_znodes.proofs.Saying.{entity_read, entity_unread, no_entity, pick, topic_said, topic_config_said, broker_config_said, quotas_said, scrams_said, next_said, entries_said, entries_by}
 use Rattle.kz_laws_znodes.proofs.Says.{broker_named, configuration_in, scrams_in_rows, Says}
