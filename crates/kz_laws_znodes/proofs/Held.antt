@@ -53,7 +53,7 @@ use Rattle.kz_laws_znodes.proofs.Shown.{topic_facts, partition_facts, quota_key_
 use Rattle.kz_laws_znodes.proofs.Bodies.{holds_le, assignments_in_order, assignments_are, state_is, configuration_is}
 use Rattle.kz_laws_znodes.proofs.QuotaFacts.{entity_quotas, quota_body, user_body, user_parts, AclFacts, acl_facts}
 use Rattle.kz_laws_znodes.proofs.Says.{broker_named}
-use Rattle.kz_laws_znodes.proofs.OtherWalk.{IsBrokerKey, named_only}
+use Rattle.kz_laws_znodes.proofs.BrokerWalk.{IsBrokerKey, named_only}
 
 -- A znode holds an entity, and this is read of it.
 pub record IsHeld (r : Rendered) (k : EntityKey) (b : Body) : Type 0 where

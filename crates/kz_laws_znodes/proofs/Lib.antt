@@ -18,7 +18,9 @@ pub mod Stays
 pub mod TopicRows
 pub mod TopicWalk
 pub mod ConfigWalk
-pub mod OtherWalk
+pub mod BrokerWalk
+pub mod QuotaWalk
+pub mod EntryWalk
 pub mod Whole
 pub mod Within
 pub mod Scaffolds

@@ -34,7 +34,7 @@ use Rattle.kz_laws_znodes.proofs.Found.{low_epoch, is_there}
 use Rattle.kz_laws_znodes.proofs.FoundQuotas.{quotas_at, no_scrams, with_scrams}
 use Rattle.kz_laws_znodes.proofs.SameTopics.{held_says, scaffold_says, said_found, said_missing}
 use Rattle.kz_laws_znodes.proofs.OtherSteps.{quota_list, scram_list}
-use Rattle.kz_laws_znodes.proofs.OtherWalk.{same_user}
+use Rattle.kz_laws_znodes.proofs.QuotaWalk.{same_user}
 use Rattle.kz_laws_znodes.proofs.Saying.{entity_read, pick, pick_row, quotas_said, scrams_said, of_user, said, listed, or_empty}
 use Rattle.kz_laws_znodes.proofs.Says.{scrams_in_rows, SaysQuotas, SaysUsers}
 

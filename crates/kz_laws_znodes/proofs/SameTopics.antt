@@ -33,7 +33,7 @@ use Rattle.kz_laws_znodes.proofs.Again.{leader_kept, row_found, body_of_held, to
 use Rattle.kz_laws_znodes.proofs.TopicSteps.{entry_of}
 use Rattle.kz_laws_znodes.proofs.TopicRows.{topic_names}
 use Rattle.kz_laws_znodes.proofs.OtherSteps.{configuration}
-use Rattle.kz_laws_znodes.proofs.OtherWalk.{named_only}
+use Rattle.kz_laws_znodes.proofs.BrokerWalk.{named_only}
 use Rattle.kz_laws_znodes.proofs.Saying.{entity_read, no_entity, pick, pick_row, topic_said, topic_config_said, broker_config_said, said, listed, or_empty}
 use Rattle.kz_laws_znodes.proofs.Says.{partition_in, topic_by, broker_named, configuration_in, SaysTopics, SaysConfigs}
 

@@ -41,7 +41,9 @@ use Rattle.kz_laws_znodes.proofs.Stays.{Step, IsSilent, silent_step, no_entity_i
 use Rattle.kz_laws_znodes.proofs.Walk.{AreRows, rows_of_znodes, AllHaveRecords, all_have_records, FirstRecords, first_records, entity_records_are, no_records}
 use Rattle.kz_laws_znodes.proofs.TopicWalk.{topic_step}
 use Rattle.kz_laws_znodes.proofs.ConfigWalk.{topic_config_step}
-use Rattle.kz_laws_znodes.proofs.OtherWalk.{broker_config_step, quota_step, user_step, entries_step, producer_step}
+use Rattle.kz_laws_znodes.proofs.BrokerWalk.{broker_config_step}
+use Rattle.kz_laws_znodes.proofs.QuotaWalk.{quota_step, user_step}
+use Rattle.kz_laws_znodes.proofs.EntryWalk.{entries_step, producer_step}
 
 -- ---- one znode
 
