@@ -46,6 +46,9 @@ pub render_rises : (i : Image) → Rises bytes_cmp path_of_rendered (render i)
 unfolding render
 render_rises i = Rises-all_put bytes_order path_of_rendered (entity_znodes i) (map bare roots) roots_rise
 
+of_same_topic : (u t : TopicEntry) (r : Rendered) → u ≡ t → r ≡ znode (key.TopicConfig u.name) (body.Config u.pairs) → r ≡ znode (key.TopicConfig t.name) (body.Config t.pairs)
+of_same_topic u t r same is = is ∙ ap (λ (x : TopicEntry). znode (key.TopicConfig x.name) (body.Config x.pairs)) same
+
 -- What a znode of the rendering holds.
 pub record Entry (i : Image) (r : Rendered) : Type 0 where
   pub who : EntityKey
@@ -246,7 +249,9 @@ module _ (i : Image) (o : IsInOrder i) (w : IsWritable i) (m : MayReturn i) wher
       let r = is_there x (among_topics x t has below) in
       let f = found_at (key.TopicConfig t.name) r.0 (topic_config_held i o w t has).good r.1 in
       let c = topic_config_at t.name r.0 f.shows f.who in
-      r.1 ∙ ap (λ y. Some y) (c.4 ∙ ap (λ (u : TopicEntry). znode (key.TopicConfig u.name) (body.Config u.pairs)) (same_topic t c.0 has c.1 c.2))
+      let same : c.0 ≡ t = same_topic t c.0 has c.1 c.2 in
+      let is : r.0 ≡ znode (key.TopicConfig t.name) (body.Config t.pairs) = of_same_topic c.0 t r.0 same c.4 in
+      r.1 ∙ ap (λ y. Some y) is
     where
       own : (pairs : List Pair) → t.pairs ≡ pairs → Contains (topic_config_znodes t.name pairs) (znode (key.TopicConfig t.name) (body.Config t.pairs))
       own [] e = absurd (some e)

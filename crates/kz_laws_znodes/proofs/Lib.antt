@@ -37,3 +37,4 @@ pub mod SameQuotas
 pub mod SameAcls
 pub mod Limits
 pub mod Returns
+pub mod Worked

@@ -3,6 +3,8 @@
 //! A law is the contract of a function that does nothing.
 #![tactic(auto)]
 
+mod round_trip_examples;
+
 ghost use Rattle.kz_laws_znodes.specs.Operations.{DifferenceIsMade, ChunkLeavesRest};
 ghost use Rattle.kz_laws_znodes.specs.Translations.{TranslatedIsAccepted};
 ghost use Rattle.kz_laws_znodes.specs.RoundTrip.{ReturnsTheSame};
