@@ -1,0 +1,4 @@
+pub mod Operations
+pub mod Translations
+pub mod RoundTrip
+pub mod RoundTripExamples

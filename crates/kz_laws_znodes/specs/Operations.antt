@@ -1,0 +1,36 @@
+-- What the operations between two renderings make of the first.
+use Rattle.std.specs.Prelude.{◌≡◌, ℕ, List, [], ◌∷◌, drop}
+use Rattle.kz_types.specs.declared.tree.Op.{Op}
+use Rattle.kz_types.specs.declared.tree.Op.TheVariants.{Create, Set, Delete, Check}
+use Rattle.kz_types.specs.declared.tree.Rendered.{Rendered}
+use Rattle.kz_ordered.specs.Order.{bytes_cmp}
+use Rattle.kz_ordered.specs.Ordered.{put, without, Rises}
+use Rattle.kz_spec_stores.specs.Tree.{path_of_rendered}
+use Rattle.kz_spec_znodes.specs.Difference.{diff, max_chunk, chunk}
+
+-- the znodes with this data at this path
+abbrev pub with_data : List ℕ → List ℕ → List Rendered → List Rendered
+with_data path body znodes = put bytes_cmp path_of_rendered (record { path = path; body = body }) znodes
+
+-- What an operation that isn't refused makes of the paths and data of znodes: a create and a set put the data at the path, a
+-- delete takes the path out, a check leaves all.
+abbrev pub made : Op → List Rendered → List Rendered
+made (Create path body owner) znodes = with_data path body znodes
+made (Set path body version) znodes = with_data path body znodes
+made (Delete path version) znodes = without bytes_cmp path_of_rendered path znodes
+made (Check path version) znodes = znodes
+
+-- what operations make of them, one after another
+abbrev pub all_made : List Op → List Rendered → List Rendered
+all_made [] znodes = znodes
+all_made (op ∷ ops) znodes = all_made ops (made op znodes)
+
+-- The operations of a difference make the second rendering of the first.
+abbrev pub DifferenceIsMade : Type 0
+DifferenceIsMade = (have want : List Rendered) → Rises bytes_cmp path_of_rendered have → Rises bytes_cmp path_of_rendered want
+    → all_made (diff have want) have ≡ want
+
+-- Once the next write's operations are made, the difference is the rest of the operations.
+abbrev pub ChunkLeavesRest : Type 0
+ChunkLeavesRest = (have want : List Rendered) → Rises bytes_cmp path_of_rendered have → Rises bytes_cmp path_of_rendered want
+    → diff (all_made (chunk (diff have want)) have) want ≡ drop max_chunk (diff have want)

@@ -1,0 +1,155 @@
+-- Metadata that is rendered, translated and made again.
+use Rattle.std.specs.Prelude.{◌≡◌, ⊤, ℕ, ◌+◌, ◌≤◌, true, ℤ, pos, ◌+ℤ◌, ◌≤ℤ◌, List, length, map, Option, Some, None, option_map, Ok, All}
+use Rattle.std.specs.Str.{is_utf8}
+use Rattle.std.specs.List.{filter}
+use Rattle.base64.specs.GeneralPurpose.{IsBytes}
+use Rattle.kz_types.specs.declared.tree.Row.{Row}
+use Rattle.kz_types.specs.declared.tree.Rendered.{Rendered}
+use Rattle.kz_types.specs.declared.row.AclRow.{AclRow}
+use Rattle.kz_types.specs.declared.bodies.Pair.{Pair}
+use Rattle.kz_types.specs.declared.bodies.QuotaRow.{QuotaRow}
+use Rattle.kz_types.specs.declared.bodies.ScramPair.{ScramPair}
+use Rattle.kz_types.specs.declared.image.Configuration.{Configuration}
+use Rattle.kz_types.specs.declared.image.TopicEntry.{TopicEntry}
+use Rattle.kz_types.specs.declared.image.PartitionEntry.{PartitionEntry}
+use Rattle.kz_types.specs.declared.image.QuotaEntry.{QuotaEntry}
+use Rattle.kz_types.specs.declared.image.ScramEntry.{ScramEntry}
+use Rattle.kz_types.specs.declared.image.AclEntry.{AclEntry}
+use Rattle.kz_types.specs.declared.key.EntityKey.{EntityKey}
+use Rattle.kz_types.specs.declared.record.MetaRecord.{MetaRecord}
+use Rattle.kz_types.specs.Paths.{key_of}
+use Rattle.kz_spec_stores.specs.Image.{Image, empty_image, all_applied}
+use Rattle.kz_spec_stores.specs.InOrder.{IsInOrder}
+use Rattle.kz_spec_stores.specs.Log.{max_records, max_epoch}
+use Rattle.kz_spec_znodes.specs.Rendering.{is_of_resource, row_of_acl, render, excess}
+use Rattle.kz_spec_znodes.specs.Translation.{all_records, further_records, translate}
+
+-- ---- the znodes of a rendering
+
+-- a rendered znode as it stands when it was made
+abbrev pub new_znode : Rendered → Row
+new_znode r = record { path = r.path; body = r.body; version = pos 0; owner = None; czxid = pos 1; mzxid = pos 1; pzxid = pos 1 }
+
+abbrev pub znodes_of : Image → List Row
+znodes_of i = map new_znode (render i)
+
+-- ---- values that a program's always are
+
+-- bytes that are a text
+abbrev pub IsText : List ℕ → Type 0
+IsText bytes = is_utf8 bytes ≡ true
+
+-- a number of 32 bits, as far as it isn't negative
+abbrev pub FitsInt : ℤ → Type 0
+FitsInt n = n ≤ℤ pos 2147483647
+
+-- The numbers of a partition, those of its brokers among them, fit 32 bits.
+pub record IsPartitionWritable (p : PartitionEntry) : Type 0 where
+  pub number : FitsInt p.number
+  pub brokers : All FitsInt p.row.replicas
+  pub epoch : FitsInt p.row.controller_epoch
+
+-- The name and the value of a member are texts.
+abbrev pub IsMemberWritable : Pair → Type 0
+IsMemberWritable p = IsText p.name × IsText p.value
+
+-- A topic's id has 16 bytes, and its name and members are texts.
+pub record IsTopicWritable (t : TopicEntry) : Type 0 where
+  pub name : IsText t.name
+  pub bytes : IsBytes t.id.bytes
+  pub sixteen : length t.id.bytes ≡ 16
+  pub partitions : All IsPartitionWritable t.partitions
+  pub members : All IsMemberWritable t.pairs
+
+abbrev pub IsConfigWritable : Configuration → Type 0
+IsConfigWritable c = All IsMemberWritable c.pairs
+
+-- the whole part of a quota fits 64 bits
+abbrev pub IsQuotaWritable : QuotaRow → Type 0
+IsQuotaWritable q = q.value.whole ≤ℤ pos 9223372036854775807
+
+-- The path of an entity's quotas is read as that of an entity, whose names are then texts.
+pub record AreQuotasWritable (q : QuotaEntry) : Type 0 where
+  pub entity : EntityKey
+  pub read : key_of q.path ≡ Some entity
+  pub each : All IsQuotaWritable q.quotas
+
+-- A credential is of bytes, and its iterations fit 32 bits.
+pub record IsScramWritable (s : ScramPair) : Type 0 where
+  pub salt : IsBytes s.value.salt
+  pub stored_key : IsBytes s.value.stored_key
+  pub server_key : IsBytes s.value.server_key
+  pub iterations : FitsInt s.value.iterations
+
+abbrev pub IsUserWritable : ScramEntry → Type 0
+IsUserWritable u = IsText u.name × All IsScramWritable u.scrams
+
+-- The names of an access control entry are texts.
+pub record IsAclWritable (a : AclEntry) : Type 0 where
+  pub name : IsText a.row.name
+  pub principal : IsText a.row.principal
+  pub host : IsText a.row.host
+
+-- Texts are UTF-8, bytes are bytes, and numbers are in the range of their types, as those of a program's metadata always are.
+pub record IsWritable (i : Image) : Type 0 where
+  pub topics : All IsTopicWritable i.topics
+  pub configs : All IsConfigWritable i.broker_configs
+  pub quotas : All AreQuotasWritable i.quotas
+  pub users : All IsUserWritable i.users
+  pub acls : All IsAclWritable i.acls
+
+-- ---- what may return
+
+-- partitions with this controller epoch
+abbrev pub at_epoch : ℤ → PartitionEntry → PartitionEntry
+at_epoch epoch p = record p { row = record p.row { controller_epoch = epoch } }
+
+abbrev pub topic_at_epoch : ℤ → TopicEntry → TopicEntry
+topic_at_epoch epoch t = record t { partitions = map (at_epoch epoch) t.partitions }
+
+-- The metadata as it is at most once it has returned: each partition with the greatest controller epoch, and the next producer
+-- id behind a block of 1,000.
+abbrev pub grown : Image → Image
+grown i = record i { topics = map (topic_at_epoch max_epoch) i.topics; next_producer = option_map (λ next. next +ℤ pos 1000) i.next_producer }
+
+abbrev pub HasEpoch : PartitionEntry → Type 0
+HasEpoch p = pos 0 ≤ℤ p.row.controller_epoch
+
+-- room for two blocks of producer ids
+abbrev pub HasRoom : Option ℤ → Type 0
+HasRoom None = ⊤
+HasRoom (Some next) = next ≤ℤ pos 9223372036854773808
+
+-- No controller epoch is negative, a further block of producer ids fits, and neither the znodes nor the records pass a limit.
+pub record MayReturn (i : Image) : Type 0 where
+  pub epochs : All (λ (t : TopicEntry). All HasEpoch t.partitions) i.topics
+  pub next : HasRoom i.next_producer
+  pub znodes : excess (grown i) ≡ None
+  pub records : (rs : List MetaRecord) → all_records (znodes_of i) ≡ Ok rs → length rs + further_records ≤ max_records
+
+-- ---- what returns
+
+-- a partition without the epochs that aren't kept
+abbrev pub without_epochs : PartitionEntry → PartitionEntry
+without_epochs p = record p { row = record p.row { partition_epoch = pos 0; controller_epoch = pos 0 } }
+
+abbrev pub topic_without_epochs : TopicEntry → TopicEntry
+topic_without_epochs t = record t { partitions = map without_epochs t.partitions }
+
+-- the entries of the resource of this one, by rising id
+abbrev pub entries_of_resource : AclRow → List AclEntry → List AclRow
+entries_of_resource row acls = map row_of_acl (filter (is_of_resource row) acls)
+
+-- The same metadata, but for partition epochs, controller epochs, the ids of access control entries and their order across
+-- resources, the next producer id, the brokers and the state of the migration.
+pub record IsSameBut (i j : Image) : Type 0 where
+  pub topics : map topic_without_epochs j.topics ≡ map topic_without_epochs i.topics
+  pub configs : j.broker_configs ≡ i.broker_configs
+  pub quotas : j.quotas ≡ i.quotas
+  pub users : j.users ≡ i.users
+  pub acls : (row : AclRow) → entries_of_resource row j.acls ≡ entries_of_resource row i.acls
+
+-- Metadata is rendered to znodes that are translated to records that make the same metadata.
+abbrev pub ReturnsTheSame : Type 0
+ReturnsTheSame = (i : Image) → IsInOrder i → IsWritable i → MayReturn i
+    → (records : List MetaRecord) × (translate (znodes_of i) ≡ Ok records) × ((epoch : ℤ) → IsSameBut i (all_applied epoch records empty_image))

@@ -1,0 +1,15 @@
+//! A law by example: metadata that returns.
+#![tactic(auto, unfolding(kz_spec_znodes::proofs::OnLiterals::znodes_on_literals))]
+
+ghost use Rattle.std.specs.Prelude.{◌≡◌, None};
+ghost use Rattle.kz_spec_stores.specs.InOrder.{IsInOrder};
+ghost use Rattle.kz_spec_znodes.specs.Rendering.{excess};
+ghost use Rattle.kz_laws_znodes.specs.RoundTrip.{IsWritable, MayReturn, grown};
+ghost use Rattle.kz_laws_znodes.specs.RoundTripExamples.{worked};
+
+/// Worked metadata meets what the law asks for.
+pub fn worked_metadata()
+    ensures order { IsInOrder worked }
+    ensures writable { IsWritable worked }
+    ensures returns { MayReturn worked }
+{}
