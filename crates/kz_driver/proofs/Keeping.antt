@@ -1,6 +1,6 @@
 -- What a driver holds at its stage it holds at the next one.
-use Rattle.std.proofs.Common.{Bool, true, false, ℤ, List, [], ◌∷◌, ◌++◌, length, Option, Some, None, Result, Ok, Err}
-use Rattle.std.specs.Prelude.{if◌then◌else◌, pos, int_lt, nat_lt, not, ◌&&◌, ◌||◌}
+use Rattle.std.proofs.Common.{Bool, true, false, ℤ, List, [], ◌∷◌, length, Option, Some, None, Result, Ok, Err}
+use Rattle.std.specs.Prelude.{if◌then◌else◌, pos, int_lt, not, ◌&&◌, ◌||◌}
 use Rattle.std.specs.Ordering.{int_eq}
 use Rattle.kz_types.specs.declared.tree.Row.{Row}
 use Rattle.kz_types.specs.declared.driver.ClaimSeen.{ClaimSeen}
@@ -17,7 +17,7 @@ use Rattle.kz_spec_values.specs.Control.{epoch_path, migration_path, read_epoch}
 use Rattle.kz_spec_stores.specs.Tree.{max_version}
 use Rattle.kz_spec_stores.specs.Log.{Log, append}
 use Rattle.kz_spec_znodes.specs.Translation.{Unreadable}
-use Rattle.kz_spec_machine.specs.Driver.{Shared, Driver, epoch_or_zero, at_stage, resigned, unless_finalised, wait_or_move, after_quorum, after_brokers, unless_fenced, unless_full_epoch, unless_bad_epoch, unless_full_record, looked, after_page, after_append, after_records, after_translation, views_migrated, shown_by, missing_controller, page_size, begin_record}
+use Rattle.kz_spec_machine.specs.Driver.{Shared, Driver, epoch_or_zero, at_stage, resigned, unless_finalised, wait_or_move, after_quorum, after_brokers, unless_fenced, unless_full_epoch, unless_bad_epoch, unless_full_record, looked, after_append, after_records, after_translation, views_migrated, shown_by, missing_controller, begin_record}
 use Rattle.kz_driver.specs.declared.claim.Claimed.{Claimed}
 use Rattle.kz_driver.specs.declared.claim.Claimed.TheVariants.{Done, Refused, Stopped}
 use Rattle.kz_driver.specs.Claims.{after_claimed}

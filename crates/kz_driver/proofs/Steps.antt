@@ -5,7 +5,6 @@ use Rattle.kz_types.specs.declared.tree.Op.{Op}
 use Rattle.kz_types.specs.declared.tree.Row.{Row}
 use Rattle.kz_types.specs.declared.driver.ClaimSeen.{ClaimSeen}
 use Rattle.kz_types.specs.declared.driver.Stage.{Stage}
-use Rattle.kz_types.specs.declared.driver.Stage.TheVariants as stage
 use Rattle.kz_types.specs.declared.machine.Recorded.{Recorded}
 use Rattle.kz_types.specs.declared.machine.Reply.{Reply}
 use Rattle.kz_types.specs.declared.record.MetaRecord.{MetaRecord}
@@ -22,7 +21,7 @@ use Rattle.kz_driver.specs.Appends.{log_after, log_begun}
 use Rattle.kz_driver.specs.Claims.{claimed_by, after_claimed, tree_after}
 use Rattle.kz_driver.specs.Writes.{tree_written}
 use Rattle.kz_driver.specs.Stops.{StageCanClaim}
-use Rattle.kz_driver.specs.Drivers.{shared_of, IsElected, HasEpoch, HasRisen, IsAtTarget, IsKept}
+use Rattle.kz_driver.specs.Drivers.{shared_of, HasEpoch, HasRisen, IsAtTarget, IsKept}
 use Rattle.kz_driver.proofs.Keeping.{Keeps, Lives, chosen_stage}
 
 pub stepped : (s new : Shared) (running : List ℤ) (now : ℤ) (d e : Driver) (told : Reply) (at : Stage) → d.stage ≡ at
