@@ -5,7 +5,7 @@ use Rattle.kz_spec_values.specs.Fields.{Reading}
 use Rattle.kz_spec_values.specs.Forms.{items_at}
 use Rattle.kz_spec_values.specs.Batches.{Content, entry, value_of}
 
--- What a call answers is what reading says, and the reader stands behind it.
+-- What a call answers is what reading says, and the reader stands after it.
 abbrev pub Says : {X Y : Type 0} → (X → Y) → Result X BatchFault → Reading → Result (Y × Reading) BatchFault → Type 0
 Says view (Ok x) new said = said ≡ Ok (view x, new)
 Says view (Err e) new said = said ≡ Err e

@@ -219,7 +219,7 @@ impl<'a> Batch<'a> {
     ///
     /// The first fault in this order: the bytes end before the header or the stated length does, or that length is
     /// below 49; another format than 2; another sum; compression; records that don't fill the length in their count, or
-    /// bytes behind it; records out of order. The records of a control batch aren't read.
+    /// bytes after it; records out of order. The records of a control batch aren't read.
     #[tactic(auto, unfolding(kz_spec_values::specs::Batches::batch_of))]
     pub fn read(bytes: &'a [u8]) -> Result<Batch<'a>, BatchFault>
         ensures { MatchResult result (λ b. batch_of bytes.now ≡ Ok b) (λ e. batch_of bytes.now ≡ Err e) }

@@ -60,7 +60,7 @@ fn reads_and_lends(rt: HostRuntime) -> Result<(), Fail> {
     Ok(())
 }
 
-// A batch cut anywhere is short, and bytes behind it are a wrong count.
+// A batch cut anywhere is short, and bytes after it are a wrong count.
 #[test]
 fn every_truncation(rt: HostRuntime) -> Result<(), Fail> {
     for end in 0..FIRST.len() {

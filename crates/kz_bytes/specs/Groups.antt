@@ -8,7 +8,7 @@ unfoldable pub limit : ℕ → ℕ → ℕ
 limit zero last = last
 limit (suc more) last = 128 * limit more last
 
--- A number that was read, the place behind it and the bytes from there on; or the fault.
+-- A number that was read, the place after it and the bytes from there on; or the fault.
 abbrev pub Says : Result (ℕ × (ℕ × List ℕ)) ByteFault → Result (ℕ × Reading) ByteFault → Type 0
 Says (Ok x) read = read ≡ Ok (x.0, record { at = x.1.0; left = x.1.1 })
 Says (Err e) read = read ≡ Err e

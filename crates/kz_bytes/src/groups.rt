@@ -5,7 +5,7 @@ ghost use Rattle.kz_bytes.specs.Groups.{limit};
 
 use kz_types::ByteFault;
 
-/// What was read: the number, the place behind it, and the bytes from there on.
+/// What was read: the number, the place after it, and the bytes from there on.
 #[derive(Clone, Copy)]
 pub struct Number<'a> {
     pub number: u64,

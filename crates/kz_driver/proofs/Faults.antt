@@ -1,11 +1,12 @@
 -- The operation that a limit of a multi names is one of them.
 use Rattle.std.proofs.Common.{◌≡◌, ℕ, suc, ◌+◌, ◌<◌, ℤ, Bool, true, false, cond, List, [], ◌∷◌, length, Option, Some, None, Result, Ok, Err, ap, ◌∙◌, arith}
 use Rattle.std.specs.Prelude.{◌+ℤ◌, pos, int_le}
+use Rattle.kz_types.specs.declared.limits.TheConstants.{MAX_LONG}
 use Rattle.kz_types.specs.declared.tree.Row.{Row}
 use Rattle.kz_types.specs.declared.tree.Op.{Op}
 use Rattle.kz_types.specs.declared.fault.TreeFault.{TreeFault}
 use Rattle.kz_types.specs.declared.fault.TreeFault.TheVariants as fault
-use Rattle.kz_spec_stores.specs.Tree.{Tree, Refusal, code, limit, op_refusal, refused, after_op, after_ops, multi, with_zxid, max_long}
+use Rattle.kz_spec_stores.specs.Tree.{Tree, Refusal, code, limit, op_refusal, refused, after_op, after_ops, multi, with_zxid}
 
 abbrev index_of : {A : Type 0} → ℕ → Result A TreeFault → ℕ
 index_of d (Err (fault.Limit j n)) = j
@@ -33,7 +34,7 @@ full_or_not ops j n true new some e = let same : 0 ≡ j = ap (index_of 0) e in 
 full_or_not ops j n false new some e = absurd (cc)
 
 by_rows : (t : Tree) (ops : List Op) (j n : ℕ) (r : Result (List Row) TreeFault) → 0 < length ops → (r ≡ Err (fault.Limit j n) → j < length ops) → with_zxid t r ≡ Err (fault.Limit j n) → j < length ops
-by_rows t ops j n (Ok rows) some ran e = full_or_not ops j n (int_le max_long t.zxid) (record { zxid = t.zxid +ℤ pos 1; sessions = t.sessions; rows = rows }) some e
+by_rows t ops j n (Ok rows) some ran e = full_or_not ops j n (int_le MAX_LONG t.zxid) (record { zxid = t.zxid +ℤ pos 1; sessions = t.sessions; rows = rows }) some e
 by_rows t ops j n (Err f) some ran e = ran (ap rows_of e)
 
 -- where there is an operation

@@ -1,7 +1,9 @@
 -- What a driver holds at its stage it holds at the next one.
 use Rattle.std.proofs.Common.{Bool, true, false, ℤ, List, [], ◌∷◌, length, Option, Some, None, Result, Ok, Err}
-use Rattle.std.specs.Prelude.{if◌then◌else◌, pos, int_lt, not, ◌&&◌, ◌||◌}
+use Rattle.std.specs.Prelude.{if◌then◌else◌, int_lt, not, ◌&&◌, ◌||◌}
 use Rattle.std.specs.Ordering.{int_eq}
+use Rattle.kz_types.specs.declared.codes.TheConstants.{MIGRATION, POST_MIGRATION}
+use Rattle.kz_types.specs.declared.limits.TheConstants.{MAX_VERSION}
 use Rattle.kz_types.specs.declared.tree.Row.{Row}
 use Rattle.kz_types.specs.declared.driver.ClaimSeen.{ClaimSeen}
 use Rattle.kz_types.specs.declared.driver.Stage.{Stage}
@@ -14,14 +16,13 @@ use Rattle.kz_types.specs.declared.fault.LogFault.TheVariants as log_fault
 use Rattle.kz_types.specs.declared.fault.BodyFault.{BodyFault}
 use Rattle.kz_types.specs.declared.record.MetaRecord.{MetaRecord}
 use Rattle.kz_spec_values.specs.Control.{epoch_path, migration_path, read_epoch}
-use Rattle.kz_spec_stores.specs.Tree.{max_version}
 use Rattle.kz_spec_stores.specs.Log.{Log, append}
 use Rattle.kz_spec_znodes.specs.Translation.{Unreadable}
 use Rattle.kz_spec_machine.specs.Driver.{Shared, Driver, epoch_or_zero, at_stage, resigned, unless_finalised, wait_or_move, after_quorum, after_brokers, unless_fenced, unless_full_epoch, unless_bad_epoch, unless_full_record, looked, after_append, after_records, after_translation, views_migrated, shown_by, missing_controller, begin_record}
-use Rattle.kz_driver.specs.declared.claim.Claimed.{Claimed}
-use Rattle.kz_driver.specs.declared.claim.Claimed.TheVariants.{Done, Refused, Stopped}
-use Rattle.kz_driver.specs.Claims.{after_claimed}
-use Rattle.kz_driver.specs.Stops.{StageCanClaim}
+use Rattle.kz_driver.specs.declared.claim.ClaimOutcome.{ClaimOutcome}
+use Rattle.kz_driver.specs.declared.claim.ClaimOutcome.TheVariants.{Done, Refused, Stopped}
+use Rattle.kz_driver.specs.Claims.{after_claim_outcome}
+use Rattle.kz_driver.specs.Checks.{StageCanClaim}
 use Rattle.kz_driver.specs.Drivers.{IsElected, IsElectedOrNone, HasEpoch, HasRisen, IsAtTarget, IsKept}
 
 -- the driver after a step keeps what it has to hold
@@ -39,20 +40,20 @@ elected_or_none (Some e) h = h
 elected_at : (e : Option ℤ) (s : Stage) → IsElected e → HasEpoch e s
 elected_at e stage.Uninitialized h = elected_or_none e h
 elected_at e stage.Inactive h = elected_or_none e h
-elected_at e stage.WaitForQuorum h = h
+elected_at e stage.WaitForControllerQuorum h = h
 elected_at e stage.WaitForBrokers h = h
-elected_at e stage.CompareBrokers h = h
-elected_at e stage.Look h = h
-elected_at e (stage.Claim seen) h = h
-elected_at e (stage.ReadSource rows) h = h
-elected_at e (stage.Begin rows) h = h
-elected_at e (stage.Fill records) h = h
-elected_at e stage.ReadLog h = h
-elected_at e (stage.ReadArea target rows) h = h
-elected_at e (stage.WriteAll target ops) h = h
-elected_at e stage.InformBrokers h = h
-elected_at e stage.Rest h = h
-elected_at e (stage.WriteChange target ops) h = h
+elected_at e stage.ListBrokers h = h
+elected_at e stage.ReadControlZnodes h = h
+elected_at e (stage.ClaimLeadership seen) h = h
+elected_at e (stage.ScanForMigration rows) h = h
+elected_at e (stage.BeginMigration rows) h = h
+elected_at e (stage.AppendRecords records) h = h
+elected_at e stage.ReadLogForResync h = h
+elected_at e (stage.ScanForResync target rows) h = h
+elected_at e (stage.WriteResync target ops) h = h
+elected_at e stage.KraftControllerToBrokerComm h = h
+elected_at e stage.DualWrite h = h
+elected_at e (stage.WriteDelta target ops) h = h
 
 pub free_kept : (e : Option ℤ) (position : ℤ) (s : Stage) → IsElected e → IsFree position s → IsKept e position s
 free_kept e position s h free = record { elected = elected_at e s h; can_claim = free.0; risen = free.1; at_target = free.2 }
@@ -69,7 +70,7 @@ chosen_stage P true x y h k = h
 chosen_stage P false x y h k = k
 
 pub finalised_keeps : (d : Driver) (rest : Driver × Reply) → Keeps rest → Keeps (unless_finalised d rest)
-finalised_keeps d rest k = chosen Keeps (int_eq d.view.image.state (pos 3)) (resigned d, reply.Moved state.Inactive) rest (resigned_kept d (reply.Moved state.Inactive)) k
+finalised_keeps d rest k = chosen Keeps (int_eq d.view.image.state POST_MIGRATION) (resigned d, reply.Moved state.Inactive) rest (resigned_kept d (reply.Moved state.Inactive)) k
 
 wait_keeps : (o : Option ℤ) (d : Driver) → IsElected d.epoch → IsKept d.epoch d.view.position d.stage → Keeps (wait_or_move o d)
 wait_keeps (Some id) d h k = k
@@ -78,15 +79,15 @@ wait_keeps None d h k = free_kept d.epoch d.view.position stage.WaitForBrokers h
 pub quorum_keeps : (declared running : List ℤ) (d : Driver) → IsElected d.epoch → IsKept d.epoch d.view.position d.stage → Keeps (after_quorum declared running d)
 quorum_keeps declared running d h k =
     let later = wait_or_move (missing_controller declared running) d in
-    let look : Driver × Reply = (at_stage stage.Look d, reply.Moved state.BecomeController) in
-    finalised_keeps d (if int_eq d.view.image.state (pos 2) then look else later)
-    (chosen Keeps (int_eq d.view.image.state (pos 2)) look later (free_kept d.epoch d.view.position stage.Look h (tt, tt, tt)) (wait_keeps (missing_controller declared running) d h k))
+    let move : Driver × Reply = (at_stage stage.ReadControlZnodes d, reply.Moved state.BecomeController) in
+    finalised_keeps d (if int_eq d.view.image.state MIGRATION then move else later)
+    (chosen Keeps (int_eq d.view.image.state MIGRATION) move later (free_kept d.epoch d.view.position stage.ReadControlZnodes h (tt, tt, tt)) (wait_keeps (missing_controller declared running) d h k))
 
 pub brokers_keep : (o : Option ℤ) (d : Driver) → IsElected d.epoch → Keeps (after_brokers o d)
 brokers_keep (Some id) d h = free_kept d.epoch d.view.position stage.WaitForBrokers h (tt, tt, tt)
-brokers_keep None d h = free_kept d.epoch d.view.position stage.Look h (tt, tt, tt)
+brokers_keep None d h = free_kept d.epoch d.view.position stage.ReadControlZnodes h (tt, tt, tt)
 
--- ---- the look
+-- ---- the control znodes
 
 -- a driver has its epoch, the znodes that it has read rise, and its view is at its target
 abbrev pub IsAlive : Driver → Type 0
@@ -101,7 +102,7 @@ fenced_lives (Some e) d rest h = chosen Lives (int_lt (epoch_or_zero d.epoch) e)
 
 full_epoch_lives : (r : Result ℤ BodyFault) (version : ℤ) (d : Driver) (rest : Driver × Reply) → IsAlive d → Lives rest → Lives (unless_full_epoch r version d rest)
 full_epoch_lives (Err e) version d rest here h = here
-full_epoch_lives (Ok number) version d rest here h = chosen Lives (int_eq number max_version || int_eq version max_version) (d, reply.Limit epoch_path) rest here h
+full_epoch_lives (Ok number) version d rest here h = chosen Lives (int_eq number MAX_VERSION || int_eq version MAX_VERSION) (d, reply.Limit epoch_path) rest here h
 
 bad_epoch_lives : (o : Option Row) (d : Driver) (rest : Driver × Reply) → IsAlive d → Lives rest → Lives (unless_bad_epoch o d rest)
 bad_epoch_lives None d rest here h = h
@@ -109,21 +110,21 @@ bad_epoch_lives (Some r) d rest here h = full_epoch_lives (read_epoch r.body) r.
 
 full_record_lives : (o : Option Row) (d : Driver) (rest : Driver × Reply) → IsAlive d → Lives rest → Lives (unless_full_record o d rest)
 full_record_lives None d rest here h = h
-full_record_lives (Some r) d rest here h = chosen Lives (not (views_migrated d) && int_eq r.version max_version) (d, reply.Limit migration_path) rest here h
+full_record_lives (Some r) d rest here h = chosen Lives (not (views_migrated d) && int_eq r.version MAX_VERSION) (d, reply.Limit migration_path) rest here h
 
 pub look_lives : (seen : ClaimSeen) (d : Driver) → IsElected d.epoch → IsKept d.epoch d.view.position d.stage → Lives (looked seen d)
 look_lives seen d h k =
     let here : IsAlive d = (k.elected, k.risen, k.at_target) in
-    let end : Driver × Reply = (at_stage (stage.Claim seen) d, reply.Looked) in
+    let end : Driver × Reply = (at_stage (stage.ClaimLeadership seen) d, reply.Looked) in
     let record_checked = unless_full_record seen.migration d end in
     let epoch_checked = unless_bad_epoch seen.epoch d record_checked in
     fenced_lives (shown_by seen.control) d epoch_checked (bad_epoch_lives seen.epoch d record_checked here (full_record_lives seen.migration d end here (h, tt, tt)))
 
 -- ---- the claim
 
-pub claimed_keeps : (c : Claimed) (d : Driver) → IsElected d.epoch → IsKept d.epoch d.view.position d.stage → Keeps (after_claimed c d)
-claimed_keeps (Done number version) d h k = free_kept d.epoch d.view.position (if views_migrated d then stage.ReadLog else stage.ReadSource []) h (chosen_stage (IsFree d.view.position) (views_migrated d) stage.ReadLog (stage.ReadSource []) (tt, tt, tt) (tt, tt, tt))
-claimed_keeps Refused d h k = free_kept d.epoch d.view.position stage.Look h (tt, tt, tt)
+pub claimed_keeps : (c : ClaimOutcome) (d : Driver) → IsElected d.epoch → IsKept d.epoch d.view.position d.stage → Keeps (after_claim_outcome c d)
+claimed_keeps (Done number version) d h k = free_kept d.epoch d.view.position (if views_migrated d then stage.ReadLogForResync else stage.ScanForMigration []) h (chosen_stage (IsFree d.view.position) (views_migrated d) stage.ReadLogForResync (stage.ScanForMigration []) (tt, tt, tt) (tt, tt, tt))
+claimed_keeps Refused d h k = free_kept d.epoch d.view.position stage.ReadControlZnodes h (tt, tt, tt)
 claimed_keeps (Stopped told) d h k = k
 
 -- ---- appends
@@ -138,8 +139,8 @@ append_keeps next d (Err log_fault.Down) h free k = k
 append_keeps next d (Err (log_fault.Full length)) h free k = k
 
 pub translation_keeps : (s : Shared) (now : ℤ) (d : Driver) (r : Result (List MetaRecord) Unreadable) → IsElected d.epoch → IsKept d.epoch d.view.position d.stage → Keeps (after_translation s now d r)
-translation_keeps s now d (Err e) h k = free_kept d.epoch d.view.position (stage.ReadSource []) h (tt, tt, tt)
-translation_keeps s now d (Ok records) h k = append_keeps (stage.Fill records) d (append s.log (epoch_or_zero d.epoch) now (begin_record ∷ [])) h (tt, tt, tt) k
+translation_keeps s now d (Err e) h k = free_kept d.epoch d.view.position (stage.ScanForMigration []) h (tt, tt, tt)
+translation_keeps s now d (Ok records) h k = append_keeps (stage.AppendRecords records) d (append s.log (epoch_or_zero d.epoch) now (begin_record ∷ [])) h (tt, tt, tt) k
 
 pub records_free : (position : ℤ) (records : List MetaRecord) → IsFree position (after_records records)
 records_free position [] = (tt, tt, tt)

@@ -1,9 +1,10 @@
 pub mod Batches
-pub mod Causes
+pub mod Disks
 pub mod Faults
 pub mod Keeping
 pub mod Lasts
 pub mod Leasts
 pub mod Pages
 pub mod Steps
+pub mod Told
 pub mod Writings

@@ -10,7 +10,7 @@ use Rattle.kz_types.specs.declared.machine.DriverState.TheVariants as state
 use Rattle.kz_types.specs.declared.machine.Reply.{Reply}
 use Rattle.kz_types.specs.declared.machine.Reply.TheVariants as reply
 use Rattle.kz_spec_machine.specs.Driver.{Shared, Driver, at_stage}
-use Rattle.kz_driver.specs.Stops.{StageCanClaim}
+use Rattle.kz_driver.specs.Checks.{StageCanClaim}
 
 -- what all drivers share
 abbrev pub shared_of : Tree → Log → List ℤ → Shared
@@ -34,27 +34,27 @@ HasEpoch epoch s = IsElected epoch
 
 -- the znodes of the migrated area that a driver has read rise by path
 abbrev pub HasRisen : Stage → Type 0
-HasRisen (stage.ReadSource rows) = Rises bytes_cmp path_of_row rows
-HasRisen (stage.Begin rows) = Rises bytes_cmp path_of_row rows
-HasRisen (stage.ReadArea target rows) = Rises bytes_cmp path_of_row rows
+HasRisen (stage.ScanForMigration rows) = Rises bytes_cmp path_of_row rows
+HasRisen (stage.BeginMigration rows) = Rises bytes_cmp path_of_row rows
+HasRisen (stage.ScanForResync target rows) = Rises bytes_cmp path_of_row rows
 HasRisen s = ⊤
 
 -- What a driver that writes will record is the offset of its view.
 abbrev pub IsAtTarget : ℤ → Stage → Type 0
-IsAtTarget position (stage.ReadArea target rows) = target.offset ≡ position
-IsAtTarget position (stage.WriteAll target ops) = target.offset ≡ position
-IsAtTarget position (stage.WriteChange target ops) = target.offset ≡ position
+IsAtTarget position (stage.ScanForResync target rows) = target.offset ≡ position
+IsAtTarget position (stage.WriteResync target ops) = target.offset ≡ position
+IsAtTarget position (stage.WriteDelta target ops) = target.offset ≡ position
 IsAtTarget position s = ⊤
 
 -- whether a driver at this stage asks the tree
 abbrev pub asks_tree : Stage → Bool
-asks_tree stage.CompareBrokers = true
-asks_tree stage.Look = true
-asks_tree (stage.Claim seen) = true
-asks_tree (stage.ReadSource rows) = true
-asks_tree (stage.ReadArea target rows) = true
-asks_tree (stage.WriteAll target ops) = true
-asks_tree (stage.WriteChange target ops) = true
+asks_tree stage.ListBrokers = true
+asks_tree stage.ReadControlZnodes = true
+asks_tree (stage.ClaimLeadership seen) = true
+asks_tree (stage.ScanForMigration rows) = true
+asks_tree (stage.ScanForResync target rows) = true
+asks_tree (stage.WriteResync target ops) = true
+asks_tree (stage.WriteDelta target ops) = true
 asks_tree s = false
 
 -- what a driver holds at a stage, where its view has read up to this position
@@ -64,10 +64,10 @@ pub record IsKept (epoch : Option ℤ) (position : ℤ) (s : Stage) : Type 0 whe
   pub risen : HasRisen s
   pub at_target : IsAtTarget position s
 
--- a driver that begins, and waits to be elected
-abbrev pub started : Driver → Driver × Reply
-started d = (at_stage stage.Inactive d, reply.Moved state.Inactive)
+-- the driver after UNINITIALIZED
+abbrev pub after_uninitialized : Driver → Driver × Reply
+after_uninitialized d = (at_stage stage.Inactive d, reply.Moved state.Inactive)
 
--- a driver whose brokers are informed, and that rests
-abbrev pub informed : Driver → Driver × Reply
-informed d = (at_stage stage.Rest d, reply.Moved state.DualWrite)
+-- the driver after KRAFT_CONTROLLER_TO_BROKER_COMM
+abbrev pub after_broker_comm : Driver → Driver × Reply
+after_broker_comm d = (at_stage stage.DualWrite d, reply.Moved state.DualWrite)

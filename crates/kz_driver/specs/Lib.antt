@@ -1,8 +1,8 @@
 pub mod Appends
 pub mod Claims
+pub mod Disks
 pub mod Drivers
-pub mod Faults
-pub mod Fence
+pub mod Multis
 pub mod Rows
-pub mod Stops
+pub mod Checks
 pub mod Writes

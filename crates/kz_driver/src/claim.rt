@@ -1,21 +1,22 @@
 //! BECOME_CONTROLLER: the claim.
-ghost use Rattle.std.specs.Prelude.{◌≡◌, ◌<◌, ℕ, length, Err, ◌≤ℤ◌, IfOk, OnOk, IfErr, OnErr, option_map};
+ghost use Rattle.std.specs.Prelude.{◌≡◌, ◌<◌, ℕ, length, Err, ◌≤ℤ◌, IfOk, OnErr, IsErrOf, option_map};
+ghost use Rattle.kz_types.specs.declared.limits.TheConstants.{MAX_VERSION};
 ghost use Rattle.kz_types.specs.declared.driver.ClaimSeen.{ClaimSeen as ClaimSeenValue};
 ghost use Rattle.kz_types.specs.declared.fault.TreeFault.TheVariants.{Limit};
 ghost use Rattle.kz_types.specs.declared.driver.Stage.TheVariants as stage;
-ghost use Rattle.kz_spec_stores.specs.Requests.{Either};
-ghost use Rattle.kz_spec_stores.specs.Tree.{multi, max_version};
+ghost use Rattle.kz_spec_stores.specs.Requests.{Multi, Either};
+ghost use Rattle.kz_spec_stores.specs.Tree.{multi};
 ghost use Rattle.kz_spec_machine.specs.Driver.{claimed_number, claimed_version, claim_ops, after_claim};
-ghost use Rattle.kz_driver.specs.Faults.{IsCalm, IsChangeStepFault};
+ghost use Rattle.kz_driver.specs.Disks.{IsTreeChange};
 ghost use Rattle.kz_driver.specs.Rows.{driver_of};
-ghost use Rattle.kz_driver.specs.Stops.{CanClaim};
-ghost use Rattle.kz_driver.specs.Claims.{claimer_of, claimed_by, after_claimed, tree_after};
+ghost use Rattle.kz_driver.specs.Checks.{CanClaim};
+ghost use Rattle.kz_driver.specs.Claims.{claimer_of, claim_outcome, after_claim_outcome, tree_after};
 
-use crate::asking::{ask, path_at};
-use crate::claiming::views_migrated;
+use crate::control_znodes::views_migrated;
 use crate::fault::StepFault;
-use crate::fence::{Claimer, claim_ops};
+use crate::multis::{Claimer, claim_ops};
 use crate::row::DriverRow;
+use crate::tree_requests::{ask, path_at};
 use kz_state::read_epoch;
 use kz_tree::ZTree;
 use kz_types::{
@@ -25,7 +26,7 @@ use std::alloc::Global;
 
 /// What became of a claim.
 #[derive(Drop)]
-pub enum Claimed {
+pub enum ClaimOutcome {
     /// The tree is claimed: the number and the data version of `/controller_epoch`.
     Done { number: i32, version: i32 },
     /// The tree wasn't as it was seen.
@@ -36,7 +37,7 @@ pub enum Claimed {
 
 // The number that a claim writes.
 fn claimed_number(alloc: Global, row: Option<&Row>) -> Result<i32, NoMemory>
-    requires { claimed_number (option_map (λ r. r.now) row) ≤ℤ max_version }
+    requires { claimed_number (option_map (λ r. r.now) row) ≤ℤ MAX_VERSION }
     ensures { IfOk result (λ number. number ≡ claimed_number (option_map (λ r. r.now) row.entry)) }
 {
     match row {
@@ -51,7 +52,7 @@ fn claimed_number(alloc: Global, row: Option<&Row>) -> Result<i32, NoMemory>
 
 // The data version that a claim gives.
 fn claimed_version(row: Option<&Row>) -> i32
-    requires { claimed_version (option_map (λ r. r.now) row) ≤ℤ max_version }
+    requires { claimed_version (option_map (λ r. r.now) row) ≤ℤ MAX_VERSION }
     ensures { result ≡ claimed_version (option_map (λ r. r.now) row.entry) }
 {
     match row {
@@ -72,18 +73,18 @@ fn claimer_of(driver: &DriverRow, now: i64) -> Claimer
 }
 
 // What became of a claim that this fault stops.
-fn stopped_by(alloc: Global, ops: &[Op], fault: TreeFault) -> Result<Claimed, NoMemory>
+fn outcome_of_fault(alloc: Global, ops: &[Op], fault: TreeFault) -> Result<ClaimOutcome, NoMemory>
     requires { (index number : ℕ) → fault ≡ Limit index number → index < length ops.now }
-    ensures { (seen : ClaimSeenValue) → IfOk result (λ claimed. claimed ≡ claimed_by seen ops.now (Err fault)) }
+    ensures { (seen : ClaimSeenValue) → IfOk result (λ claimed. claimed ≡ claim_outcome seen ops.now (Err fault)) }
 {
     match fault {
-        TreeFault::Refused { .. } => Ok(Claimed::Refused),
-        TreeFault::Limit { index, .. } => Ok(Claimed::Stopped {
+        TreeFault::Refused { .. } => Ok(ClaimOutcome::Refused),
+        TreeFault::Limit { index, .. } => Ok(ClaimOutcome::Stopped {
             told: Reply::Limit {
                 path: path_at(alloc, ops, index)?,
             },
         }),
-        other => Ok(Claimed::Stopped {
+        other => Ok(ClaimOutcome::Stopped {
             told: Reply::TreeFailed(other),
         }),
     }
@@ -109,47 +110,46 @@ fn ask_claim<T: ZTree>(
     seen: &ClaimSeen,
     ops: &[Op],
     tree: &mut T,
-) -> Result<Claimed, StepFault>
+) -> Result<ClaimOutcome, StepFault>
     requires can { CanClaim seen.now.epoch }
     requires some { 0 < length ops.now }
-    ensures said { IfOk result (λ claimed. claimed ≡ claimed_by seen.now ops.now (multi (T.tree tree.old) ops.now)) }
+    ensures said { IfOk result (λ claimed. claimed ≡ claim_outcome seen.now ops.now (multi (T.tree tree.old) ops.now)) }
     ensures tree { IfOk result (λ claimed. T.tree tree.new ≡ tree_after (multi (T.tree tree.old) ops.now) (T.tree tree.old)) }
     ensures err { OnErr result (T.tree tree.new ≡ T.tree tree.old) }
-    ensures calm { OnOk result (IsCalm (T.faults tree.old) (T.faults tree.new) (T.down tree.old) (T.down tree.new)) }
-    ensures failed { IfErr result (IsChangeStepFault (T.length tree.old) (T.faults tree.old) (T.faults tree.new) (T.down tree.old) (T.down tree.new)
-        (Either (T.tree tree.old) (tree_after (multi (T.tree tree.old) ops.now) (T.tree tree.old)) (T.left tree.new))) }
+    ensures disk { IsTreeChange (multi (T.tree tree.old) ops.now) (T.length_with tree.old (Multi ops.now)) result (T.disk tree.old) (T.disk tree.new) }
+    ensures stop { IsErrOf result (StepFault.Tree TreeFault.Device) → Either (T.tree tree.old) (tree_after (multi (T.tree tree.old) ops.now) (T.tree tree.old)) (T.left tree.new) }
 {
     let number = claimed_number(alloc, seen.epoch.as_ref())?;
     let version = claimed_version(seen.epoch.as_ref());
     match ask(tree, ops)? {
-        None => Ok(Claimed::Done { number, version }),
-        Some(fault) => Ok(stopped_by(alloc, ops, fault)?),
+        None => Ok(ClaimOutcome::Done { number, version }),
+        Some(fault) => Ok(outcome_of_fault(alloc, ops, fault)?),
     }
 }
 
 // The driver after a claim.
-fn after_claimed(alloc: Global, row: &mut DriverRow, claimed: Claimed) -> Reply
+fn after_claim_outcome(alloc: Global, row: &mut DriverRow, claimed: ClaimOutcome) -> Reply
     ensures view { row.new.view ≡ row.old.view }
-    ensures driver { after_claimed claimed (driver_of row.old) ≡ (driver_of row.new, result) }
+    ensures driver { after_claim_outcome claimed (driver_of row.old) ≡ (driver_of row.new, result) }
 {
     match claimed {
-        Claimed::Done { number, version } => {
+        ClaimOutcome::Done { number, version } => {
             row.claim = Some(version);
             row.stage = if views_migrated(row) {
-                Stage::ReadLog
+                Stage::ReadLogForResync
             } else {
-                Stage::ReadSource {
+                Stage::ScanForMigration {
                     rows: Sequence::new(alloc),
                 }
             };
             Reply::Claimed { zk_epoch: number }
         }
-        Claimed::Refused => {
+        ClaimOutcome::Refused => {
             row.claim = None;
-            row.stage = Stage::Look;
+            row.stage = Stage::ReadControlZnodes;
             Reply::Moved(DriverState::BecomeController)
         }
-        Claimed::Stopped { told } => told,
+        ClaimOutcome::Stopped { told } => told,
     }
 }
 
@@ -160,14 +160,13 @@ fn try_claim<T: ZTree>(
     seen: &ClaimSeen,
     tree: &mut T,
     now: i64,
-) -> Result<Claimed, StepFault>
+) -> Result<ClaimOutcome, StepFault>
     requires { CanClaim seen.now.epoch }
-    ensures said { IfOk result (λ claimed. claimed ≡ claimed_by seen.now (claim_ops seen.now (driver_of driver.now) now) (multi (T.tree tree.old) (claim_ops seen.now (driver_of driver.now) now))) }
+    ensures said { IfOk result (λ claimed. claimed ≡ claim_outcome seen.now (claim_ops seen.now (driver_of driver.now) now) (multi (T.tree tree.old) (claim_ops seen.now (driver_of driver.now) now))) }
     ensures tree { IfOk result (λ claimed. T.tree tree.new ≡ tree_after (multi (T.tree tree.old) (claim_ops seen.now (driver_of driver.now) now)) (T.tree tree.old)) }
     ensures err { OnErr result (T.tree tree.new ≡ T.tree tree.old) }
-    ensures calm { OnOk result (IsCalm (T.faults tree.old) (T.faults tree.new) (T.down tree.old) (T.down tree.new)) }
-    ensures failed { IfErr result (IsChangeStepFault (T.length tree.old) (T.faults tree.old) (T.faults tree.new) (T.down tree.old) (T.down tree.new)
-        (Either (T.tree tree.old) (tree_after (multi (T.tree tree.old) (claim_ops seen.now (driver_of driver.now) now)) (T.tree tree.old)) (T.left tree.new))) }
+    ensures disk { IsTreeChange (multi (T.tree tree.old) (claim_ops seen.now (driver_of driver.now) now)) (T.length_with tree.old (Multi (claim_ops seen.now (driver_of driver.now) now))) result (T.disk tree.old) (T.disk tree.new) }
+    ensures stop { IsErrOf result (StepFault.Tree TreeFault.Device) → Either (T.tree tree.old) (tree_after (multi (T.tree tree.old) (claim_ops seen.now (driver_of driver.now) now)) (T.tree tree.old)) (T.left tree.new) }
 {
     let ops = ops_of_claim(alloc, driver, seen, now)?;
     ask_claim(alloc, seen, &ops, tree)
@@ -180,20 +179,19 @@ pub fn claim<T: ZTree>(
     tree: &mut T,
     now: i64,
 ) -> Result<Reply, StepFault>
-    requires { (seen : ClaimSeenValue) → row.old.stage ≡ stage.Claim seen → CanClaim seen.epoch }
-    ensures driver { (seen : ClaimSeenValue) → row.old.stage ≡ stage.Claim seen → IfOk result (λ told.
-        after_claimed (claimed_by seen (claim_ops seen (driver_of row.old) now) (multi (T.tree tree.old) (claim_ops seen (driver_of row.old) now))) (driver_of row.old) ≡ (driver_of row.new, told)) }
-    ensures tree { (seen : ClaimSeenValue) → row.old.stage ≡ stage.Claim seen → IfOk result (λ told.
+    requires { (seen : ClaimSeenValue) → row.old.stage ≡ stage.ClaimLeadership seen → CanClaim seen.epoch }
+    ensures driver { (seen : ClaimSeenValue) → row.old.stage ≡ stage.ClaimLeadership seen → IfOk result (λ told.
+        after_claim_outcome (claim_outcome seen (claim_ops seen (driver_of row.old) now) (multi (T.tree tree.old) (claim_ops seen (driver_of row.old) now))) (driver_of row.old) ≡ (driver_of row.new, told)) }
+    ensures tree { (seen : ClaimSeenValue) → row.old.stage ≡ stage.ClaimLeadership seen → IfOk result (λ told.
         T.tree tree.new ≡ tree_after (multi (T.tree tree.old) (claim_ops seen (driver_of row.old) now)) (T.tree tree.old)) }
     ensures view { row.new.view ≡ row.old.view }
     ensures err { OnErr result ((row.new ≡ row.old) × (T.tree tree.new ≡ T.tree tree.old)) }
-    ensures calm { OnOk result (IsCalm (T.faults tree.old) (T.faults tree.new) (T.down tree.old) (T.down tree.new)) }
-    ensures failed { (seen : ClaimSeenValue) → row.old.stage ≡ stage.Claim seen → IfErr result (IsChangeStepFault (T.length tree.old) (T.faults tree.old) (T.faults tree.new) (T.down tree.old) (T.down tree.new)
-        (Either (T.tree tree.old) (tree_after (multi (T.tree tree.old) (claim_ops seen (driver_of row.old) now)) (T.tree tree.old)) (T.left tree.new))) }
+    ensures disk { (seen : ClaimSeenValue) → row.old.stage ≡ stage.ClaimLeadership seen → IsTreeChange (multi (T.tree tree.old) (claim_ops seen (driver_of row.old) now)) (T.length_with tree.old (Multi (claim_ops seen (driver_of row.old) now))) result (T.disk tree.old) (T.disk tree.new) }
+    ensures stop { (seen : ClaimSeenValue) → row.old.stage ≡ stage.ClaimLeadership seen → IsErrOf result (StepFault.Tree TreeFault.Device) → Either (T.tree tree.old) (tree_after (multi (T.tree tree.old) (claim_ops seen (driver_of row.old) now)) (T.tree tree.old)) (T.left tree.new) }
 {
-    let Stage::Claim { seen } = &row.stage else {
+    let Stage::ClaimLeadership { seen } = &row.stage else {
         return Ok(Reply::Idle);
     };
     let claimed = try_claim(alloc, row, seen, tree, now)?;
-    Ok(after_claimed(alloc, row, claimed))
+    Ok(after_claim_outcome(alloc, row, claimed))
 }

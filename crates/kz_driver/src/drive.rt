@@ -1,29 +1,29 @@
 //! The driver of a controller.
-ghost use Rattle.std.specs.Prelude.{◌≡◌, ◌≤ℤ◌, pos, true, false, IfOk, IfErr, IfSome, OnOk, OnErr, IsErrOf};
-ghost use Rattle.kz_types.specs.Causes.{Rose};
-ghost use Rattle.kz_spec_stores.specs.Requests.{Either};
+ghost use Rattle.std.specs.Prelude.{◌≡◌, ◌≤ℤ◌, ℕ, pos, false, Option, IfOk, IfSome, OnErr, IsErrOf};
+ghost use Rattle.kz_spec_stores.specs.Requests.{Disk, TreeChange, Either};
 ghost use Rattle.kz_spec_stores.specs.Tree.{Tree};
 ghost use Rattle.kz_spec_stores.specs.Log.{View as ViewValue, IsViewOf};
 ghost use Rattle.kz_spec_machine.specs.Driver.{Driver as DriverValue, new_driver, elected_driver, step};
-ghost use Rattle.kz_driver.specs.Drivers.{IsKept, asks_tree, shared_of, started, informed};
-ghost use Rattle.kz_driver.specs.Faults.{IsStepFault, IsCalm, IsChangeLogFault, StepHasCause};
+ghost use Rattle.kz_spec_machine.specs.Failures.{is_failed_step};
+ghost use Rattle.kz_driver.specs.Disks.{disks_of, files_of, StepDisks, StepLeaves};
+ghost use Rattle.kz_driver.specs.Drivers.{IsKept, asks_tree, shared_of, after_uninitialized, after_broker_comm};
 ghost use Rattle.kz_driver.specs.Rows.{driver_of};
 
-use crate::area::read_area;
 use crate::claim::claim;
-use crate::claiming::look;
+use crate::control_znodes::read_control_znodes;
+use crate::dual_write::read_log_in_dual_write;
 use crate::fault::StepFault;
-use crate::migrating::{begin, fill};
+use crate::migration::{append_records, begin_migration};
+use crate::migration_scan::scan_for_migration;
 use crate::peers::Peers;
-use crate::resting::rest;
+use crate::resync_log::read_log_for_resync;
+use crate::resync_scan::scan_for_resync;
 use crate::row::DriverRow;
-use crate::source::read_source;
-use crate::targets::begin_sync;
-use crate::waiting::{compare_brokers, wait_for_brokers, wait_for_quorum};
+use crate::waiting::{list_brokers, wait_for_brokers, wait_for_quorum};
 use crate::writing::{Scope, write};
 use kz_log::{MetaLog, View};
 use kz_tree::ZTree;
-use kz_types::{DriverState, LogFault, Reply, Stage, TreeFault};
+use kz_types::{DriverState, LogFault, Reply, Stage};
 use std::alloc::Global;
 use std::marker::Model;
 
@@ -89,7 +89,7 @@ impl Driver {
     {
         self.row.epoch = Some(epoch);
         self.row.claim = None;
-        self.row.stage = Stage::WaitForQuorum;
+        self.row.stage = Stage::WaitForControllerQuorum;
     }
 
     /// Lends what it knows of the log.
@@ -100,8 +100,11 @@ impl Driver {
     }
 
     /// One step: at most one request of the tree or the log, and what follows its answer. The driver's view is one of the
-    /// log. At `Err` nothing has changed; where a disk failed in this call, a stop leaves the tree or the log from before, or
-    /// the one that the step would have made.
+    /// log, and what others know of the log stays known. A refusal of the tree or the log is an answer, which the reply
+    /// tells. At `Err` nothing has changed. `Tree` and `Log`: the disk below that store failed, in this step or in an earlier
+    /// request, or its file is full; `NoMemory` comes in no step of UNINITIALIZED, INACTIVE and KRAFT_CONTROLLER_TO_BROKER_COMM.
+    /// Where a disk failed in this step, a stop leaves the tree or the log from before, or the one that the step would have
+    /// made.
     pub fn step<T: ZTree, L: MetaLog>(
         &mut self,
         tree: &mut T,
@@ -112,32 +115,22 @@ impl Driver {
         requires { IsViewOf (L.log log.old) self.old.view }
         ensures ok { IfOk result (λ told. step (shared_of (T.tree tree.old) (L.log log.old) peers.now.declared) peers.now.running now self.old
             ≡ record { shared = shared_of (T.tree tree.new) (L.log log.new) peers.now.declared; driver = self.new; reply = told }) }
+        ensures told { IfOk result (λ told. is_failed_step told ≡ false) }
         ensures err { OnErr result ((self.new ≡ self.old) × (T.tree tree.new ≡ T.tree tree.old) × (L.log log.new ≡ L.log log.old)) }
         ensures view { IsViewOf (L.log log.new) self.new.view }
-
-        // What others know of the log stays known.
         ensures views { (v : ViewValue) → IsViewOf (L.log log.old) v → IsViewOf (L.log log.new) v }
-        ensures cause { IfErr result (IsStepFault (T.length tree.old) (T.down tree.old) (L.length log.old) (L.down log.old)) }
-        ensures tree_device { IsErrOf result (StepFault.Tree TreeFault.Device) → Rose (T.faults tree.old) (T.faults tree.new) }
-        ensures tree_falls { IsErrOf result (StepFault.Tree TreeFault.Device) → T.down tree.new ≡ true }
-        ensures tree_calm { (IsErrOf result (StepFault.Tree TreeFault.Device) → ⊥) → T.faults tree.new ≡ T.faults tree.old }
-        ensures tree_up { (IsErrOf result (StepFault.Tree TreeFault.Device) → ⊥) → T.down tree.new ≡ T.down tree.old }
-        ensures tree_stop { IsErrOf result (StepFault.Tree TreeFault.Device) → T.down tree.old ≡ false
-            → Either (T.tree tree.old) (step (shared_of (T.tree tree.old) (L.log log.old) peers.now.declared) peers.now.running now self.old).shared.tree (T.left tree.new) }
-        ensures log_device { IsErrOf result (StepFault.Log LogFault.Failed) → Rose (L.faults log.old) (L.faults log.new) }
-        ensures log_falls { IsErrOf result (StepFault.Log LogFault.Failed) → L.down log.new ≡ true }
-        ensures log_calm { (IsErrOf result (StepFault.Log LogFault.Failed) → ⊥) → L.faults log.new ≡ L.faults log.old }
-        ensures log_up { (IsErrOf result (StepFault.Log LogFault.Failed) → ⊥) → L.down log.new ≡ L.down log.old }
-        ensures log_stop { IsErrOf result (StepFault.Log LogFault.Failed) → L.down log.old ≡ false
-            → Either (L.log log.old) (step (shared_of (T.tree tree.old) (L.log log.old) peers.now.declared) peers.now.running now self.old).shared.log (L.left log.new) }
+        ensures disks { StepDisks (shared_of (T.tree tree.old) (L.log log.old) peers.now.declared) now self.old (files_of (T.length_with tree.old) (L.length_with log.old)) result
+            (disks_of (T.disk tree.old) (L.disk log.old)) (disks_of (T.disk tree.new) (L.disk log.new)) }
+        ensures stop { StepLeaves result (shared_of (T.tree tree.old) (L.log log.old) peers.now.declared)
+            (step (shared_of (T.tree tree.old) (L.log log.old) peers.now.declared) peers.now.running now self.old).shared (T.left tree.new) (L.left log.new) }
     {
         step_row(self.alloc, &mut self.row, tree, log, peers, now)
     }
 }
 
 // UNINITIALIZED
-fn start(row: &mut DriverRow) -> Reply
-    ensures { started (driver_of row.old) ≡ (driver_of row.new, result) }
+fn become_inactive(row: &mut DriverRow) -> Reply
+    ensures { after_uninitialized (driver_of row.old) ≡ (driver_of row.new, result) }
 {
     row.stage = Stage::Inactive;
     Reply::Moved(DriverState::Inactive)
@@ -145,14 +138,14 @@ fn start(row: &mut DriverRow) -> Reply
 
 // KRAFT_CONTROLLER_TO_BROKER_COMM
 fn inform_brokers(row: &mut DriverRow) -> Reply
-    ensures { informed (driver_of row.old) ≡ (driver_of row.new, result) }
+    ensures { after_broker_comm (driver_of row.old) ≡ (driver_of row.new, result) }
 {
-    row.stage = Stage::Rest;
+    row.stage = Stage::DualWrite;
     Reply::Moved(DriverState::DualWrite)
 }
 
 // One step of a driver that asks nothing of the tree: the same over every tree. At `Err` nothing has changed.
-fn step_aside<L: MetaLog>(
+fn step_without_tree<L: MetaLog>(
     alloc: Global,
     row: &mut DriverRow,
     log: &mut L,
@@ -160,7 +153,7 @@ fn step_aside<L: MetaLog>(
     now: i64,
 ) -> Result<Reply, StepFault>
     requires kept { IsKept row.old.epoch row.old.view.position row.old.stage }
-    requires aside { asks_tree row.old.stage ≡ false }
+    requires no_tree { asks_tree row.old.stage ≡ false }
     requires view { IsViewOf (L.log log.old) row.old.view }
     ensures ok { (t : Tree) → IfOk result (λ told. step (shared_of t (L.log log.old) peers.now.declared) peers.now.running now (driver_of row.old)
         ≡ record { shared = shared_of t (L.log log.new) peers.now.declared; driver = driver_of row.new; reply = told }) }
@@ -168,20 +161,21 @@ fn step_aside<L: MetaLog>(
     ensures view { IsViewOf (L.log log.new) row.new.view }
     ensures views { (v : ViewValue) → IsViewOf (L.log log.old) v → IsViewOf (L.log log.new) v }
     ensures err { OnErr result ((row.new ≡ row.old) × (L.log log.new ≡ L.log log.old)) }
-    ensures calm { OnOk result (IsCalm (L.faults log.old) (L.faults log.new) (L.down log.old) (L.down log.new)) }
-    ensures failed { (t : Tree) → IfErr result (IsChangeLogFault (L.length log.old) (L.faults log.old) (L.faults log.new) (L.down log.old) (L.down log.new)
-        (Either (L.log log.old) (step (shared_of t (L.log log.old) peers.now.declared) peers.now.running now (driver_of row.old)).shared.log (L.left log.new))) }
+    ensures disks { (t : Tree) (tree_disk : Disk) (tree_file : TreeChange → Option ℕ) → StepDisks (shared_of t (L.log log.old) peers.now.declared) now (driver_of row.old) (files_of tree_file (L.length_with log.old)) result
+        (disks_of tree_disk (L.disk log.old)) (disks_of tree_disk (L.disk log.new)) }
+    ensures stop { (t : Tree) → IsErrOf result (StepFault.Log LogFault.Failed)
+        → Either (L.log log.old) (step (shared_of t (L.log log.old) peers.now.declared) peers.now.running now (driver_of row.old)).shared.log (L.left log.new) }
 {
     match &row.stage {
-        Stage::Uninitialized => Ok(start(row)),
+        Stage::Uninitialized => Ok(become_inactive(row)),
         Stage::Inactive => Ok(Reply::Idle),
-        Stage::WaitForQuorum => wait_for_quorum(row, log, peers),
+        Stage::WaitForControllerQuorum => wait_for_quorum(row, log, peers),
         Stage::WaitForBrokers => wait_for_brokers(row, log),
-        Stage::Begin { .. } => begin(alloc, row, log, now),
-        Stage::Fill { .. } => fill(alloc, row, log, now),
-        Stage::ReadLog => begin_sync(alloc, row, log),
-        Stage::InformBrokers => Ok(inform_brokers(row)),
-        Stage::Rest => rest(alloc, row, log),
+        Stage::BeginMigration { .. } => begin_migration(alloc, row, log, now),
+        Stage::AppendRecords { .. } => append_records(alloc, row, log, now),
+        Stage::ReadLogForResync => read_log_for_resync(alloc, row, log),
+        Stage::KraftControllerToBrokerComm => Ok(inform_brokers(row)),
+        Stage::DualWrite => read_log_in_dual_write(alloc, row, log),
         _ => unreachable!(),
     }
 }
@@ -203,26 +197,25 @@ fn step_row<T: ZTree, L: MetaLog>(
     ensures view { IsViewOf (L.log log.new) row.new.view }
     ensures views { (v : ViewValue) → IsViewOf (L.log log.old) v → IsViewOf (L.log log.new) v }
     ensures err { OnErr result ((row.new ≡ row.old) × (T.tree tree.new ≡ T.tree tree.old) × (L.log log.new ≡ L.log log.old)) }
-    ensures stores { StepHasCause result
-        (T.length tree.old) (T.faults tree.old) (T.faults tree.new) (T.down tree.old) (T.down tree.new)
-        (Either (T.tree tree.old) (step (shared_of (T.tree tree.old) (L.log log.old) peers.now.declared) peers.now.running now (driver_of row.old)).shared.tree (T.left tree.new))
-        (L.length log.old) (L.faults log.old) (L.faults log.new) (L.down log.old) (L.down log.new)
-        (Either (L.log log.old) (step (shared_of (T.tree tree.old) (L.log log.old) peers.now.declared) peers.now.running now (driver_of row.old)).shared.log (L.left log.new)) }
+    ensures disks { StepDisks (shared_of (T.tree tree.old) (L.log log.old) peers.now.declared) now (driver_of row.old) (files_of (T.length_with tree.old) (L.length_with log.old)) result
+        (disks_of (T.disk tree.old) (L.disk log.old)) (disks_of (T.disk tree.new) (L.disk log.new)) }
+    ensures stop { StepLeaves result (shared_of (T.tree tree.old) (L.log log.old) peers.now.declared)
+        (step (shared_of (T.tree tree.old) (L.log log.old) peers.now.declared) peers.now.running now (driver_of row.old)).shared (T.left tree.new) (L.left log.new) }
 {
     match &row.stage {
-        Stage::CompareBrokers => compare_brokers(row, tree),
-        Stage::Look => look(alloc, row, tree),
-        Stage::Claim { .. } => claim(alloc, row, tree, now),
-        Stage::ReadSource { .. } => read_source(row, tree),
-        Stage::ReadArea { .. } => read_area(alloc, row, tree),
-        Stage::WriteAll { target, .. } => {
+        Stage::ListBrokers => list_brokers(row, tree),
+        Stage::ReadControlZnodes => read_control_znodes(alloc, row, tree),
+        Stage::ClaimLeadership { .. } => claim(alloc, row, tree, now),
+        Stage::ScanForMigration { .. } => scan_for_migration(row, tree),
+        Stage::ScanForResync { .. } => scan_for_resync(alloc, row, tree),
+        Stage::WriteResync { target, .. } => {
             let target = *target;
             write(alloc, row, Scope::All, target, tree, log)
         }
-        Stage::WriteChange { target, .. } => {
+        Stage::WriteDelta { target, .. } => {
             let target = *target;
             write(alloc, row, Scope::Change, target, tree, log)
         }
-        _ => step_aside(alloc, row, log, peers, now),
+        _ => step_without_tree(alloc, row, log, peers, now),
     }
 }

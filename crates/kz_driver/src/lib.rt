@@ -4,25 +4,26 @@
 //! what it has read.
 #![tactic(auto)]
 
-mod appending;
-mod area;
-mod asking;
 mod claim;
-mod claiming;
+mod control_znodes;
 mod drive;
+mod dual_write;
 mod fault;
-mod fence;
-mod migrating;
+mod log_requests;
+mod migration;
+mod migration_scan;
+mod multis;
 mod paths;
 mod peers;
-mod resting;
+mod resync_log;
+mod resync_scan;
 mod row;
-mod source;
-mod targets;
+mod tree_requests;
 mod waiting;
 mod writing;
 
 pub use drive::Driver;
 pub use fault::StepFault;
-pub use fence::{Claimer, claim_ops, is_last_write, write_ops};
+pub use multis::{Claimer, claim_ops, is_last_write, write_ops};
 pub use peers::{Peers, missing_broker, missing_controller};
+pub use tree_requests::path_of_op;

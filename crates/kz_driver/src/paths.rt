@@ -53,7 +53,7 @@ pub fn base_paths(alloc: Global) -> Result<Vec<ZPath>, NoMemory>
     Ok(paths)
 }
 
-/// The control and base znodes that a claim looks at.
+/// The control and base znodes that are read before a claim.
 pub fn seen_paths(alloc: Global) -> Result<Vec<ZPath>, NoMemory>
     ensures { IfOk result (λ paths. paths.items ≡ control_path ∷ epoch_path ∷ migration_path ∷ base_paths) }
 {

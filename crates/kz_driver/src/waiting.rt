@@ -1,22 +1,23 @@
 //! The states in which a driver waits: for the controllers, and for the brokers.
-ghost use Rattle.std.specs.Prelude.{◌≡◌, IfOk, OnOk, IfErr, OnErr, pos};
+ghost use Rattle.std.specs.Prelude.{◌≡◌, IfOk, OnOk, OnErr};
 ghost use Rattle.std.specs.Ordering.{int_eq};
+ghost use Rattle.kz_types.specs.declared.codes.TheConstants.{POST_MIGRATION};
 ghost use Rattle.kz_types.specs.declared.driver.Stage.TheVariants as stage;
 ghost use Rattle.kz_types.specs.declared.machine.Reply.TheVariants as reply;
 ghost use Rattle.kz_spec_stores.specs.Tree.{broker_ids};
 ghost use Rattle.kz_spec_stores.specs.Log.{IsViewOf};
 ghost use Rattle.kz_spec_machine.specs.Driver.{having_read, after_quorum, after_brokers, missing_broker, unless_finalised, at_stage, resigned};
-ghost use Rattle.kz_driver.specs.Faults.{IsReadStepFault, IsReadLogFault};
+ghost use Rattle.kz_driver.specs.Disks.{IsTreeRead, IsLogRead};
 ghost use Rattle.kz_driver.specs.Rows.{driver_of};
 
-use crate::appending::read;
-use crate::asking::broker_ids;
 use crate::fault::StepFault;
+use crate::log_requests::read;
 use crate::peers::{Peers, missing_broker, missing_controller};
 use crate::row::DriverRow;
+use crate::tree_requests::broker_ids;
 use kz_log::MetaLog;
 use kz_tree::ZTree;
-use kz_types::{DriverState, Reply, Stage};
+use kz_types::{DriverState, MIGRATION, POST_MIGRATION, Reply, Stage};
 
 /// The driver has no epoch and no claim from now on, and does nothing until it is elected anew.
 pub fn resign(row: &mut DriverRow)
@@ -33,19 +34,17 @@ pub fn read_log<L: MetaLog>(row: &mut DriverRow, log: &mut L) -> Result<(), Step
     ensures ok { OnOk result (driver_of row.new ≡ having_read (L.log log.old) (driver_of row.old)) }
     ensures view { IsViewOf (L.log log.new) row.new.view }
     ensures err { OnErr result (row.new ≡ row.old) }
-    ensures failed { IfErr result (IsReadLogFault (L.down log.old)) }
     ensures same { L.log log.new ≡ L.log log.old }
-    ensures calm { L.faults log.new ≡ L.faults log.old }
-    ensures up { L.down log.new ≡ L.down log.old }
+    ensures disk { IsLogRead result (L.disk log.old) (L.disk log.new) }
 {
     read(&mut row.view, log)
 }
 
 /// Whether the log says that the migration is over.
 pub fn is_finalised(row: &DriverRow) -> bool
-    ensures { result ≡ int_eq row.now.view.image.state (pos 3) }
+    ensures { result ≡ int_eq row.now.view.image.state POST_MIGRATION }
 {
-    row.view.image().state() == 3
+    row.view.image().state() == POST_MIGRATION
 }
 
 fn after_quorum(row: &mut DriverRow, peers: &Peers) -> Reply
@@ -56,8 +55,8 @@ fn after_quorum(row: &mut DriverRow, peers: &Peers) -> Reply
         resign(row);
         return Reply::Moved(DriverState::Inactive);
     }
-    if row.view.image().state() == 2 {
-        row.stage = Stage::Look;
+    if row.view.image().state() == MIGRATION {
+        row.stage = Stage::ReadControlZnodes;
         return Reply::Moved(DriverState::BecomeController);
     }
     match missing_controller(peers.declared.as_slice(), peers.running.as_slice()) {
@@ -79,51 +78,45 @@ pub fn wait_for_quorum<L: MetaLog>(
     ensures ok { IfOk result (λ told. after_quorum peers.now.declared peers.now.running (having_read (L.log log.old) (driver_of row.old)) ≡ (driver_of row.new, told)) }
     ensures view { IsViewOf (L.log log.new) row.new.view }
     ensures err { OnErr result (row.new ≡ row.old) }
-    ensures failed { IfErr result (IsReadLogFault (L.down log.old)) }
     ensures same { L.log log.new ≡ L.log log.old }
-    ensures calm { L.faults log.new ≡ L.faults log.old }
-    ensures up { L.down log.new ≡ L.down log.old }
+    ensures disk { IsLogRead result (L.disk log.old) (L.disk log.new) }
 {
     read_log(row, log)?;
     Ok(after_quorum(row, peers))
 }
 
-fn after_read(row: &mut DriverRow) -> Reply
+fn after_log(row: &mut DriverRow) -> Reply
     ensures view { row.new.view ≡ row.old.view }
-    ensures driver { unless_finalised (driver_of row.old) (at_stage stage.CompareBrokers (driver_of row.old), reply.Looked) ≡ (driver_of row.new, result) }
+    ensures driver { unless_finalised (driver_of row.old) (at_stage stage.ListBrokers (driver_of row.old), reply.Looked) ≡ (driver_of row.new, result) }
 {
     if is_finalised(row) {
         resign(row);
         return Reply::Moved(DriverState::Inactive);
     }
-    row.stage = Stage::CompareBrokers;
+    row.stage = Stage::ListBrokers;
     Reply::Looked
 }
 
 /// WAIT_FOR_BROKERS, before the log is read
 pub fn wait_for_brokers<L: MetaLog>(row: &mut DriverRow, log: &mut L) -> Result<Reply, StepFault>
     requires { IsViewOf (L.log log.old) row.old.view }
-    ensures ok { IfOk result (λ told. unless_finalised (having_read (L.log log.old) (driver_of row.old)) (at_stage stage.CompareBrokers (having_read (L.log log.old) (driver_of row.old)), reply.Looked) ≡ (driver_of row.new, told)) }
+    ensures ok { IfOk result (λ told. unless_finalised (having_read (L.log log.old) (driver_of row.old)) (at_stage stage.ListBrokers (having_read (L.log log.old) (driver_of row.old)), reply.Looked) ≡ (driver_of row.new, told)) }
     ensures view { IsViewOf (L.log log.new) row.new.view }
     ensures err { OnErr result (row.new ≡ row.old) }
-    ensures failed { IfErr result (IsReadLogFault (L.down log.old)) }
     ensures same { L.log log.new ≡ L.log log.old }
-    ensures calm { L.faults log.new ≡ L.faults log.old }
-    ensures up { L.down log.new ≡ L.down log.old }
+    ensures disk { IsLogRead result (L.disk log.old) (L.disk log.new) }
 {
     read_log(row, log)?;
-    Ok(after_read(row))
+    Ok(after_log(row))
 }
 
 /// WAIT_FOR_BROKERS, before the brokers are listed. At `Err` nothing has changed.
-pub fn compare_brokers<T: ZTree>(row: &mut DriverRow, tree: &mut T) -> Result<Reply, StepFault>
+pub fn list_brokers<T: ZTree>(row: &mut DriverRow, tree: &mut T) -> Result<Reply, StepFault>
     ensures ok { IfOk result (λ told. after_brokers (missing_broker (broker_ids (T.tree tree.old)) row.old.view.image) (driver_of row.old) ≡ (driver_of row.new, told)) }
     ensures view { row.new.view ≡ row.old.view }
     ensures err { OnErr result (row.new ≡ row.old) }
-    ensures failed { IfErr result (IsReadStepFault (T.down tree.old)) }
     ensures same { T.tree tree.new ≡ T.tree tree.old }
-    ensures calm { T.faults tree.new ≡ T.faults tree.old }
-    ensures up { T.down tree.new ≡ T.down tree.old }
+    ensures disk { IsTreeRead result (T.disk tree.old) (T.disk tree.new) }
 {
     let ids = broker_ids(tree)?;
     match missing_broker(&ids, row.view.image()) {
@@ -132,7 +125,7 @@ pub fn compare_brokers<T: ZTree>(row: &mut DriverRow, tree: &mut T) -> Result<Re
             Ok(Reply::WaitBroker { id })
         }
         None => {
-            row.stage = Stage::Look;
+            row.stage = Stage::ReadControlZnodes;
             Ok(Reply::Moved(DriverState::BecomeController))
         }
     }

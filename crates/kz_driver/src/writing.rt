@@ -1,32 +1,35 @@
 //! The writes of SYNC_KRAFT_TO_ZK and DUAL_WRITE.
-ghost use Rattle.std.specs.Prelude.{◌≡◌, ◌<◌, ℕ, ℤ, List, length, Err, Option, IfOk, OnOk, IfErr, OnErr};
+ghost use Rattle.std.specs.Prelude.{◌≡◌, ◌<◌, ℕ, ℤ, List, length, Err, Option, IfOk, IfErr, OnErr, IsErrOf};
 ghost use Rattle.kz_types.specs.declared.tree.Op.{Op as OpValue};
 ghost use Rattle.kz_types.specs.declared.fault.TreeFault.TheVariants.{Limit};
 ghost use Rattle.kz_types.specs.declared.machine.Recorded.{Recorded as RecordedValue};
-ghost use Rattle.kz_spec_stores.specs.Requests.{Either};
+ghost use Rattle.kz_spec_stores.specs.Requests.{Multi, Either};
 ghost use Rattle.kz_spec_stores.specs.Tree.{multi, area};
 ghost use Rattle.kz_spec_stores.specs.Log.{IsViewOf};
 ghost use Rattle.kz_spec_znodes.specs.Rendering.{render};
 ghost use Rattle.kz_spec_znodes.specs.Difference.{diff};
-ghost use Rattle.kz_spec_machine.specs.Driver.{begins_again, remaining_at, write_ops, writes};
+ghost use Rattle.kz_spec_machine.specs.Driver.{begins_again, remaining_at, write_ops, write_request, writes};
 ghost use Rattle.kz_driver.specs.Claims.{tree_after};
-ghost use Rattle.kz_driver.specs.Drivers.{IsElected, IsKept};
-ghost use Rattle.kz_driver.specs.Faults.{IsCalm, IsReadLogFault, IsChangeStepFault, StepHasCause};
+ghost use Rattle.kz_driver.specs.Disks.{disks_of, files_of, IsLogRead, IsTreeChange, RequestDisks};
+ghost use Rattle.kz_driver.specs.Drivers.{IsElected, IsKept, shared_of};
 ghost use Rattle.kz_driver.specs.Rows.{driver_of};
-ghost use Rattle.kz_driver.specs.Writes.{more_of, last_of, taken_of, refused_of, written_by, after_written, tree_written};
+ghost use Rattle.kz_driver.specs.Writes.{IsRemainderFault, more_of, last_of, outcome_of_taken, outcome_of_refused, write_outcome, after_write_outcome, tree_after_write};
 
-use crate::appending::{drop_first, log_fault};
-use crate::asking::{ask, path_at};
 use crate::fault::StepFault;
-use crate::fence::{is_last_write, write_ops};
+use crate::log_requests::{drop_first, log_fault};
+use crate::multis::{is_last_write, write_ops};
 use crate::row::DriverRow;
+use crate::tree_requests::{ask, path_at};
 use crate::waiting::resign;
 use kz_image::Image;
 use kz_log::{MetaLog, View, read_all};
 use kz_render::render;
 use kz_tree::{Tree, ZTree};
-use kz_types::{DriverState, NoMemory, Op, Recorded, Reply, Sequence, Stage, TreeFault};
-use kz_writer::{MAX_CHUNK, chunk, diff_renderings};
+use kz_types::{
+    BAD_VERSION, DriverState, MAX_CHUNK, NO_NODE, NoMemory, Op, Recorded, Reply, Sequence, Stage,
+    TreeFault,
+};
+use kz_writer::{chunk, diff_renderings};
 use std::alloc::Global;
 
 /// What is written.
@@ -40,7 +43,7 @@ pub enum Scope {
 
 /// What became of a write.
 #[derive(Drop)]
-pub enum Written {
+pub enum WriteOutcome {
     /// All is written, and the offset is recorded.
     Last,
     /// So many operations are written, and these remain.
@@ -70,10 +73,8 @@ fn remaining_in<L: MetaLog>(
     log: &mut L,
 ) -> Result<Vec<Op>, StepFault>
     ensures ok { IfOk result (λ ops. ops.items ≡ remaining_at tree.now (L.log log.old) offset) }
-    ensures failed { IfErr result (IsReadLogFault (L.down log.old)) }
     ensures same { L.log log.new ≡ L.log log.old }
-    ensures calm { L.faults log.new ≡ L.faults log.old }
-    ensures up { L.down log.new ≡ L.down log.old }
+    ensures disk { IsLogRead result (L.disk log.old) (L.disk log.new) }
 {
     match read_all(log) {
         Ok(rows) => Ok(remaining(alloc, tree, &rows.image_at(alloc, offset)?)?),
@@ -90,10 +91,9 @@ fn remaining_at<L: MetaLog>(
 ) -> Result<Vec<Op>, StepFault>
     requires { IsViewOf (L.log log.old) view.now }
     ensures ok { IfOk result (λ ops. ops.items ≡ remaining_at tree.now (L.log log.old) view.now.position) }
-    ensures failed { IfErr result (IsReadLogFault (L.down log.old)) }
+    ensures failed { IfErr result (IsRemainderFault view.now.position (L.log log.old).base (L.disk log.old).down) }
     ensures same { L.log log.new ≡ L.log log.old }
-    ensures calm { L.faults log.new ≡ L.faults log.old }
-    ensures up { L.down log.new ≡ L.down log.old }
+    ensures same_disk { L.disk log.new ≡ L.disk log.old }
 {
     if view.position() < log.base() {
         return remaining_in(alloc, tree, view.position(), log);
@@ -102,45 +102,50 @@ fn remaining_at<L: MetaLog>(
 }
 
 // What became of a write of these operations that the tree took. It takes no memory.
-fn taken(ops: Vec<Op>) -> Written
-    ensures { result ≡ taken_of ops.items }
+fn outcome_of_taken(ops: Vec<Op>) -> WriteOutcome
+    ensures { result ≡ outcome_of_taken ops.items }
 {
     let mut rest = ops;
     if is_last_write(&rest) {
-        return Written::Last;
+        return WriteOutcome::Last;
     }
     let count = chunk(&rest).len();
     drop_first(&mut rest, MAX_CHUNK);
-    Written::More {
+    WriteOutcome::More {
         rest: Sequence::from_vec(rest),
         count,
     }
 }
 
 // What became of a write that the tree refused.
-fn refused(claim: i32, index: usize, code: i32) -> Written
-    ensures { result ≡ refused_of claim index code }
+fn outcome_of_refused(claim: i32, index: usize, code: i32) -> WriteOutcome
+    ensures { result ≡ outcome_of_refused claim index code }
 {
-    if index < 1 && code == -103 {
-        Written::Fenced { claim }
+    if index < 1 && (code == BAD_VERSION || code == NO_NODE) {
+        WriteOutcome::Fenced { claim }
     } else {
-        Written::Refused
+        WriteOutcome::Refused
     }
 }
 
 // What became of a write that this fault stops.
-fn stopped_by(alloc: Global, claim: i32, made: &[Op], fault: TreeFault) -> Result<Written, NoMemory>
+fn outcome_of_fault(
+    alloc: Global,
+    claim: i32,
+    made: &[Op],
+    fault: TreeFault,
+) -> Result<WriteOutcome, NoMemory>
     requires { (index number : ℕ) → fault ≡ Limit index number → index < length made.now }
-    ensures { (ops : List OpValue) (target : RecordedValue) → made.now ≡ write_ops claim ops target → IfOk result (λ written. written ≡ written_by claim ops target (Err fault)) }
+    ensures { (ops : List OpValue) (target : RecordedValue) → made.now ≡ write_ops claim ops target → IfOk result (λ written. written ≡ write_outcome claim ops target (Err fault)) }
 {
     match fault {
-        TreeFault::Refused { index, code } => Ok(refused(claim, index, code)),
-        TreeFault::Limit { index, .. } => Ok(Written::Stopped {
+        TreeFault::Refused { index, code } => Ok(outcome_of_refused(claim, index, code)),
+        TreeFault::Limit { index, .. } => Ok(WriteOutcome::Stopped {
             told: Reply::Limit {
                 path: path_at(alloc, made, index)?,
             },
         }),
-        other => Ok(Written::Stopped {
+        other => Ok(WriteOutcome::Stopped {
             told: Reply::TreeFailed(other),
         }),
     }
@@ -153,18 +158,17 @@ fn ask_write<T: ZTree>(
     ops: Vec<Op>,
     target: &Recorded,
     tree: &mut T,
-) -> Result<Written, StepFault>
-    ensures said { IfOk result (λ written. written ≡ written_by claim ops.items target.now (multi (T.tree tree.old) (write_ops claim ops.items target.now))) }
+) -> Result<WriteOutcome, StepFault>
+    ensures said { IfOk result (λ written. written ≡ write_outcome claim ops.items target.now (multi (T.tree tree.old) (write_ops claim ops.items target.now))) }
     ensures tree { IfOk result (λ written. T.tree tree.new ≡ tree_after (multi (T.tree tree.old) (write_ops claim ops.items target.now)) (T.tree tree.old)) }
     ensures err { OnErr result (T.tree tree.new ≡ T.tree tree.old) }
-    ensures calm { OnOk result (IsCalm (T.faults tree.old) (T.faults tree.new) (T.down tree.old) (T.down tree.new)) }
-    ensures failed { IfErr result (IsChangeStepFault (T.length tree.old) (T.faults tree.old) (T.faults tree.new) (T.down tree.old) (T.down tree.new)
-        (Either (T.tree tree.old) (tree_after (multi (T.tree tree.old) (write_ops claim ops.items target.now)) (T.tree tree.old)) (T.left tree.new))) }
+    ensures disk { IsTreeChange (multi (T.tree tree.old) (write_ops claim ops.items target.now)) (T.length_with tree.old (Multi (write_ops claim ops.items target.now))) result (T.disk tree.old) (T.disk tree.new) }
+    ensures stop { IsErrOf result (StepFault.Tree TreeFault.Device) → Either (T.tree tree.old) (tree_after (multi (T.tree tree.old) (write_ops claim ops.items target.now)) (T.tree tree.old)) (T.left tree.new) }
 {
     let made = write_ops(alloc, claim, &ops, target)?;
     match ask(tree, &made)? {
-        None => Ok(taken(ops)),
-        Some(fault) => Ok(stopped_by(alloc, claim, &made, fault)?),
+        None => Ok(outcome_of_taken(ops)),
+        Some(fault) => Ok(outcome_of_fault(alloc, claim, &made, fault)?),
     }
 }
 
@@ -174,8 +178,8 @@ fn more_of(scope: Scope, target: Recorded, ops: Sequence<Op>) -> Stage
     ensures kept { (epoch : Option ℤ) → IsElected epoch → IsKept epoch target.offset result }
 {
     match scope {
-        Scope::All => Stage::WriteAll { target, ops },
-        Scope::Change => Stage::WriteChange { target, ops },
+        Scope::All => Stage::WriteResync { target, ops },
+        Scope::Change => Stage::WriteDelta { target, ops },
     }
 }
 
@@ -185,46 +189,51 @@ fn last_of(scope: Scope) -> Stage
     ensures kept { (epoch : Option ℤ) (position : ℤ) → IsElected epoch → IsKept epoch position result }
 {
     match scope {
-        Scope::All => Stage::InformBrokers,
-        Scope::Change => Stage::Rest,
+        Scope::All => Stage::KraftControllerToBrokerComm,
+        Scope::Change => Stage::DualWrite,
     }
 }
 
-// The driver looks at the tree anew, without a claim.
-fn begin_again(row: &mut DriverRow)
+// The driver has no claim, and reads the control znodes next.
+fn drop_claim(row: &mut DriverRow)
     ensures { driver_of row.new ≡ begins_again (driver_of row.old) }
 {
     row.claim = None;
-    row.stage = Stage::Look;
+    row.stage = Stage::ReadControlZnodes;
 }
 
 // The driver after a write.
-fn after_written(row: &mut DriverRow, scope: Scope, target: Recorded, written: Written) -> Reply
-    ensures driver { after_written written target (λ rest. more_of scope target rest) (last_of scope) (driver_of row.old) ≡ (driver_of row.new, result) }
+fn after_write_outcome(
+    row: &mut DriverRow,
+    scope: Scope,
+    target: Recorded,
+    written: WriteOutcome,
+) -> Reply
+    ensures driver { after_write_outcome written target (λ rest. more_of scope target rest) (last_of scope) (driver_of row.old) ≡ (driver_of row.new, result) }
     ensures view { row.new.view ≡ row.old.view }
     ensures kept { IsKept row.old.epoch row.old.view.position row.old.stage → IsElected row.old.epoch → target.offset ≡ row.old.view.position → IsKept row.new.epoch row.new.view.position row.new.stage }
 {
     match written {
-        Written::Last => {
+        WriteOutcome::Last => {
             row.stage = last_of(scope);
             row.recorded = Some(target.offset);
             Reply::Recorded {
                 offset: target.offset,
             }
         }
-        Written::More { rest, count } => {
+        WriteOutcome::More { rest, count } => {
             row.stage = more_of(scope, target, rest);
             Reply::Wrote { ops: count }
         }
-        Written::Fenced { claim } => {
+        WriteOutcome::Fenced { claim } => {
             resign(row);
             Reply::FencedWrite { claim }
         }
-        Written::Refused => {
-            begin_again(row);
+        WriteOutcome::Refused => {
+            drop_claim(row);
             Reply::Moved(DriverState::BecomeController)
         }
-        Written::Stopped { told } => told,
+        WriteOutcome::Stopped { told } => told,
     }
 }
 
@@ -240,22 +249,20 @@ pub fn write<T: ZTree, L: MetaLog>(
     requires view { IsViewOf (L.log log.old) row.old.view }
     requires target { target.offset ≡ row.old.view.position }
     ensures driver { IfOk result (λ told. writes (T.tree tree.old) row.old.claim (remaining_at (T.tree tree.old) (L.log log.old) target.offset) target (λ rest. more_of scope target rest) (last_of scope) (driver_of row.old) ≡ (driver_of row.new, told)) }
-    ensures tree { IfOk result (λ told. T.tree tree.new ≡ tree_written (T.tree tree.old) row.old.claim (remaining_at (T.tree tree.old) (L.log log.old) target.offset) target) }
+    ensures tree { IfOk result (λ told. T.tree tree.new ≡ tree_after_write (T.tree tree.old) row.old.claim (remaining_at (T.tree tree.old) (L.log log.old) target.offset) target) }
     ensures kept { IsKept row.old.epoch row.old.view.position row.old.stage → IsElected row.old.epoch → IsKept row.new.epoch row.new.view.position row.new.stage }
     ensures view { row.new.view ≡ row.old.view }
     ensures err { OnErr result ((row.new ≡ row.old) × (T.tree tree.new ≡ T.tree tree.old)) }
     ensures same { L.log log.new ≡ L.log log.old }
-    ensures cause { StepHasCause result
-        (T.length tree.old) (T.faults tree.old) (T.faults tree.new) (T.down tree.old) (T.down tree.new)
-        (Either (T.tree tree.old) (tree_written (T.tree tree.old) row.old.claim (remaining_at (T.tree tree.old) (L.log log.old) target.offset) target) (T.left tree.new))
-        (L.length log.old) (L.faults log.old) (L.faults log.new) (L.down log.old) (L.down log.new)
-        (Either (L.log log.old) (L.log log.old) (L.left log.new)) }
+    ensures disks { (ids : List ℤ) (epoch time : ℤ) → RequestDisks (shared_of (T.tree tree.old) (L.log log.old) ids) epoch time row.old.view.position (files_of (T.length_with tree.old) (L.length_with log.old))
+        (write_request row.old.claim (remaining_at (T.tree tree.old) (L.log log.old) target.offset) target) result (disks_of (T.disk tree.old) (L.disk log.old)) (disks_of (T.disk tree.new) (L.disk log.new)) }
+    ensures stop { IsErrOf result (StepFault.Tree TreeFault.Device) → Either (T.tree tree.old) (tree_after_write (T.tree tree.old) row.old.claim (remaining_at (T.tree tree.old) (L.log log.old) target.offset) target) (T.left tree.new) }
 {
     let Some(claim) = row.claim else {
-        begin_again(row);
+        drop_claim(row);
         return Ok(Reply::Moved(DriverState::BecomeController));
     };
     let ops = remaining_at(alloc, tree.tree(), &row.view, log)?;
     let written = ask_write(alloc, claim, ops, &target, tree)?;
-    Ok(after_written(row, scope, target, written))
+    Ok(after_write_outcome(row, scope, target, written))
 }

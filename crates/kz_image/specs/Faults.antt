@@ -4,7 +4,7 @@ use Rattle.kz_types.specs.declared.image_fault.ImageFault.{ImageFault}
 use Rattle.kz_types.specs.declared.image_fault.ImageFault.TheVariants.{BadRecord, NoMemory}
 use Rattle.kz_spec_stores.specs.Image.{Bad}
 
--- the first record that breaks a rule and the rule, or want of memory
+-- the first record that breaks a rule and the rule, or out of memory
 abbrev pub IsFirstBad : Option Bad → ImageFault → Type 0
 IsFirstBad found (BadRecord index why) = found ≡ Some (record { index = index; why = why })
 IsFirstBad found NoMemory = ⊤

@@ -1,3 +1,2 @@
-pub mod QuotaKeys
 pub mod Faults
 pub mod Places

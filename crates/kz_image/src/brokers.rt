@@ -58,9 +58,11 @@ pub fn register(
 
 /// Whether a broker is registered as one that is ready to migrate.
 pub fn is_migrating(brokers: &[RegisterBrokerRecord], id: i32) -> bool
+    requires { Rises int_cmp id_of_broker brokers.now }
     ensures { result ≡ list_any (λ broker. int_eq broker.broker_id id && broker.migrating) brokers.now }
 {
-    brokers
-        .iter()
-        .any(|broker| broker.broker_id == id && broker.migrating)
+    match broker_place(brokers, id) {
+        Ok(place) => brokers[place].migrating,
+        Err(_) => false,
+    }
 }

@@ -2,7 +2,7 @@
 use crate::Image;
 use kz_types::{BatchRow, Sequence};
 
-/// What a reader of the metadata log is given: batches, and, where it was too far behind to go on with these alone, the
+/// What a reader of the metadata log is given: batches, and, where it was too far after to go on with these alone, the
 /// metadata before them.
 #[derive(Drop)]
 pub struct Feed {

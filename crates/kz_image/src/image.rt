@@ -4,6 +4,7 @@ ghost use Rattle.std.specs.Ordering.{int_cmp, int_eq};
 ghost use Rattle.std.specs.List.{list_any};
 ghost use Rattle.kz_ordered.specs.Order.{bytes_cmp};
 ghost use Rattle.kz_ordered.specs.Ordered.{put as put_in, without as without_in, Rises};
+ghost use Rattle.kz_types.specs.declared.codes.TheConstants.{NO_MIGRATION, POST_MIGRATION};
 ghost use Rattle.kz_types.specs.declared.record.MetaRecord.TheVariants as meta;
 ghost use Rattle.kz_spec_stores.specs.Metadata.{empty_image, topic_named, id_of_acl, id_of_broker, topic_id_of, topic_name_of, partition_of, configs_of, quotas_of, scram_of, acl_of};
 ghost use Rattle.kz_spec_stores.specs.ImageRules.{broken, quota_key, is_broker_name, is_empty};
@@ -15,19 +16,17 @@ ghost use Rattle.kz_image.specs.Faults.{IsFirstBad};
 use crate::brokers::{is_migrating, register};
 use crate::configurations::configure;
 use crate::credentials::{remove_scram, scram_at, set_scram};
+use crate::places::partition_at;
 use crate::quotas::{change_quota, quotas_of};
 use crate::rules::{broken, refused};
-use crate::topics::{
-    change_partition, configure_topic, make_partition, make_topic, partition_at, remove_topic,
-    topic_with,
-};
+use crate::topics::Topics;
 use kz_sorted::{find, put, without};
 use kz_types::{
     AccessControlEntryRecord, AclEntry, AclRow, ClientQuotaRecord, ConfigRecord, Configuration,
-    Duplicate, EntityKey, Id, ImageFault, MetaRecord, NoMemory, Pair, PartitionChangeRecord,
-    PartitionRecord, PartitionRow, ProducerIdsRecord, QuotaEntry, QuotaRow, RegisterBrokerRecord,
-    ScramEntry, ScramRow, Sequence, Text, TopicEntry, TopicRecord, UserScramCredentialRecord,
-    copy_all,
+    Duplicate, EntityKey, Id, ImageFault, MetaRecord, NO_MIGRATION, NoMemory, POST_MIGRATION, Pair,
+    PartitionChangeRecord, PartitionRecord, PartitionRow, ProducerIdsRecord, QuotaEntry, QuotaRow,
+    RegisterBrokerRecord, ScramEntry, ScramRow, Sequence, Text, TopicEntry, TopicRecord,
+    UserScramCredentialRecord, copy_all,
 };
 use std::alloc::Global;
 use std::marker::Model;
@@ -46,7 +45,7 @@ pub type Brokers = Sequence<RegisterBrokerRecord>;
 #[derive(Drop)]
 pub struct Image {
     alloc: Global,
-    topics: Vec<TopicEntry>,
+    topics: Topics,
     broker_configs: Vec<Configuration>,
     quotas: Vec<QuotaEntry>,
     users: Vec<ScramEntry>,
@@ -63,7 +62,7 @@ impl Model for Image {
     ghost Value = { ImageValue };
 
     ghost view = { λ i. record {
-      topics = i.topics.items;
+      topics = i.topics;
       broker_configs = i.broker_configs.items;
       quotas = i.quotas.items;
       users = i.users.items;
@@ -74,7 +73,7 @@ impl Model for Image {
     } };
 
     ghost invariant = { λ i. IsInOrder (record {
-      topics = i.topics.items;
+      topics = i.topics;
       broker_configs = i.broker_configs.items;
       quotas = i.quotas.items;
       users = i.users.items;
@@ -106,20 +105,20 @@ fn acl_entry(alloc: Global, change: &AccessControlEntryRecord) -> Result<AclEntr
 }
 
 impl Image {
-    /// Nothing, and state 0.
+    /// Nothing, and no migration.
     pub fn new(alloc: Global) -> Self
         ensures { result ≡ empty_image }
     {
         Image {
             alloc,
-            topics: Vec::new(alloc),
+            topics: Topics::new(alloc),
             broker_configs: Vec::new(alloc),
             quotas: Vec::new(alloc),
             users: Vec::new(alloc),
             acls: Vec::new(alloc),
             brokers: Sequence::new(alloc),
             next_producer: None,
-            state: 0,
+            state: NO_MIGRATION,
         }
     }
 
@@ -129,7 +128,7 @@ impl Image {
     pub fn topic(&self, name: &Text) -> Option<Id>
         ensures { result ≡ topic_id_of name.now self.now }
     {
-        match find(&self.topics, name.bytes()) {
+        match self.topics.named(name) {
             Some(topic) => Some(topic.id),
             None => None,
         }
@@ -139,7 +138,7 @@ impl Image {
     pub fn topic_name(&self, id: Id) -> Option<&Text>
         ensures { option_map (λ name. name.now) result ≡ topic_name_of id self.now }
     {
-        match topic_with(&self.topics, id) {
+        match self.topics.with_id(id) {
             Some(topic) => Some(&topic.name),
             None => None,
         }
@@ -149,7 +148,7 @@ impl Image {
     pub fn partition(&self, id: Id, number: i32) -> Option<&PartitionRow>
         ensures { option_map (λ row. row.now) result ≡ partition_of id number self.now }
     {
-        match topic_with(&self.topics, id) {
+        match self.topics.with_id(id) {
             Some(topic) => partition_at(topic.partitions.as_slice(), number),
             None => None,
         }
@@ -171,7 +170,7 @@ impl Image {
     fn topic_configs(&self, name: &Text) -> Option<&Pairs>
         ensures { option_map (λ pairs. pairs.now) result ≡ configs_of (pos 2) name.now self.now }
     {
-        let topic = find(&self.topics, name.bytes())?;
+        let topic = self.topics.named(name)?;
         if topic.pairs.len() == 0 {
             return None;
         }
@@ -233,10 +232,11 @@ impl Image {
         self.next_producer
     }
 
-    /// The state of the migration: 0 none, 1 pre-migration, 2 migration, 3 post-migration.
+    /// The state of the migration: [`NO_MIGRATION`](kz_types::NO_MIGRATION), or one of those up to
+    /// [`POST_MIGRATION`](kz_types::POST_MIGRATION).
     pub fn state(&self) -> i8
         ensures state { result ≡ self.now.state }
-        ensures legal { int_le (pos 0) self.now.state && int_le self.now.state (pos 3) ≡ true }
+        ensures legal { int_le NO_MIGRATION self.now.state && int_le self.now.state POST_MIGRATION ≡ true }
     {
         self.state
     }
@@ -312,7 +312,7 @@ impl Image {
         ensures ok { OnOk result (self.new ≡ record self.old { topics = put_topic (new_topic change.now) self.old.topics }) }
         ensures err { OnErr result (self.new ≡ self.old) }
     {
-        make_topic(self.alloc, &mut self.topics, change)?;
+        self.topics.make(self.alloc, change)?;
         Ok(())
     }
 
@@ -321,7 +321,7 @@ impl Image {
         ensures ok { OnOk result (self.new ≡ effect epoch (meta.Partition change.now) self.old) }
         ensures err { OnErr result (self.new ≡ self.old) }
     {
-        make_partition(self.alloc, epoch, &mut self.topics, change)?;
+        self.topics.make_partition(self.alloc, epoch, change)?;
         Ok(())
     }
 
@@ -330,7 +330,7 @@ impl Image {
         ensures ok { OnOk result (self.new ≡ record self.old { topics = with_changed (topic_configured change.now) (topic_named change.now.resource_name self.old) self.old.topics }) }
         ensures err { OnErr result (self.new ≡ self.old) }
     {
-        configure_topic(self.alloc, &mut self.topics, change)?;
+        self.topics.configure(self.alloc, change)?;
         Ok(())
     }
 
@@ -365,14 +365,14 @@ impl Image {
         ensures ok { OnOk result (self.new ≡ effect epoch (meta.PartitionChange change.now) self.old) }
         ensures err { OnErr result (self.new ≡ self.old) }
     {
-        change_partition(self.alloc, epoch, &mut self.topics, change)?;
+        self.topics.change_partition(self.alloc, epoch, change)?;
         Ok(())
     }
 
     fn remove_topic(&mut self, topic_id: Id)
         ensures { self.new ≡ record self.old { topics = without_topic topic_id self.old.topics } }
     {
-        remove_topic(&mut self.topics, topic_id);
+        self.topics.remove(topic_id);
     }
 
     fn set_scram(&mut self, change: &UserScramCredentialRecord) -> Result<(), NoMemory>
@@ -423,9 +423,9 @@ impl Image {
     }
 
     fn set_state(&mut self, state: i8)
-        ensures { self.new ≡ (if int_le (pos 0) state && int_le state (pos 3) then record self.old { state = state } else self.old) }
+        ensures { self.new ≡ (if int_le NO_MIGRATION state && int_le state POST_MIGRATION then record self.old { state = state } else self.old) }
     {
-        if 0 <= state && state <= 3 {
+        if NO_MIGRATION <= state && state <= POST_MIGRATION {
             self.state = state;
         }
     }
@@ -499,7 +499,7 @@ impl Duplicate for Image {
     fn copy(&self, alloc: Global) -> Result<Self, NoMemory> {
         Ok(Image {
             alloc,
-            topics: copy_all(alloc, &self.topics)?,
+            topics: self.topics.copy(alloc)?,
             broker_configs: copy_all(alloc, &self.broker_configs)?,
             quotas: copy_all(alloc, &self.quotas)?,
             users: copy_all(alloc, &self.users)?,

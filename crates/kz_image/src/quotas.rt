@@ -10,9 +10,9 @@ ghost use Rattle.kz_spec_stores.specs.Metadata.{path_of_quotas, key_of_quota};
 ghost use Rattle.kz_spec_stores.specs.ImageRules.{quota_key, has_quota};
 ghost use Rattle.kz_spec_stores.specs.Image.{quotas_in, with_quota, with_quotas, quota_changed};
 ghost use Rattle.kz_spec_stores.specs.InOrder.{AreQuotasInOrder};
-ghost use Rattle.kz_image.specs.QuotaKeys.{entity_of};
+ghost use Rattle.kz_image_rules.specs.QuotaKeys.{entity_of};
 
-use crate::quota_keys::{QuotaKey, path_of, quota_key};
+use kz_image_rules::{QuotaKey, path_of, quota_key};
 use kz_sorted::{find, put, spot, without};
 use kz_types::{
     ClientQuotaRecord, Duplicate, EntityKey, NoMemory, PathFault, QuotaEntry, QuotaRow, Sequence,

@@ -3,9 +3,9 @@ ghost use Rattle.std.specs.Prelude.{◌≡◌};
 ghost use Rattle.kz_spec_stores.specs.ImageRules.{is_kept_back, broken, refused};
 
 use crate::Image;
-use crate::names::is_misnamed;
 use crate::presence::{lacks, repeats};
 use crate::values::is_misvalued;
+use kz_image_rules::is_misnamed;
 use kz_types::{ImageRule, MetaRecord};
 
 /// The first rule that a record of the log breaks: by what it names, by what has to be there or mustn't, and by its

@@ -411,7 +411,7 @@ fn image_of(rt: &impl Abort, alloc: Global, steps: &[Step]) -> Image {
     image
 }
 
-// Whether these records, behind those that are there, are judged like this.
+// Whether these records, after those that are there, are judged like this.
 fn is_judged(
     rt: &impl Abort,
     alloc: Global,
@@ -426,7 +426,7 @@ fn is_judged(
     is_judged
 }
 
-// Whether a record is told to break this rule, behind two that break none.
+// Whether a record is told to break this rule, after two that break none.
 fn breaks(rt: &impl Abort, alloc: Global, step: Step, why: ImageRule) -> bool {
     let steps = [Step::Isr(1, 0, &[2]), Step::Producer(1, 1, 2000), step];
     is_judged(

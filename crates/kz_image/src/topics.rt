@@ -1,280 +1,217 @@
-//! The topics, by rising name.
-ghost use Rattle.std.specs.Prelude.{◌≡◌, true, None, Ok, slice_index_or, option_map, option_and_then, MatchOption, OnOk, OnErr};
+//! The topics, by rising name, and their names, by rising id.
+ghost use Rattle.std.specs.Prelude.{◌≡◌, true, [], None, option_map, option_and_then, IfOk, MatchOption, OnOk, OnErr};
 ghost use Rattle.std.specs.List.{find as find_by};
-ghost use Rattle.std.specs.Ordering.{int_cmp};
-ghost use Rattle.kz_types.specs.declared.image.TopicEntry.{TopicEntry};
 ghost use Rattle.kz_ordered.specs.Order.{bytes_cmp};
-ghost use Rattle.kz_ordered.specs.Ordered.{find as find_in, put as put_in, Rises};
-ghost use Rattle.kz_ordered.specs.Spot.{IsSpot};
-ghost use Rattle.kz_spec_stores.specs.Metadata.{name_of_topic, number_of_partition, name_of_pair, same_id, partition_at};
+ghost use Rattle.kz_ordered.specs.Ordered.{find as find_in, Rises};
+ghost use Rattle.kz_spec_stores.specs.Metadata.{name_of_topic, same_id, partition_at};
 ghost use Rattle.kz_spec_stores.specs.ImageRules.{new_row, leaves_row};
 ghost use Rattle.kz_spec_stores.specs.Image.{put_topic, new_topic, with_changed, put_partition, partition_changed, without_topic, topic_configured};
 ghost use Rattle.kz_spec_stores.specs.InOrder.{AreTopicsInOrder};
+ghost use Rattle.kz_spec_stores.specs.Legal.{AreApart};
 ghost use Rattle.kz_image.specs.Places.{IsTopicPlace};
 
-use crate::configurations::change_pairs;
-use crate::partitions::{changed_row, new_row};
-use kz_sorted::{put, spot};
+use crate::names::TopicName;
+use crate::places::{change_at, configure_at, set_partition_at};
+use kz_image_rules::new_row;
+use kz_sorted::{find, put, spot, without};
 use kz_types::{
-    ConfigRecord, Duplicate, Id, NoMemory, PartitionChangeRecord, PartitionEntry, PartitionRecord,
-    PartitionRow, Sequence, TopicEntry, TopicRecord,
+    ConfigRecord, Duplicate, Id, NoMemory, PartitionChangeRecord, PartitionRecord, Sequence, Text,
+    TopicEntry, TopicRecord, copy_all,
 };
 use std::alloc::Global;
-use std::mem;
+use std::marker::Model;
 
-// ---- look-ups
-
-fn same_id(id: Id, other: Id) -> bool
-    ensures { result ≡ same_id id other }
-{
-    id.bytes == other.bytes
+/// The topics, by rising name, as contracts see them, and their names, by rising id: a look-up by an id searches these, and
+/// then the topics by the name.
+#[derive(Drop)]
+pub struct Topics {
+    topics: Vec<TopicEntry>,
+    names: Vec<TopicName>,
 }
 
-// The place of the topic of an id.
-fn topic_place(topics: &[TopicEntry], id: Id) -> Option<usize>
-    ensures { MatchOption result (find_by (λ t. same_id t.id id) topics.now ≡ None) (λ place. IsTopicPlace id topics.now place) }
-{
-    for at in 0..topics.len() {
-        if same_id(topics[at].id, id) {
-            return Some(at);
-        }
-    }
-    None
+impl Model for Topics {
+    ghost use Rattle.std.specs.Prelude.{List};
+    ghost use Rattle.kz_types.specs.declared.image.TopicEntry.{TopicEntry};
+    ghost use Rattle.kz_image.specs.Places.{AreNames};
+
+    ghost Value = { List TopicEntry };
+
+    ghost view = { λ t. t.topics.items };
+
+    ghost invariant = { λ t. AreNames t.names.items t.topics.items };
 }
 
-/// The topic of an id.
-pub fn topic_with<'a>(topics: &'a [TopicEntry], id: Id) -> Option<&'a TopicEntry>
-    ensures { option_map (λ t. t.now) result ≡ find_by (λ t. same_id t.id id) topics.entry.now }
+// The topic that a record makes.
+fn topic_made(alloc: Global, change: &TopicRecord) -> Result<TopicEntry, NoMemory>
+    ensures { IfOk result (λ made. made ≡ new_topic change.now) }
 {
-    match topic_place(topics, id) {
-        Some(place) => Some(&topics[place]),
-        None => None,
-    }
-}
-
-// Where the partition of this number stands, or would stand.
-fn partition_place(partitions: &[PartitionEntry], number: i32) -> Result<usize, usize>
-    requires { Rises int_cmp number_of_partition partitions.now }
-    ensures { IsSpot int_cmp number_of_partition number partitions.now result }
-{
-    partitions.binary_search_by_key(&number, |partition: &PartitionEntry| partition.number)
-}
-
-/// The partition of a number.
-pub fn partition_at<'a>(partitions: &'a [PartitionEntry], number: i32) -> Option<&'a PartitionRow>
-    requires { Rises int_cmp number_of_partition partitions.now }
-    ensures { option_map (λ row. row.now) result ≡ partition_at number partitions.entry.now }
-{
-    match partition_place(partitions, number) {
-        Ok(place) => Some(&partitions[place].row),
-        Err(_) => None,
-    }
-}
-
-// ---- partitions
-
-fn place_partition(
-    partitions: &mut Vec<PartitionEntry>,
-    partition: PartitionEntry,
-) -> Result<(), NoMemory>
-    requires { Rises int_cmp number_of_partition partitions.old.items }
-    ensures ok { OnOk result (partitions.new.items ≡ put_in int_cmp number_of_partition partition partitions.old.items) }
-    ensures err { OnErr result (partitions.new.items ≡ partitions.old.items) }
-{
-    match partition_place(partitions, partition.number) {
-        Ok(place) => {
-            partitions[place] = partition;
-            Ok(())
-        }
-        Err(place) => {
-            partitions.insert(place, partition)?;
-            Ok(())
-        }
-    }
-}
-
-fn set_partition(
-    alloc: Global,
-    topic: &mut TopicEntry,
-    number: i32,
-    row: PartitionRow,
-) -> Result<(), NoMemory>
-    requires { Rises int_cmp number_of_partition topic.old.partitions }
-    ensures ok { OnOk result (topic.new ≡ put_partition number row topic.old) }
-    ensures err { OnErr result (topic.new ≡ topic.old) }
-{
-    let mut partitions = mem::replace(&mut topic.partitions, Sequence::new(alloc)).into_vec();
-    let placed = place_partition(&mut partitions, PartitionEntry { number, row });
-    topic.partitions = Sequence::from_vec(partitions);
-    placed
-}
-
-fn set_partition_at(
-    alloc: Global,
-    topics: &mut Vec<TopicEntry>,
-    place: usize,
-    change: &PartitionRecord,
-    row: PartitionRow,
-) -> Result<(), NoMemory>
-    requires order { AreTopicsInOrder topics.old.items }
-    requires there { IsTopicPlace change.now.topic_id topics.old.items place }
-    ensures ok { OnOk result (topics.new.items ≡ with_changed (put_partition change.now.partition_id row) (find_by (λ t. same_id t.id change.now.topic_id) topics.old.items) topics.old.items) }
-    ensures err { OnErr result (topics.new.items ≡ topics.old.items) }
-{
-    let topic = &mut topics[place];
-    set_partition(alloc, topic, change.partition_id, row)?;
-    Ok(())
-}
-
-/// Makes a partition of a topic, where the topic is there. At `Err` nothing has changed.
-pub fn make_partition(
-    alloc: Global,
-    epoch: i32,
-    topics: &mut Vec<TopicEntry>,
-    change: &PartitionRecord,
-) -> Result<(), NoMemory>
-    requires { AreTopicsInOrder topics.old.items }
-    ensures ok { OnOk result (topics.new.items ≡ with_changed (put_partition change.now.partition_id (new_row epoch change.now)) (find_by (λ t. same_id t.id change.now.topic_id) topics.old.items) topics.old.items) }
-    ensures err { OnErr result (topics.new.items ≡ topics.old.items) }
-{
-    match topic_place(topics, change.topic_id) {
-        Some(place) => {
-            let row = new_row(alloc, epoch, change)?;
-            set_partition_at(alloc, topics, place, change, row)
-        }
-        None => Ok(()),
-    }
-}
-
-fn change_in(
-    alloc: Global,
-    epoch: i32,
-    topic: &mut TopicEntry,
-    change: &PartitionChangeRecord,
-) -> Result<(), NoMemory>
-    requires rising { Rises int_cmp number_of_partition topic.old.partitions }
-    requires fits { leaves_row change.now (partition_at change.now.partition_id topic.old.partitions) ≡ true }
-    ensures ok { OnOk result (topic.new ≡ partition_changed epoch change.now topic.old) }
-    ensures err { OnErr result (topic.new ≡ topic.old) }
-{
-    match partition_at(topic.partitions.as_slice(), change.partition_id) {
-        Some(row) => {
-            let row = changed_row(alloc, epoch, change, row)?;
-            set_partition(alloc, topic, change.partition_id, row)
-        }
-        None => Ok(()),
-    }
-}
-
-fn change_at(
-    alloc: Global,
-    epoch: i32,
-    topics: &mut Vec<TopicEntry>,
-    place: usize,
-    change: &PartitionChangeRecord,
-) -> Result<(), NoMemory>
-    requires order { AreTopicsInOrder topics.old.items }
-    requires there { IsTopicPlace change.now.topic_id topics.old.items place }
-    requires fits { (t : TopicEntry) → t ≡ slice_index_or topics.old.items place t → leaves_row change.now (partition_at change.now.partition_id t.partitions) ≡ true }
-    ensures ok { OnOk result (topics.new.items ≡ with_changed (partition_changed epoch change.now) (find_by (λ t. same_id t.id change.now.topic_id) topics.old.items) topics.old.items) }
-    ensures err { OnErr result (topics.new.items ≡ topics.old.items) }
-{
-    let topic = &mut topics[place];
-    change_in(alloc, epoch, topic, change)?;
-    Ok(())
-}
-
-/// Changes a partition of a topic, where the topic is there. At `Err` nothing has changed.
-pub fn change_partition(
-    alloc: Global,
-    epoch: i32,
-    topics: &mut Vec<TopicEntry>,
-    change: &PartitionChangeRecord,
-) -> Result<(), NoMemory>
-    requires order { AreTopicsInOrder topics.old.items }
-    requires fits { leaves_row change.now (option_and_then (λ t. partition_at change.now.partition_id t.partitions) (find_by (λ t. same_id t.id change.now.topic_id) topics.old.items)) ≡ true }
-    ensures ok { OnOk result (topics.new.items ≡ with_changed (partition_changed epoch change.now) (find_by (λ t. same_id t.id change.now.topic_id) topics.old.items) topics.old.items) }
-    ensures err { OnErr result (topics.new.items ≡ topics.old.items) }
-{
-    match topic_place(topics, change.topic_id) {
-        Some(place) => change_at(alloc, epoch, topics, place, change),
-        None => Ok(()),
-    }
-}
-
-// ---- topics
-
-/// Makes a topic. At `Err` nothing has changed.
-pub fn make_topic(
-    alloc: Global,
-    topics: &mut Vec<TopicEntry>,
-    change: &TopicRecord,
-) -> Result<(), NoMemory>
-    requires { Rises bytes_cmp name_of_topic topics.old.items }
-    ensures ok { OnOk result (topics.new.items ≡ put_topic (new_topic change.now) topics.old.items) }
-    ensures err { OnErr result (topics.new.items ≡ topics.old.items) }
-{
-    let topic = TopicEntry {
+    Ok(TopicEntry {
         name: change.name.copy(alloc)?,
         id: change.topic_id,
         partitions: Sequence::new(alloc),
         pairs: Sequence::new(alloc),
-    };
-    put(topics, topic)
+    })
 }
 
-/// Removes the topic of an id, with its partitions and its configuration.
-pub fn remove_topic(topics: &mut Vec<TopicEntry>, id: Id)
-    ensures { topics.new.items ≡ without_topic id topics.old.items }
+// The name of the topic that a record makes.
+fn name_made(alloc: Global, change: &TopicRecord) -> Result<TopicName, NoMemory>
+    ensures { IfOk result (λ made. made ≡ record { id = change.now.topic_id; name = change.now.name }) }
 {
-    topics.retain(|topic| !same_id(topic.id, id));
+    Ok(TopicName {
+        id: change.topic_id,
+        name: change.name.copy(alloc)?,
+    })
 }
 
-// ---- configurations
+impl Topics {
+    /// No topics.
+    pub fn new(alloc: Global) -> Self
+        ensures { result ≡ [] }
+    {
+        Topics {
+            topics: Vec::new(alloc),
+            names: Vec::new(alloc),
+        }
+    }
 
-fn configure_in(
-    alloc: Global,
-    topic: &mut TopicEntry,
-    change: &ConfigRecord,
-) -> Result<(), NoMemory>
-    requires { Rises bytes_cmp name_of_pair topic.old.pairs }
-    ensures ok { OnOk result (topic.new ≡ topic_configured change.now topic.old) }
-    ensures err { OnErr result (topic.new ≡ topic.old) }
-{
-    let mut pairs = mem::replace(&mut topic.pairs, Sequence::new(alloc)).into_vec();
-    let changed = change_pairs(alloc, &mut pairs, change);
-    topic.pairs = Sequence::from_vec(pairs);
-    changed
+    /// Lends the topics, by rising name.
+    pub fn as_slice(&self) -> &[TopicEntry]
+        ensures { result.now ≡ self.now }
+    {
+        self.topics.as_slice()
+    }
+
+    // ---- look-ups
+
+    /// The topic of a name.
+    pub fn named(&self, name: &Text) -> Option<&TopicEntry>
+        requires { Rises bytes_cmp name_of_topic self.now }
+        ensures { option_map (λ t. t.now) result ≡ find_in bytes_cmp name_of_topic name.now self.now }
+    {
+        find(&self.topics, name.bytes())
+    }
+
+    // The place of the topic of an id.
+    fn place(&self, id: Id) -> Option<usize>
+        requires { Rises bytes_cmp name_of_topic self.now }
+        ensures { MatchOption result (find_by (λ t. same_id t.id id) self.now ≡ None) (λ place. IsTopicPlace id self.now place) }
+    {
+        let named = find(&self.names, &id.bytes)?;
+        match spot(&self.topics, named.name.bytes()) {
+            Ok(place) => Some(place),
+            Err(_) => None,
+        }
+    }
+
+    /// The topic of an id.
+    pub fn with_id(&self, id: Id) -> Option<&TopicEntry>
+        requires { Rises bytes_cmp name_of_topic self.now }
+        ensures { option_map (λ t. t.now) result ≡ find_by (λ t. same_id t.id id) self.now }
+    {
+        match self.place(id) {
+            Some(place) => Some(&self.topics[place]),
+            None => None,
+        }
+    }
+
+    // ---- changes
+
+    /// Makes a topic of a new name and a new id. At `Err` nothing has changed.
+    pub fn make(&mut self, alloc: Global, change: &TopicRecord) -> Result<(), NoMemory>
+        requires rising { Rises bytes_cmp name_of_topic self.old }
+        requires new_name { find_in bytes_cmp name_of_topic change.now.name self.old ≡ None }
+        requires new_id { find_by (λ t. same_id t.id change.now.topic_id) self.old ≡ None }
+        ensures ok { OnOk result (self.new ≡ put_topic (new_topic change.now) self.old) }
+        ensures err { OnErr result (self.new ≡ self.old) }
+    {
+        let topic = topic_made(alloc, change)?;
+        let name = name_made(alloc, change)?;
+        put(&mut self.names, name)?;
+        match put(&mut self.topics, topic) {
+            Ok(()) => Ok(()),
+            Err(fault) => {
+                without(&mut self.names, &change.topic_id.bytes);
+                Err(fault)
+            }
+        }
+    }
+
+    /// Removes the topic of an id, with its partitions and its configuration.
+    pub fn remove(&mut self, id: Id)
+        requires rising { Rises bytes_cmp name_of_topic self.old }
+        requires apart { AreApart self.old }
+        ensures { self.new ≡ without_topic id self.old }
+    {
+        if let Some(place) = self.place(id) {
+            let _removed = self.topics.remove(place);
+            without(&mut self.names, &id.bytes);
+        }
+    }
+
+    /// Makes a partition of a topic, where the topic is there. At `Err` nothing has changed.
+    pub fn make_partition(
+        &mut self,
+        alloc: Global,
+        epoch: i32,
+        change: &PartitionRecord,
+    ) -> Result<(), NoMemory>
+        requires order { AreTopicsInOrder self.old }
+        requires apart { AreApart self.old }
+        ensures ok { OnOk result (self.new ≡ with_changed (put_partition change.now.partition_id (new_row epoch change.now)) (find_by (λ t. same_id t.id change.now.topic_id) self.old) self.old) }
+        ensures err { OnErr result (self.new ≡ self.old) }
+    {
+        let Some(place) = self.place(change.topic_id) else {
+            return Ok(());
+        };
+        let row = new_row(alloc, epoch, change)?;
+        set_partition_at(alloc, &mut self.topics, place, change, row)?;
+        Ok(())
+    }
+
+    /// Changes a partition of a topic, where the topic is there. At `Err` nothing has changed.
+    pub fn change_partition(
+        &mut self,
+        alloc: Global,
+        epoch: i32,
+        change: &PartitionChangeRecord,
+    ) -> Result<(), NoMemory>
+        requires order { AreTopicsInOrder self.old }
+        requires apart { AreApart self.old }
+        requires fits { leaves_row change.now (option_and_then (λ t. partition_at change.now.partition_id t.partitions) (find_by (λ t. same_id t.id change.now.topic_id) self.old)) ≡ true }
+        ensures ok { OnOk result (self.new ≡ with_changed (partition_changed epoch change.now) (find_by (λ t. same_id t.id change.now.topic_id) self.old) self.old) }
+        ensures err { OnErr result (self.new ≡ self.old) }
+    {
+        match self.place(change.topic_id) {
+            Some(place) => {
+                change_at(alloc, epoch, &mut self.topics, place, change)?;
+                Ok(())
+            }
+            None => Ok(()),
+        }
+    }
+
+    /// Sets or removes a member of a topic's configuration, where the topic is there. At `Err` nothing has changed.
+    pub fn configure(&mut self, alloc: Global, change: &ConfigRecord) -> Result<(), NoMemory>
+        requires order { AreTopicsInOrder self.old }
+        requires apart { AreApart self.old }
+        ensures ok { OnOk result (self.new ≡ with_changed (topic_configured change.now) (find_in bytes_cmp name_of_topic change.now.resource_name self.old) self.old) }
+        ensures err { OnErr result (self.new ≡ self.old) }
+    {
+        match spot(&self.topics, change.resource_name.bytes()) {
+            Ok(place) => {
+                configure_at(alloc, &mut self.topics, place, change)?;
+                Ok(())
+            }
+            Err(_) => Ok(()),
+        }
+    }
 }
 
-fn configure_at(
-    alloc: Global,
-    topics: &mut Vec<TopicEntry>,
-    place: usize,
-    change: &ConfigRecord,
-) -> Result<(), NoMemory>
-    requires order { AreTopicsInOrder topics.old.items }
-    requires there { IsSpot bytes_cmp name_of_topic change.now.resource_name topics.old.items (Ok place) }
-    ensures ok { OnOk result (topics.new.items ≡ with_changed (topic_configured change.now) (find_in bytes_cmp name_of_topic change.now.resource_name topics.old.items) topics.old.items) }
-    ensures err { OnErr result (topics.new.items ≡ topics.old.items) }
-{
-    let topic = &mut topics[place];
-    configure_in(alloc, topic, change)?;
-    Ok(())
-}
-
-/// Sets or removes a member of a topic's configuration, where the topic is there. At `Err` nothing has changed.
-pub fn configure_topic(
-    alloc: Global,
-    topics: &mut Vec<TopicEntry>,
-    change: &ConfigRecord,
-) -> Result<(), NoMemory>
-    requires { AreTopicsInOrder topics.old.items }
-    ensures ok { OnOk result (topics.new.items ≡ with_changed (topic_configured change.now) (find_in bytes_cmp name_of_topic change.now.resource_name topics.old.items) topics.old.items) }
-    ensures err { OnErr result (topics.new.items ≡ topics.old.items) }
-{
-    match spot(topics, change.resource_name.bytes()) {
-        Ok(place) => configure_at(alloc, topics, place, change),
-        Err(_) => Ok(()),
+impl Duplicate for Topics {
+    fn copy(&self, alloc: Global) -> Result<Self, NoMemory> {
+        Ok(Topics {
+            topics: copy_all(alloc, &self.topics)?,
+            names: copy_all(alloc, &self.names)?,
+        })
     }
 }

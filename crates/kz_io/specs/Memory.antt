@@ -40,6 +40,14 @@ sink_none s = s.none.items
 abbrev pub sink_faults : MemorySink → ℕ
 sink_faults s = s.faults
 
+-- whether its last read failed
+abbrev pub source_failed : MemorySource → Bool
+source_failed s = s.failed
+
+-- whether its last write failed, or took nothing of a piece that wasn't empty
+abbrev pub sink_failed : MemorySink → Bool
+sink_failed s = s.failed
+
 -- a call of this number is listed
 abbrev pub is_listed : ℕ → List ℕ → Bool
 is_listed call calls = list_any (λ n. n == call) calls

@@ -13,12 +13,13 @@ pub struct MemorySource {
     at: usize,
     calls: u64,
     faults: u64,
+    failed: bool,
     ghost in_range: { at ≤ vec_len bytes },
 }
 
 impl MemorySource {
-    ghost use Rattle.std.specs.Prelude.{◌≡◌};
-    ghost use Rattle.kz_io.specs.Memory.{source_left, source_call, source_plan, source_faults};
+    ghost use Rattle.std.specs.Prelude.{◌≡◌, false};
+    ghost use Rattle.kz_io.specs.Memory.{source_left, source_call, source_plan, source_faults, source_failed};
 
     /// A source that has these bytes left. The reads whose numbers are in `fail` fail.
     pub fn new(bytes: Vec<u8>, fail: Vec<u64>) -> Self
@@ -26,6 +27,7 @@ impl MemorySource {
         ensures call { source_call result ≡ 0 }
         ensures plan { source_plan result ≡ fail.items }
         ensures faults { source_faults result ≡ 0 }
+        ensures failed { source_failed result ≡ false }
     {
         MemorySource {
             bytes,
@@ -33,6 +35,7 @@ impl MemorySource {
             at: 0,
             calls: 0,
             faults: 0,
+            failed: false,
         }
     }
 }
@@ -51,14 +54,17 @@ fn copy_front(from: &[u8], to: &mut [u8]) -> usize
 impl Source for MemorySource {
     ghost use Rattle.std.specs.Prelude.{◌≡◌, ◌+◌, ◌-◌, ◌^◌, ◌↔◌, Some, min, length, IfOk, IsErr, IsTrue};
     ghost use Rattle.std.specs.Io.{ReadsAtMost};
+    ghost use Rattle.std.specs.Result.{is_err};
     ghost use Rattle.std.specs.Io.KnownBytes.{ReadConsumes};
     ghost use Rattle.kz_types.specs.Causes.{HasCause};
     ghost use Rattle.kz_io.specs.Told.{StaysTold};
-    ghost use Rattle.kz_io.specs.Memory.{source_left, source_call, source_plan, source_faults, is_listed};
+    ghost use Rattle.kz_io.specs.Memory.{source_left, source_call, source_plan, source_faults, source_failed, is_listed};
 
     ghost left = { λ s. Some (source_left s) };
 
     ghost faults = { λ s. source_faults s };
+
+    ghost last_failed = { λ s. source_failed s };
 
     /// A read that isn't listed gives as many of the bytes that are left as there is room for.
     ///
@@ -68,6 +74,7 @@ impl Source for MemorySource {
         ensures bytes { ReadConsumes (Some (source_left self.old)) (Some (source_left self.new)) result buf.new }
         ensures told { StaysTold (Some (source_left self.old)) (Some (source_left self.new)) }
         ensures cause { HasCause (source_faults self.old) (source_faults self.new) result }
+        ensures failed { source_failed self.new ≡ is_err result }
         ensures fails { IsErr result ↔ IsTrue (is_listed (source_call self.old) (source_plan self.old)) }
         ensures count { IfOk result (λ n. n ≡ min (length (source_left self.old)) (length buf.old)) }
         ensures call { source_call self.new ≡ min (source_call self.old + 1) (2 ^ 64 - 1) }
@@ -75,7 +82,8 @@ impl Source for MemorySource {
     {
         let call = self.calls;
         self.calls = call.saturating_add(1);
-        if self.fail.contains(&call) {
+        self.failed = self.fail.contains(&call);
+        if self.failed {
             self.faults = self.faults.saturating_add(1);
             return Err(Failed);
         }
@@ -94,11 +102,12 @@ pub struct MemorySink {
     none: Vec<u64>,
     calls: u64,
     faults: u64,
+    failed: bool,
 }
 
 impl MemorySink {
-    ghost use Rattle.std.specs.Prelude.{◌≡◌, []};
-    ghost use Rattle.kz_io.specs.Memory.{sink_taken, sink_call, sink_plan, sink_none, sink_faults};
+    ghost use Rattle.std.specs.Prelude.{◌≡◌, [], false};
+    ghost use Rattle.kz_io.specs.Memory.{sink_taken, sink_call, sink_plan, sink_none, sink_faults, sink_failed};
 
     /// A sink that has taken nothing. The writes whose numbers are in `fail` fail; of the others, those in `none` take
     /// nothing.
@@ -108,6 +117,7 @@ impl MemorySink {
         ensures plan { sink_plan result ≡ fail.items }
         ensures none { sink_none result ≡ none.items }
         ensures faults { sink_faults result ≡ 0 }
+        ensures failed { sink_failed result ≡ false }
     {
         MemorySink {
             bytes: Vec::new(alloc),
@@ -115,6 +125,7 @@ impl MemorySink {
             none,
             calls: 0,
             faults: 0,
+            failed: false,
         }
     }
 
@@ -130,12 +141,14 @@ impl Sink for MemorySink {
     ghost use Rattle.std.specs.Prelude.{◌≡◌, ◌+◌, ◌-◌, ◌^◌, ◌≤◌, Some, min, length, MatchResult, IfOk, IsErr, IsTrue, if◌then◌else◌};
     ghost use Rattle.std.specs.Io.KnownBytes.{WriteAppends};
     ghost use Rattle.kz_types.specs.Causes.{WriteHasCause};
-    ghost use Rattle.kz_io.specs.Told.{StaysTold};
-    ghost use Rattle.kz_io.specs.Memory.{sink_taken, sink_call, sink_plan, sink_none, sink_faults, is_listed};
+    ghost use Rattle.kz_io.specs.Told.{StaysTold, is_failed_write};
+    ghost use Rattle.kz_io.specs.Memory.{sink_taken, sink_call, sink_plan, sink_none, sink_faults, sink_failed, is_listed};
 
     ghost taken = { λ s. Some (sink_taken s) };
 
     ghost faults = { λ s. sink_faults s };
+
+    ghost last_failed = { λ s. sink_failed s };
 
     /// A write that isn't listed takes the whole piece, where there is memory.
     ///
@@ -145,6 +158,7 @@ impl Sink for MemorySink {
         ensures bytes { WriteAppends (Some (sink_taken self.old)) (Some (sink_taken self.new)) result piece.now }
         ensures told { StaysTold (Some (sink_taken self.old)) (Some (sink_taken self.new)) }
         ensures cause { WriteHasCause (sink_faults self.old) (sink_faults self.new) result piece.now }
+        ensures failed { sink_failed self.new ≡ is_failed_write result piece.now }
         ensures fails { IsTrue (is_listed (sink_call self.old) (sink_plan self.old)) → IsErr result }
         ensures count { IfOk result (λ n. n ≡ (if is_listed (sink_call self.old) (sink_none self.old) then 0 else length piece.now)) }
         ensures call { sink_call self.new ≡ min (sink_call self.old + 1) (2 ^ 64 - 1) }
@@ -153,12 +167,14 @@ impl Sink for MemorySink {
     {
         let call = self.calls;
         self.calls = call.saturating_add(1);
+        self.failed = true;
         if self.fail.contains(&call) {
             self.faults = self.faults.saturating_add(1);
             return Err(Failed);
         }
         if self.none.contains(&call) {
-            if !piece.is_empty() {
+            self.failed = !piece.is_empty();
+            if self.failed {
                 self.faults = self.faults.saturating_add(1);
             }
             return Ok(0);
@@ -167,6 +183,7 @@ impl Sink for MemorySink {
             self.faults = self.faults.saturating_add(1);
             return Err(Failed);
         }
+        self.failed = false;
         Ok(piece.len())
     }
 }

@@ -1,8 +1,8 @@
 //! What a program writes to.
-ghost use Rattle.std.specs.Prelude.{◌≡◌, ◌≤◌, ◌++◌, List, ℕ, Option, length, OnOk, OnErr, MatchResult};
+ghost use Rattle.std.specs.Prelude.{◌≡◌, ◌≤◌, ◌++◌, List, ℕ, Bool, true, false, Option, length, OnOk, OnErr, MatchResult};
 ghost use Rattle.std.specs.Io.KnownBytes.{Appends, WriteAppends};
 ghost use Rattle.kz_types.specs.Causes.{WriteHasCause, HasCause};
-ghost use Rattle.kz_io.specs.Told.{StaysTold};
+ghost use Rattle.kz_io.specs.Told.{StaysTold, is_failed_write};
 
 use kz_types::Failed;
 
@@ -17,6 +17,9 @@ pub trait Sink {
     /// How often a write has failed, or has taken nothing of a piece that wasn't empty.
     ghost faults: { Self → ℕ };
 
+    /// Whether the last write failed, or took nothing of a piece that wasn't empty; false before the first.
+    ghost last_failed: { Self → Bool };
+
     /// Takes a front of `piece`, and says how long it is. A caller takes 0 for a piece that isn't empty as a failure:
     /// the count of faults rose in that call too.
     ///
@@ -25,7 +28,8 @@ pub trait Sink {
         ensures bound { MatchResult result (λ n. n ≤ length piece.now) (λ _. Unit {0}) }
         ensures bytes { WriteAppends (taken self.old) (taken self.new) result piece.now }
         ensures told { StaysTold (taken self.old) (taken self.new) }
-        ensures cause { WriteHasCause (faults self.old) (faults self.new) result piece.now };
+        ensures cause { WriteHasCause (faults self.old) (faults self.new) result piece.now }
+        ensures failed { last_failed self.new ≡ is_failed_write result piece.now };
 }
 
 /// Writes all of a text, in as many calls as it takes.
@@ -38,6 +42,8 @@ pub fn send<K: Sink>(sink: &mut K, text: &[u8]) -> Result<(), Failed>
         × Appends (K.taken sink.old) (K.taken sink.new) front) }
     ensures told { StaysTold (K.taken sink.old) (K.taken sink.new) }
     ensures cause { HasCause (K.faults sink.old) (K.faults sink.new) result }
+    ensures failed { OnErr result (K.last_failed sink.new ≡ true) }
+    ensures calm { OnOk result (K.last_failed sink.new ≡ true → K.last_failed sink.old ≡ true) }
 {
     let mut rest = text;
     while !rest.is_empty() {

@@ -1,10 +1,11 @@
 //! The readers and writers of std as sources and sinks.
-ghost use Rattle.std.specs.Prelude.{◌≡◌, ◌≤◌, None, length, MatchResult};
+ghost use Rattle.std.specs.Prelude.{◌≡◌, ◌≤◌, None, length, MatchResult, false};
+ghost use Rattle.std.specs.Result.{is_err};
 ghost use Rattle.std.specs.Io.{ReadsAtMost};
 ghost use Rattle.std.specs.Io.KnownBytes.{ReadConsumes, WriteAppends};
 ghost use Rattle.kz_types.specs.Causes.{HasCause, WriteHasCause};
-ghost use Rattle.kz_io.specs.Told.{StaysTold};
-ghost use Rattle.kz_io.specs.Standard.{reader, read_faults, writer, write_faults};
+ghost use Rattle.kz_io.specs.Told.{StaysTold, is_failed_write};
+ghost use Rattle.kz_io.specs.Standard.{reader, read_faults, read_failed, writer, write_faults, write_failed};
 
 use crate::{Sink, Source};
 use kz_types::Failed;
@@ -15,6 +16,7 @@ use std::io::{Read, Write};
 pub struct StdSource<R> {
     inner: R,
     faults: u64,
+    failed: bool,
 }
 
 impl<R: Read> StdSource<R> {
@@ -22,8 +24,13 @@ impl<R: Read> StdSource<R> {
     pub fn new(inner: R) -> Self
         ensures reader { reader result ≡ inner }
         ensures faults { read_faults result ≡ 0 }
+        ensures failed { read_failed result ≡ false }
     {
-        StdSource { inner, faults: 0 }
+        StdSource {
+            inner,
+            faults: 0,
+            failed: false,
+        }
     }
 }
 
@@ -31,6 +38,8 @@ impl<R: Read> Source for StdSource<R> {
     ghost left = { λ _. None };
 
     ghost faults = { λ s. read_faults s };
+
+    ghost last_failed = { λ s. read_failed s };
 
     /// What the reader gives.
     ///
@@ -40,11 +49,16 @@ impl<R: Read> Source for StdSource<R> {
         ensures bytes { ReadConsumes None None result buf.new }
         ensures told { StaysTold None None }
         ensures cause { HasCause (read_faults self.old) (read_faults self.new) result }
+        ensures failed { read_failed self.new ≡ is_err result }
         ensures passed { ReadConsumes (R.remaining (reader self.old)) (R.remaining (reader self.new)) result buf.new }
     {
         match self.inner.read(buf) {
-            Ok(count) => Ok(count),
+            Ok(count) => {
+                self.failed = false;
+                Ok(count)
+            }
             Err(_) => {
+                self.failed = true;
                 self.faults = self.faults.saturating_add(1);
                 Err(Failed)
             }
@@ -57,6 +71,7 @@ impl<R: Read> Source for StdSource<R> {
 pub struct StdSink<W> {
     inner: W,
     faults: u64,
+    failed: bool,
 }
 
 impl<W: Write> StdSink<W> {
@@ -64,8 +79,13 @@ impl<W: Write> StdSink<W> {
     pub fn new(inner: W) -> Self
         ensures writer { writer result ≡ inner }
         ensures faults { write_faults result ≡ 0 }
+        ensures failed { write_failed result ≡ false }
     {
-        StdSink { inner, faults: 0 }
+        StdSink {
+            inner,
+            faults: 0,
+            failed: false,
+        }
     }
 }
 
@@ -73,6 +93,8 @@ impl<W: Write> Sink for StdSink<W> {
     ghost taken = { λ _. None };
 
     ghost faults = { λ s. write_faults s };
+
+    ghost last_failed = { λ s. write_failed s };
 
     /// What the writer takes.
     ///
@@ -82,16 +104,19 @@ impl<W: Write> Sink for StdSink<W> {
         ensures bytes { WriteAppends None None result piece.now }
         ensures told { StaysTold None None }
         ensures cause { WriteHasCause (write_faults self.old) (write_faults self.new) result piece.now }
+        ensures failed { write_failed self.new ≡ is_failed_write result piece.now }
         ensures passed { WriteAppends (W.contents (writer self.old)) (W.contents (writer self.new)) result piece.now }
     {
         match self.inner.write(piece) {
             Ok(count) => {
-                if count == 0 && !piece.is_empty() {
+                self.failed = count == 0 && !piece.is_empty();
+                if self.failed {
                     self.faults = self.faults.saturating_add(1);
                 }
                 Ok(count)
             }
             Err(_) => {
+                self.failed = true;
                 self.faults = self.faults.saturating_add(1);
                 Err(Failed)
             }

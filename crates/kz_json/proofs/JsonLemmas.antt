@@ -1,23 +1,10 @@
 -- Lemmas on JSON values.
-use Rattle.std.proofs.Common.{◌≡◌, ℕ, Bool, true, false, cond, List, [], ◌∷◌, ◌++◌, append_assoc, Some, None, refl, sym, ap, ◌∙◌}
+use Rattle.std.proofs.Common.{◌≡◌, ℕ, List, [], ◌∷◌, ◌++◌, append_assoc, Some, None, refl, sym, ap, ◌∙◌}
 use Rattle.std.specs.Prelude.{Option, option_map, option_and_then}
-use Rattle.std.specs.Str.{IsUtf8, is_utf8}
-use Rattle.std.proofs.lemmas.Str.{IsUtf8-from_is_utf8, is_utf8-from_IsUtf8}
 use Rattle.serde_json.specs.Data.{Data, Members, member}
-use Rattle.serde_json.specs.Read.{read}
 use Rattle.serde_json.specs.Find.{as_str}
 use Rattle.kz_types.specs.declared.bodies.Pair.{Pair}
-use Rattle.kz_spec_values.specs.Bodies.{json_of, texts_in}
-
-pub found_json : (bs : List ℕ) (d : Data) → IsUtf8 bs × (read bs ≡ Some d) → Some d ≡ json_of bs
-found_json bs d h = rw (is_utf8-from_IsUtf8 bs h.0) (sym h.1)
-
-tested : (b : Bool) (bs : List ℕ) → is_utf8 bs ≡ b → (IsUtf8 bs → read bs ≡ None) → None ≡ cond b (read bs) None
-tested true bs e h = sym (h (IsUtf8-from_is_utf8 bs e))
-tested false bs e h = refl
-
-pub no_json : (bs : List ℕ) → (IsUtf8 bs → read bs ≡ None) → None ≡ json_of bs
-no_json bs h = tested (is_utf8 bs) bs refl h
+use Rattle.kz_spec_values.specs.Bodies.{texts_in}
 
 -- ---- the members of a configuration, one after another
 

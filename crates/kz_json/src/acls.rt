@@ -4,7 +4,7 @@ ghost use Rattle.serde_json.specs.View.{view, items_view};
 ghost use Rattle.kz_types.specs.declared.fault.BodyFault.{BodyFault};
 ghost use Rattle.kz_spec_values.specs.Bodies.{operation_of, permission_of, text_at, entry_in, entries_in, entries_of_data, acls_of_data};
 
-use crate::fields::{bad_field, missing, whole_field};
+use kz_members::{bad_field, missing, whole_field};
 use kz_types::{AclRow, Body, BodyFault, NoMemory, Sequence, Text};
 use serde_json::Value;
 use std::alloc::Global;

@@ -4,7 +4,7 @@ ghost use Rattle.serde_json.specs.View.{view, members_view};
 ghost use Rattle.kz_types.specs.declared.fault.BodyFault.{BodyFault};
 ghost use Rattle.kz_spec_values.specs.Bodies.{field, whole, texts_in, texts_of, pairs_of, config_of};
 
-use crate::fields::{bad_field, missing, whole_field};
+use kz_members::{bad_field, missing, whole_field};
 use kz_types::{Body, BodyFault, NoMemory, Pair, Sequence, Text};
 use serde_json::{Map, Value};
 use std::alloc::Global;

@@ -3,7 +3,7 @@ ghost use Rattle.std.specs.Prelude.{◌≡◌, ◌==◌, IfOk, map, option_map};
 ghost use Rattle.std.specs.List.{slice_split};
 ghost use Rattle.base64.specs.Engines.{standard};
 ghost use Rattle.base64.specs.GeneralPurpose.{decoded_of};
-ghost use Rattle.kz_spec_values.specs.Credentials.{behind_name, value_of, bytes_of, iterations_of, credential_of_pieces, credential_of};
+ghost use Rattle.kz_spec_values.specs.Credentials.{after_name, value_of, bytes_of, iterations_of, credential_of_pieces, credential_of};
 
 use base64::DecodeAllocError;
 use base64::engine::general_purpose::STANDARD;
@@ -11,8 +11,8 @@ use kz_types::{NoMemory, ScramRow, Sequence, canonical};
 use std::alloc::Global;
 
 /// What follows a name and `=`, in a piece that begins with them.
-fn behind_name<'a>(name: &str, piece: &'a str) -> Option<&'a [u8]>
-    ensures { option_map (λ value. value.now) result ≡ behind_name name.now piece.now }
+fn after_name<'a>(name: &str, piece: &'a str) -> Option<&'a [u8]>
+    ensures { option_map (λ value. value.now) result ≡ after_name name.now piece.now }
 {
     let rest = piece.as_bytes().strip_prefix(name.as_bytes())?;
     rest.strip_prefix(b"=".as_slice())
@@ -23,7 +23,7 @@ fn value_of<'a>(name: &str, pieces: &[&'a str]) -> Option<&'a [u8]>
     ensures { option_map (λ value. value.now) result ≡ value_of name.now (map (λ piece. piece.now) pieces.now) }
 {
     for piece in pieces {
-        if let Some(value) = behind_name(name, piece) {
+        if let Some(value) = after_name(name, piece) {
             return Some(value);
         }
     }

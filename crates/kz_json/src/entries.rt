@@ -3,7 +3,7 @@ ghost use Rattle.std.specs.Prelude.{◌≡◌, ◌≢◌, [], IfOk, IfErr, OnOk,
 ghost use Rattle.std.specs.Result.{result_ok};
 ghost use Rattle.serde_json.specs.View.{view};
 ghost use Rattle.kz_types.specs.Paths.{is_among};
-ghost use Rattle.kz_types.specs.Quotas.{quota_of};
+ghost use Rattle.kz_spec_quotas.specs.Quotas.{quota_of};
 ghost use Rattle.kz_types.specs.declared.fault.BodyFault.{BodyFault};
 ghost use Rattle.kz_types.specs.declared.fault.BodyFault.TheVariants.{UnknownKey};
 ghost use Rattle.kz_spec_values.specs.Credentials as said;
@@ -13,7 +13,8 @@ ghost use Rattle.kz_json.specs.Entries.{entry_value};
 
 use crate::configs::pairs_of;
 use crate::credentials::credential_of;
-use crate::fields::bad_field;
+use kz_members::bad_field;
+use kz_quotas::QuotaText;
 use kz_types::{
     Body, BodyFault, EntityKey, NoMemory, Pair, QuotaRow, QuotaValue, ScramPair, Sequence, Text,
 };

@@ -3,6 +3,7 @@
 
 mod acls;
 mod body;
+mod brokers;
 mod configs;
 mod credentials;
 mod entries;
@@ -17,6 +18,5 @@ pub use body::{read_body, write_body};
 pub use reading::{read_acls, read_config, read_producer, read_state, read_topic};
 pub use written::{PartitionState, acls_text, config_text, producer_text, state_text, topic_text};
 
-mod fields;
 #[cfg(test)]
 mod tests;

@@ -11,6 +11,7 @@ ghost use Rattle.kz_json.specs.Entries.{are_quotas};
 use crate::topics::number_text;
 use crate::written::config_text;
 use base64::engine::general_purpose::STANDARD;
+use kz_quotas::QuotaText;
 use kz_types::{Duplicate, NoMemory, Pair, QuotaRow, ScramPair, ScramRow, Text};
 use std::alloc::Global;
 

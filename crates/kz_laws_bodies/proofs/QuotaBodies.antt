@@ -8,7 +8,7 @@ use Rattle.serde_json.specs.Data.{Data, string, object, Members, no_members, mem
 use Rattle.serde_json.specs.Written.{compact_text}
 use Rattle.kz_types.specs.Paths.{is_among}
 use Rattle.kz_types.proofs.NumberLemmas.{bytes_eq-true}
-use Rattle.kz_types.proofs.QuotaTexts.{quota_restored, quota_is_text}
+use Rattle.kz_laws_quotas.proofs.QuotaTexts.{quota_restored, quota_is_text}
 use Rattle.kz_types.specs.declared.bodies.Pair.{Pair}
 use Rattle.kz_types.specs.declared.bodies.QuotaRow.{QuotaRow}
 use Rattle.kz_types.specs.declared.bodies.ScramPair.{ScramPair}

@@ -25,8 +25,8 @@ less_other a b less e = let same : b <ℤ b = subst (λ x. x <ℤ b) e less in o
 is_before : (a b : ℤ) → a <ℤ b → int_le a b ≡ true
 is_before a b less = grind (arith, ints)
 
-is_behind : (a b : ℤ) → a <ℤ b → int_le b a ≡ false
-is_behind a b less = grind (arith, ints)
+is_above : (a b : ℤ) → a <ℤ b → int_le b a ≡ false
+is_above a b less = grind (arith, ints)
 
 is_before_chain : (a b c : ℤ) → a <ℤ b → int_le b c ≡ true → int_le a c ≡ true
 is_before_chain a b c less le = grind (arith, ints)
@@ -49,31 +49,31 @@ texts_differ a b h k ne e = ne (some_same a b (sym (number_read a h) ∙ ap numb
 goes_before : (row other : AssignmentRow) (rows : List AssignmentRow) → int_le row.number other.number ≡ true → place_row row (other ∷ rows) ≡ row ∷ other ∷ rows
 goes_before row other rows e i = if e i then row ∷ other ∷ rows else other ∷ place_row row rows
 
-goes_behind : (row other : AssignmentRow) (rows : List AssignmentRow) → int_le row.number other.number ≡ false → place_row row (other ∷ rows) ≡ other ∷ place_row row rows
-goes_behind row other rows e i = if e i then row ∷ other ∷ rows else other ∷ place_row row rows
+goes_after : (row other : AssignmentRow) (rows : List AssignmentRow) → int_le row.number other.number ≡ false → place_row row (other ∷ rows) ≡ other ∷ place_row row rows
+goes_after row other rows e i = if e i then row ∷ other ∷ rows else other ∷ place_row row rows
 
 both_placed : (a b : AssignmentRow) (rows : List AssignmentRow) → a.number <ℤ b.number → place_row a (place_row b rows) ≡ place_row b (place_row a rows)
-both_placed a b [] less = goes_before a b [] (is_before a.number b.number less) ∙ sym (goes_behind b a [] (is_behind a.number b.number less))
+both_placed a b [] less = goes_before a b [] (is_before a.number b.number less) ∙ sym (goes_after b a [] (is_above a.number b.number less))
 both_placed a b (c ∷ rows) less = by (int_le a.number c.number) (int_le b.number c.number) refl refl (both_placed a b rows less)
   where
     first : int_le a.number b.number ≡ true
     first = is_before a.number b.number less
 
     second : int_le b.number a.number ≡ false
-    second = is_behind a.number b.number less
+    second = is_above a.number b.number less
 
     by : (one other : Bool) → int_le a.number c.number ≡ one → int_le b.number c.number ≡ other → place_row a (place_row b rows) ≡ place_row b (place_row a rows)
         → place_row a (place_row b (c ∷ rows)) ≡ place_row b (place_row a (c ∷ rows))
     by true true e f rest =
         ap (place_row a) (goes_before b c rows f) ∙ goes_before a b (c ∷ rows) first
-        ∙ sym (ap (place_row b) (goes_before a c rows e) ∙ goes_behind b a (c ∷ rows) second ∙ ap (λ rs. a ∷ rs) (goes_before b c rows f))
+        ∙ sym (ap (place_row b) (goes_before a c rows e) ∙ goes_after b a (c ∷ rows) second ∙ ap (λ rs. a ∷ rs) (goes_before b c rows f))
     by true false e f rest =
-        ap (place_row a) (goes_behind b c rows f) ∙ goes_before a c (place_row b rows) e
-        ∙ sym (ap (place_row b) (goes_before a c rows e) ∙ goes_behind b a (c ∷ rows) second ∙ ap (λ rs. a ∷ rs) (goes_behind b c rows f))
+        ap (place_row a) (goes_after b c rows f) ∙ goes_before a c (place_row b rows) e
+        ∙ sym (ap (place_row b) (goes_before a c rows e) ∙ goes_after b a (c ∷ rows) second ∙ ap (λ rs. a ∷ rs) (goes_after b c rows f))
     by false true e f rest = let le = is_before_chain a.number b.number c.number less f in absurd (cc)
     by false false e f rest =
-        ap (place_row a) (goes_behind b c rows f) ∙ goes_behind a c (place_row b rows) e ∙ ap (λ rs. c ∷ rs) rest
-        ∙ sym (ap (place_row b) (goes_behind a c rows e) ∙ goes_behind b c (place_row a rows) f)
+        ap (place_row a) (goes_after b c rows f) ∙ goes_after a c (place_row b rows) e ∙ ap (λ rs. c ∷ rs) rest
+        ∙ sym (ap (place_row b) (goes_after a c rows e) ∙ goes_after b c (place_row a rows) f)
 
 two_cases : (a b : ℤ) → a ≢ b → {P : Type 0} → (a <ℤ b → P) → (b <ℤ a → P) → P
 two_cases a b ne {P} first second = by (int_le a b) refl

@@ -206,7 +206,7 @@ module _ (i : Image) (order : IsInOrder i) where
       let facts = unbroken i (meta.UserScramCredential r) fine in
       let valued = neither_holds (not (is_mechanism r.mechanism)) (int_lt r.iterations (pos 1)) facts.2 in
       with_users _ (scram_set_in_order r i.users order.users)
-      (scram_set_legal r i.users (holds_by (is_user r.name r.mechanism) facts.0) (holds_by (is_mechanism r.mechanism) valued.0) (not_less r.iterations (pos 1) valued.1) order.legal.users)
+      (scram_set_legal r i.users (holds_by (is_user r.name) facts.0) (holds_by (is_mechanism r.mechanism) valued.0) (not_less r.iterations (pos 1) valued.1) order.legal.users)
   kept epoch (meta.ClientQuota r) fine =
       let named = quota_unbroken i r fine in
       record {

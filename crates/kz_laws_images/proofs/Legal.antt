@@ -274,7 +274,7 @@ found_scrams name xs (Some u) e legal =
 scrams_legal : (name : List ℕ) (ss : List ScramPair) (xs : List ScramEntry) → All (IsScramOf name) ss → All IsScramEntry xs → All IsScramEntry (with_scrams name ss xs)
 scrams_legal name ss xs h legal = changed_all users_hold IsScramEntry name ss xs (λ some. h) legal
 
-pub scram_set_legal : (r : UserScramCredentialRecord) (xs : List ScramEntry) → is_user r.name r.mechanism ≡ true → is_mechanism r.mechanism ≡ true → int_le (pos 1) r.iterations ≡ true → All IsScramEntry xs → All IsScramEntry (scram_set r xs)
+pub scram_set_legal : (r : UserScramCredentialRecord) (xs : List ScramEntry) → is_user r.name ≡ true → is_mechanism r.mechanism ≡ true → int_le (pos 1) r.iterations ≡ true → All IsScramEntry xs → All IsScramEntry (scram_set r xs)
 scram_set_legal r xs named by_one iterated legal =
     scrams_legal r.name _ xs
     (All-put (IsScramOf r.name) int_cmp mechanism_of_pair (record { mechanism = r.mechanism; value = scram_row r }) (scrams_at r.name xs) (named, by_one, iterated) (found_scrams r.name xs _ refl legal)) legal

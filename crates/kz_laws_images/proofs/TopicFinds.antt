@@ -68,9 +68,9 @@ one_of_id (x ∷ xs) t u apart has too e = elim (Contains-cons_cases x xs t has)
     | inl same ↦ sym is ∙ same
     | inr later ↦ absurd (first_apart x xs u apart later (ap topic_id is ∙ e))
   ]
-  | inr behind ↦ elim (Contains-cons_cases x xs u too) [
-    | inl same ↦ absurd (first_apart x xs t apart behind (ap topic_id same ∙ sym e))
-    | inr later ↦ one_of_id xs t u (rest_apart x xs apart) behind later e
+  | inr after ↦ elim (Contains-cons_cases x xs u too) [
+    | inl same ↦ absurd (first_apart x xs t apart after (ap topic_id same ∙ sym e))
+    | inr later ↦ one_of_id xs t u (rest_apart x xs apart) after later e
   ]
 ]
 

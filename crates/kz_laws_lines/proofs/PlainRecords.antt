@@ -4,8 +4,9 @@ use Rattle.std.specs.Prelude.{map}
 use Rattle.json.proofs.Printed.Utf8.{are_ascii}
 use Rattle.serde_json.specs.Data.{array, Members}
 use Rattle.serde_json.specs.View.{items_of}
-use Rattle.kz_types.specs.Quotas.{is_quota, quota_text}
-use Rattle.kz_types.proofs.QuotaTexts.{quota_is_text}
+use Rattle.kz_types.specs.Quotas.{is_quota}
+use Rattle.kz_spec_quotas.specs.Quotas.{quota_text}
+use Rattle.kz_laws_quotas.proofs.QuotaTexts.{quota_is_text}
 use Rattle.kz_types.specs.declared.row.QuotaValue.{QuotaValue}
 use Rattle.kz_types.specs.declared.record.Endpoint.{Endpoint}
 use Rattle.kz_types.specs.declared.record.Feature.{Feature}

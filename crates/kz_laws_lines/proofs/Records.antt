@@ -4,8 +4,9 @@ use Rattle.std.specs.Ordering.{int_eq}
 use Rattle.std.proofs.lemmas.Bool.Decides.{Decides-int_eq}
 use Rattle.serde_json.specs.Data.{Members, object}
 use Rattle.kz_types.specs.QuotaEntities.{is_client_first, turned, user_first}
-use Rattle.kz_types.specs.Quotas.{is_quota, quota_text}
-use Rattle.kz_types.proofs.QuotaTexts.{quota_restored}
+use Rattle.kz_types.specs.Quotas.{is_quota}
+use Rattle.kz_spec_quotas.specs.Quotas.{quota_text}
+use Rattle.kz_laws_quotas.proofs.QuotaTexts.{quota_restored}
 use Rattle.kz_types.specs.declared.id.Id.{Id}
 use Rattle.kz_types.specs.declared.record.Endpoint.{Endpoint}
 use Rattle.kz_types.specs.declared.record.Feature.{Feature}

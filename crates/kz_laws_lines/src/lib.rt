@@ -14,6 +14,13 @@ ghost use Rattle.kz_spec_lines.specs.WrittenRecords.{record_data};
 ghost use Rattle.kz_spec_lines.specs.Written.{op_data, written_event};
 ghost use Rattle.kz_laws_lines.specs.Writable.{IsRecord, IsOp, IsEvent};
 
+mod held;
+
+pub use held::{held_event_is_read, held_operation_is_read, held_record_is_read};
+
+#[cfg(test)]
+mod tests;
+
 /// A record is read as it was written, of each of the 17 kinds.
 pub fn record_is_read()
     ensures { (r : MetaRecord) → IsRecord r → record_of (record_data r) ≡ Some r }

@@ -38,25 +38,25 @@ rests_unchanged t new d u old = record {
 at_unchanged : (t new : Tree) (l : Log) (d : Driver) (x : Stage) → Unchanged t new → AtStage t l d x → AtStage new l d x
 at_unchanged t new l d stage.Uninitialized u at = tt
 at_unchanged t new l d stage.Inactive u at = tt
-at_unchanged t new l d stage.WaitForQuorum u at = tt
+at_unchanged t new l d stage.WaitForControllerQuorum u at = tt
 at_unchanged t new l d stage.WaitForBrokers u at = tt
-at_unchanged t new l d stage.CompareBrokers u at = tt
-at_unchanged t new l d stage.Look u at = tt
-at_unchanged t new l d (stage.Claim seen) u at = at
-at_unchanged t new l d (stage.ReadSource rows) u at = at
-at_unchanged t new l d (stage.Begin rows) u at = at
-at_unchanged t new l d (stage.Fill records) u at = at
-at_unchanged t new l d stage.ReadLog u at = at
-at_unchanged t new l d (stage.ReadArea target rows) u at = (at.0, λ c. let old = at.1 (was_current t new d.claim u c) in record { rest = old.rest; whole = u.rows ∙ old.whole })
-at_unchanged t new l d (stage.WriteAll target ops) u at = (
+at_unchanged t new l d stage.ListBrokers u at = tt
+at_unchanged t new l d stage.ReadControlZnodes u at = tt
+at_unchanged t new l d (stage.ClaimLeadership seen) u at = at
+at_unchanged t new l d (stage.ScanForMigration rows) u at = at
+at_unchanged t new l d (stage.BeginMigration rows) u at = at
+at_unchanged t new l d (stage.AppendRecords records) u at = at
+at_unchanged t new l d stage.ReadLogForResync u at = at
+at_unchanged t new l d (stage.ScanForResync target rows) u at = (at.0, λ c. let old = at.1 (was_current t new d.claim u c) in record { rest = old.rest; whole = u.rows ∙ old.whole })
+at_unchanged t new l d (stage.WriteResync target ops) u at = (
   at.0,
   λ c. record {
     remaining = (at.1 (was_current t new d.claim u c)).remaining ∙ ap (λ rows. diff (map rendered_row rows) (render (image_at l target.offset))) (sym u.rows);
   },
 )
-at_unchanged t new l d stage.InformBrokers u at = (at.0, λ c. rests_unchanged t new d u (at.1 (was_current t new d.claim u c)))
-at_unchanged t new l d stage.Rest u at = (at.0, λ c. rests_unchanged t new d u (at.1 (was_current t new d.claim u c)))
-at_unchanged t new l d (stage.WriteChange target ops) u at = (
+at_unchanged t new l d stage.KraftControllerToBrokerComm u at = (at.0, λ c. rests_unchanged t new d u (at.1 (was_current t new d.claim u c)))
+at_unchanged t new l d stage.DualWrite u at = (at.0, λ c. rests_unchanged t new d u (at.1 (was_current t new d.claim u c)))
+at_unchanged t new l d (stage.WriteDelta target ops) u at = (
   at.0,
   λ c. record {
     remaining = (at.1 (was_current t new d.claim u c)).remaining ∙ ap (λ rows. diff (map rendered_row rows) (render (image_at l target.offset))) (sym u.rows);
@@ -105,20 +105,20 @@ unclaimed s d free fine = no_claim (claim_version s.tree) (shown_in s.tree) d.ep
 at_unheld : (t new : Tree) (l : Log) (d : Driver) (x : Stage) → d.claim ≡ None → AtStage t l d x → AtStage new l d x
 at_unheld t new l d stage.Uninitialized none at = tt
 at_unheld t new l d stage.Inactive none at = tt
-at_unheld t new l d stage.WaitForQuorum none at = tt
+at_unheld t new l d stage.WaitForControllerQuorum none at = tt
 at_unheld t new l d stage.WaitForBrokers none at = tt
-at_unheld t new l d stage.CompareBrokers none at = tt
-at_unheld t new l d stage.Look none at = tt
-at_unheld t new l d (stage.Claim seen) none at = at
-at_unheld t new l d (stage.ReadSource rows) none at = at
-at_unheld t new l d (stage.Begin rows) none at = at
-at_unheld t new l d (stage.Fill records) none at = at
-at_unheld t new l d stage.ReadLog none at = at
-at_unheld t new l d (stage.ReadArea target rows) none at = (at.0, λ c. absurd (c.1 none))
-at_unheld t new l d (stage.WriteAll target ops) none at = (at.0, λ c. absurd (c.1 none))
-at_unheld t new l d stage.InformBrokers none at = absurd (at.0 none)
-at_unheld t new l d stage.Rest none at = absurd (at.0 none)
-at_unheld t new l d (stage.WriteChange target ops) none at = (at.0, λ c. absurd (c.1 none))
+at_unheld t new l d stage.ListBrokers none at = tt
+at_unheld t new l d stage.ReadControlZnodes none at = tt
+at_unheld t new l d (stage.ClaimLeadership seen) none at = at
+at_unheld t new l d (stage.ScanForMigration rows) none at = at
+at_unheld t new l d (stage.BeginMigration rows) none at = at
+at_unheld t new l d (stage.AppendRecords records) none at = at
+at_unheld t new l d stage.ReadLogForResync none at = at
+at_unheld t new l d (stage.ScanForResync target rows) none at = (at.0, λ c. absurd (c.1 none))
+at_unheld t new l d (stage.WriteResync target ops) none at = (at.0, λ c. absurd (c.1 none))
+at_unheld t new l d stage.KraftControllerToBrokerComm none at = absurd (at.0 none)
+at_unheld t new l d stage.DualWrite none at = absurd (at.0 none)
+at_unheld t new l d (stage.WriteDelta target ops) none at = (at.0, λ c. absurd (c.1 none))
 
 pub fine_unheld : (s : Shared) (new : Tree) (d : Driver) → d.claim ≡ None → Fine s d → Fine (record s { tree = new }) d
 fine_unheld s new d none fine = record {

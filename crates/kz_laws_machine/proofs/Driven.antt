@@ -22,6 +22,6 @@ turn_driven n s running now d time driven =
 pub world_driven : (w : World) (id : ℤ) (d : Driver) → Sound w → Alone w → driver_of id w.drivers ≡ Some d → Driven w.shared d
 world_driven w id d sound alone found = record { kept = sound.kept; fine = sound.each id d found; current = alone.current id d found }
 
-pub held_remain : (s : Shared) (d : Driver) (target : Recorded) (ops : List Op) → Driven s d → d.claim ≢ None → (d.stage ≡ stage.WriteAll target ops) ⊎ (d.stage ≡ stage.WriteChange target ops) → ops ≡ remaining_at s.tree s.log target.offset
+pub held_remain : (s : Shared) (d : Driver) (target : Recorded) (ops : List Op) → Driven s d → d.claim ≢ None → (d.stage ≡ stage.WriteResync target ops) ⊎ (d.stage ≡ stage.WriteDelta target ops) → ops ≡ remaining_at s.tree s.log target.offset
 held_remain s d target ops driven claimed (inl is) = ((subst (AtStage s.tree s.log d) is driven.fine.stage).1 (driven.current claimed)).remaining
 held_remain s d target ops driven claimed (inr is) = ((subst (AtStage s.tree s.log d) is driven.fine.stage).1 (driven.current claimed)).remaining

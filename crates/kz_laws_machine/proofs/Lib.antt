@@ -9,3 +9,7 @@ pub mod ClientEvents
 pub mod Lawful
 pub mod Driven
 pub mod Told
+pub mod Images
+pub mod Recording
+pub mod Writing
+pub mod Example

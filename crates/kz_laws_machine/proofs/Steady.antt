@@ -80,7 +80,7 @@ rests_in_step w id now new replies time lone made idle dual = by_refusal w id no
 
 -- ---- a run
 
-after_kept : (es : List Event) (w : World) → All IsLawful es → Lone w → Lone (after_events w es)
+pub after_kept : (es : List Event) (w : World) → All IsLawful es → Lone w → Lone (after_events w es)
 unfolding after_events
 after_kept [] w lawful lone = lone
 after_kept (e ∷ es) w lawful lone = after_kept es (next w e).0 (All-tail IsLawful e es lawful) (next_kept w e (All-head IsLawful e es lawful) lone)
@@ -89,15 +89,15 @@ lawful_before : (before rest : List Event) → All IsLawful (before ++ rest) →
 lawful_before [] rest all = All-nil IsLawful
 lawful_before (e ∷ es) rest all = All-cons IsLawful e es (All-head IsLawful e (es ++ rest) all) (lawful_before es rest (All-tail IsLawful e (es ++ rest) all))
 
-lawful_behind : (before rest : List Event) → All IsLawful (before ++ rest) → All IsLawful rest
-lawful_behind [] rest all = all
-lawful_behind (e ∷ es) rest all = lawful_behind es rest (All-tail IsLawful e (es ++ rest) all)
+lawful_after : (before rest : List Event) → All IsLawful (before ++ rest) → All IsLawful rest
+lawful_after [] rest all = all
+lawful_after (e ∷ es) rest all = lawful_after es rest (All-tail IsLawful e (es ++ rest) all)
 
 -- a turn among lawful events that comes to rest
 rest_of : (es : List Event) → All IsLawful es → (before after : List Event) (id now : ℤ) (new : World) (replies : List Reply) → es ≡ before ++ event.Turn id now ∷ after → ComesToRest (after_events empty_world before) new id now replies → RestKept new.shared
 rest_of es lawful before after id now new replies is rest =
     let all = subst (All IsLawful) is lawful in
-    rests_in_step (after_events empty_world before) id now new replies (All-head IsLawful (event.Turn id now) after (lawful_behind before (event.Turn id now ∷ after) all)).1
+    rests_in_step (after_events empty_world before) id now new replies (All-head IsLawful (event.Turn id now) after (lawful_after before (event.Turn id now ∷ after) all)).1
     (after_kept before empty_world (lawful_before before (event.Turn id now ∷ after) all) empty_lone)
     rest.turned rest.idle rest.dual
 

@@ -1,4 +1,5 @@
 -- Worlds with at most one driver, event by event.
+use Rattle.kz_types.specs.declared.limits.TheConstants.{MAX_CHANGE_RECORDS, MAX_EPOCH}
 use Rattle.kz_spec_stores.specs.Image.{is_migrated_state, Bad, first_bad}
 use Rattle.kz_laws_trees.specs.LogLaws.{IsPlain, IsUncommitted}
 use Rattle.std.proofs.Common.{◌≡◌, inl, inr, ℕ, ◌≤◌, nat_le, ℤ, pos, negsuc, ◌+ℤ◌, ◌≤ℤ◌, int_lt, Bool, true, false, not, ◌||◌, if◌then◌else◌, cond, List, [], ◌∷◌, ◌++◌, length, map, Option, Some, None, option_map, refl, sym, ap, ◌∙◌, subst, arith, All}
@@ -20,10 +21,10 @@ use Rattle.kz_types.specs.declared.fault.TreeFault.{TreeFault}
 use Rattle.kz_types.specs.declared.move_fault.MoveFault.{MoveFault}
 use Rattle.kz_spec_stores.specs.Tree.{Tree, multi, begin_session, end_session, area}
 use Rattle.kz_spec_znodes.specs.Difference.{diff}
-use Rattle.kz_spec_stores.specs.Log.{Log, empty_log, end_of, image_at, max_epoch, full_log, is_migrated_log, image_of, is_open_log}
+use Rattle.kz_spec_stores.specs.Log.{Log, empty_log, end_of, image_at, full_log, is_migrated_log, image_of, is_open_log}
 use Rattle.kz_spec_znodes.specs.Rendering.{render}
 use Rattle.kz_spec_machine.specs.Driver.{Shared, Driver, new_driver, elected_driver, is_one_of}
-use Rattle.kz_spec_machine.specs.Machine.{World, empty_world, running_ids, is_running, driver_of, with_driver, Turned, turn, work, decided, first_of, unless, over, full, running_refusal, leader_refusal, quorum_refusal, declared_world, start_refusal, started_world, election_records, next_epoch, elected_log, election_refusal, elected_world, election_answer, turn_result, max_changes, bad_record, change_refusal, changed_log, changed_world, registration, register_refusal, with_tree, moved_world, is_held_tree, client_refusal, client_world, unless_refused, next}
+use Rattle.kz_spec_machine.specs.Machine.{World, empty_world, running_ids, is_running, driver_of, with_driver, Turned, turn, work, decided, first_of, unless, over, full, running_refusal, leader_refusal, quorum_refusal, declared_world, start_refusal, started_world, election_records, next_epoch, elected_log, election_refusal, elected_world, election_answer, turn_result, bad_record, change_refusal, changed_log, changed_world, registration, register_refusal, with_tree, moved_world, is_held_tree, client_refusal, client_world, unless_refused, next}
 use Rattle.kz_spec_machine.specs.Sound.{IsId, IsTime, IsEpoch, IsEpochOrNone, TreeShape, LogShape, IsBatchEnd, Agreement, Kept, Aims, AtStage, Fine, IsLawful, IsSession, IsLawfulOp}
 use Rattle.kz_laws_trees.specs.TreeLaws.{Unchanged}
 use Rattle.kz_laws_trees.proofs.Sessions.{begin_leaves, end_leaves}
@@ -80,20 +81,20 @@ image_there s l d target grows within aim = grows.image target.offset (subst (λ
 at_grown : (s : Shared) (l : Log) (d : Driver) → Grows s.log l → d.view.position ≤ℤ end_of s.log → (x : _) → AtStage s.tree s.log d x → AtStage s.tree l d x
 at_grown s l d grows within stage.Uninitialized at = tt
 at_grown s l d grows within stage.Inactive at = tt
-at_grown s l d grows within stage.WaitForQuorum at = tt
+at_grown s l d grows within stage.WaitForControllerQuorum at = tt
 at_grown s l d grows within stage.WaitForBrokers at = tt
-at_grown s l d grows within stage.CompareBrokers at = tt
-at_grown s l d grows within stage.Look at = tt
-at_grown s l d grows within (stage.Claim seen) at = at
-at_grown s l d grows within (stage.ReadSource rows) at = at
-at_grown s l d grows within (stage.Begin rows) at = at
-at_grown s l d grows within (stage.Fill records) at = at
-at_grown s l d grows within stage.ReadLog at = grows.migrated at
-at_grown s l d grows within (stage.ReadArea target rows) at = at
-at_grown s l d grows within (stage.WriteAll target ops) at = (at.0, λ c. record { remaining = (at.1 c).remaining ∙ ap (λ i. diff (area s.tree) (render i)) (sym (image_there s l d target grows within at.0)) })
-at_grown s l d grows within stage.InformBrokers at = (at.0, λ c. let old = at.1 c in record { closed = old.closed; same = old.same; view = old.view; migrated = old.migrated })
-at_grown s l d grows within stage.Rest at = (at.0, λ c. let old = at.1 c in record { closed = old.closed; same = old.same; view = old.view; migrated = old.migrated })
-at_grown s l d grows within (stage.WriteChange target ops) at = (at.0, λ c. record { remaining = (at.1 c).remaining ∙ ap (λ i. diff (area s.tree) (render i)) (sym (image_there s l d target grows within at.0)) })
+at_grown s l d grows within stage.ListBrokers at = tt
+at_grown s l d grows within stage.ReadControlZnodes at = tt
+at_grown s l d grows within (stage.ClaimLeadership seen) at = at
+at_grown s l d grows within (stage.ScanForMigration rows) at = at
+at_grown s l d grows within (stage.BeginMigration rows) at = at
+at_grown s l d grows within (stage.AppendRecords records) at = at
+at_grown s l d grows within stage.ReadLogForResync at = grows.migrated at
+at_grown s l d grows within (stage.ScanForResync target rows) at = at
+at_grown s l d grows within (stage.WriteResync target ops) at = (at.0, λ c. record { remaining = (at.1 c).remaining ∙ ap (λ i. diff (area s.tree) (render i)) (sym (image_there s l d target grows within at.0)) })
+at_grown s l d grows within stage.KraftControllerToBrokerComm at = (at.0, λ c. let old = at.1 c in record { closed = old.closed; same = old.same; view = old.view; migrated = old.migrated })
+at_grown s l d grows within stage.DualWrite at = (at.0, λ c. let old = at.1 c in record { closed = old.closed; same = old.same; view = old.view; migrated = old.migrated })
+at_grown s l d grows within (stage.WriteDelta target ops) at = (at.0, λ c. record { remaining = (at.1 c).remaining ∙ ap (λ i. diff (area s.tree) (render i)) (sym (image_there s l d target grows within at.0)) })
 
 fine_grown : (s : Shared) (l : Log) (d : Driver) → Kept s → Grows s.log l → Fine s d → Fine (record s { log = l }) d
 fine_grown s l d kept grows fine = record {
@@ -107,7 +108,7 @@ fine_grown s l d kept grows fine = record {
 
 -- ---- refusals
 
-decided_kept : (P : World → Type 0) (w : World) (refusal : Option Answer) (new : World) (reply : Answer) → P w → (refusal ≡ None → P new) → P (decided w refusal new reply).0
+pub decided_kept : (P : World → Type 0) (w : World) (refusal : Option Answer) (new : World) (reply : Answer) → P w → (refusal ≡ None → P new) → P (decided w refusal new reply).0
 decided_kept P w (Some a) new reply old made = old
 decided_kept P w None new reply old made = made refl
 
@@ -181,17 +182,17 @@ start_kept w id is lone none =
 less_by : (a b : ℤ) → int_lt a b ≡ true → (a +ℤ pos 1) ≤ℤ b
 less_by a b is = grind (arith, ints)
 
-next_range : (e : ℤ) → IsEpochOrNone e → int_lt e max_epoch ≡ true → IsEpoch (e +ℤ pos 1)
-next_range e range less = record { least = let a = range.least in omega (arith, ints); most = less_by e max_epoch less }
+next_range : (e : ℤ) → IsEpochOrNone e → int_lt e MAX_EPOCH ≡ true → IsEpoch (e +ℤ pos 1)
+next_range e range less = record { least = let a = range.least in omega (arith, ints); most = less_by e MAX_EPOCH less }
 
-no_refusal : (w : World) (id : ℤ) → election_refusal w id ≡ None → (int_lt w.shared.log.epoch max_epoch ≡ true) × (full_log w.shared.log (election_records w.shared.log) ≡ None)
+no_refusal : (w : World) (id : ℤ) → election_refusal w id ≡ None → (int_lt w.shared.log.epoch MAX_EPOCH ≡ true) × (full_log w.shared.log (election_records w.shared.log) ≡ None)
 no_refusal w id none =
     let l = w.shared.log in
-    let first = first_none (running_refusal w id) (first_of (unless (int_lt l.epoch max_epoch) (over 15)) (full l (election_records l))) none in
-    let both = first_none (unless (int_lt l.epoch max_epoch) (over 15)) (full l (election_records l)) first.1 in
-    (unless_none (int_lt l.epoch max_epoch) (over 15) both.0, full_none l (election_records l) (full_log l (election_records l)) refl both.1)
+    let first = first_none (running_refusal w id) (first_of (unless (int_lt l.epoch MAX_EPOCH) (over 15)) (full l (election_records l))) none in
+    let both = first_none (unless (int_lt l.epoch MAX_EPOCH) (over 15)) (full l (election_records l)) first.1 in
+    (unless_none (int_lt l.epoch MAX_EPOCH) (over 15) both.0, full_none l (election_records l) (full_log l (election_records l)) refl both.1)
 
-elected_shape : (l : Log) (now : ℤ) → LogShape l → int_lt l.epoch max_epoch ≡ true → full_log l (election_records l) ≡ None → LogShape (elected_log l now)
+elected_shape : (l : Log) (now : ℤ) → LogShape l → int_lt l.epoch MAX_EPOCH ≡ true → full_log l (election_records l) ≡ None → LogShape (elected_log l now)
 elected_shape l now shape less room =
     let range = next_range l.epoch shape.epoch less in
     batch_shape l (next_epoch l) now (election_records l) shape (record { least = let a = range.least in omega (arith, ints); most = range.most }) room
@@ -231,7 +232,7 @@ election_was l now shape is = uncommitted_was l (next_epoch l) now (election_rec
 election_grows : (l : Log) (now : ℤ) → LogShape l → Grows l (elected_log l now)
 election_grows l now shape = grows_batch l (next_epoch l) now (election_records l) (omega (arith, ints)) (election_stays l now shape)
 
-elected_one : (s : Shared) (now : ℤ) (d : Driver) (b : Bool) → Kept s → int_lt s.log.epoch max_epoch ≡ true → Own s d
+elected_one : (s : Shared) (now : ℤ) (d : Driver) (b : Bool) → Kept s → int_lt s.log.epoch MAX_EPOCH ≡ true → Own s d
     → Own (record s { log = elected_log s.log now }) (if b then elected_driver (next_epoch s.log) d else d)
 elected_one s now d true kept less own =
     let l = elected_log s.log now in
@@ -247,7 +248,7 @@ elected_one s now d false kept less own = record {
   current = own.current;
 }
 
-elected_all : (s : Shared) (now id : ℤ) (ds : List Driver) → Kept s → int_lt s.log.epoch max_epoch ≡ true → OneOf s ds
+elected_all : (s : Shared) (now id : ℤ) (ds : List Driver) → Kept s → int_lt s.log.epoch MAX_EPOCH ≡ true → OneOf s ds
     → OneOf (record s { log = elected_log s.log now }) (map (λ (d : Driver). if int_eq d.id id then elected_driver (next_epoch s.log) d else d) ds)
 elected_all s now id [] kept less one = tt
 elected_all s now id (d ∷ []) kept less one = elected_one s now d (int_eq d.id id) kept less one
@@ -273,7 +274,7 @@ change_room : (w : World) (id : ℤ) (records : List MetaRecord) → change_refu
 change_room w id records none =
     let a = first_none (leader_refusal w id) _ none in
     let b = first_none (unless (is_migrated_log w.shared.log) answer.NotMigrated) _ a.1 in
-    let c = first_none (unless (nat_le (length records) max_changes) (over 8)) _ b.1 in
+    let c = first_none (unless (nat_le (length records) MAX_CHANGE_RECORDS) (over 8)) _ b.1 in
     let d = first_none (bad_record (first_bad 0 records (image_of w.shared.log))) _ c.1 in
     let e = first_none _ (full w.shared.log records) d.1 in
     full_none w.shared.log records (full_log w.shared.log records) refl e.1
@@ -299,7 +300,7 @@ change_plain w id records none =
     let bad = first_bad 0 records (image_of w.shared.log) in
     let a = first_none (leader_refusal w id) _ none in
     let b = first_none (unless (is_migrated_log w.shared.log) answer.NotMigrated) _ a.1 in
-    let c = first_none (unless (nat_le (length records) max_changes) (over 8)) _ b.1 in
+    let c = first_none (unless (nat_le (length records) MAX_CHANGE_RECORDS) (over 8)) _ b.1 in
     let d = first_none (bad_record bad) _ c.1 in
     asked_plain 0 records (image_of w.shared.log) (bad_none bad d.0)
 
@@ -360,7 +361,7 @@ turn_kept : (w : World) (id now : ℤ) (m : Option Driver) → IsTime now → Lo
 turn_kept w id now None time lone is = lone
 turn_kept w id now (Some d) time lone is = turned_world w (turn (work w.shared d) w.shared (running_ids w.drivers) now d) id d lone is (turn_of w id now d time lone is)
 
-unless_kept : (P : World → Type 0) (w : World) (refusal : Option Answer) (rest : World × Answer) → P w → P rest.0 → P (unless_refused w refusal rest).0
+pub unless_kept : (P : World → Type 0) (w : World) (refusal : Option Answer) (rest : World × Answer) → P w → P rest.0 → P (unless_refused w refusal rest).0
 unless_kept P w (Some a) rest old made = old
 unless_kept P w None rest old made = made
 
@@ -412,7 +413,7 @@ client_kept : (w : World) (ops : List Op) (r : Result Tree TreeFault) → multi 
 client_kept w ops (Ok t) is lawful lone none = client_by w t ops (is_held_tree w.shared.tree) refl is none lawful lone
 client_kept w ops (Err f) is lawful lone none = lone
 
-unless_made : (P : World → Type 0) (w : World) (refusal : Option Answer) (rest : World × Answer) → P w → (refusal ≡ None → P rest.0) → P (unless_refused w refusal rest).0
+pub unless_made : (P : World → Type 0) (w : World) (refusal : Option Answer) (rest : World × Answer) → P w → (refusal ≡ None → P rest.0) → P (unless_refused w refusal rest).0
 unless_made P w (Some a) rest old made = old
 unless_made P w None rest old made = made refl
 

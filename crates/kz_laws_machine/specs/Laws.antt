@@ -1,6 +1,9 @@
 -- What is true of every run of the machine.
 use Rattle.kz_types.specs.declared.machine.Reply.{Reply}
-use Rattle.std.specs.Prelude.{◌≡◌, ◌≢◌, ◌⊎◌, ℕ, ℤ, true, false, List, Some, None, All, ⊤, ◌∷◌, ◌++◌}
+use Rattle.kz_types.specs.declared.machine.Reply.TheVariants as reply
+use Rattle.kz_types.specs.declared.fault.TreeFault.TheVariants.{Refused}
+use Rattle.kz_types.specs.declared.driver.Stage.{Stage}
+use Rattle.std.specs.Prelude.{◌≡◌, ◌≢◌, ◌⊎◌, ℕ, ℤ, true, false, List, Some, None, Err, All, ⊤, ◌∷◌, ◌++◌}
 use Rattle.kz_types.specs.declared.tree.Op.{Op}
 use Rattle.kz_types.specs.declared.driver.Stage.TheVariants as stage
 use Rattle.kz_types.specs.declared.machine.Recorded.{Recorded}
@@ -8,13 +11,14 @@ use Rattle.kz_types.specs.declared.machine.Verdict.TheVariants.{Closed}
 use Rattle.kz_types.specs.declared.machine.Event.{Event}
 use Rattle.kz_types.specs.declared.machine.Event.TheVariants as event
 use Rattle.kz_types.specs.declared.machine.Answer.TheVariants as answer
-use Rattle.kz_spec_stores.specs.Tree.{recorded, unclosed}
+use Rattle.kz_spec_stores.specs.Tree.{multi, recorded, unclosed}
 use Rattle.kz_spec_stores.specs.Log.{is_migrated_log, end_of}
-use Rattle.kz_spec_machine.specs.Driver.{Shared, Driver, remaining_at, step}
-use Rattle.kz_spec_machine.specs.Machine.{World, empty_world, driver_of, turn, is_held_tree, next, after_events}
+use Rattle.kz_spec_machine.specs.Driver.{Shared, Driver, remaining_at, write, asked, step}
+use Rattle.kz_spec_machine.specs.Machine.{World, empty_world, running_ids, driver_of, turn, is_held_tree, next, after_events}
 use Rattle.kz_spec_machine.specs.Verdicts.{verdict}
 use Rattle.kz_spec_machine.specs.Sound.{IsTime, Kept, IsCurrent, Fine, Sound, Alone, IsLawful}
 use Rattle.kz_laws_trees.specs.TreeLaws.{Unchanged}
+use Rattle.kz_laws_trees.specs.RefusalLaws.{HasBases, HeldHasMigration}
 use Rattle.kz_spec_runs.specs.InStep.{InStep, StaysInStep, script_events, ComesToRest}
 
 -- The events of a script are lawful.
@@ -39,7 +43,7 @@ OneIsDriven = (w : World) (id : ℤ) (d : Driver) → Sound w → Alone w → dr
 
 -- The operations that such a driver holds are those that remain to be written.
 abbrev pub HeldOperationsRemain : Type 0
-HeldOperationsRemain = (s : Shared) (d : Driver) (target : Recorded) (ops : List Op) → Driven s d → d.claim ≢ None → (d.stage ≡ stage.WriteAll target ops) ⊎ (d.stage ≡ stage.WriteChange target ops)
+HeldOperationsRemain = (s : Shared) (d : Driver) (target : Recorded) (ops : List Op) → Driven s d → d.claim ≢ None → (d.stage ≡ stage.WriteResync target ops) ⊎ (d.stage ≡ stage.WriteDelta target ops)
     → ops ≡ remaining_at s.tree s.log target.offset
 
 -- Where the tree is closed and the log migrated, a check tells so, with the offset that is recorded.
@@ -90,3 +94,53 @@ ClientsKeepStep = (w : World) (e : Event) → IsOfClient e → Sound w → InSte
 -- While none holds the tree, no driver has a claim.
 abbrev pub UnheldIsUnclaimed : Type 0
 UnheldIsUnclaimed = (w : World) (id : ℤ) (d : Driver) → Sound w → is_held_tree w.shared.tree ≡ false → driver_of id w.drivers ≡ Some d → d.claim ≡ None
+
+-- ---- writes
+
+-- What is shared and one driver, at a moment of a run: after these events from the empty world, and so many steps of a turn.
+pub record IsReached (s : Shared) (d : Driver) : Type 0 where
+  pub events : List Event
+  pub lawful : All IsLawful events
+  pub id : ℤ
+  pub before : Driver
+  pub found : driver_of id (after_events empty_world events).drivers ≡ Some before
+  pub now : ℤ
+  pub time : IsTime now
+  pub steps : ℕ
+  pub shared : (turn steps (after_events empty_world events).shared (running_ids (after_events empty_world events).drivers) now before).shared ≡ s
+  pub driver : (turn steps (after_events empty_world events).shared (running_ids (after_events empty_world events).drivers) now before).driver ≡ d
+
+-- a stage at which a driver writes
+abbrev pub IsWriting : Stage → Type 0
+IsWriting (stage.WriteResync target ops) = ⊤
+IsWriting (stage.WriteDelta target ops) = ⊤
+IsWriting x = ⊥
+
+-- A driver that writes, under a claim that still stands, on a tree where the base znodes stand.
+pub record MayWrite (s : Shared) (d : Driver) : Type 0 where
+  pub bases : HasBases s.tree
+  pub claim : IsCurrent s.tree d.claim
+  pub stage : IsWriting d.stage
+
+-- There is such a moment.
+abbrev pub WritesAreReached : Type 0
+WritesAreReached = (s : Shared) × (d : Driver) × (IsReached s d) × (MayWrite s d)
+
+-- Its multi is refused with no code. It may pass a limit.
+abbrev pub WritesAreTaken : Type 0
+WritesAreTaken = (s : Shared) (d : Driver) → IsReached s d → MayWrite s d → (now : ℤ) (ops : List Op) → asked s now d d.stage ≡ write ops → (index : ℕ) (code : ℤ) → multi s.tree ops ≢ Err (Refused index code)
+
+-- operations are written, the offset is recorded, or a limit would be passed
+abbrev pub IsTaken : Reply → Type 0
+IsTaken (reply.Wrote ops) = ⊤
+IsTaken (reply.Recorded offset) = ⊤
+IsTaken (reply.Limit path) = ⊤
+IsTaken r = ⊥
+
+-- So the step replies that it was taken.
+abbrev pub WritesReplyTaken : Type 0
+WritesReplyTaken = (s : Shared) (d : Driver) → IsReached s d → MayWrite s d → (running : List ℤ) (now : ℤ) → IsTaken (step s running now d).reply
+
+-- While a KRaft controller holds the tree, `/migration` is there.
+abbrev pub HeldTreesRecord : Type 0
+HeldTreesRecord = (s : Shared) (d : Driver) → IsReached s d → HeldHasMigration s.tree

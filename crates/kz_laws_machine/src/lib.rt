@@ -3,7 +3,7 @@
 //! A law is the contract of a function that does nothing.
 #![tactic(auto)]
 
-ghost use Rattle.kz_laws_machine.specs.Laws.{ScriptsAreLawful, StepsKeepDriven, TurnsKeepDriven, OneIsDriven, HeldOperationsRemain, ClosedIsTold, EventsKeepSound, RunsAreSound, RunsStayInStep, RestIsTold, ScriptsStayInStep, ClientsLeaveHeld, ClientsKeepStep, UnheldIsUnclaimed};
+ghost use Rattle.kz_laws_machine.specs.Laws.{ScriptsAreLawful, StepsKeepDriven, TurnsKeepDriven, OneIsDriven, HeldOperationsRemain, ClosedIsTold, EventsKeepSound, RunsAreSound, RunsStayInStep, RestIsTold, ScriptsStayInStep, ClientsLeaveHeld, ClientsKeepStep, UnheldIsUnclaimed, WritesAreReached, WritesAreTaken, WritesReplyTaken, HeldTreesRecord};
 
 /// The events that the lines of a script give are lawful.
 pub fn scripts_are_lawful()
@@ -47,4 +47,14 @@ pub fn clients_keep_step()
     ensures held { ClientsLeaveHeld }
     ensures step { ClientsKeepStep }
     ensures unclaimed { UnheldIsUnclaimed }
+{}
+
+/// At every moment of a run, a driver's write, under a claim that still stands, on a tree where the base znodes stand, is refused
+/// with no code: operations are written, the offset is recorded, or a limit would be passed. There is such a moment. And while a
+/// KRaft controller holds the tree, `/migration` is there.
+pub fn writes_are_taken()
+    ensures reached { WritesAreReached }
+    ensures code { WritesAreTaken }
+    ensures reply { WritesReplyTaken }
+    ensures migration { HeldTreesRecord }
 {}

@@ -3,3 +3,4 @@ pub mod Parts
 pub mod Keys
 pub mod Legal
 pub mod Texts
+pub mod FaultPlaces

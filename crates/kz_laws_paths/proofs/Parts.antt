@@ -30,7 +30,7 @@ RefusesSlash test = test 47 ≡ false
 pub passed_has_none : (test : ℕ → Bool) → RefusesSlash test → (bs : List ℕ) → list_all test bs ≡ true → HasNoSlash bs
 passed_has_none test refuses bs h k d lt = ne_eqb _ 47 (λ same. false≢true (sym refuses ∙ ap test (sym same) ∙ AllPass-from_list_all test bs h k d lt))
 
--- the parts of what stands before the first slash and of what stands behind it
+-- the parts of what stands before the first slash and of what stands after it
 pub split_part : (part rest : List ℕ) → HasNoSlash part → slice_split (λ b. b == 47) (part ++ 47 ∷ rest) ≡ part ∷ slice_split (λ b. b == 47) rest
 split_part part rest none = slice_split_at (λ b. b == 47) part 47 rest none refl
 

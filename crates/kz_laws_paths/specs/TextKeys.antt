@@ -1,6 +1,7 @@
 -- The keys of which the laws of paths speak.
 use Rattle.std.specs.Prelude.{◌≡◌, ⊤, ℕ, true, ℤ, pos, ◌≤ℤ◌, List, IfSome}
 use Rattle.std.specs.Str.{is_utf8}
+use Rattle.kz_types.specs.declared.limits.TheConstants.{MAX_NUMBER}
 use Rattle.kz_types.specs.declared.key.EntityKey.{EntityKey}
 use Rattle.kz_types.specs.declared.key.EntityKey.TheVariants.{Topic, Partition, TopicConfig, BrokerConfig, Client, User, UserClient, Ip, Acl, Producer}
 
@@ -10,7 +11,7 @@ IsText name = is_utf8 name ≡ true
 
 -- a number that isn't too large for a canonical decimal
 abbrev pub IsSmall : ℤ → Type 0
-IsSmall n = n ≤ℤ pos 2147483647
+IsSmall n = n ≤ℤ pos MAX_NUMBER
 
 -- a key whose names are texts and whose numbers are small, as those of the code are
 abbrev pub HasTexts : EntityKey → Type 0

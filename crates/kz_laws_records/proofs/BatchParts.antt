@@ -7,7 +7,7 @@ use Rattle.kz_types.specs.declared.record.BatchFault.TheVariants.{BadCount}
 use Rattle.kz_spec_values.specs.Fields.{Reading, Format, ◌>>=◌, front, uvarint, uvarlong, varint, varlong, zigzag, unzigzag}
 use Rattle.kz_spec_values.specs.Forms.{◌⊗◌}
 use Rattle.kz_spec_values.specs.Batches.{countable, part, zero_at, no_attributes, measured_at, measured_or_null, not_null, measured, header, headers_at, headers, Content, content, whole, sized_at, entry}
-use Rattle.kz_laws_records.proofs.Exact.{AreSmall, came, ok_same, Takes, taken_then, Comes, Exact, small_front, small_behind, pair_exact, mapped_exact, Turns}
+use Rattle.kz_laws_records.proofs.Exact.{AreSmall, came, ok_same, Takes, taken_then, Comes, Exact, small_front, small_after, pair_exact, mapped_exact, Turns}
 use Rattle.kz_laws_records.proofs.Basics.{passed_true, cond_true, cond_false, front_takes, front_exact}
 use Rattle.kz_laws_records.proofs.Counted.{groups_takes, groups_given, uvarint_exact}
 use Rattle.kz_laws_records.proofs.Lists.{items_takes, items_given}
@@ -92,27 +92,27 @@ measured_taken (Some x) bytes rest at s =
     (ap countable (varint_exact.taken (pos (length x)) s.0 (x ++ rest) at s.2))
     (ap (λ m. countable m >>= λ y. Ok (Some y.0, y.1)) (front_takes (length x) x rest (at + length s.0) refl)))
 
-measured_behind : (z : ℤ) (value : Option (List ℕ)) (left : List ℕ) (mid next : Reading)
+measured_after : (z : ℤ) (value : Option (List ℕ)) (left : List ℕ) (mid next : Reading)
     → AreSmall left → Comes varint z left mid.left → measured_at (z, mid) ≡ Ok (value, next) → Comes measured_or_null value left next.left
-measured_behind (pos n) value left mid next small one h =
+measured_after (pos n) value left mid next small one h =
     let c = came (countable ((front n).read mid)) (λ x. Ok (Some x.0, x.1)) (value, next) h in
-    let two = (front_exact n).given c.value.0 mid c.value.1 (small_behind varint (pos n) left mid.left one small) (countable_same ((front n).read mid) c.value c.first) in
+    let two = (front_exact n).given c.value.0 mid c.value.1 (small_after varint (pos n) left mid.left one small) (countable_same ((front n).read mid) c.value c.first) in
     subst (λ q. Comes measured_or_null q.0 left q.1.left) (ok_same (Some c.value.0, c.value.1) (value, next) c.second)
     (record {
       bytes = one.bytes ++ two.bytes;
       split = one.split ∙ ap (λ b. one.bytes ++ b) two.split ∙ sym (append_assoc one.bytes two.bytes c.value.1.left);
       spelled = (one.bytes, ap (λ b. one.bytes ++ b) two.spelled.1, subst (λ k. varint.spells (pos k) one.bytes) (sym two.spelled.0) one.spelled);
     })
-measured_behind (negsuc zero) value left mid next small one h =
+measured_after (negsuc zero) value left mid next small one h =
     subst (λ q. Comes measured_or_null q.0 left q.1.left) (ok_same (None, mid) (value, next) h)
     (record { bytes = one.bytes; split = one.split; spelled = one.spelled })
-measured_behind (negsuc (suc n)) value left mid next small one h = absurd (cc)
+measured_after (negsuc (suc n)) value left mid next small one h = absurd (cc)
 
 measured_given : (value : Option (List ℕ)) (r next : Reading) → AreSmall r.left → measured_or_null.read r ≡ Ok (value, next) → Comes measured_or_null value r.left next.left
 measured_given value r next small h =
     let c = came (countable (varint.read r)) measured_at (value, next) h in
     let one = varint_exact.given c.value.0 r c.value.1 small (countable_same (varint.read r) c.value c.first) in
-    measured_behind c.value.0 value r.left c.value.1 next small one c.second
+    measured_after c.value.0 value r.left c.value.1 next small one c.second
 
 pub measured_or_null_exact : Exact measured_or_null
 measured_or_null_exact = record { taken = measured_taken; given = measured_given }
@@ -152,22 +152,22 @@ headers_taken hs bytes rest at s =
     (ap countable (varint_exact.taken (pos (length hs)) s.0 (s.1 ++ rest) at s.3))
     (items_takes header header_exact hs s.1 rest (at + length s.0) s.4))
 
-headers_behind : (z : ℤ) (hs : List Header) (left : List ℕ) (mid next : Reading)
+headers_after : (z : ℤ) (hs : List Header) (left : List ℕ) (mid next : Reading)
     → AreSmall left → Comes varint z left mid.left → headers_at (z, mid) ≡ Ok (hs, next) → Comes headers hs left next.left
-headers_behind (pos n) hs left mid next small one h =
-    let more = items_given header header_exact n hs mid next (small_behind varint (pos n) left mid.left one small) h in
+headers_after (pos n) hs left mid next small one h =
+    let more = items_given header header_exact n hs mid next (small_after varint (pos n) left mid.left one small) h in
     record {
       bytes = one.bytes ++ more.bytes;
       split = one.split ∙ ap (λ b. one.bytes ++ b) more.split ∙ sym (append_assoc one.bytes more.bytes next.left);
       spelled = (one.bytes, more.bytes, refl, subst (λ k. varint.spells (pos k) one.bytes) (sym more.count) one.spelled, more.each);
     }
-headers_behind (negsuc n) hs left mid next small one h = absurd (cc)
+headers_after (negsuc n) hs left mid next small one h = absurd (cc)
 
 headers_given : (hs : List Header) (r next : Reading) → AreSmall r.left → headers.read r ≡ Ok (hs, next) → Comes headers hs r.left next.left
 headers_given hs r next small h =
     let c = came (countable (varint.read r)) headers_at (hs, next) h in
     let one = varint_exact.given c.value.0 r c.value.1 small (countable_same (varint.read r) c.value c.first) in
-    headers_behind c.value.0 hs r.left c.value.1 next small one c.second
+    headers_after c.value.0 hs r.left c.value.1 next small one c.second
 
 headers_exact : Exact headers
 headers_exact = record { taken = headers_taken; given = headers_given }
@@ -213,11 +213,11 @@ entry_taken c bytes rest at s =
     (ap (λ m. countable m >>= whole (at + length s.0)) (front_takes (length s.1) s.1 rest (at + length s.0) refl)
     ∙ whole_takes c s.1 (at + length s.0) (record { at = (at + length s.0) + length s.1; left = rest }) s.4))
 
-entry_behind : (z : ℤ) (c : Content) (left : List ℕ) (mid next : Reading)
+entry_after : (z : ℤ) (c : Content) (left : List ℕ) (mid next : Reading)
     → AreSmall left → Comes varint z left mid.left → sized_at (z, mid) ≡ Ok (c, next) → Comes entry c left next.left
-entry_behind (pos n) c left mid next small one h =
+entry_after (pos n) c left mid next small one h =
     let d = came (countable ((front n).read mid)) (whole mid.at) (c, next) h in
-    let later = small_behind varint (pos n) left mid.left one small in
+    let later = small_after varint (pos n) left mid.left one small in
     let two = (front_exact n).given d.value.0 mid d.value.1 later (countable_same ((front n).read mid) d.value d.first) in
     let body : AreSmall d.value.0 = small_front d.value.0 d.value.1.left (subst AreSmall (two.split ∙ ap (λ b. b ++ d.value.1.left) two.spelled.1) later) in
     let three = whole_given c d.value.0 mid.at d.value.1 next body d.second in
@@ -227,13 +227,13 @@ entry_behind (pos n) c left mid next small one h =
       split = one.split ∙ ap (λ b. one.bytes ++ b) (two.split ∙ ap (λ b. b ++ d.value.1.left) two.spelled.1) ∙ sym (append_assoc one.bytes d.value.0 d.value.1.left);
       spelled = (one.bytes, d.value.0, refl, subst (λ k. varint.spells (pos k) one.bytes) (sym two.spelled.0) one.spelled, three.0);
     })
-entry_behind (negsuc n) c left mid next small one h = absurd (cc)
+entry_after (negsuc n) c left mid next small one h = absurd (cc)
 
 entry_given : (c : Content) (r next : Reading) → AreSmall r.left → entry.read r ≡ Ok (c, next) → Comes entry c r.left next.left
 entry_given c r next small h =
     let d = came (countable (varint.read r)) sized_at (c, next) h in
     let one = varint_exact.given d.value.0 r d.value.1 small (countable_same (varint.read r) d.value d.first) in
-    entry_behind d.value.0 c r.left d.value.1 next small one d.second
+    entry_after d.value.0 c r.left d.value.1 next small one d.second
 
 pub entry_exact : Exact entry
 entry_exact = record { taken = entry_taken; given = entry_given }

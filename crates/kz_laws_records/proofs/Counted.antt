@@ -9,7 +9,7 @@ use Rattle.kz_types.specs.declared.record.ByteFault.{ByteFault}
 use Rattle.kz_types.specs.declared.record.ByteFault.TheVariants.{Overlong, NotUtf8}
 use Rattle.kz_spec_values.specs.Fields.{Reading, ◌>>=◌, front, uvarint, groups_at, IsGroups, counted, nullable_bytes, nullable_text, judged, IsText, text_fault, ints_of, int_bytes, AreInts}
 use Rattle.kz_spec_values.specs.Forms.{nullable_ints, AreIntsOrNull}
-use Rattle.kz_laws_records.proofs.Exact.{AreSmall, came, ok_same, Takes, taken_then, Comes, Exact, small_front, small_rest, small_behind}
+use Rattle.kz_laws_records.proofs.Exact.{AreSmall, came, ok_same, Takes, taken_then, Comes, Exact, small_front, small_rest, small_after}
 use Rattle.kz_laws_records.proofs.Basics.{passed_true, cond_true, cond_false, front_takes, front_exact, bytes_32, signs_32}
 
 -- ---- numbers of variable size
@@ -64,10 +64,10 @@ last_group more last at n b tail next low fits h =
     subst (λ q. Groups more last q.0 (b ∷ tail) q.1.left) (ok_same (b, record { at = at + 1; left = tail }) (n, next) h)
     (record { bytes = b ∷ []; split = refl; groups = (low, refl); few = omega arith; fits = fits })
 
-higher_group : (more last at n b : ℕ) (tail : List ℕ) (high : ℕ) (behind next : Reading) → 128 ≤ b → b < 256
-    → Groups more last high tail behind.left
-    → number_read (b + 128 * high - 128) behind ≡ number_read n next → Groups (suc more) last n (b ∷ tail) next.left
-higher_group more last at n b tail high behind next least most g e =
+higher_group : (more last at n b : ℕ) (tail : List ℕ) (high : ℕ) (after next : Reading) → 128 ≤ b → b < 256
+    → Groups more last high tail after.left
+    → number_read (b + 128 * high - 128) after ≡ number_read n next → Groups (suc more) last n (b ∷ tail) next.left
+higher_group more last at n b tail high after next least most g e =
     subst (λ q. Groups (suc more) last q.0 (b ∷ tail) q.1.left) e
     (record {
       bytes = b ∷ g.bytes;
@@ -84,7 +84,7 @@ some_limit (suc more) last some = let h = some_limit more last some in omega ari
 group_step : (more last at n b : ℕ) (tail : List ℕ) (next : Reading) → AreSmall (b ∷ tail) → 0 < last → last ≤ 128
     → (low : Bool) → nat_lt b 128 ≡ low
     → cond {A = Result (ℕ × Reading) ByteFault} low (Ok (b, record { at = at + 1; left = tail })) (groups_at more last (at + 1) tail >>= λ high. Ok (b + 128 * high.0 - 128, high.1)) ≡ Ok (n, next)
-    → ((high : ℕ) (behind : Reading) → groups_at more last (at + 1) tail ≡ Ok (high, behind) → Groups more last high tail behind.left)
+    → ((high : ℕ) (after : Reading) → groups_at more last (at + 1) tail ≡ Ok (high, after) → Groups more last high tail after.left)
     → Groups (suc more) last n (b ∷ tail) next.left
 group_step more last at n b tail next small some few true e h go =
     let low : b < 128 = ltb-true b 128 e in
@@ -105,7 +105,7 @@ groups_given zero last at n (b ∷ tail) next small some few h =
     let low : b < last = ltb-true b last c.0 in
     last_group zero last at n b tail next (omega (arith, low)) low c.1
 groups_given (suc more) last at n (b ∷ tail) next small some few h =
-    group_step more last at n b tail next small some few (nat_lt b 128) refl h (λ high behind e. groups_given more last (at + 1) high tail behind small.1 some few e)
+    group_step more last at n b tail next small some few (nat_lt b 128) refl h (λ high after e. groups_given more last (at + 1) high tail after small.1 some few e)
 
 uvarint_given : (n : ℕ) (r next : Reading) → AreSmall r.left → uvarint.read r ≡ Ok (n, next) → Comes uvarint n r.left next.left
 uvarint_given n r next small h =
@@ -133,16 +133,16 @@ counted_taken size (Some items) bytes rest at s =
     (cond_false (s.0 + 1 == 0) _ _ (ne_eqb (s.0 + 1) 0 (λ e. omega arith))
     ∙ ap (λ m. m >>= λ x. Ok (Some x.0, x.1)) (front_takes (size * ((s.0 + 1) - 1)) items rest (at + length s.1) count)))
 
-counted_behind : (size n : ℕ) (value : Option (List ℕ)) (left : List ℕ) (mid next : Reading) (none : Bool)
+counted_after : (size n : ℕ) (value : Option (List ℕ)) (left : List ℕ) (mid next : Reading) (none : Bool)
     → AreSmall left → Comes uvarint n left mid.left → (n == 0) ≡ none
     → cond {A = Result (Option (List ℕ) × Reading) ByteFault} none (Ok (None, mid)) ((front (size * (n - 1))).read mid >>= λ items. Ok (Some items.0, items.1)) ≡ Ok (value, next)
     → Comes (counted size) value left next.left
-counted_behind size n value left mid next true small one e h =
+counted_after size n value left mid next true small one e h =
     subst (λ q. Comes (counted size) q.0 left q.1.left) (ok_same (None, mid) (value, next) h)
     (record { bytes = one.bytes; split = one.split; spelled = subst (λ k. uvarint.spells k one.bytes) (eqb-true n 0 e) one.spelled })
-counted_behind size n value left mid next false small one e h =
+counted_after size n value left mid next false small one e h =
     let c = came ((front (size * (n - 1))).read mid) (λ items. Ok (Some items.0, items.1)) (value, next) h in
-    let two = (front_exact (size * (n - 1))).given c.value.0 mid c.value.1 (small_behind uvarint n left mid.left one small) c.first in
+    let two = (front_exact (size * (n - 1))).given c.value.0 mid c.value.1 (small_after uvarint n left mid.left one small) c.first in
     let some : n ≡ (n - 1) + 1 = omega (arith, eqb-false n 0 e) in
     subst (λ q. Comes (counted size) q.0 left q.1.left) (ok_same (Some c.value.0, c.value.1) (value, next) c.second)
     (record {
@@ -154,7 +154,7 @@ counted_behind size n value left mid next false small one e h =
 counted_given : (size : ℕ) (value : Option (List ℕ)) (r next : Reading) → AreSmall r.left → (counted size).read r ≡ Ok (value, next) → Comes (counted size) value r.left next.left
 counted_given size value r next small h =
     let c = came (uvarint.read r) (counted_rest size) (value, next) h in
-    counted_behind size c.value.0 value r.left c.value.1 next (c.value.0 == 0) small (uvarint_exact.given c.value.0 r c.value.1 small c.first) refl c.second
+    counted_after size c.value.0 value r.left c.value.1 next (c.value.0 == 0) small (uvarint_exact.given c.value.0 r c.value.1 small c.first) refl c.second
 
 pub counted_exact : (size : ℕ) → Exact (counted size)
 counted_exact size = record { taken = counted_taken size; given = counted_given size }

@@ -62,8 +62,8 @@ pub record Exact {E X : Type 0} (f : Format E X) : Type 0 where
   pub taken : (x : X) (bytes rest : List ℕ) (at : ℕ) → f.spells x bytes → Takes f.read x bytes rest at
   pub given : (x : X) (r next : Reading) → AreSmall r.left → f.read r ≡ Ok (x, next) → Comes f x r.left next.left
 
-pub small_behind : {E X : Type 0} (f : Format E X) (x : X) (left rest : List ℕ) → Comes f x left rest → AreSmall left → AreSmall rest
-small_behind f x left rest c s = small_rest c.bytes rest (subst AreSmall c.split s)
+pub small_after : {E X : Type 0} (f : Format E X) (x : X) (left rest : List ℕ) → Comes f x left rest → AreSmall left → AreSmall rest
+small_after f x left rest c s = small_rest c.bytes rest (subst AreSmall c.split s)
 
 -- two readings, one after the other
 pub taken_then : {E X Y : Type 0} (m : Reading → Result (X × Reading) E) (k : X × Reading → Result (Y × Reading) E) (x : X) (y : Y) (a b rest : List ℕ) (at : ℕ)
@@ -92,7 +92,7 @@ pair_given f g ef eg p r next small h =
     let c = came (f.read r) (λ x. g.read x.1 >>= λ y. Ok ((x.0, y.0), y.1)) (p, next) h in
     let d = came (g.read c.value.1) (λ y. Ok ((c.value.0, y.0), y.1)) (p, next) c.second in
     let one = ef.given c.value.0 r c.value.1 small c.first in
-    let two = eg.given d.value.0 c.value.1 d.value.1 (small_behind f c.value.0 r.left c.value.1.left one small) d.first in
+    let two = eg.given d.value.0 c.value.1 d.value.1 (small_after f c.value.0 r.left c.value.1.left one small) d.first in
     subst (λ q. Comes (f ⊗ g) q.0 r.left q.1.left) (ok_same ((c.value.0, d.value.0), d.value.1) (p, next) d.second)
     (record {
       bytes = one.bytes ++ two.bytes;

@@ -23,7 +23,7 @@ err_same d e h = cc
 no_fault : {A E : Type 0} (m : Result A E) (x : A) (e : E) → m ≡ Ok x → m ≡ Err e → ⊥
 no_fault m x e h g = cc
 
--- the first part failed, or the second behind it
+-- the first part failed, or the second after it
 pub failed : {A B E : Type 0} (m : Result A E) (k : A → Result B E) (e : E) → m >>= k ≡ Err e → (m ≡ Err e) ⊎ ((x : A) × (m ≡ Ok x) × (k x ≡ Err e))
 failed (Ok x) k e h = inr (x, refl, h)
 failed (Err d) k e h = inl (ap Err (err_same d e h))
@@ -60,8 +60,8 @@ filled_to bytes n lt = omega (arith, lt, length-append bytes (zeros (n - length 
 pub record Refused {E X : Type 0} (f : Format E X) (r : Reading) (place : ℕ) (e : E) : Type 0 where
   pub before : List ℕ
   pub byte : ℕ
-  pub behind : List ℕ
-  pub left : r.left ≡ before ++ (byte ∷ behind)
+  pub after : List ℕ
+  pub left : r.left ≡ before ++ (byte ∷ after)
   pub at : place ≡ r.at + length before
   pub some : GoesOn f before
   pub same : (tail : List ℕ) → f.read (record { at = r.at; left = before ++ (byte ∷ tail) }) ≡ Err e
@@ -70,7 +70,7 @@ pub first_bad : {E X : Type 0} (f : Format E X) → Exact f → (r : Reading) (p
 first_bad {X = X} f ef r place e c = record {
   before = c.before;
   byte = c.byte;
-  behind = c.behind;
+  after = c.after;
   left = c.left;
   at = c.at;
   some = c.some;
@@ -124,7 +124,7 @@ mapped_bad : {X Y : Type 0} (made : X → Y) (back : Y → X) (f : Format ByteFa
 mapped_bad made back f t r place c = record {
   before = c.before;
   byte = c.byte;
-  behind = c.behind;
+  after = c.after;
   left = c.left;
   at = c.at;
   some = mapped_goes made back f t c.before c.some;
@@ -166,8 +166,8 @@ cut_more more last b tail least most c = record {
 pub record Long (more last at : ℕ) (left : List ℕ) (place : ℕ) : Type 0 where
   pub before : List ℕ
   pub byte : ℕ
-  pub behind : List ℕ
-  pub split : left ≡ before ++ (byte ∷ behind)
+  pub after : List ℕ
+  pub split : left ≡ before ++ (byte ∷ after)
   pub stands : place ≡ at + length before
   pub cut : Cut more last before
   pub same : (tail : List ℕ) → groups_at more last at (before ++ (byte ∷ tail)) ≡ Err (Overlong place)
@@ -185,7 +185,7 @@ unfolding groups_at
 last_too_great last at b tail some e = record {
   before = [];
   byte = b;
-  behind = tail;
+  after = tail;
   split = refl;
   stands = omega arith;
   cut = cut_nil 0 last some;
@@ -203,7 +203,7 @@ one_more more last at b tail (Short place) e most c = (omega (arith, c.0), cut_m
 one_more more last at b tail (Overlong place) e most c = record {
   before = b ∷ c.before;
   byte = c.byte;
-  behind = c.behind;
+  after = c.after;
   split = ap (λ bytes. b ∷ bytes) c.split;
   stands = omega (arith, c.stands);
   cut = cut_more more last b c.before (ltb-false b 128 e) most c.cut;
@@ -238,7 +238,7 @@ uvarint_first r (Short place) c = (c.0, cut_goes r.left c.1)
 uvarint_first r (Overlong place) c = first_bad uvarint uvarint_exact r place (Overlong place) (record {
   before = c.before;
   byte = c.byte;
-  behind = c.behind;
+  after = c.after;
   left = c.split;
   at = c.stands;
   some = cut_goes c.before c.cut;
@@ -251,7 +251,7 @@ uvarlong_first r (Short place) c = (c.0, cut_goes_long r.left c.1)
 uvarlong_first r (Overlong place) c = first_bad uvarlong uvarlong_exact r place (Overlong place) (record {
   before = c.before;
   byte = c.byte;
-  behind = c.behind;
+  after = c.after;
   left = c.split;
   at = c.stands;
   some = cut_goes_long c.before c.cut;
@@ -321,7 +321,7 @@ head_first size r (Short place) c = let g = cut_goes r.left c.1 in (c.0, counted
 head_first size r (Overlong place) c = let g = cut_goes c.before c.cut in first_bad (counted size) (counted_exact size) r place (Overlong place) (record {
   before = c.before;
   byte = c.byte;
-  behind = c.behind;
+  after = c.after;
   left = c.split;
   at = c.stands;
   some = counted_goes size c.before g.0 g.1 g.2;

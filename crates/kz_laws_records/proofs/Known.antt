@@ -86,7 +86,7 @@ tag_said number c (t ∷ ts) least x end rising steps =
     (tag_said number c ts (t.number + 1) steps.0 end rising.1 steps.2)
     (λ e. none_later number (t.number + 1) ts (omega (arith, eqb-true t.number number e)) rising.1)
 
--- the value between a tag and those behind it
+-- the value between a tag and those after it
 record Between {X : Type 0} (c : Content X) (x end : X) (bytes : List ℕ) (later : Option (List ℕ)) (same : Bool) : Type 0 where
   mid : X
   step : Fills c same bytes x mid

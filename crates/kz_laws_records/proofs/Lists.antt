@@ -5,7 +5,7 @@ use Rattle.kz_types.specs.declared.record.CodecFault.{CodecFault}
 use Rattle.kz_types.specs.declared.record.CodecFault.TheVariants.{BadField}
 use Rattle.kz_spec_values.specs.Fields.{Reading, Format, ◌>>=◌, uvarint}
 use Rattle.kz_spec_values.specs.Forms.{lifted, Each, items_at, counted_items, list_of}
-use Rattle.kz_laws_records.proofs.Exact.{AreSmall, came, ok_same, Takes, taken_then, Comes, Exact, small_behind}
+use Rattle.kz_laws_records.proofs.Exact.{AreSmall, came, ok_same, Takes, taken_then, Comes, Exact, small_after}
 use Rattle.kz_laws_records.proofs.Basics.{passed_false, cond_false, lifted_same}
 use Rattle.kz_laws_records.proofs.Counted.{uvarint_exact}
 
@@ -37,7 +37,7 @@ items_given f ef (suc n) xs r next small h =
     let c = came (f.read r) (λ y. items_at f.read n y.1 >>= λ ys. Ok (y.0 ∷ ys.0, ys.1)) (xs, next) h in
     let d = came (items_at f.read n c.value.1) (λ ys. Ok (c.value.0 ∷ ys.0, ys.1)) (xs, next) c.second in
     let one = ef.given c.value.0 r c.value.1 small c.first in
-    let more = items_given f ef n d.value.0 c.value.1 d.value.1 (small_behind f c.value.0 r.left c.value.1.left one small) d.first in
+    let more = items_given f ef n d.value.0 c.value.1 d.value.1 (small_after f c.value.0 r.left c.value.1.left one small) d.first in
     subst (λ q. Items f (suc n) q.0 r.left q.1.left) (ok_same (c.value.0 ∷ d.value.0, d.value.1) (xs, next) d.second)
     (record {
       bytes = one.bytes ++ more.bytes;
@@ -61,7 +61,7 @@ list_given f ef xs r next small h =
     let c = came (lifted (uvarint.read r)) (counted_items f.read r.at) (xs, next) h in
     let one = uvarint_exact.given c.value.0 r c.value.1 small (lifted_same (uvarint.read r) c.value c.first) in
     let d = passed_false (c.value.0 == 0) (BadField r.at) (items_at f.read (c.value.0 - 1) c.value.1) (xs, next) c.second in
-    let more = items_given f ef (c.value.0 - 1) xs c.value.1 next (small_behind uvarint c.value.0 r.left c.value.1.left one small) d.1 in
+    let more = items_given f ef (c.value.0 - 1) xs c.value.1 next (small_after uvarint c.value.0 r.left c.value.1.left one small) d.1 in
     let count : c.value.0 ≡ length xs + 1 = omega (arith, more.count, eqb-false c.value.0 0 d.0) in
     record {
       bytes = one.bytes ++ more.bytes;

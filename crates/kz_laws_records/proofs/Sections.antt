@@ -5,7 +5,7 @@ use Rattle.kz_types.specs.declared.record.CodecFault.{CodecFault}
 use Rattle.kz_types.specs.declared.record.CodecFault.TheVariants.{BadField}
 use Rattle.kz_spec_values.specs.Fields.{Reading, Format, ◌>>=◌, uvarint, front}
 use Rattle.kz_spec_values.specs.Forms.{lifted, ◌⊗◌, Tag, AreTags, Known, nothing, tag_at, tags_at, section, closed}
-use Rattle.kz_laws_records.proofs.Exact.{AreSmall, came, ok_same, Takes, taken_then, Comes, Exact, small_front, small_rest, small_behind, mapped_exact, pair_exact}
+use Rattle.kz_laws_records.proofs.Exact.{AreSmall, came, ok_same, Takes, taken_then, Comes, Exact, small_front, small_rest, small_after, mapped_exact, pair_exact}
 use Rattle.kz_laws_records.proofs.Basics.{passed_false, cond_false, lifted_same, front_takes, front_exact}
 use Rattle.kz_laws_records.proofs.Counted.{uvarint_exact}
 
@@ -57,7 +57,7 @@ content_given n r t small h =
     let c = came (lifted (uvarint.read r)) (tag_content n) t h in
     let one = uvarint_exact.given c.value.0 r c.value.1 small (lifted_same (uvarint.read r) c.value c.first) in
     let d = came (lifted ((front c.value.0).read c.value.1)) (λ content. Ok ((n, record { at = c.value.1.at; left = content.0 }), content.1)) t c.second in
-    let two = (front_exact c.value.0).given d.value.0 c.value.1 d.value.1 (small_behind uvarint c.value.0 r.left c.value.1.left one small) (lifted_same ((front c.value.0).read c.value.1) d.value d.first) in
+    let two = (front_exact c.value.0).given d.value.0 c.value.1 d.value.1 (small_after uvarint c.value.0 r.left c.value.1.left one small) (lifted_same ((front c.value.0).read c.value.1) d.value d.first) in
     subst (λ q. (q.0.0 ≡ n) × OneField q.0.1.left r.left q.1.left) (ok_same (tag_read n (record { at = c.value.1.at; left = d.value.0 }) d.value.1) t d.second) (
       refl,
       record {
@@ -72,7 +72,7 @@ tag_given least r t small h =
     let c = came (lifted (uvarint.read r)) (tag_fields least r.at) t h in
     let one = uvarint_exact.given c.value.0 r c.value.1 small (lifted_same (uvarint.read r) c.value c.first) in
     let d = passed_false (nat_lt c.value.0 least) (BadField r.at) (lifted (uvarint.read c.value.1) >>= tag_content c.value.0) t c.second in
-    let two = content_given c.value.0 c.value.1 t (small_behind uvarint c.value.0 r.left c.value.1.left one small) d.1 in
+    let two = content_given c.value.0 c.value.1 t (small_after uvarint c.value.0 r.left c.value.1.left one small) d.1 in
     record {
       number = one.bytes;
       size = two.1.size;
@@ -172,7 +172,7 @@ section_given : {S : Type 0} (k : Known S) (step : ℕ → List ℕ → S → S 
 section_given k step ek s r next small h =
     let c = came (lifted (uvarint.read r)) (λ count. tags_at k.take count.0 0 k.default count.1) (s, next) h in
     let one = uvarint_exact.given c.value.0 r c.value.1 small (lifted_same (uvarint.read r) c.value c.first) in
-    let more = tags_given k step ek c.value.0 0 k.default s c.value.1 next (small_behind uvarint c.value.0 r.left c.value.1.left one small) c.second in
+    let more = tags_given k step ek c.value.0 0 k.default s c.value.1 next (small_after uvarint c.value.0 r.left c.value.1.left one small) c.second in
     record {
       bytes = one.bytes ++ more.bytes;
       split = one.split ∙ ap (λ b. one.bytes ++ b) more.split ∙ sym (append_assoc one.bytes more.bytes next.left);

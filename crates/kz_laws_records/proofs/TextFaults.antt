@@ -27,7 +27,7 @@ head_first r (Short place) c = let g = cut_goes r.left c.1 in (c.0, counted_goes
 head_first r (Overlong place) c = let g = cut_goes c.before c.cut in first_bad nullable_text text_exact r place (Overlong place) (record {
   before = c.before;
   byte = c.byte;
-  behind = c.behind;
+  following = c.following;
   left = c.split;
   at = c.stands;
   some = text_goes c.before g.0 g.1 g.2;
@@ -85,7 +85,7 @@ module _ (head text : List ℕ) (count : ℕ) (size : length text ≡ 1 * count)
   text_bad r after left at = record {
     before = front;
     byte = byte;
-    behind = drop (place + 1) text ++ after.left;
+    following = drop (place + 1) text ++ after.left;
     left =
         left ∙ append_assoc head text after.left
         ∙ ap (λ l. head ++ (l ++ after.left)) (sym (take-append-drop place text) ∙ ap (λ l. take place text ++ l) (drop_more text place 0 stop.within))

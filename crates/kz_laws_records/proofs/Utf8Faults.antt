@@ -217,7 +217,7 @@ lead_244 = lead_four 244 128 143 (omega arith) (omega arith) refl refl (omega ar
 
 -- ---- where no character begins
 
--- No text of the length of these bytes goes on behind so many of them: some text begins with these, and none with one more.
+-- No text of the length of these bytes goes on after so many of them: some text begins with these, and none with one more.
 pub record Stop (bytes : List ℕ) (count : ℕ) : Type 0 where
   pub within : count < length bytes
   pub other : List ℕ
@@ -357,24 +357,24 @@ module _ (bytes : List ℕ) (size low high : ℕ) (lead : Lead (get_or bytes 0 0
           not_whole p q (λ t. f) (λ t. subst Follows (same_at 3 4 others bytes (omega arith) e) (fourth more)));
     }
 
-    stop_behind_third : 2 < size → low ≤ get_or bytes 1 0 → get_or bytes 1 0 ≤ high → Follows (get_or bytes 2 0) → Stop bytes (possible bytes)
-    stop_behind_third more p q f = ⊎_elim
+    stop_after_third : 2 < size → low ≤ get_or bytes 1 0 → get_or bytes 1 0 ≤ high → Follows (get_or bytes 2 0) → Stop bytes (possible bytes)
+    stop_after_third more p q f = ⊎_elim
         (λ four. subst (Stop bytes) (sym (possible_some bytes size 3 lead.counts (omega (arith, more)) long (error_three (omega (arith, four, long)) p q f))) (stop_fourth four p q f))
         (λ three. absurd (not_whole p q (λ t. f) (λ t. absurd (omega (arith, t, three)))))
         (order 3 size)
 
-    stop_behind_second : low ≤ get_or bytes 1 0 → get_or bytes 1 0 ≤ high → Stop bytes (possible bytes)
-    stop_behind_second p q = ⊎_elim
+    stop_after_second : low ≤ get_or bytes 1 0 → get_or bytes 1 0 ≤ high → Stop bytes (possible bytes)
+    stop_after_second p q = ⊎_elim
         (λ more.
         let two : (out : (get_or bytes 2 0 < 128) ⊎ (191 < get_or bytes 2 0)) → Stop bytes (possible bytes) = λ out. subst (Stop bytes) (sym (possible_some bytes size 2 lead.counts (omega (arith, more)) long (error_two (omega (arith, more, long)) p q out))) (stop_third more p q out) in
-        ⊎_elim (λ low_third. two (inl low_third)) (λ l. ⊎_elim (λ high_third. two (inr high_third)) (λ u. stop_behind_third more p q (l, omega (arith, u))) (order 191 (get_or bytes 2 0))) (order (get_or bytes 2 0) 128))
+        ⊎_elim (λ low_third. two (inl low_third)) (λ l. ⊎_elim (λ high_third. two (inr high_third)) (λ u. stop_after_third more p q (l, omega (arith, u))) (order 191 (get_or bytes 2 0))) (order (get_or bytes 2 0) 128))
         (λ two. absurd (not_whole p q (λ t. absurd (omega (arith, t, two))) (λ t. absurd (omega (arith, t, two)))))
         (order 2 size)
 
     stop_in_size : Stop bytes (possible bytes)
     stop_in_size =
         let one : (out : (get_or bytes 1 0 < low) ⊎ (high < get_or bytes 1 0)) → Stop bytes (possible bytes) = λ out. subst (Stop bytes) (sym (possible_some bytes size 1 lead.counts (omega (arith, lead.some)) long (error_one (omega (arith, lead.some, long)) out))) (stop_second out) in
-        ⊎_elim (λ low_second. one (inl low_second)) (λ l. ⊎_elim (λ high_second. one (inr high_second)) (λ u. stop_behind_second l u) (order high (get_or bytes 1 0))) (order (get_or bytes 1 0) low)
+        ⊎_elim (λ low_second. one (inl low_second)) (λ l. ⊎_elim (λ high_second. one (inr high_second)) (λ u. stop_after_second l u) (order high (get_or bytes 1 0))) (order (get_or bytes 1 0) low)
 
   stop_short : 0 < length bytes → length bytes < size → Stop bytes (possible bytes)
   stop_short some short = subst (Stop bytes) (sym (possible_none bytes size lead.counts (inr short))) (record {
@@ -455,8 +455,8 @@ valid_some bs e = ⊎_elim (λ h. h)
     (λ all. absurd (never_both (is_utf8 bs) (is_utf8-from_IsUtf8 bs (subst IsUtf8 (take_all (utf8_valid_len bs) bs all) (valid_front bs))) e))
     (order (utf8_valid_len bs) (length bs))
 
-stop_behind : (bs : List ℕ) → is_utf8 bs ≡ false → Stop (drop (utf8_valid_len bs) bs) (possible (drop (utf8_valid_len bs) bs))
-stop_behind bs e =
+stop_after : (bs : List ℕ) → is_utf8 bs ≡ false → Stop (drop (utf8_valid_len bs) bs) (possible (drop (utf8_valid_len bs) bs))
+stop_after bs e =
     let n : ℕ = utf8_valid_len bs in
     let some = valid_some bs e in
     let left = length-drop n bs in
@@ -469,9 +469,9 @@ take_joined n m a b e = take-add n m (a ++ b) ∙ (λ i. take_at a b n e i ++ ta
 pub text_stop : (bs : List ℕ) → is_utf8 bs ≡ false → Stop bs (text_fault bs)
 text_stop bs e =
     let n : ℕ = utf8_valid_len bs in
-    let behind : List ℕ = drop n bs in
-    let count : ℕ = possible behind in
-    let s = stop_behind bs e in
+    let after : List ℕ = drop n bs in
+    let count : ℕ = possible after in
+    let s = stop_after bs e in
     let some = valid_some bs e in
     let left = length-drop n bs in
     let size : length (take n bs) ≡ n = length-take-le n bs (omega (arith, some)) in

@@ -143,7 +143,7 @@ tags_spell low high (t ∷ ts) lt w = (
   ),
 )
 
--- the tags that are written for a short value say that value, whatever stands before and behind them
+-- the tags that are written for a short value say that value, whatever stands before and after them
 pub record WritesTags {S : Type 0} (k : Known S) (short : S → Type 0) (low high : ℕ) : Type 0 where
   pub within : (s : S) → k.fits s → short s → Within low high (k.tags s)
   pub says : (s : S) (before after : List Tag) (top : ℕ) → k.fits s → short s → Within 0 low before → Within high top after → k.says (before ++ (k.tags s ++ after)) s
@@ -190,11 +190,11 @@ not_before number low (t ∷ ts) rest least w le =
     let apart : (t.number == number) ≡ false = ne_eqb t.number number (λ e. omega (arith, w.1, le, e)) in
     ap (λ b. cond b (Some t.bytes) (field_of number (ts ++ rest))) apart ∙ not_before number low ts rest (t.number + 1) w.3 le
 
-not_behind : (number high top : ℕ) (ts : List Tag) → number < high → Within high top ts → field_of number ts ≡ None
-not_behind number high top [] lt w = refl
-not_behind number high top (t ∷ ts) lt w =
+not_later : (number high top : ℕ) (ts : List Tag) → number < high → Within high top ts → field_of number ts ≡ None
+not_later number high top [] lt w = refl
+not_later number high top (t ∷ ts) lt w =
     let apart : (t.number == number) ≡ false = ne_eqb t.number number (λ e. omega (arith, lt, w.0, e)) in
-    ap (λ b. cond b (Some t.bytes) (field_of number ts)) apart ∙ not_behind number (t.number + 1) top ts (omega (arith, lt, w.0)) w.3
+    ap (λ b. cond b (Some t.bytes) (field_of number ts)) apart ∙ not_later number (t.number + 1) top ts (omega (arith, lt, w.0)) w.3
 
 abbrev tag_written : {X : Type 0} → ℕ → Content X → X → Bool → List Tag
 tag_written number c x left_out = cond left_out [] (record { number = number; bytes = c.format.written x } ∷ [])
@@ -207,7 +207,7 @@ tag_says : {X : Type 0} (number : ℕ) (default : X) (c : Content X) (x : X) (le
     → (left_out ≡ true → x ≡ default) → c.good x → c.format.spells x (c.format.written x) → Within (number + 1) top after
     → Says c default x (field_of number (tag_written number c x left_out ++ after))
 tag_says number default c x true after top same good spelled v =
-    subst (Says c default x) (sym (not_behind number (number + 1) top after (omega arith) v)) (same refl)
+    subst (Says c default x) (sym (not_later number (number + 1) top after (omega arith) v)) (same refl)
 tag_says number default c x false after top same good spelled v =
     subst (Says c default x) (sym (ap (λ b. cond b (Some (c.format.written x)) (field_of number after)) (eq-eqb number number refl))) (good, spelled)
 

@@ -14,8 +14,8 @@ GoesOn {X = X} f bytes = (x : X) × (more : List ℕ) × f.spells x (bytes ++ mo
 pub record IsFirstBad {E X : Type 0} (f : Format E X) (r : Reading) (place : ℕ) : Type 0 where
   pub before : List ℕ
   pub byte : ℕ
-  pub behind : List ℕ
-  pub left : r.left ≡ before ++ (byte ∷ behind)
+  pub after : List ℕ
+  pub left : r.left ≡ before ++ (byte ∷ after)
   pub at : place ≡ r.at + length before
   pub some : GoesOn f before
   pub none : GoesOn f (before ++ (byte ∷ [])) → ⊥

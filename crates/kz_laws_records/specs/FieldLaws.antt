@@ -3,7 +3,7 @@ use Rattle.std.specs.Prelude.{◌≡◌, ℕ, ◌+◌, List, [], ◌++◌, lengt
 use Rattle.kz_spec_values.specs.Fields.{Reading, Format}
 use Rattle.kz_laws_records.specs.Texts.{AreBytes}
 
--- These bytes, in front of whatever follows, are read as this value, and the reader stands behind them.
+-- These bytes, in front of whatever follows, are read as this value, and the reader stands after them.
 abbrev pub AreReadAs : {E X : Type 0} → Format E X → List ℕ → X → Type 0
 AreReadAs f bytes x = (rest : List ℕ) (at : ℕ) → f.read (record { at = at; left = bytes ++ rest }) ≡ Ok (x, record { at = at + length bytes; left = rest })
 

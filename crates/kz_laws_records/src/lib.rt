@@ -48,7 +48,7 @@ pub fn fields_are_spelled()
     ensures ints { ReadsSpellings (present nullable_ints) }
 {}
 
-/// What is written for a field whose value fits, whatever follows, is read as it, and the reader stands behind it.
+/// What is written for a field whose value fits, whatever follows, is read as it, and the reader stands after it.
 pub fn written_fields_are_read()
     ensures part { (n : ℕ) → ReadsWritten (front n) }
     ensures i8 { ReadsWritten (signed w8) }

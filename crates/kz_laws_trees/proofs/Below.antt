@@ -158,7 +158,7 @@ parent_apart p up is = ⊎_elim (λ (less : length (parent_of p) < length p). le
 
 -- ---- what stands below a path of the area is in it
 
--- a path with a `/` is its parent with a name behind it
+-- a path with a `/` is its parent with a name after it
 named_by : (b : ℕ) (bs : List ℕ) (c : Bool) → has_slash bs ≡ c → has_slash (b ∷ bs) ≡ true → (has_slash bs ≡ true → (name : List ℕ) × (bs ≡ parent_of bs ++ 47 ∷ name))
     → (name : List ℕ) × (b ∷ bs ≡ (if c then b ∷ parent_of bs else []) ++ 47 ∷ name)
 named_by b bs true is slash rest = let below = rest is in (below.0, ap (λ l. b ∷ l) below.1)

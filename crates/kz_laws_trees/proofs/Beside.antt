@@ -154,7 +154,7 @@ all_outside (o ∷ os) beside = (beside.0.0, all_outside os beside.1)
 
 -- ---- where the log is migrated a claim leaves what is recorded
 
-migration_no_base : Others migration_path base_paths
+pub migration_no_base : Others migration_path base_paths
 unfolding base_paths
 migration_no_base = (differ migration_path _ refl, (differ migration_path _ refl, (differ migration_path _ refl, (differ migration_path _ refl, (differ migration_path _ refl, tt)))))
 
@@ -162,7 +162,7 @@ nothing_recorded : (b : Bool) (seen : Option Row) (body : List ℕ) → b ≡ tr
 nothing_recorded true seen body is = tt
 nothing_recorded false seen body is = absurd (cc)
 
-claim_avoids : (seen : ClaimSeen) (d : Driver) (now : ℤ) → views_migrated d ≡ true → Avoids migration_path (claim_ops seen d now)
+pub claim_avoids : (seen : ClaimSeen) (d : Driver) (now : ℤ) → views_migrated d ≡ true → Avoids migration_path (claim_ops seen d now)
 claim_avoids seen d now migrated =
     let body = written_control d.id (epoch_or_zero d.epoch) now in
     let recording = migration_ops (views_migrated d) seen.migration (written_recorded (unrecorded d)) in (
@@ -175,7 +175,7 @@ pub recorded_still : (m : Option Row) → option_and_then (λ (r : Row). recorde
 recorded_still None = refl
 recorded_still (Some r) = refl
 
-migration_alike : (t new : Tree) (ops : List Op) → Ran t new ops → Avoids migration_path ops → option_map still (row_at migration_path new.rows) ≡ option_map still (row_at migration_path t.rows)
+pub migration_alike : (t new : Tree) (ops : List Op) → Ran t new ops → Avoids migration_path ops → option_map still (row_at migration_path new.rows) ≡ option_map still (row_at migration_path t.rows)
 migration_alike t new ops m avoids = ap (λ rows. option_map still (row_at migration_path rows)) m.rows ∙ ran_keeps (t.zxid +ℤ pos 1) migration_path ops t.rows avoids
 
 recorded_kept : (t new : Tree) (ops : List Op) → Ran t new ops → Avoids migration_path ops → recorded new ≡ recorded t

@@ -1,4 +1,4 @@
--- A path with a name behind it: its parent, and its place in path order.
+-- A path with a name after it: its parent, and its place in path order.
 use Rattle.std.proofs.Common.{◌≡◌, ℕ, zero, suc, ◌+◌, ◌/◌, ◌%◌, nat_lt, ◌==◌, Bool, true, false, ◌||◌, if◌then◌else◌, ℤ, pos, negsuc, List, [], ◌∷◌, ◌++◌, Less, refl, sym, ap, ◌∙◌, subst, arith}
 use Rattle.std.specs.Fmt.{digit_glyph, digits_onto, digits, decimal, signed_decimal}
 use Rattle.std.specs.Ordering.{ordering_then}
@@ -10,14 +10,14 @@ use Rattle.kz_spec_stores.specs.Tree.{parent_of, is_root}
 use Rattle.kz_laws_paths.proofs.Parts.{HasNoSlash}
 use Rattle.kz_laws_trees.proofs.Below.{has_slash, slash_inside, parent_and_name, has_name}
 
--- ---- the parent of a path with a name behind it
+-- ---- the parent of a path with a name after it
 
 no_slash : (part : List ℕ) → HasNoSlash part → has_slash part ≡ false
 no_slash [] none = refl
 no_slash (b ∷ bs) none =
     ap (λ c. c || has_slash bs) (All-head (λ x. (x == 47) ≡ false) b bs none) ∙ no_slash bs (All-tail (λ x. (x == 47) ≡ false) b bs none)
 
--- behind a name without a slash the path itself is the parent
+-- after a name without a slash the path itself is the parent
 pub parent_of_child : (a part : List ℕ) → HasNoSlash part → parent_of (a ++ 47 ∷ part) ≡ a
 parent_of_child [] part none = ap (λ c. if c then 47 ∷ parent_of part else []) (no_slash part none)
 parent_of_child (b ∷ a) part none =

@@ -6,13 +6,14 @@ use Rattle.std.proofs.lemmas.Bool.Decides.{Decides-int_eq}
 use Rattle.std.proofs.lemmas.Int.{ints}
 use Rattle.std.proofs.lemmas.List.Elements.{All-nil, All-cons, All-append, All-head, All-tail, All-from_recursion}
 use Rattle.std.specs.List.{list_any}
+use Rattle.kz_types.specs.declared.limits.TheConstants.{MAX_BODY_BYTES, MAX_VERSION}
 use Rattle.kz_types.specs.declared.tree.Row.{Row}
 use Rattle.kz_types.specs.declared.tree.Op.{Op}
 use Rattle.kz_types.specs.declared.tree.Op.TheVariants.{Create, Set, Delete}
 use Rattle.kz_types.specs.declared.driver.ClaimSeen.{ClaimSeen}
 use Rattle.kz_types.specs.Paths.{base_paths, control_paths, is_below}
 use Rattle.kz_spec_values.specs.Control.{control_path, epoch_path, migration_path, written_epoch, written_control, written_recorded}
-use Rattle.kz_spec_stores.specs.Tree.{Tree, area, row_at, after_op, op_refusal, max_body, max_version, Refusal, code, limit, first_refusal, fits_version, set_refusal, created_row, multi, is_root}
+use Rattle.kz_spec_stores.specs.Tree.{Tree, area, row_at, after_op, op_refusal, Refusal, code, limit, first_refusal, fits_version, set_refusal, created_row, multi, is_root}
 use Rattle.kz_types.specs.declared.machine.Recorded.{Recorded}
 use Rattle.kz_spec_stores.specs.Image.{Image}
 use Rattle.kz_spec_znodes.specs.Rendering.{render}
@@ -57,7 +58,7 @@ set_version : (zxid : ℤ) (body : List ℕ) (version : ℤ) (rows : List Row) (
     → version_in (after_op zxid (Set epoch_path body version) rows) ≡ Some (version +ℤ pos 1)
 set_version zxid body version rows None is low pass = absurd (cc)
 set_version zxid body version rows (Some x) is low pass =
-    let fits : version ≡ x.version = version_fits version x low (not_first (not (fits_version version x)) (code (negsuc 102)) ((nat_lt max_body (length body), limit 2) ∷ (int_le max_version x.version, limit 5) ∷ []) pass) in
+    let fits : version ≡ x.version = version_fits version x low (not_first (not (fits_version version x)) (code (negsuc 102)) ((nat_lt MAX_BODY_BYTES (length body), limit 2) ∷ (int_le MAX_VERSION x.version, limit 5) ∷ []) pass) in
     ap (option_map (λ (r : Row). r.version)) (set_found zxid epoch_path body version rows x is) ∙ ap (λ v. Some (v +ℤ pos 1)) (sym fits)
 
 first_op : (sessions : List ℤ) (zxid : ℤ) (seen : Option Row) (rows : List Row) → ((r : Row) → seen ≡ Some r → pos 0 ≤ℤ r.version) → op_refusal sessions (epoch_op seen) rows ≡ None

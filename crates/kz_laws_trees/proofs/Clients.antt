@@ -30,7 +30,7 @@ use Rattle.kz_laws_trees.proofs.Unchanged.{Alike, recorded_alike, unchanged_by}
 
 -- ---- what isn't refused
 
-abbrev Passes : (Op → Bool) → List Op → Type 0
+abbrev pub Passes : (Op → Bool) → List Op → Type 0
 Passes test ops = All (λ o. test o ≡ false) ops
 
 not_here : (b : Bool) (o : Op) (m : Option Op) → cond b (Some o) m ≡ None → (b ≡ false) × (m ≡ None)
@@ -66,7 +66,7 @@ none_held t ops held none =
 
 -- ---- what the tests say
 
-neither : (a b : Bool) → (a || b) ≡ false → (a ≡ false) × (b ≡ false)
+pub neither : (a b : Bool) → (a || b) ≡ false → (a ≡ false) × (b ≡ false)
 neither true b is = absurd (cc)
 neither false b is = (refl, is)
 
@@ -77,10 +77,10 @@ four_parts false true c d is = absurd (cc)
 four_parts false false true d is = absurd (cc)
 four_parts false false false d is = (refl, refl, refl, is)
 
-abbrev ends_lasting : List ℕ → Option ℤ → Bool
+abbrev pub ends_lasting : List ℕ → Option ℤ → Bool
 ends_lasting path owner = is_some owner && (bytes_eq path epoch_path || is_migrated path || is_among base_paths path)
 
-create_parts : (path body : List ℕ) (owner : Option ℤ) → is_reserved (Create path body owner) ≡ false
+pub create_parts : (path body : List ℕ) (owner : Option ℤ) → is_reserved (Create path body owner) ≡ false
     → (bytes_eq path migration_path ≡ false) × (ends_lasting path owner ≡ false) × (list_any (λ control. is_below control path) control_paths ≡ false) × ((bytes_eq path control_path && is_some (shown_epoch body)) ≡ false)
 create_parts path body owner is = four_parts (bytes_eq path migration_path) (ends_lasting path owner) (list_any (λ control. is_below control path) control_paths) (bytes_eq path control_path && is_some (shown_epoch body)) is
 
@@ -158,7 +158,7 @@ spares_migration (Set path body version) is = other_path migration_path path (ne
 spares_migration (Delete path version) is = other_path migration_path path (neither (bytes_eq path migration_path) (bytes_eq path epoch_path) is).0
 spares_migration (Check path version) is = tt
 
-migration_spared : (t new : Tree) (ops : List Op) → Ran t new ops → client_refusal t ops ≡ None → Alike t.rows new.rows migration_path
+pub migration_spared : (t new : Tree) (ops : List Op) → Ran t new ops → client_refusal t ops ≡ None → Alike t.rows new.rows migration_path
 migration_spared t new ops m none = alike_after t new migration_path ops m (All-weaker (λ o. is_reserved o ≡ false) (Spares migration_path) spares_migration ops (none_reserved t ops none))
 
 pub client_leaves_recorded : (t new : Tree) (ops : List Op) → multi t ops ≡ Ok new → client_refusal t ops ≡ None → recorded new ≡ recorded t

@@ -3,11 +3,12 @@ use Rattle.std.proofs.Common.{◌≡◌, ℕ, ◌+◌, ◌≤◌, ℤ, pos, negs
 use Rattle.std.proofs.lemmas.Int.{ints}
 use Rattle.std.proofs.lemmas.List.{map-append}
 use Rattle.std.proofs.lemmas.List.Sums.{sum_by-append}
+use Rattle.kz_types.specs.declared.limits.TheConstants.{MAX_RECORDS}
 use Rattle.kz_types.specs.declared.log.BatchRow.{BatchRow}
 use Rattle.kz_types.specs.declared.log.Entry.{Entry}
 use Rattle.kz_types.specs.declared.record.MetaRecord.{MetaRecord}
 use Rattle.kz_spec_stores.specs.Image.{empty_image}
-use Rattle.kz_spec_stores.specs.Log.{Log, last_of, last_end, end_of, record_count, max_records, entries_of_batch, entries, all_entries_applied, image_at, new_batch, with_batch}
+use Rattle.kz_spec_stores.specs.Log.{Log, last_of, last_end, end_of, record_count, entries_of_batch, entries, all_entries_applied, image_at, new_batch, with_batch}
 use Rattle.kz_spec_machine.specs.Sound.{Follows, LogShape, IsBatchEnd}
 use Rattle.kz_laws_trees.proofs.Logs.{AllAfter, counted_same, numbered_after}
 
@@ -25,7 +26,7 @@ count_cons b bs = sum_by-append (λ (x : BatchRow). length x.items) (b ∷ []) b
     alone : (n m : ℕ) → (0 + n) + m ≡ n + m
     alone n m = omega arith
 
--- it is as many records behind the base as there are
+-- it is as many records after the base as there are
 pub end_counts : (from : ℤ) (bs : List BatchRow) → Follows from bs → last_end from bs ≡ from +ℤ pos (record_count bs)
 end_counts from [] follows = omega (arith, ints)
 end_counts from (b ∷ bs) follows = end_counts (last_of b) bs follows.1 ∙ ap (λ (e : ℤ). e +ℤ pos (record_count bs)) (last_of_is from b follows.0) ∙ sum from (length b.items) (record_count bs) ∙ sym (ap (λ (n : ℕ). from +ℤ pos n) (count_cons b bs))
@@ -39,7 +40,7 @@ end_is_count l shape = end_counts l.base l.batches shape.follows ∙ ap (λ (b :
 low : (e : ℤ) (n : ℕ) → e ≡ negsuc 0 +ℤ pos n → negsuc 0 ≤ℤ e
 low e n is = omega (arith, ints)
 
-high : (e : ℤ) (n : ℕ) → e ≡ negsuc 0 +ℤ pos n → n ≤ max_records → e ≤ℤ pos 9223372036854775807
+high : (e : ℤ) (n : ℕ) → e ≡ negsuc 0 +ℤ pos n → n ≤ MAX_RECORDS → e ≤ℤ pos 9223372036854775807
 high e n is few = omega (arith, ints)
 
 pub end_least : (l : Log) → LogShape l → negsuc 0 ≤ℤ end_of l
@@ -101,7 +102,7 @@ within_by from (b ∷ bs) (x ∷ before) offset after follows is =
     let rest : last_of b ∷ map last_of bs ≡ before ++ offset ∷ after = cc in
     within_by (last_of b) bs before offset after follows.1 rest
 
--- no batch end is behind the log's end
+-- no batch end is after the log's end
 pub batch_end_within : (l : Log) (offset : ℤ) → LogShape l → IsBatchEnd l offset → offset ≤ℤ end_of l
 batch_end_within l offset shape e = within_by l.base l.batches e.before offset e.after shape.follows e.among
 

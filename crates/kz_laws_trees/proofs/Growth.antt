@@ -5,11 +5,11 @@ use Rattle.std.specs.Ordering.{int_eq}
 use Rattle.std.proofs.lemmas.Bool.Decides.{nat_tests, Decides-int_eq}
 use Rattle.std.proofs.lemmas.Int.{ints}
 use Rattle.std.proofs.lemmas.List.Elements.{All-push, All-head, All-tail, All-filter}
+use Rattle.kz_types.specs.declared.limits.TheConstants.{MAX_LONG, MAX_RECORDS}
 use Rattle.kz_types.specs.declared.log.BatchRow.{BatchRow}
 use Rattle.kz_types.specs.declared.record.MetaRecord.{MetaRecord}
 use Rattle.kz_types.specs.declared.fault.LogFault.TheVariants as log_fault
-use Rattle.kz_spec_stores.specs.Tree.{max_long}
-use Rattle.kz_spec_stores.specs.Log.{Log, View, end_of, image_at, is_migrated_log, new_batch, with_batch, record_count, max_records, full_log, added, append, last_epoch, is_behind, read_view}
+use Rattle.kz_spec_stores.specs.Log.{Log, View, end_of, image_at, is_migrated_log, new_batch, with_batch, record_count, full_log, added, append, last_epoch, begins_after, read_view}
 use Rattle.kz_spec_stores.specs.Image.{is_migrated_state}
 use Rattle.kz_spec_machine.specs.Driver.{commit_records}
 use Rattle.kz_spec_machine.specs.Sound.{IsEpochOrNone, LogShape, IsBatchEnd, Views}
@@ -30,9 +30,9 @@ few_enough false b is = refl
 not_more : (a b : ℕ) → nat_lt b a ≡ false → a ≤ b
 not_more a b is = grind (arith, nat_tests)
 
-pub within_count : (l : Log) (items : List MetaRecord) → full_log l items ≡ None → record_count l.batches + length items ≤ max_records
-within_count l items is = not_more (record_count l.batches + length items) max_records
-    (few_enough (nat_lt max_records (record_count l.batches + length items)) (int_lt max_long (end_of l +ℤ pos (length items))) is)
+pub within_count : (l : Log) (items : List MetaRecord) → full_log l items ≡ None → record_count l.batches + length items ≤ MAX_RECORDS
+within_count l items is = not_more (record_count l.batches + length items) MAX_RECORDS
+    (few_enough (nat_lt MAX_RECORDS (record_count l.batches + length items)) (int_lt MAX_LONG (end_of l +ℤ pos (length items))) is)
 
 -- one batch more keeps the shape of a log
 pub batch_shape : (l : Log) (epoch now : ℤ) (items : List MetaRecord) → LogShape l → IsEpochOrNone epoch → full_log l items ≡ None
@@ -43,7 +43,7 @@ batch_shape l epoch now items shape range room begun =
       base = shape.base;
       empty = shape.empty;
       follows = follows_more l.base l.batches b shape.follows refl;
-      few = subst (λ (n : ℕ). n ≤ max_records) (sym (count_more l.batches b)) (within_count l items room);
+      few = subst (λ (n : ℕ). n ≤ MAX_RECORDS) (sym (count_more l.batches b)) (within_count l items room);
       epochs = All-push (λ (x : BatchRow). IsEpochOrNone x.epoch) l.batches b shape.epochs range;
       epoch = range;
       begun = λ high. subst (λ (e : ℤ). pos 0 ≤ℤ e) (sym (end_more l epoch now items)) (begun high);
@@ -136,8 +136,8 @@ view_read l v shape old = record {
   end = end_is_batch_end l;
   image = refl;
   migrated = λ is. is;
-  epoch = last_epoch_range (if int_lt v.position l.base then pos 0 else v.epoch) (filter (is_behind v.position) l.batches) (first_epoch_range (int_lt v.position l.base) v.epoch old.epoch)
-      (All-filter (is_behind v.position) (λ (b : BatchRow). IsEpochOrNone b.epoch) l.batches shape.epochs);
+  epoch = last_epoch_range (if int_lt v.position l.base then pos 0 else v.epoch) (filter (begins_after v.position) l.batches) (first_epoch_range (int_lt v.position l.base) v.epoch old.epoch)
+      (All-filter (begins_after v.position) (λ (b : BatchRow). IsEpochOrNone b.epoch) l.batches shape.epochs);
 }
 
 pub view_grown : (l more : Log) (v : View) → LogShape l → Grows l more → Views l v → Views more v

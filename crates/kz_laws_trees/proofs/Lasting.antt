@@ -4,6 +4,7 @@ use Rattle.std.proofs.Common.{◌≡◌, ◌≢◌, ℕ, ℤ, negsuc, Bool, true
 use Rattle.std.specs.Prelude.{length, nat_lt, nat_le}
 use Rattle.std.specs.Str.{bytes_eq}
 use Rattle.std.proofs.lemmas.List.Elements.{All-contains}
+use Rattle.kz_types.specs.declared.limits.TheConstants.{MAX_BODY_BYTES, MAX_ZNODES}
 use Rattle.kz_types.specs.declared.tree.Row.{Row}
 use Rattle.kz_types.specs.declared.tree.Op.{Op}
 use Rattle.kz_types.specs.declared.tree.Op.TheVariants.{Create, Set, Delete, Check}
@@ -13,7 +14,7 @@ use Rattle.kz_ordered.specs.Ordered.{Rises}
 use Rattle.kz_ordered.proofs.Order.{bytes_order}
 use Rattle.kz_ordered.proofs.Lookup.{found_is_contained, key_of_found}
 use Rattle.kz_spec_values.specs.Control.{control_path, epoch_path, migration_path, shown_epoch}
-use Rattle.kz_spec_stores.specs.Tree.{path_of_row, row_at, parent_of, is_root, has_parent, is_ephemeral, may_own, count_beside, limit_beside, max_body, max_znodes, Refusal, code, limit, create_refusal, op_refusal, after_set, after_op}
+use Rattle.kz_spec_stores.specs.Tree.{path_of_row, row_at, parent_of, is_root, has_parent, is_ephemeral, may_own, count_beside, limit_beside, Refusal, code, limit, create_refusal, op_refusal, after_set, after_op}
 use Rattle.kz_spec_machine.specs.Sound.{HaveParents, Lasts, ParentsStay, IsNotRoot, IsUnreserved, IsOwned}
 use Rattle.kz_laws_trees.specs.TreeLaws.{path_of_op}
 use Rattle.kz_laws_trees.proofs.Rows.{still, same, other, compare, others_kept, op_rises, set_found, deleted_found}
@@ -51,7 +52,7 @@ free_keep sessions zxid = record { made = λ path body owner rows pass shaped. s
 
 may_own_first : (sessions : List ℤ) (path body : List ℕ) (owner : Option ℤ) (rows : List Row) → create_refusal sessions path body owner rows ≡ None → may_own owner sessions ≡ true
 may_own_first sessions path body owner rows pass =
-    let limits : List (Bool × Refusal) = (nat_lt max_body (length body), limit 2) ∷ (nat_le max_znodes (count_beside path rows), limit (limit_beside path)) ∷ [] in
+    let limits : List (Bool × Refusal) = (nat_lt MAX_BODY_BYTES (length body), limit 2) ∷ (nat_le MAX_ZNODES (count_beside path rows), limit (limit_beside path)) ∷ [] in
     let third : List (Bool × Refusal) = (is_ephemeral (row_at (parent_of path) rows), code (negsuc 107)) ∷ limits in
     let second : List (Bool × Refusal) = (is_some (row_at path rows), code (negsuc 109)) ∷ third in
     not_not (may_own owner sessions) (passed_first (not (may_own owner sessions)) (code (negsuc 111)) ((not (has_parent path rows), code (negsuc 100)) ∷ second) pass).0
@@ -99,7 +100,7 @@ record IsNew (path : List ℕ) (rows : List Row) : Type 0 where
 
 created_new : (sessions : List ℤ) (path body : List ℕ) (owner : Option ℤ) (rows : List Row) → create_refusal sessions path body owner rows ≡ None → IsNew path rows
 created_new sessions path body owner rows pass =
-    let limits : List (Bool × Refusal) = (nat_lt max_body (length body), limit 2) ∷ (nat_le max_znodes (count_beside path rows), limit (limit_beside path)) ∷ [] in
+    let limits : List (Bool × Refusal) = (nat_lt MAX_BODY_BYTES (length body), limit 2) ∷ (nat_le MAX_ZNODES (count_beside path rows), limit (limit_beside path)) ∷ [] in
     let third : List (Bool × Refusal) = (is_ephemeral (row_at (parent_of path) rows), code (negsuc 107)) ∷ limits in
     let second : List (Bool × Refusal) = (is_some (row_at path rows), code (negsuc 109)) ∷ third in
     let a = passed_first (not (may_own owner sessions)) (code (negsuc 111)) ((not (has_parent path rows), code (negsuc 100)) ∷ second) pass in

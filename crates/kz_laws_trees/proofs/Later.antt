@@ -4,6 +4,7 @@ use Rattle.std.specs.Prelude.{Ok}
 use Rattle.std.proofs.lemmas.Int.{ints}
 use Rattle.std.proofs.lemmas.List.{map-append}
 use Rattle.std.proofs.lemmas.List.Elements.{All-nil, All-cons, All-contains, All-take, Contains-append_right}
+use Rattle.kz_types.specs.declared.limits.TheConstants.{MAX_CHUNK}
 use Rattle.kz_types.specs.declared.tree.Row.{Row}
 use Rattle.kz_types.specs.declared.tree.Op.{Op}
 use Rattle.kz_types.specs.declared.tree.Op.TheVariants.{Create, Set, Delete}
@@ -22,7 +23,7 @@ use Rattle.kz_spec_values.specs.Control.{migration_path, recorded_of}
 use Rattle.kz_spec_stores.specs.Tree.{Tree, path_of_row, row_at, put_row, without_row, parent_of, is_root, delete_refusal, set_refusal, op_refusal, created_row, set_row, touched, after_op, multi, migrated_rows, area, has_offset, is_later, first_path, unclosed_below, unclosed, path_of_rendered}
 use Rattle.kz_spec_stores.specs.Image.{Image}
 use Rattle.kz_spec_znodes.specs.Rendering.{render}
-use Rattle.kz_spec_znodes.specs.Difference.{same_body, op_of, diff, max_chunk, chunk}
+use Rattle.kz_spec_znodes.specs.Difference.{same_body, op_of, diff, chunk}
 use Rattle.kz_spec_machine.specs.Driver.{is_last_write, record_ops, write_ops}
 use Rattle.kz_spec_machine.specs.Sound.{IsStamped, HaveParents, TreeShape}
 use Rattle.kz_laws_trees.proofs.Rows.{still, created_found, set_found}
@@ -147,7 +148,7 @@ end_of_edits : (e : Edit Rendered (List ℕ)) (es : List (Edit Rendered (List �
 end_of_edits e [] = record { front = []; last = e; whole = refl }
 end_of_edits e (f ∷ es) = let rest = end_of_edits f es in record { front = e ∷ rest.front; last = rest.last; whole = ap (λ l. e ∷ l) rest.whole }
 
-has_last : (ds : List (Edit Rendered (List ℕ))) → is_last_write (map op_of ds) ≡ false → EndsWith (take max_chunk ds)
+has_last : (ds : List (Edit Rendered (List ℕ))) → is_last_write (map op_of ds) ≡ false → EndsWith (take MAX_CHUNK ds)
 has_last [] more = absurd (cc)
 has_last (d ∷ ds) more = end_of_edits d (take 63 ds)
 
@@ -173,7 +174,7 @@ write_touches : (t new : Tree) (i : Image) (claim : ℤ) (target : Recorded) →
 write_touches t new i claim target shape more m =
     let zxid = t.zxid +ℤ pos 1 in
     let ds = edits_to t (render i) in
-    let es = take max_chunk ds in
+    let es = take MAX_CHUNK ds in
     let end = has_last ds (more_is t i more) in
     let front = map op_of end.front in
     let ops : chunk (diff (area t) (render i)) ++ record_ops (is_last_write (diff (area t) (render i))) target ≡ front ++ op_of end.last ∷ [] =
@@ -181,10 +182,10 @@ write_touches t new i claim target shape more m =
     let rows : new.rows ≡ after_op zxid (op_of end.last) (ran zxid front t.rows) = m.rows ∙ ap (λ os. ran zxid os t.rows) ops ∙ ran_append zxid front (op_of end.last ∷ []) t.rows in
     let passes : Passes t.sessions zxid (front ++ op_of end.last ∷ []) t.rows = subst (λ os. Passes t.sessions zxid os t.rows) ops m.passes.1 in
     let parents = ran_parents t.sessions zxid front t.rows (passes_left t.sessions zxid front (op_of end.last ∷ []) t.rows passes) shape.rise shape.parents in
-    let inside = inside_last end.front end.last (subst Inside end.whole (inside_take max_chunk ds (edits_inside t i))) in
+    let inside = inside_last end.front end.last (subst Inside end.whole (inside_take MAX_CHUNK ds (edits_inside t i))) in
     let IsDueHere : Edit Rendered (List ℕ) → Type 0 = IsDue bytes_cmp path_of_rendered same_body (area t) (render i) in
     let due = All-contains IsDueHere (end.front ++ end.last ∷ []) end.last
-    (subst (All IsDueHere) end.whole (All-take IsDueHere max_chunk ds (each_is_due bytes_order path_of_rendered same_body (area t) (render i) (area_rises t.rows shape.rise) (render_rises i))))
+    (subst (All IsDueHere) end.whole (All-take IsDueHere MAX_CHUNK ds (each_is_due bytes_order path_of_rendered same_body (area t) (render i) (area_rises t.rows shape.rise) (render_rises i))))
     (Contains-append_right end.front (end.last ∷ []) end.last (Contains-head end.last [])) in
     subst (Touched zxid) (sym rows) (edit_touches t.sessions zxid end.last (ran zxid front t.rows) parents inside (λ p is. drop_up t i end.last p inside due is)
     (passes_right t.sessions zxid front (op_of end.last ∷ []) t.rows passes).0)

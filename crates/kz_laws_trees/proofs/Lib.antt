@@ -19,6 +19,7 @@ pub mod Beside
 pub mod Unchanged
 pub mod Sessions
 pub mod Clients
+pub mod Standing
 pub mod Logs
 pub mod Ends
 pub mod Pages

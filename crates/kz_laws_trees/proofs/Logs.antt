@@ -11,7 +11,7 @@ use Rattle.kz_types.specs.declared.record.MetaRecord.{MetaRecord}
 use Rattle.kz_spec_stores.specs.Settlement.{is_begin, is_end, closes, is_marker, is_closed_between, is_inside, first_close, is_ended_by, is_counted, counted}
 use Rattle.kz_spec_stores.specs.Log.{Log, last_of, last_end, end_of, numbered, entries_of_batch, entries, all_entries_applied, image_at, new_batch, with_batch}
 
--- ---- records behind an offset
+-- ---- records after an offset
 
 abbrev pub AllAfter : ℤ → List Entry → Type 0
 AllAfter at [] = ⊤

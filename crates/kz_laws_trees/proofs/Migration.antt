@@ -156,7 +156,7 @@ up_to_end l shape = entries_up_to (end_of l) l.base l.batches (omega (arith, int
 not_before : (e n : ℤ) (k : ℕ) → n ≡ e +ℤ pos k → e ≤ℤ n
 not_before e n k is = omega (arith, ints)
 
--- the entries of a batch behind the log's end
+-- the entries of a batch after the log's end
 abbrev next_entries : Log → ℤ → List MetaRecord → List Entry
 next_entries l epoch items = numbered (end_of l +ℤ pos 1) epoch items
 
@@ -249,11 +249,11 @@ uncommitted_stays l epoch now items shape all before =
 
 -- ---- the commit
 
-find_behind : (at : ℤ) (from : ℤ) (es new : List Entry) → at ≤ℤ from → AllUpTo at es → find (λ (x : Entry). closes x.item && int_lt from x.offset) (es ++ new) ≡ find (λ (x : Entry). closes x.item && int_lt from x.offset) new
-find_behind at from [] new low up_to = refl
-find_behind at from (e ∷ es) new low up_to =
+find_after : (at : ℤ) (from : ℤ) (es new : List Entry) → at ≤ℤ from → AllUpTo at es → find (λ (x : Entry). closes x.item && int_lt from x.offset) (es ++ new) ≡ find (λ (x : Entry). closes x.item && int_lt from x.offset) new
+find_after at from [] new low up_to = refl
+find_after at from (e ∷ es) new low up_to =
     ap (λ b. cond b (Some e) (find (λ (x : Entry). closes x.item && int_lt from x.offset) (es ++ new))) (and_none (closes e.item) (int_lt from e.offset) (not_less e.offset from (omega (arith, ints, up_to.0))))
-    ∙ find_behind at from es new low up_to.1
+    ∙ find_after at from es new low up_to.1
   where
     and_none : (a b : Bool) → b ≡ false → (a && b) ≡ false
     and_none true b is = is
@@ -262,13 +262,13 @@ find_behind at from (e ∷ es) new low up_to =
     not_less : (a b : ℤ) → a ≤ℤ b → int_lt b a ≡ false
     not_less a b h = grind (arith, ints)
 
--- the record of the state counts, as its transaction is ended behind it
+-- the record of the state counts, as its transaction is ended after it
 commit_counts : (at from later : ℤ) (epoch : ℤ) (es : List Entry) → at ≤ℤ from → AllUpTo at es → (from +ℤ pos 1) ≤ℤ later
     → is_counted (es ++ numbered from epoch commit_records) later (record { offset = from; epoch = epoch; item = meta.ZkMigrationState (pos 2) }) ≡ true
 commit_counts at from later epoch es low up_to high =
     let all = es ++ numbered from epoch commit_records in
     let close : Option Entry = Some (record { offset = from +ℤ pos 1; epoch = epoch; item = meta.EndTransaction }) in
-    let first : first_close all from ≡ close = find_behind at from es (numbered from epoch commit_records) low up_to ∙ ap (λ b. cond b close None) (next_less from) in
+    let first : first_close all from ≡ close = find_after at from es (numbered from epoch commit_records) low up_to ∙ ap (λ b. cond b close None) (next_less from) in
     ap (λ b. b && true && (not (is_inside all from) || is_ended_by later (first_close all from))) (not_after from later (omega (arith, ints)))
     ∙ ap (λ m. not (is_inside all from) || is_ended_by later m) first
     ∙ ap (λ b. not (is_inside all from) || b) (not_after (from +ℤ pos 1) later high)

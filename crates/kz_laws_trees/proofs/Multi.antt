@@ -8,6 +8,7 @@ use Rattle.std.proofs.lemmas.Int.{ints}
 use Rattle.std.proofs.lemmas.List.{take_all}
 use Rattle.std.proofs.lemmas.List.Elements.{All-nil, All-cons, All-append, All-head, All-tail, All-weaker, All-filter}
 use Rattle.std.proofs.lemmas.Slice.Eq.{bytes_eq-Decides}
+use Rattle.kz_types.specs.declared.limits.TheConstants.{MAX_CHUNK, MAX_LONG}
 use Rattle.kz_types.specs.declared.tree.Row.{Row}
 use Rattle.kz_types.specs.declared.tree.Op.{Op}
 use Rattle.kz_types.specs.declared.tree.Op.TheVariants.{Set, Check}
@@ -22,10 +23,10 @@ use Rattle.kz_ordered.specs.Difference.{Edit, drop_key, make, alter, all_edited,
 use Rattle.kz_ordered.proofs.Order.{bytes_order}
 use Rattle.kz_ordered.proofs.Difference.{difference_leads, prefix_leaves_rest}
 use Rattle.kz_spec_values.specs.Control.{control_path, epoch_path, migration_path, shown_epoch, recorded_of, written_recorded}
-use Rattle.kz_spec_stores.specs.Tree.{Tree, path_of_row, row_at, op_refusal, set_refusal, set_row, with_zxid, max_long, after_ops, multi, migrated_rows, area, has_offset, is_later, first_path, unclosed_below, unclosed, path_of_rendered}
+use Rattle.kz_spec_stores.specs.Tree.{Tree, path_of_row, row_at, op_refusal, set_refusal, set_row, with_zxid, after_ops, multi, migrated_rows, area, has_offset, is_later, first_path, unclosed_below, unclosed, path_of_rendered}
 use Rattle.kz_spec_stores.specs.Image.{Image}
 use Rattle.kz_spec_znodes.specs.Rendering.{render}
-use Rattle.kz_spec_znodes.specs.Difference.{same_body, op_of, diff, max_chunk, chunk}
+use Rattle.kz_spec_znodes.specs.Difference.{same_body, op_of, diff, chunk}
 use Rattle.kz_spec_machine.specs.Driver.{is_last_write, record_ops, write_ops}
 use Rattle.kz_spec_machine.specs.Sound.{IsStamped, HaveParents, Lasts, ParentsStay, IsNotRoot, IsUnreserved, IsOwned, IsSmall, Limits, TreeShape, claim_version}
 use Rattle.kz_laws_trees.specs.TreeLaws.{path_of_op, KeepsShape, Completed}
@@ -44,7 +45,7 @@ use Rattle.kz_laws_trees.proofs.Render.{decides_body, render_rises, render_insid
 
 pub record Ran (t new : Tree) (ops : List Op) : Type 0 where
   pub zxid : new.zxid ≡ t.zxid +ℤ pos 1
-  pub most : new.zxid ≤ℤ max_long
+  pub most : new.zxid ≤ℤ MAX_LONG
   pub sessions : new.sessions ≡ t.sessions
   pub rows : new.rows ≡ ran (t.zxid +ℤ pos 1) ops t.rows
   pub passes : Passes t.sessions (t.zxid +ℤ pos 1) ops t.rows
@@ -52,10 +53,10 @@ pub record Ran (t new : Tree) (ops : List Op) : Type 0 where
 abbrev pub counted_up : Tree → List Row → Bool → Result Tree TreeFault
 counted_up t rows full = if full then Err (fault.Limit 0 17) else Ok (record { zxid = t.zxid +ℤ pos 1; sessions = t.sessions; rows = rows })
 
-pub room_for_one : (a b : ℤ) → int_le max_long a ≡ false → b ≡ a +ℤ pos 1 → b ≤ℤ max_long
-room_for_one a b room is = subst (λ (z : ℤ). z ≤ℤ max_long) (sym is) (below_most a room)
+pub room_for_one : (a b : ℤ) → int_le MAX_LONG a ≡ false → b ≡ a +ℤ pos 1 → b ≤ℤ MAX_LONG
+room_for_one a b room is = subst (λ (z : ℤ). z ≤ℤ MAX_LONG) (sym is) (below_most a room)
   where
-    below_most : (z : ℤ) → int_le max_long z ≡ false → (z +ℤ pos 1) ≤ℤ max_long
+    below_most : (z : ℤ) → int_le MAX_LONG z ≡ false → (z +ℤ pos 1) ≤ℤ MAX_LONG
     below_most z room = grind (arith, ints)
 
 not_full : (t new : Tree) (rows : List Row) (full : Bool) → counted_up t rows full ≡ Ok new → full ≡ false
@@ -72,10 +73,10 @@ counted_by t new rows false is =
 made_by : (t new : Tree) (ops : List Op) (r : Result (List Row) TreeFault) → after_ops t.sessions (t.zxid +ℤ pos 1) 0 ops t.rows ≡ r → with_zxid t r ≡ Ok new → Ran t new ops
 made_by t new ops (Err e) ran-is is = absurd (cc)
 made_by t new ops (Ok rows) ran-is is =
-    let both = counted_by t new rows (int_le max_long t.zxid) is in
+    let both = counted_by t new rows (int_le MAX_LONG t.zxid) is in
     record {
       zxid = both.0;
-      most = room_for_one t.zxid new.zxid (not_full t new rows (int_le max_long t.zxid) is) both.0;
+      most = room_for_one t.zxid new.zxid (not_full t new rows (int_le MAX_LONG t.zxid) is) both.0;
       sessions = both.1;
       rows = both.2 ∙ ran_is t.sessions (t.zxid +ℤ pos 1) 0 ops t.rows rows ran-is;
       passes = passed t.sessions (t.zxid +ℤ pos 1) 0 ops t.rows rows ran-is;
@@ -203,18 +204,18 @@ map_take (suc n) [] = refl
 map_take (suc n) (e ∷ es) = ap (λ os. op_of e ∷ os) (map_take n es)
 
 -- the operations of a write are those of edits
-pub chunk_is : (t : Tree) (i : Image) → chunk (diff (area t) (render i)) ≡ map op_of (take max_chunk (edits_to t (render i)))
+pub chunk_is : (t : Tree) (i : Image) → chunk (diff (area t) (render i)) ≡ map op_of (take MAX_CHUNK (edits_to t (render i)))
 unfolding diff
-chunk_is t i = map_take max_chunk (edits_to t (render i))
+chunk_is t i = map_take MAX_CHUNK (edits_to t (render i))
 
 pub chunk_avoids : (t : Tree) (i : Image) (p : List ℕ) → is_migrated p ≡ false → Avoids p (chunk (diff (area t) (render i)))
-chunk_avoids t i p outside = subst (Avoids p) (sym (chunk_is t i)) (avoids_inside p (take max_chunk (edits_to t (render i))) outside (inside_take max_chunk (edits_to t (render i)) (edits_inside t i)))
+chunk_avoids t i p outside = subst (Avoids p) (sym (chunk_is t i)) (avoids_inside p (take MAX_CHUNK (edits_to t (render i))) outside (inside_take MAX_CHUNK (edits_to t (render i)) (edits_inside t i)))
 
 record_avoids : (b : Bool) (target : Recorded) (p : List ℕ) → p ≢ migration_path → Avoids p (record_ops b target)
 record_avoids true target p other = (other, tt)
 record_avoids false target p other = tt
 
--- what stands behind the first operation of a write, which checks the claim
+-- what stands after the first operation of a write, which checks the claim
 abbrev pub rest_of_write : Tree → Image → Recorded → List Op
 rest_of_write t i target = chunk (diff (area t) (render i)) ++ record_ops (is_last_write (diff (area t) (render i))) target
 
@@ -252,7 +253,7 @@ record_keeps false target = All-nil KeepsShape
 pub write_keeps_shape : (t : Tree) (i : Image) (claim : ℤ) (target : Recorded) → All KeepsShape (write_ops claim (diff (area t) (render i)) target)
 write_keeps_shape t i claim target =
     All-cons KeepsShape (Check epoch_path claim) (rest_of_write t i target) tt (All-append KeepsShape (chunk (diff (area t) (render i))) (record_ops (is_last_write (diff (area t) (render i))) target)
-    (subst (All KeepsShape) (sym (chunk_is t i)) (edits_keep (take max_chunk (edits_to t (render i))) (inside_take max_chunk (edits_to t (render i)) (edits_inside t i))))
+    (subst (All KeepsShape) (sym (chunk_is t i)) (edits_keep (take MAX_CHUNK (edits_to t (render i))) (inside_take MAX_CHUNK (edits_to t (render i)) (edits_inside t i))))
     (record_keeps (is_last_write (diff (area t) (render i))) target))
 
 -- ---- the last write
@@ -294,7 +295,7 @@ set_last t new i body shape after zxid rows passes pass =
 last_is : (t : Tree) (i : Image) (target : Recorded) (b : Bool) → is_last_write (diff (area t) (render i)) ≡ b → b ≡ true
     → chunk (diff (area t) (render i)) ++ record_ops b target ≡ map op_of (edits_to t (render i)) ++ Set migration_path (written_recorded target) (negsuc 0) ∷ []
 unfolding diff
-last_is t i target true few is = ap (λ os. os ++ Set migration_path (written_recorded target) (negsuc 0) ∷ []) (take_all max_chunk (map op_of (edits_to t (render i))) (at_most (length (map op_of (edits_to t (render i)))) max_chunk few))
+last_is t i target true few is = ap (λ os. os ++ Set migration_path (written_recorded target) (negsuc 0) ∷ []) (take_all MAX_CHUNK (map op_of (edits_to t (render i))) (at_most (length (map op_of (edits_to t (render i)))) MAX_CHUNK few))
   where
     at_most : (a b : ℕ) → nat_le a b ≡ true → a ≤ b
     at_most a b is = grind (arith, nat_tests)
@@ -323,18 +324,18 @@ record_outside false target = tt
 
 -- a write applies the first edits, as many as it may have
 pub area_after_write : (t new : Tree) (i : Image) (claim : ℤ) (target : Recorded) → TreeShape t → multi t (write_ops claim (diff (area t) (render i)) target) ≡ Ok new
-    → area new ≡ all_edited bytes_cmp path_of_rendered (take max_chunk (edits_to t (render i))) (area t)
+    → area new ≡ all_edited bytes_cmp path_of_rendered (take MAX_CHUNK (edits_to t (render i))) (area t)
 area_after_write t new i claim target shape is =
     let m = multi_ran t new (write_ops claim (diff (area t) (render i)) target) is in
     let zxid = t.zxid +ℤ pos 1 in
     let chunk-ops = chunk (diff (area t) (render i)) in
     let last-ops = record_ops (is_last_write (diff (area t) (render i))) target in
-    let edits = take max_chunk (edits_to t (render i)) in
+    let edits = take MAX_CHUNK (edits_to t (render i)) in
     let passes : Passes t.sessions zxid (map op_of edits) t.rows = subst (λ os. Passes t.sessions zxid os t.rows) (chunk_is t i) (passes_left t.sessions zxid chunk-ops last-ops t.rows m.passes.1) in
     ap area_of (m.rows ∙ ran_append zxid chunk-ops last-ops t.rows)
     ∙ area_ran_left zxid last-ops (ran zxid chunk-ops t.rows) (ran_rises zxid chunk-ops t.rows shape.rise) (record_outside (is_last_write (diff (area t) (render i))) target)
     ∙ ap (λ os. area_of (ran zxid os t.rows)) (chunk_is t i)
-    ∙ area_ran t.sessions zxid edits t.rows shape.rise (inside_take max_chunk (edits_to t (render i)) (edits_inside t i)) passes
+    ∙ area_ran t.sessions zxid edits t.rows shape.rise (inside_take MAX_CHUNK (edits_to t (render i)) (edits_inside t i)) passes
 
 map_drop : (n : ℕ) (es : List (Edit Rendered (List ℕ))) → map op_of (drop n es) ≡ drop n (map op_of es)
 map_drop zero es = refl
@@ -343,12 +344,12 @@ map_drop (suc n) (e ∷ es) = map_drop n es
 
 -- and leaves the others to be written
 pub remaining_after_write : (t new : Tree) (i : Image) (claim : ℤ) (target : Recorded) → TreeShape t → multi t (write_ops claim (diff (area t) (render i)) target) ≡ Ok new
-    → diff (area new) (render i) ≡ drop max_chunk (diff (area t) (render i))
+    → diff (area new) (render i) ≡ drop MAX_CHUNK (diff (area t) (render i))
 unfolding diff
 remaining_after_write t new i claim target shape is =
     ap (λ have. map op_of (difference bytes_cmp path_of_rendered same_body have (render i))) (area_after_write t new i claim target shape is)
-    ∙ ap (map op_of) (prefix_leaves_rest bytes_order path_of_rendered same_body decides_body max_chunk (area t) (render i) (area_rises t.rows shape.rise) (render_rises i))
-    ∙ map_drop max_chunk (edits_to t (render i))
+    ∙ ap (map op_of) (prefix_leaves_rest bytes_order path_of_rendered same_body decides_body MAX_CHUNK (area t) (render i) (area_rises t.rows shape.rise) (render_rises i))
+    ∙ map_drop MAX_CHUNK (edits_to t (render i))
 
 -- ---- outside of the area
 

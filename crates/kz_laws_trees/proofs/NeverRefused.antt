@@ -4,6 +4,7 @@ use Rattle.std.specs.Prelude.{Result, Ok, Err, ⊤, int_le}
 use Rattle.std.specs.Ordering.{int_eq}
 use Rattle.std.proofs.lemmas.Bool.Decides.{Decides-int_eq}
 use Rattle.std.proofs.lemmas.List.{append-nil}
+use Rattle.kz_types.specs.declared.limits.TheConstants.{MAX_CHUNK, MAX_LONG}
 use Rattle.kz_types.specs.declared.tree.Row.{Row}
 use Rattle.kz_types.specs.declared.tree.Op.{Op}
 use Rattle.kz_types.specs.declared.tree.Op.TheVariants.{Set}
@@ -17,15 +18,15 @@ use Rattle.kz_ordered.specs.Difference.{Edit, all_edited, difference}
 use Rattle.kz_ordered.proofs.Order.{bytes_order}
 use Rattle.kz_ordered.proofs.Difference.{prefix_leaves_rest}
 use Rattle.kz_spec_values.specs.Control.{migration_path, epoch_path, written_recorded}
-use Rattle.kz_spec_stores.specs.Tree.{Tree, row_at, fits_version, Refusal, code, limit, check_refusal, op_refusal, after_op, refused, after_ops, with_zxid, max_long, multi, area, path_of_rendered}
+use Rattle.kz_spec_stores.specs.Tree.{Tree, row_at, fits_version, Refusal, code, limit, check_refusal, op_refusal, after_op, refused, after_ops, with_zxid, multi, area, path_of_rendered}
 use Rattle.kz_spec_stores.specs.Image.{Image}
 use Rattle.kz_spec_stores.specs.InOrder.{IsInOrder}
 use Rattle.kz_spec_znodes.specs.Rendering.{render}
-use Rattle.kz_spec_znodes.specs.Difference.{same_body, op_of, diff, max_chunk}
+use Rattle.kz_spec_znodes.specs.Difference.{same_body, op_of, diff}
 use Rattle.kz_spec_machine.specs.Driver.{is_last_write, record_ops, write_ops}
 use Rattle.kz_spec_machine.specs.Sound.{Lasts, IsNotRoot, TreeShape, claim_version}
 use Rattle.kz_laws_trees.specs.TreeLaws.{path_of_op}
-use Rattle.kz_laws_trees.specs.RefusalLaws.{HasBases}
+use Rattle.kz_laws_trees.specs.RefusalLaws.{HasBases, IsOfOperation}
 use Rattle.kz_laws_trees.proofs.Rows.{op_rises}
 use Rattle.kz_laws_trees.proofs.Area.{area_of, area_rises, area_changed, edit_path, path_of_edit}
 use Rattle.kz_laws_trees.proofs.Each.{Keeps, all_ran}
@@ -103,7 +104,7 @@ same_fault e index c is = let same : e ≡ fault.Refused index c = cc in ap (λ 
 
 with_zxid_taken : (t : Tree) (index : ℕ) (c : ℤ) (r : Result (List Row) TreeFault) → r ≢ Err (fault.Refused index c) → with_zxid t r ≢ Err (fault.Refused index c)
 with_zxid_taken t index c (Err e) taken is = taken (same_fault e index c is)
-with_zxid_taken t index c (Ok rows) taken is = counted_taken t index c rows (int_le max_long t.zxid) is
+with_zxid_taken t index c (Ok rows) taken is = counted_taken t index c rows (int_le MAX_LONG t.zxid) is
 
 multi_taken : (t : Tree) (ops : List Op) (index : ℕ) (c : ℤ) → after_ops t.sessions (t.zxid +ℤ pos 1) 0 ops t.rows ≢ Err (fault.Refused index c) → multi t ops ≢ Err (fault.Refused index c)
 unfolding multi
@@ -155,5 +156,32 @@ write_taken t i claim target index c shape bases order current there =
     let zxid = t.zxid +ℤ pos 1 in
     let ops = map op_of (edits_from t.rows i) in
     multi_taken t (write_ops claim ops target) index c
-    (one_taken 0 index c (check_refusal claim (row_at epoch_path t.rows)) (after_ops t.sessions zxid 1 (take max_chunk ops ++ record_ops (is_last_write ops) target) t.rows) (check_taken claim (row_at epoch_path t.rows) current)
-    (λ pass. edits_taken t.sessions zxid i (record_ops (is_last_write ops) target) (Is migration_path) order (set_follows t.sessions zxid (is_last_write ops) target) max_chunk (edits_from t.rows i) t.rows (tree_ready t shape bases) there refl 1 index c))
+    (one_taken 0 index c (check_refusal claim (row_at epoch_path t.rows)) (after_ops t.sessions zxid 1 (take MAX_CHUNK ops ++ record_ops (is_last_write ops) target) t.rows) (check_taken claim (row_at epoch_path t.rows) current)
+    (λ pass. edits_taken t.sessions zxid i (record_ops (is_last_write ops) target) (Is migration_path) order (set_follows t.sessions zxid (is_last_write ops) target) MAX_CHUNK (edits_from t.rows i) t.rows (tree_ready t shape bases) there refl 1 index c))
+
+-- ---- faults
+
+same_error : {A : Type 0} (e f : TreeFault) → ◌≡◌ {A = Result A TreeFault} (Err e) (Err f) → e ≡ f
+same_error e f is = cc
+
+refused_fails : (index : ℕ) (m : Option Refusal) (rest : Result (List Row) TreeFault) (f : TreeFault) → refused index m rest ≡ Err f → (rest ≡ Err f → IsOfOperation f) → IsOfOperation f
+refused_fails index None rest f is later = later is
+refused_fails index (Some (code c)) rest f is later = subst IsOfOperation (same_error (fault.Refused index c) f is) tt
+refused_fails index (Some (limit n)) rest f is later = subst IsOfOperation (same_error (fault.Limit index n) f is) tt
+
+ops_fail : (sessions : List ℤ) (zxid : ℤ) (index : ℕ) (os : List Op) (rows : List Row) (f : TreeFault) → after_ops sessions zxid index os rows ≡ Err f → IsOfOperation f
+ops_fail sessions zxid index [] rows f is = absurd (cc)
+ops_fail sessions zxid index (o ∷ os) rows f is =
+    refused_fails index (op_refusal sessions o rows) (after_ops sessions zxid (index + 1) os (after_op zxid o rows)) f is (ops_fail sessions zxid (index + 1) os (after_op zxid o rows) f)
+
+counted_fails : (t : Tree) (rows : List Row) (full : Bool) (f : TreeFault) → counted_up t rows full ≡ Err f → IsOfOperation f
+counted_fails t rows true f is = subst IsOfOperation (same_error (fault.Limit 0 17) f is) tt
+counted_fails t rows false f is = absurd (cc)
+
+with_zxid_fails : (t : Tree) (r : Result (List Row) TreeFault) (f : TreeFault) → with_zxid t r ≡ Err f → ((e : TreeFault) → r ≡ Err e → IsOfOperation e) → IsOfOperation f
+with_zxid_fails t (Err e) f is fails = subst IsOfOperation (same_error e f is) (fails e refl)
+with_zxid_fails t (Ok rows) f is fails = counted_fails t rows (int_le MAX_LONG t.zxid) f is
+
+pub multi_fails : (t : Tree) (ops : List Op) (f : TreeFault) → multi t ops ≡ Err f → IsOfOperation f
+unfolding multi
+multi_fails t ops f is = with_zxid_fails t (after_ops t.sessions (t.zxid +ℤ pos 1) 0 ops t.rows) f is (ops_fail t.sessions (t.zxid +ℤ pos 1) 0 ops t.rows)

@@ -51,7 +51,7 @@ not_after_below p r is = ap (λ o. match_ordering o true false false) (cmp_great
 all_weaker : (P Q : Row → Type 0) (xs : List Row) → ((r : Row) → P r → Q r) → All P xs → All Q xs
 all_weaker P Q xs so all k d within = so _ (all k d within)
 
--- behind the last of the first znodes stand the others
+-- after the last of the first znodes stand the others
 rest_after : (xs : List Row) (x : Row) (ys : List Row) → Rises bytes_cmp path_of_row (xs ++ x ∷ ys) → filter (is_after (Some x.path)) (xs ++ x ∷ ys) ≡ ys
 rest_after xs x ys h =
     let test = is_after (Some x.path) in
@@ -64,17 +64,17 @@ all_after : (ys : List Row) → filter (is_after None) ys ≡ ys
 all_after [] = refl
 all_after (y ∷ ys) = ap (λ l. y ∷ l) (all_after ys)
 
-rest_behind : (xs ys : List Row) → (xs ≡ []) ⊎ EndsWith xs → Rises bytes_cmp path_of_row (xs ++ ys) → filter (is_after (last_path xs)) (xs ++ ys) ≡ ys
-rest_behind xs ys (inl none) h = ap (λ l. filter (is_after (last_path l)) (l ++ ys)) none ∙ all_after ys
-rest_behind xs ys (inr e) h =
+rest_later : (xs ys : List Row) → (xs ≡ []) ⊎ EndsWith xs → Rises bytes_cmp path_of_row (xs ++ ys) → filter (is_after (last_path xs)) (xs ++ ys) ≡ ys
+rest_later xs ys (inl none) h = ap (λ l. filter (is_after (last_path l)) (l ++ ys)) none ∙ all_after ys
+rest_later xs ys (inr e) h =
     let joined : (e.front ++ e.last ∷ []) ++ ys ≡ e.front ++ e.last ∷ ys = append_assoc e.front (e.last ∷ []) ys in
     ap (λ l. filter (is_after (last_path l)) (l ++ ys)) e.whole
     ∙ ap (λ p. filter (is_after p) ((e.front ++ e.last ∷ []) ++ ys)) (last_is e.front e.last)
     ∙ ap (filter (is_after (Some e.last.path))) joined
     ∙ rest_after e.front e.last ys (subst (Rises bytes_cmp path_of_row) (ap (λ l. l ++ ys) e.whole ∙ joined) h)
 
-pub behind_last : (xs ys : List Row) → Rises bytes_cmp path_of_row (xs ++ ys) → filter (is_after (last_path xs)) (xs ++ ys) ≡ ys
-behind_last xs ys h = rest_behind xs ys (end_of_list xs) h
+pub after_last : (xs ys : List Row) → Rises bytes_cmp path_of_row (xs ++ ys) → filter (is_after (last_path xs)) (xs ++ ys) ≡ ys
+after_last xs ys h = rest_later xs ys (end_of_list xs) h
 
 -- a page that isn't full is all that was left
 pub short_page : (n : ℕ) (ys : List Row) → nat_lt (length (take n ys)) n ≡ true → take n ys ≡ ys

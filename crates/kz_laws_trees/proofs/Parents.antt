@@ -5,6 +5,7 @@ use Rattle.std.specs.Str.{bytes_eq}
 use Rattle.std.specs.List.{list_any}
 use Rattle.std.proofs.lemmas.Slice.Eq.{bytes_eq-Decides}
 use Rattle.std.proofs.lemmas.List.Elements.{All-nil, All-cons, All-contains}
+use Rattle.kz_types.specs.declared.limits.TheConstants.{MAX_BODY_BYTES, MAX_ZNODES}
 use Rattle.kz_types.specs.declared.tree.Row.{Row}
 use Rattle.kz_types.specs.declared.tree.Op.{Op}
 use Rattle.kz_types.specs.declared.tree.Op.TheVariants.{Create, Set, Delete, Check}
@@ -12,7 +13,7 @@ use Rattle.kz_ordered.specs.Order.{bytes_cmp}
 use Rattle.kz_ordered.specs.Ordered.{Rises}
 use Rattle.kz_ordered.proofs.Order.{bytes_order}
 use Rattle.kz_ordered.proofs.Lookup.{found_is_contained, key_of_found}
-use Rattle.kz_spec_stores.specs.Tree.{path_of_row, row_at, parent_of, is_root, has_parent, has_children, is_ephemeral, may_own, fits_version, count_beside, limit_beside, max_body, max_znodes, Refusal, code, limit, first_refusal, create_refusal, set_refusal, delete_refusal, op_refusal, after_op}
+use Rattle.kz_spec_stores.specs.Tree.{path_of_row, row_at, parent_of, is_root, has_parent, has_children, is_ephemeral, may_own, fits_version, count_beside, limit_beside, Refusal, code, limit, first_refusal, create_refusal, set_refusal, delete_refusal, op_refusal, after_op}
 use Rattle.kz_spec_machine.specs.Sound.{HaveParents}
 use Rattle.kz_laws_trees.specs.TreeLaws.{path_of_op}
 use Rattle.kz_laws_trees.proofs.Rows.{still, same, other, compare, others_kept, op_rises, created_found, set_found, deleted_found}
@@ -26,7 +27,7 @@ some_still : (m : Option Row) → is_some (option_map still m) ≡ is_some m
 some_still None = refl
 some_still (Some r) = refl
 
-some_alike : (m n : Option Row) → option_map still m ≡ option_map still n → is_some m ≡ is_some n
+pub some_alike : (m n : Option Row) → option_map still m ≡ option_map still n → is_some m ≡ is_some n
 some_alike m n e = sym (some_still m) ∙ ap is_some e ∙ some_still n
 
 pub there_kept : (zxid : ℤ) (o : Op) (p : List ℕ) (rows : List Row) → p ≢ path_of_op o → is_some (row_at p (after_op zxid o rows)) ≡ is_some (row_at p rows)
@@ -48,7 +49,7 @@ not_not false is = absurd (cc)
 
 create_has_parent : (sessions : List ℤ) (path body : List ℕ) (owner : Option ℤ) (rows : List Row) → create_refusal sessions path body owner rows ≡ None → has_parent path rows ≡ true
 create_has_parent sessions path body owner rows pass =
-    let rest : List (Bool × Refusal) = (is_some (row_at path rows), code (negsuc 109)) ∷ (is_ephemeral (row_at (parent_of path) rows), code (negsuc 107)) ∷ (nat_lt max_body (length body), limit 2) ∷ (nat_le max_znodes (count_beside path rows), limit (limit_beside path)) ∷ [] in
+    let rest : List (Bool × Refusal) = (is_some (row_at path rows), code (negsuc 109)) ∷ (is_ephemeral (row_at (parent_of path) rows), code (negsuc 107)) ∷ (nat_lt MAX_BODY_BYTES (length body), limit 2) ∷ (nat_le MAX_ZNODES (count_beside path rows), limit (limit_beside path)) ∷ [] in
     let first = passed_first (not (may_own owner sessions)) (code (negsuc 111)) ((not (has_parent path rows), code (negsuc 100)) ∷ rest) pass in
     not_not (has_parent path rows) (passed_first (not (has_parent path rows)) (code (negsuc 100)) rest first.1).0
 

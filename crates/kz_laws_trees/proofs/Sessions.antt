@@ -8,6 +8,7 @@ use Rattle.std.proofs.lemmas.Int.{ints}
 use Rattle.std.proofs.lemmas.List.Elements.{All-head, All-tail, All-map, All-filter, All-weaker, All-contains, filter_passes}
 use Rattle.std.proofs.lemmas.List.Folds.{list_any_none}
 use Rattle.std.proofs.lemmas.Slice.Eq.{bytes_eq-Decides}
+use Rattle.kz_types.specs.declared.limits.TheConstants.{MAX_LONG}
 use Rattle.kz_types.specs.declared.tree.Row.{Row}
 use Rattle.kz_types.specs.declared.move_fault.MoveFault.{MoveFault}
 use Rattle.kz_types.specs.declared.move_fault.MoveFault.TheVariants as move_fault
@@ -18,7 +19,7 @@ use Rattle.kz_ordered.proofs.Order.{bytes_order, int_order, Place, below, equal,
 use Rattle.kz_ordered.proofs.Lookup.{found_is_contained, key_of_found, find_here, find_skip, find-put_same, find-put_other, find-without_other, Rises-put, Rises-without, Contains-put_cases, Contains-without}
 use Rattle.kz_ordered.proofs.Maps.{find-map, find-filter_absent, find-filter_found, Rises-filter, Rises-map}
 use Rattle.kz_spec_values.specs.Control.{control_path, epoch_path, migration_path, shown_epoch}
-use Rattle.kz_spec_stores.specs.Tree.{Tree, path_of_row, row_at, parent_of, is_root, is_ephemeral, is_live, may_own, max_long, begin_session, is_owner, is_owned, loses_child, after_loss, without_owned, end_session}
+use Rattle.kz_spec_stores.specs.Tree.{Tree, path_of_row, row_at, parent_of, is_root, is_ephemeral, is_live, may_own, begin_session, is_owner, is_owned, loses_child, after_loss, without_owned, end_session}
 use Rattle.kz_spec_machine.specs.Driver.{shown_by}
 use Rattle.kz_spec_machine.specs.Sound.{IsStamped, HaveParents, is_lasting, Lasts, ParentsStay, IsNotRoot, IsUnreserved, IsOwned, IsSmall, Limits, TreeShape, IsSession}
 use Rattle.kz_laws_trees.specs.TreeLaws.{Unchanged}
@@ -35,11 +36,11 @@ use Rattle.kz_laws_trees.proofs.Unchanged.{Alike, unchanged_by}
 -- a tree with the next zxid, these sessions and these znodes
 pub record Moved (t new : Tree) (live : List ℤ) (made : List Row) : Type 0 where
   pub zxid : new.zxid ≡ t.zxid +ℤ pos 1
-  pub most : new.zxid ≤ℤ max_long
+  pub most : new.zxid ≤ℤ MAX_LONG
   pub sessions : new.sessions ≡ live
   pub rows : new.rows ≡ made
 
-moved_by : (t new : Tree) (sessions : List ℤ) (rows : List Row) (full : Bool) → int_le max_long t.zxid ≡ full
+moved_by : (t new : Tree) (sessions : List ℤ) (rows : List Row) (full : Bool) → int_le MAX_LONG t.zxid ≡ full
     → (if full then Err (move_fault.Limit 17) else Ok (record { zxid = t.zxid +ℤ pos 1; sessions = sessions; rows = rows })) ≡ Ok new → Moved t new sessions rows
 moved_by t new sessions rows true room is = absurd (cc)
 moved_by t new sessions rows false room is =
@@ -57,20 +58,20 @@ if_live t new sessions rows true fault rest is made = made is
 if_live t new sessions rows false fault rest is made = absurd (cc)
 
 -- the live sessions with one more, and without one
-abbrev with_session : ℤ → List ℤ → List ℤ
+abbrev pub with_session : ℤ → List ℤ → List ℤ
 with_session session sessions = put int_cmp (λ s. s) session sessions
 
-abbrev without_session : ℤ → List ℤ → List ℤ
+abbrev pub without_session : ℤ → List ℤ → List ℤ
 without_session session sessions = without int_cmp (λ s. s) session sessions
 
-begun : (t new : Tree) (session : ℤ) → begin_session t session ≡ Ok new → Moved t new (with_session session t.sessions) t.rows
+pub begun : (t new : Tree) (session : ℤ) → begin_session t session ≡ Ok new → Moved t new (with_session session t.sessions) t.rows
 unfolding begin_session
-begun t new session is = unless_refused t new (with_session session t.sessions) t.rows (is_live session t.sessions) move_fault.Known _ is (moved_by t new (with_session session t.sessions) t.rows (int_le max_long t.zxid) refl)
+begun t new session is = unless_refused t new (with_session session t.sessions) t.rows (is_live session t.sessions) move_fault.Known _ is (moved_by t new (with_session session t.sessions) t.rows (int_le MAX_LONG t.zxid) refl)
 
-ended : (t new : Tree) (session : ℤ) → end_session t session ≡ Ok new → Moved t new (without_session session t.sessions) (without_owned (t.zxid +ℤ pos 1) session t.rows)
+pub ended : (t new : Tree) (session : ℤ) → end_session t session ≡ Ok new → Moved t new (without_session session t.sessions) (without_owned (t.zxid +ℤ pos 1) session t.rows)
 unfolding end_session
 ended t new session is = if_live t new (without_session session t.sessions) (without_owned (t.zxid +ℤ pos 1) session t.rows) (is_live session t.sessions) move_fault.Unknown _ is
-    (moved_by t new (without_session session t.sessions) (without_owned (t.zxid +ℤ pos 1) session t.rows) (int_le max_long t.zxid) refl)
+    (moved_by t new (without_session session t.sessions) (without_owned (t.zxid +ℤ pos 1) session t.rows) (int_le MAX_LONG t.zxid) refl)
 
 -- ---- live sessions
 
@@ -396,13 +397,18 @@ ended_shape t new session m shape =
       stay = subst ParentsStay (sym m.rows) (ended_stay zxid session t.rows shape.rise shape.stay);
     }
 
+-- `/migration` stays as it is
+pub migration_left : (t new : Tree) (session : ℤ) → end_session t session ≡ Ok new → TreeShape t → Alike t.rows new.rows migration_path
+migration_left t new session is shape =
+    ap (λ rows. option_map still (row_at migration_path rows)) (ended t new session is).rows ∙ lasting_alike (t.zxid +ℤ pos 1) session migration_path t.rows shape.rise shape.last migration_lasts
+
 pub end_leaves : (t new : Tree) (session : ℤ) → end_session t session ≡ Ok new → TreeShape t → TreeShape new × Unchanged t new
 end_leaves t new session is shape =
     let m = ended t new session is in
     let zxid = t.zxid +ℤ pos 1 in (
       ended_shape t new session m shape,
       unchanged_by t new (ap (filter in_area) m.rows ∙ area_rows zxid session t.rows t.rows (all_whole session t.rows shape.last))
-          (ap (λ rows. option_map still (row_at migration_path rows)) m.rows ∙ lasting_alike zxid session migration_path t.rows shape.rise shape.last migration_lasts)
+          (migration_left t new session is shape)
           (ap (λ rows. option_map still (row_at epoch_path rows)) m.rows ∙ lasting_alike zxid session epoch_path t.rows shape.rise shape.last epoch_lasts)
           (ap (λ rows. shown_by (row_at control_path rows)) m.rows ∙ ap shown_by (found_after zxid session control_path t.rows shape.rise) ∙ shown_after zxid session t.rows (row_at control_path t.rows) refl shape.last),
     )

@@ -61,7 +61,7 @@ contains_flat f (z ∷ xs) x y has within = elim (Contains-cons_cases z xs x has
   | inr later ↦ Contains-append_right (f z) (flat_map f xs) y (contains_flat f xs x y later within)
 ]
 
--- the znodes of a topic behind its own, and those behind the parent of its partitions
+-- the znodes of a topic after its own, and those after the parent of its partitions
 abbrev below_partitions : TopicEntry → List Rendered
 below_partitions t = flat_map (partition_znodes t.name) t.partitions ++ topic_config_znodes t.name t.pairs
 

@@ -2,6 +2,7 @@
 use Rattle.std.proofs.Common.{◌≡◌, ℕ, ◌+◌, ℤ, pos, nat_lt, int_lt, not, Bool, true, false, if◌then◌else◌, List, [], ◌∷◌, ◌++◌, length, map, Option, Some, None, All, subst}
 use Rattle.std.specs.Prelude.{Result, Ok, Err, ⊤}
 use Rattle.std.proofs.lemmas.List.Elements.{All-nil, All-cons, All-append, All-map}
+use Rattle.kz_types.specs.declared.limits.TheConstants.{MAX_EPOCH, MAX_RECORDS}
 use Rattle.kz_types.specs.declared.tree.Row.{Row}
 use Rattle.kz_types.specs.declared.row.AclRow.{AclRow}
 use Rattle.kz_types.specs.declared.bodies.Pair.{Pair}
@@ -18,9 +19,8 @@ use Rattle.kz_types.specs.declared.record.MetaRecord.{MetaRecord}
 use Rattle.kz_types.specs.Paths.{kind_of, key_of}
 use Rattle.kz_spec_values.specs.Bodies.{read_body, are_some_of}
 use Rattle.kz_spec_stores.specs.Image.{empty_image, all_applied}
-use Rattle.kz_spec_stores.specs.Log.{max_records, max_epoch}
 use Rattle.kz_spec_znodes.specs.Rendering.{Excess, excess}
-use Rattle.kz_spec_znodes.specs.Translation.{Translated, RowRecords, row_of, leader_of, partition_record, is_taken, topic_records, records_of_topic, assigned, may_lead, records_of_state, records_if_assigned, broker_name, config_record, config_records, records_of_config, records_if_there, quota_record, scram_record, scram_records, records_of_quotas, acl_record, acl_records, count_of_entries, records_of_acls, max_block_end, records_of_producer, records_of, entity_records, records_by_kind, row_records, joined, records_behind, all_records, further_records, bounded, within_limits, translate}
+use Rattle.kz_spec_znodes.specs.Translation.{Translated, RowRecords, row_of, leader_of, partition_record, is_taken, topic_records, records_of_topic, assigned, may_lead, records_of_state, records_if_assigned, broker_name, config_record, config_records, records_of_config, records_if_there, quota_record, scram_record, scram_records, records_of_quotas, acl_record, acl_records, count_of_entries, records_of_acls, max_block_end, records_of_producer, records_of, entity_records, records_by_kind, row_records, joined, records_after, all_records, further_records, bounded, within_limits, translate}
 use Rattle.kz_spec_machine.specs.Sound.{IsTranslated}
 
 abbrev Gives : {E : Type 0} → Result (List MetaRecord) E → Type 0
@@ -164,21 +164,21 @@ joined_gives path (Err w) rest first second = tt
 joined_gives path (Ok rs) (Ok more) first second = All-append IsTranslated rs more first second
 joined_gives path (Ok rs) (Err e) first second = tt
 
-behind_gives : (rows earlier rest : List Row) → Gives (records_behind rows earlier rest)
-behind_gives rows earlier [] = nothing
-behind_gives rows earlier (r ∷ rest) = joined_gives r.path (row_records rows earlier r) (records_behind rows (earlier ++ r ∷ []) rest) (kind_gives rows earlier (kind_of r.path) r) (behind_gives rows (earlier ++ r ∷ []) rest)
+after_gives : (rows earlier rest : List Row) → Gives (records_after rows earlier rest)
+after_gives rows earlier [] = nothing
+after_gives rows earlier (r ∷ rest) = joined_gives r.path (row_records rows earlier r) (records_after rows (earlier ++ r ∷ []) rest) (kind_gives rows earlier (kind_of r.path) r) (after_gives rows (earlier ++ r ∷ []) rest)
 
 bounded_gives : (x : Option Excess) (rs : List MetaRecord) → All IsTranslated rs → Gives (bounded x rs)
 bounded_gives (Some e) rs all = tt
-bounded_gives None rs all = unless_true (nat_lt max_records (length rs + further_records)) (Ok rs) _ all
+bounded_gives None rs all = unless_true (nat_lt MAX_RECORDS (length rs + further_records)) (Ok rs) _ all
 
 within_gives : (r : Translated) → Gives r → Gives (within_limits r)
 within_gives (Err e) all = tt
-within_gives (Ok rs) all = bounded_gives (excess (all_applied max_epoch rs empty_image)) rs all
+within_gives (Ok rs) all = bounded_gives (excess (all_applied MAX_EPOCH rs empty_image)) rs all
 
 translation_gives : (rows : List Row) → Gives (translate rows)
 unfolding translate
-translation_gives rows = within_gives (all_records rows) (behind_gives rows [] rows)
+translation_gives rows = within_gives (all_records rows) (after_gives rows [] rows)
 
 of_ok : (r : Translated) (records : List MetaRecord) → r ≡ Ok records → Gives r → All IsTranslated records
 of_ok r records is all = subst Gives is all

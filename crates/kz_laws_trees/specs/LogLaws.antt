@@ -28,7 +28,7 @@ BatchKeepsShape = (l : Log) (epoch now : ℤ) (items : List MetaRecord) → LogS
 abbrev pub AppendKeepsShape : Type 0
 AppendKeepsShape = (l new : Log) (epoch now : ℤ) (items : List MetaRecord) → LogShape l → append l epoch now items ≡ Ok new → LogShape new
 
--- The log's end is a batch end, and no batch end is behind it.
+-- The log's end is a batch end, and no batch end is after it.
 abbrev pub EndIsLastBatchEnd : Type 0
 EndIsLastBatchEnd = (l : Log) → LogShape l → IsBatchEnd l (end_of l) × ((at : ℤ) → IsBatchEnd l at → at ≤ℤ end_of l)
 

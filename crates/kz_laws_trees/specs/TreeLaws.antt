@@ -1,6 +1,7 @@
 -- What a multi that isn't refused makes of a tree.
 use Rattle.std.specs.Prelude.{◌≡◌, ◌≢◌, ℕ, ℤ, pos, ◌+ℤ◌, ◌≤ℤ◌, true, false, ◌&&◌, List, take, drop, Some, None, is_some, Ok, All, ⊤}
 use Rattle.std.specs.Str.{bytes_eq}
+use Rattle.kz_types.specs.declared.limits.TheConstants.{MAX_CHUNK}
 use Rattle.kz_types.specs.declared.tree.Row.{Row}
 use Rattle.kz_types.specs.declared.tree.Op.{Op}
 use Rattle.kz_types.specs.declared.tree.Op.TheVariants.{Create, Set, Delete, Check}
@@ -13,7 +14,7 @@ use Rattle.kz_spec_values.specs.Control.{control_path, shown_epoch, recorded_of,
 use Rattle.kz_spec_stores.specs.Tree.{Tree, created_row, multi, begin_session, end_session, migrated_rows, area, recorded, has_offset, unclosed, path_of_rendered}
 use Rattle.kz_spec_stores.specs.Image.{Image}
 use Rattle.kz_spec_znodes.specs.Rendering.{render}
-use Rattle.kz_spec_znodes.specs.Difference.{same_body, diff, max_chunk}
+use Rattle.kz_spec_znodes.specs.Difference.{same_body, diff}
 use Rattle.kz_spec_machine.specs.Driver.{Driver, epoch_or_zero, views_migrated, unrecorded, is_last_write, write_ops, claimed_version, claim_ops}
 use Rattle.kz_spec_machine.specs.Machine.{is_held_tree, client_refusal}
 use Rattle.kz_spec_machine.specs.Sound.{IsNotRoot, IsUnreserved, Lasts, TreeShape, claim_version, shown_in, IsSession, IsLawfulOp}
@@ -68,12 +69,12 @@ IsWritten t new i claim target = multi t (write_ops claim (diff (area t) (render
 -- A write applies the first edits of the area's difference to the rendering, at most 64.
 abbrev pub WriteAppliesEdits : Type 0
 WriteAppliesEdits = (t new : Tree) (i : Image) (claim : ℤ) (target : Recorded) → TreeShape t → IsWritten t new i claim target
-    → area new ≡ all_edited bytes_cmp path_of_rendered (take max_chunk (difference bytes_cmp path_of_rendered same_body (area t) (render i))) (area t)
+    → area new ≡ all_edited bytes_cmp path_of_rendered (take MAX_CHUNK (difference bytes_cmp path_of_rendered same_body (area t) (render i))) (area t)
 
 -- What remains to be written then is the rest of the operations.
 abbrev pub WriteLeavesRest : Type 0
 WriteLeavesRest = (t new : Tree) (i : Image) (claim : ℤ) (target : Recorded) → TreeShape t → IsWritten t new i claim target
-    → diff (area new) (render i) ≡ drop max_chunk (diff (area t) (render i))
+    → diff (area new) (render i) ≡ drop MAX_CHUNK (diff (area t) (render i))
 
 -- A write leaves the data version of `/controller_epoch`.
 abbrev pub WriteKeepsClaim : Type 0

@@ -4,7 +4,7 @@
 #![tactic(auto)]
 
 ghost use Rattle.kz_laws_trees.specs.TreeLaws.{MultiKeepsShape, ClaimKeepsShape, WriteKeepsShape, OutsideLeavesArea, WriteAppliesEdits, WriteLeavesRest, WriteKeepsClaim, WriteKeepsShown, LastWriteCompletes, EarlierWriteUnclosed, ClaimGivesVersion, ClaimShowsEpoch, ClaimLeavesArea, ClaimRecordsNone, BeginLeaves, EndLeaves, ClientKeepsShape, ClientLeavesRecorded, ClientLeavesHeld};
-ghost use Rattle.kz_laws_trees.specs.RefusalLaws.{DifferenceIsTaken, WriteIsTaken};
+ghost use Rattle.kz_laws_trees.specs.RefusalLaws.{DifferenceIsTaken, WriteIsTaken, MultiFailsByOperation, ClaimHasMigration, WriteKeepsMigration, ClientKeepsMigration, SessionsKeepMigration};
 ghost use Rattle.kz_laws_trees.specs.LogLaws.{BatchLeavesImages, BatchLeavesEnds, BatchMovesEnd, BatchKeepsShape, AppendKeepsShape, EndIsLastBatchEnd, PlainKeepsState, UncommittedStays, CommitMigrates};
 
 /// A multi that isn't refused gives the tree the next zxid, and keeps the tree's shape where each of its operations is one that
@@ -28,10 +28,21 @@ pub fn write_leads()
 {}
 
 /// Where all base znodes stand, none of the operations that lead from the migrated area to the rendering of a metadata in order
-/// is refused with a code; nor is any of the write of a driver whose claim still stands. A limit may be passed.
+/// is refused with a code; nor is any of the write of a driver whose claim still stands. A limit may be passed, and a multi fails
+/// by nothing else.
 pub fn never_refused()
     ensures difference { DifferenceIsTaken }
     ensures write { WriteIsTaken }
+    ensures faults { MultiFailsByOperation }
+{}
+
+/// `/migration` is there after a claim, and stays while a KRaft controller holds the tree: through writes, multis of clients, and
+/// sessions that begin and end.
+pub fn migration_stays()
+    ensures claim { ClaimHasMigration }
+    ensures write { WriteKeepsMigration }
+    ensures client { ClientKeepsMigration }
+    ensures session { SessionsKeepMigration }
 {}
 
 /// After a claim `/controller_epoch` has the data version that its driver takes as its claim, and `/controller` shows its

@@ -39,7 +39,7 @@ use Rattle.kz_spec_stores.specs.ImageRules.{is_empty, is_epoch}
 use Rattle.kz_spec_stores.specs.InOrder.{IsInOrder}
 use Rattle.kz_spec_stores.specs.Legal.{IsMember, IsConfiguration}
 use Rattle.kz_spec_znodes.specs.Rendering.{topic_znode, assignment_of, state_body, quotas_of_user, acl_key, render}
-use Rattle.kz_spec_znodes.specs.Translation.{row_of, body_of_row, is_topic_with, is_taken, topic_records, number_of_assignment, assignments_in, assigned, may_lead, leader_of, records_if_assigned, config_record, config_records, records_if_there, scram_records, quota_record, bad_field, max_block_end, records_of_producer, broker_name, acl_records, count_of_entries, records_of, entity_records, records_by_kind, row_records, joined, records_behind, all_records}
+use Rattle.kz_spec_znodes.specs.Translation.{row_of, body_of_row, is_topic_with, is_taken, topic_records, number_of_assignment, assignments_in, assigned, may_lead, leader_of, records_if_assigned, config_record, config_records, records_if_there, scram_records, quota_record, bad_field, max_block_end, records_of_producer, broker_name, acl_records, count_of_entries, records_of, entity_records, records_by_kind, row_records, joined, records_after, all_records}
 use Rattle.kz_laws_bodies.specs.Readable.{AreBrokers}
 use Rattle.kz_laws_znodes.specs.RoundTrip.{new_znode, znodes_of, IsWritable, HasRoom, MayReturn}
 use Rattle.kz_laws_znodes.proofs.Within.{from_map}
@@ -125,7 +125,7 @@ block_ok next h = lt_fails max_block_end (next +ℤ pos 999) (omega (arith, ints
 -- ---- all znodes
 
 -- where each znode has records, all have
-all_ok : (rows earlier todo : List Row) → rows ≡ earlier ++ todo → AllHaveRecords rows → (rs : List MetaRecord) × (records_behind rows earlier todo ≡ Ok rs)
+all_ok : (rows earlier todo : List Row) → rows ≡ earlier ++ todo → AllHaveRecords rows → (rs : List MetaRecord) × (records_after rows earlier todo ≡ Ok rs)
 all_ok rows earlier [] whole h = ([], refl)
 all_ok rows earlier (r ∷ todo) whole h =
     let one = h earlier r todo whole in

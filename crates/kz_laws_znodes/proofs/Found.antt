@@ -33,7 +33,7 @@ use Rattle.kz_laws_paths.proofs.Keys.{path_holds}
 use Rattle.kz_laws_znodes.specs.RoundTrip.{IsWritable, HasEpoch, MayReturn}
 use Rattle.kz_laws_znodes.proofs.Within.{to_flat, to_map}
 use Rattle.kz_laws_znodes.proofs.Scaffolds.{IsScaffold}
-use Rattle.kz_laws_znodes.proofs.Shown.{Shown, shown_topic, shown_state, shown_topic_config, shown_config, shown_parent, shown_quotas, shown_user, shown_entries, shown_producer, shown_blank, shown_scaffold, shown, topic_facts, behind_quotas}
+use Rattle.kz_laws_znodes.proofs.Shown.{Shown, shown_topic, shown_state, shown_topic_config, shown_config, shown_parent, shown_quotas, shown_user, shown_entries, shown_producer, shown_blank, shown_scaffold, shown, topic_facts, after_quotas}
 use Rattle.kz_laws_znodes.proofs.Held.{IsHeld, has_quotas, quota_kind_of, topic_held, state_held, topic_config_held, config_held, quota_held, user_held, parent_held, resource_rows, entries_held, producer_held, blank_held}
 use Rattle.kz_laws_znodes.proofs.Says.{broker_named}
 use Rattle.kz_laws_znodes.proofs.Puts.{put_is_found}
@@ -220,7 +220,7 @@ module _ (i : Image) (o : IsInOrder i) (w : IsWritable i) (m : MayReturn i) wher
   is_there x has = put_is_found bytes_order path_of_rendered (entity_znodes i) (map bare roots) x has
 
   among_topics : (x : Rendered) (t : TopicEntry) → Contains i.topics t → Contains (topic_znodes t) x → Contains (entity_znodes i) x
-  among_topics x t has at = Contains-append_left (flat_map topic_znodes i.topics) (map config_znode i.broker_configs ++ (quota_znodes i.quotas i.users ++ behind_quotas i o w)) x (to_flat topic_znodes i.topics t x has at)
+  among_topics x t has at = Contains-append_left (flat_map topic_znodes i.topics) (map config_znode i.broker_configs ++ (quota_znodes i.quotas i.users ++ after_quotas i o w)) x (to_flat topic_znodes i.topics t x has at)
 
   abbrev below_topic : TopicEntry → List Rendered
   below_topic t = bare (partitions_path t.name) ∷ (flat_map (partition_znodes t.name) t.partitions ++ topic_config_znodes t.name t.pairs)

@@ -29,7 +29,7 @@ use Rattle.kz_laws_paths.proofs.Legal.{IsGoodKey}
 use Rattle.kz_laws_paths.proofs.Keys.{path_holds}
 use Rattle.kz_laws_znodes.specs.RoundTrip.{IsWritable, MayReturn}
 use Rattle.kz_laws_znodes.proofs.Within.{from_flat, from_map, to_flat, to_map}
-use Rattle.kz_laws_znodes.proofs.Shown.{Shown, shown_topic, shown_state, shown_topic_config, shown_config, shown_parent, shown_quotas, shown_user, shown_entries, shown_producer, shown_blank, shown_scaffold, behind_quotas}
+use Rattle.kz_laws_znodes.proofs.Shown.{Shown, shown_topic, shown_state, shown_topic_config, shown_config, shown_parent, shown_quotas, shown_user, shown_entries, shown_producer, shown_blank, shown_scaffold, after_quotas}
 use Rattle.kz_laws_znodes.proofs.Held.{has_quotas, quota_path, quota_held, config_held, user_held, parent_held, facts_of_acl}
 use Rattle.kz_laws_znodes.proofs.Puts.{found_among}
 use Rattle.kz_laws_znodes.proofs.Found.{found_at, who_of}
@@ -54,7 +54,7 @@ module _ (i : Image) (o : IsInOrder i) (w : IsWritable i) (m : MayReturn i) wher
   users = map (user_znode i.quotas) i.users
 
   abbrev pub last : List Rendered
-  last = behind_quotas i o w
+  last = after_quotas i o w
 
   -- what is put before the znodes of quotas, and before those of users
   abbrev pub first_base : List Rendered
@@ -63,20 +63,20 @@ module _ (i : Image) (o : IsInOrder i) (w : IsWritable i) (m : MayReturn i) wher
   abbrev pub second_base : List Rendered
   second_base = all_put bytes_cmp path_of_rendered own first_base
 
-  put_behind : (xs ys base : List Rendered) → all_put bytes_cmp path_of_rendered (xs ++ ys) base ≡ all_put bytes_cmp path_of_rendered ys (all_put bytes_cmp path_of_rendered xs base)
-  put_behind xs ys base = all_put-append bytes_order path_of_rendered xs ys base
+  put_after : (xs ys base : List Rendered) → all_put bytes_cmp path_of_rendered (xs ++ ys) base ≡ all_put bytes_cmp path_of_rendered ys (all_put bytes_cmp path_of_rendered xs base)
+  put_after xs ys base = all_put-append bytes_order path_of_rendered xs ys base
 
-  behind_parents_put : render i ≡ all_put bytes_cmp path_of_rendered ((own ++ users) ++ last) first_base
+  after_parents_put : render i ≡ all_put bytes_cmp path_of_rendered ((own ++ users) ++ last) first_base
   unfolding render
-  behind_parents_put =
-      put_behind (flat_map topic_znodes i.topics) (map config_znode i.broker_configs ++ (quota_znodes i.quotas i.users ++ last)) (map bare roots)
-      ∙ put_behind (map config_znode i.broker_configs) (quota_znodes i.quotas i.users ++ last) (all_put bytes_cmp path_of_rendered (flat_map topic_znodes i.topics) (map bare roots))
+  after_parents_put =
+      put_after (flat_map topic_znodes i.topics) (map config_znode i.broker_configs ++ (quota_znodes i.quotas i.users ++ last)) (map bare roots)
+      ∙ put_after (map config_znode i.broker_configs) (quota_znodes i.quotas i.users ++ last) (all_put bytes_cmp path_of_rendered (flat_map topic_znodes i.topics) (map bare roots))
       ∙ ap (λ xs. all_put bytes_cmp path_of_rendered xs (all_put bytes_cmp path_of_rendered (map config_znode i.broker_configs) (all_put bytes_cmp path_of_rendered (flat_map topic_znodes i.topics) (map bare roots))))
       (append_assoc (flat_map quota_parents i.quotas) (own ++ users) last)
-      ∙ put_behind (flat_map quota_parents i.quotas) ((own ++ users) ++ last) (all_put bytes_cmp path_of_rendered (map config_znode i.broker_configs) (all_put bytes_cmp path_of_rendered (flat_map topic_znodes i.topics) (map bare roots)))
+      ∙ put_after (flat_map quota_parents i.quotas) ((own ++ users) ++ last) (all_put bytes_cmp path_of_rendered (map config_znode i.broker_configs) (all_put bytes_cmp path_of_rendered (flat_map topic_znodes i.topics) (map bare roots)))
 
-  pub behind_own_put : render i ≡ all_put bytes_cmp path_of_rendered (users ++ last) second_base
-  behind_own_put = behind_parents_put ∙ ap (λ xs. all_put bytes_cmp path_of_rendered xs first_base) (append_assoc own users last) ∙ put_behind own (users ++ last) first_base
+  pub after_own_put : render i ≡ all_put bytes_cmp path_of_rendered (users ++ last) second_base
+  after_own_put = after_parents_put ∙ ap (λ xs. all_put bytes_cmp path_of_rendered xs first_base) (append_assoc own users last) ∙ put_after own (users ++ last) first_base
 
   -- ---- what the last znodes are
 
@@ -159,7 +159,7 @@ module _ (i : Image) (o : IsInOrder i) (w : IsWritable i) (m : MayReturn i) wher
         let named : key_of q.path ≡ Some k = ap key_of place ∙ path_holds k good.0 good.1 in
         let x : Rendered = znode k (body.Quota q.quotas []) in
         let there : Contains own x = to_flat own_znodes i.quotas q x has (subst (λ j. Contains (znode_of_quotas q.quotas j) x) (sym named) (Contains-head x [])) in
-        let among : Contains ((own ++ users) ++ last) r = found_among bytes_order path_of_rendered ((own ++ users) ++ last) first_base x r (Contains-append_left (own ++ users) last x (Contains-append_left own users x there)) (ap (find bytes_cmp path_of_rendered (path_of k)) (sym behind_parents_put) ∙ found) in
+        let among : Contains ((own ++ users) ++ last) r = found_among bytes_order path_of_rendered ((own ++ users) ++ last) first_base x r (Contains-append_left (own ++ users) last x (Contains-append_left own users x there)) (ap (find bytes_cmp path_of_rendered (path_of k)) (sym after_parents_put) ∙ found) in
         elim (Contains-append_cases (own ++ users) last r among) [
           | inl either ↦ elim (Contains-append_cases own users r either) [
             | inl mine ↦ let h = own_case mine in subst (λ qs. Says qs []) (sym (quotas_of (Some h.0) h.1)) h.2
@@ -199,7 +199,7 @@ module _ (i : Image) (o : IsInOrder i) (w : IsWritable i) (m : MayReturn i) wher
         let there : Contains users x = to_map (user_znode i.quotas) i.users u has in
         let place : x.path ≡ path_of k = ap path_of (sym is) in
         let among : Contains (users ++ last) r = found_among bytes_order path_of_rendered (users ++ last) second_base x r (Contains-append_left users last x there)
-        (ap (λ p. find bytes_cmp path_of_rendered p (all_put bytes_cmp path_of_rendered (users ++ last) second_base)) place ∙ ap (find bytes_cmp path_of_rendered (path_of k)) (sym behind_own_put) ∙ found) in
+        (ap (λ p. find bytes_cmp path_of_rendered p (all_put bytes_cmp path_of_rendered (users ++ last) second_base)) place ∙ ap (find bytes_cmp path_of_rendered (path_of k)) (sym after_own_put) ∙ found) in
         elim (Contains-append_cases users last r among) [
           | inl user ↦
               let h = user_case user in

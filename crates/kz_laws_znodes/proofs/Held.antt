@@ -241,7 +241,7 @@ module _ (i : Image) (o : IsInOrder i) (w : IsWritable i) where
     where
       first : (scrams : List ScramPair) → 0 < length scrams → All (IsScramOf u.name) scrams → (is_not_empty u.name ≡ true) × (has_path (key.User (Some u.name)) ≡ true)
       first [] some all = absurd (omega arith)
-      first (s ∷ ss) some all = let own = All-head (IsScramOf u.name) s ss all in user_parts u.name s.mechanism own.0 own.1
+      first (s ∷ ss) some all = user_parts u.name (All-head (IsScramOf u.name) s ss all).0
 
       own_quotas : (q : Option QuotaEntry) → find bytes_cmp path_of_quotas (path_of (key.User (Some u.name))) i.quotas ≡ q → All (IsScramOf u.name) u.scrams → All IsScramWritable u.scrams → Rises int_cmp mechanism_of_pair u.scrams
           → IsQuotaBody (key.User (Some u.name)) (quotas_in (find bytes_cmp path_of_quotas (path_of (key.User (Some u.name))) i.quotas)) u.scrams

@@ -5,6 +5,7 @@ use Rattle.std.specs.List.{flat_map}
 use Rattle.std.proofs.lemmas.Int.{ints}
 use Rattle.std.proofs.lemmas.Simd.{map-map}
 use Rattle.std.proofs.lemmas.List.Elements.{Contains-append_right, Contains-append_cases}
+use Rattle.kz_types.specs.declared.limits.TheConstants.{MAX_EPOCH}
 use Rattle.kz_types.specs.declared.tree.Row.{Row}
 use Rattle.kz_types.specs.declared.tree.Rendered.{Rendered}
 use Rattle.kz_types.specs.declared.row.AclRow.{AclRow}
@@ -22,7 +23,6 @@ use Rattle.kz_spec_values.specs.Bodies.{written}
 use Rattle.kz_spec_stores.specs.Tree.{path_of_rendered}
 use Rattle.kz_spec_stores.specs.Metadata.{Image}
 use Rattle.kz_spec_stores.specs.InOrder.{IsInOrder}
-use Rattle.kz_spec_stores.specs.Log.{max_epoch}
 use Rattle.kz_spec_znodes.specs.Rendering.{bare, znode, partitions_path, assignment_of, partition_znodes, topic_config_znodes, topic_znodes, config_znode, quota_znodes, acl_key, acl_znode, producer_znodes, render}
 use Rattle.kz_laws_paths.proofs.Keys.{path_holds}
 use Rattle.kz_laws_znodes.specs.RoundTrip.{znodes_of, at_epoch, topic_at_epoch, grown, IsWritable, MayReturn, entries_of_resource}
@@ -31,7 +31,7 @@ use Rattle.kz_laws_znodes.proofs.Shown.{Shown, shown_topic, shown_state, shown_t
 use Rattle.kz_laws_znodes.proofs.Held.{IsHeld, facts_of_acl, producer_held, blank_held}
 use Rattle.kz_laws_znodes.proofs.Puts.{found_among, put_is_found}
 use Rattle.kz_laws_znodes.proofs.Found.{roots_rise, no_quota_kind, who_of, who_is}
-use Rattle.kz_laws_znodes.proofs.FoundQuotas.{users, last, second_base, behind_own_put, producer_key}
+use Rattle.kz_laws_znodes.proofs.FoundQuotas.{users, last, second_base, after_own_put, producer_key}
 use Rattle.kz_laws_znodes.proofs.SameTopics.{returned_partition, returned, held_says, said_found, said_missing}
 use Rattle.kz_laws_znodes.proofs.SameAcls.{rows_on, any_or_none, one_on, some_on}
 use Rattle.kz_laws_znodes.proofs.Saying.{next_said, said}
@@ -169,7 +169,7 @@ module _ (i : Image) (o : IsInOrder i) (w : IsWritable i) (m : MayReturn i) wher
       let among : Contains (last i o w m) found.0 = found_among bytes_order path_of_rendered (last i o w m) (puts (users i o w m) base) x found.0 ending
       (ap (find bytes_cmp path_of_rendered (path_of key.Producer)) (sym (all_put-append bytes_order path_of_rendered (users i o w m) (last i o w m) base)) ∙ found.1) in
       let at : found.0.path ≡ path_of key.Producer = key_of_found bytes_order path_of_rendered (path_of key.Producer) (puts all base) found.0 found.1 in
-      ap (find bytes_cmp path_of_rendered (path_of key.Producer)) (behind_own_put i o w m) ∙ found.1 ∙ ap (λ z. Some z) (is_block found.0 at (Contains-append_cases (map (acl_znode i.acls) i.acls) (producer_znodes i.next_producer) found.0 among))
+      ap (find bytes_cmp path_of_rendered (path_of key.Producer)) (after_own_put i o w m) ∙ found.1 ∙ ap (λ z. Some z) (is_block found.0 at (Contains-append_cases (map (acl_znode i.acls) i.acls) (producer_znodes i.next_producer) found.0 among))
     where
       of_block : (r : Rendered) → Contains (producer_znodes (Some next)) r → r ≡ block next
       of_block r has = elim (Contains-cons_cases (block next) [] r has) [
@@ -222,10 +222,10 @@ module _ (i : Image) (o : IsInOrder i) (w : IsWritable i) (m : MayReturn i) wher
       by (Some next) e = some_block next e ∙ sym (ap (option_map (λ next. next +ℤ pos 1000)) e)
 
   -- what returns at the greatest epoch is rendered as the metadata that has grown
-  pub returned_alike : (j : Image) → j.topics ≡ map (returned max_epoch) i.topics → j.broker_configs ≡ i.broker_configs → j.quotas ≡ i.quotas → j.users ≡ i.users
+  pub returned_alike : (j : Image) → j.topics ≡ map (returned MAX_EPOCH) i.topics → j.broker_configs ≡ i.broker_configs → j.quotas ≡ i.quotas → j.users ≡ i.users
       → ((row : AclRow) → entries_of_resource row j.acls ≡ entries_of_resource row i.acls) → j.next_producer ≡ said next_said (path_of key.Producer) rows → render j ≡ render (grown i)
   returned_alike j topics configs quotas users acls next = rendered_alike j (grown i) (record {
-    topics = ap (flat_map topic_znodes) topics ∙ same_topics max_epoch i.topics;
+    topics = ap (flat_map topic_znodes) topics ∙ same_topics MAX_EPOCH i.topics;
     configs = configs;
     quotas = quotas;
     users = users;

@@ -105,7 +105,7 @@ with_scram_list = grown bytes_cmp name_of_user scram_list
 
 -- A credential that this user may have.
 pub record IsCredentialOf (name : List ℕ) (s : ScramPair) : Type 0 where
-  pub owned : is_user name s.mechanism ≡ true
+  pub owned : is_user name ≡ true
   pub mechanism : is_mechanism s.mechanism ≡ true
   pub iterated : int_lt s.value.iterations (pos 1) ≡ false
 

@@ -168,11 +168,11 @@ user_body name quotas scrams h rise s w r = record {
 }
 
 -- what is known of the name of a user with credentials
-pub user_parts : (name : List ℕ) (m : ℤ) → is_user name m ≡ true → is_mechanism m ≡ true → (is_not_empty name ≡ true) × (has_path (key.User (Some name)) ≡ true)
-user_parts name m h mech =
-    let a = and_parts (not (is_empty name) && not (is_dots name)) (not (is_mechanism m) || has_path (key.User (Some name))) h in
+pub user_parts : (name : List ℕ) → is_user name ≡ true → (is_not_empty name ≡ true) × (has_path (key.User (Some name)) ≡ true)
+user_parts name h =
+    let a = and_parts (not (is_empty name) && not (is_dots name)) (has_path (key.User (Some name))) h in
     let b = and_parts (not (is_empty name)) (not (is_dots name)) a.0 in
-    (named name b.0, sym (ap (λ t. not t || has_path (key.User (Some name))) mech) ∙ a.1)
+    (named name b.0, a.1)
   where
     named : (n : List ℕ) → not (is_empty n) ≡ true → is_not_empty n ≡ true
     named [] e = absurd (cc)

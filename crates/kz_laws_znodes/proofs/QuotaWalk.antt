@@ -38,7 +38,7 @@ use Rattle.kz_laws_znodes.proofs.Saying.{entity_of, entity_read, pick, topic_sai
 use Rattle.kz_laws_znodes.proofs.Says.{scrams_in_rows, SaysQuotas, SaysUsers, Says}
 use Rattle.kz_laws_znodes.proofs.Stays.{Step, stay_topics, stay_configs, stay_users, stay_entries, stay_next}
 use Rattle.kz_laws_znodes.proofs.Walk.{AreRows, may_be_long, absent_here, keyed_here, key_here, path_of_here}
-use Rattle.kz_laws_znodes.proofs.TopicRows.{same_behind}
+use Rattle.kz_laws_znodes.proofs.TopicRows.{same_after}
 use Rattle.kz_laws_znodes.proofs.BrokerWalk.{by_name}
 
 -- ---- entities that have quotas
@@ -53,7 +53,7 @@ no_quotas quotas scrams e = (cc, cc)
 
 user_part : (name other : List ℕ) → path_of (key.User (Some name)) ≡ path_of (key.User (Some other)) → sanitised name ≡ sanitised other
 unfolding path_of
-user_part name other e = same_behind (codes "/config/users/") (sanitised name) (sanitised other) e
+user_part name other e = same_after (codes "/config/users/") (sanitised name) (sanitised other) e
 
 pub same_user : (name other : List ℕ) → is_utf8 name ≡ true → is_utf8 other ≡ true → path_of (key.User (Some name)) ≡ path_of (key.User (Some other)) → name ≡ other
 same_user name other text also e = same_some name other (sym (name_is_read name text) ∙ ap restored (user_part name other e) ∙ name_is_read other also)
@@ -81,13 +81,13 @@ mechanism_is : (m : ℤ) → IsMechanism m → is_mechanism m ≡ true
 mechanism_is m (inl e) = ap is_mechanism e
 mechanism_is m (inr e) = ap is_mechanism e
 
-user_holds : (name : List ℕ) (m : ℤ) → is_empty name ≡ false → is_dots name ≡ false → is_mechanism m ≡ true → has_path (key.User (Some name)) ≡ true → is_user name m ≡ true
-user_holds name m a b c d = rw (a, b, c, d) refl
+user_holds : (name : List ℕ) → is_empty name ≡ false → is_dots name ≡ false → has_path (key.User (Some name)) ≡ true → is_user name ≡ true
+user_holds name a b c = rw (a, b, c) refl
 
 all_credentials : (k : EntityKey) (name : List ℕ) → is_empty name ≡ false → is_dots name ≡ false → has_path (key.User (Some name)) ≡ true → (scrams : List ScramPair) → AreScramsRead k scrams → All (IsCredentialOf name) scrams
 all_credentials k name some dots fits [] h = All-nil (IsCredentialOf name)
 all_credentials k name some dots fits (x ∷ xs) h =
-    All-cons (IsCredentialOf name) x xs (record { owned = user_holds name x.mechanism some dots (mechanism_is x.mechanism h.0.mechanism) fits; mechanism = mechanism_is x.mechanism h.0.mechanism; iterated = h.0.iterated })
+    All-cons (IsCredentialOf name) x xs (record { owned = user_holds name some dots fits; mechanism = mechanism_is x.mechanism h.0.mechanism; iterated = h.0.iterated })
     (all_credentials k name some dots fits xs h.1)
 
 -- ---- their znode

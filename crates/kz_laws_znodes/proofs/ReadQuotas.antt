@@ -8,7 +8,8 @@ use Rattle.std.proofs.lemmas.Bool.{and_from, le-leb}
 use Rattle.std.proofs.lemmas.Option.{IfSome_then}
 use Rattle.std.proofs.lemmas.Int.{ints}
 use Rattle.kz_types.specs.Numbers.{canonical}
-use Rattle.kz_types.specs.Quotas.{Numeral, numeral_of, digits_of, scale_of, scaled, quota_of_millionths, quota_of_numeral, quota_of, is_quota}
+use Rattle.kz_types.specs.Quotas.{is_quota}
+use Rattle.kz_spec_quotas.specs.Quotas.{Numeral, numeral_of, digits_of, scale_of, scaled, quota_of_millionths, quota_of_numeral, quota_of}
 use Rattle.kz_types.proofs.NumberLemmas.{bytes_eq-true}
 use Rattle.kz_types.specs.declared.row.QuotaValue.{QuotaValue}
 use Rattle.kz_types.specs.declared.row.ScramRow.{ScramRow}

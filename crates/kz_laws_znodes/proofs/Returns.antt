@@ -2,13 +2,13 @@
 use Rattle.std.proofs.Common.{◌≡◌, ◌+◌, ◌≤◌, ℤ, pos, nat_lt, false, List, [], length, map, None, sym, ap, ◌∙◌, subst, codes}
 use Rattle.std.specs.Prelude.{Ok, Err, if◌then◌else◌}
 use Rattle.std.proofs.lemmas.Bool.{le-ltb}
+use Rattle.kz_types.specs.declared.limits.TheConstants.{MAX_EPOCH, MAX_RECORDS}
 use Rattle.kz_types.specs.declared.tree.Row.{Row}
 use Rattle.kz_types.specs.declared.record.MetaRecord.{MetaRecord}
 use Rattle.kz_types.specs.declared.fault.ReadWhy.TheVariants as why
 use Rattle.kz_spec_stores.specs.Metadata.{Image, empty_image}
 use Rattle.kz_spec_stores.specs.Image.{all_applied}
 use Rattle.kz_spec_stores.specs.InOrder.{IsInOrder}
-use Rattle.kz_spec_stores.specs.Log.{max_records, max_epoch}
 use Rattle.kz_spec_znodes.specs.Rendering.{excess_of, excess}
 use Rattle.kz_spec_znodes.specs.Translation.{Translated, all_records, further_records, bounded, within_limits, translate}
 use Rattle.kz_laws_znodes.specs.RoundTrip.{znodes_of, topic_without_epochs, IsWritable, MayReturn, IsSameBut}
@@ -30,7 +30,7 @@ module _ (i : Image) (o : IsInOrder i) (w : IsWritable i) (m : MayReturn i) wher
   are_records : all_records rows ≡ Ok records
   are_records = (records_again i o w m).1
 
-  few : length records + further_records ≤ max_records
+  few : length records + further_records ≤ MAX_RECORDS
   few = m.records records are_records
 
   ends : (epoch : ℤ) → Ends epoch rows [] (pos 0) records empty_image
@@ -51,16 +51,16 @@ module _ (i : Image) (o : IsInOrder i) (w : IsWritable i) (m : MayReturn i) wher
   same : (epoch : ℤ) → IsSameBut i (all_applied epoch records empty_image)
   same epoch = subst (IsSameBut i) (sym (made epoch)) (same_of epoch (ends epoch).after (ends epoch).says)
 
-  within : excess (all_applied max_epoch records empty_image) ≡ None
+  within : excess (all_applied MAX_EPOCH records empty_image) ≡ None
   within =
-      let e = ends max_epoch in
-      ap excess (made max_epoch)
-      ∙ ap excess_of (returned_alike i o w m e.after (topics_return i o w m max_epoch e.after.topics e.says.topics) (configs_return i o w m e.after.broker_configs e.says.configs)
+      let e = ends MAX_EPOCH in
+      ap excess (made MAX_EPOCH)
+      ∙ ap excess_of (returned_alike i o w m e.after (topics_return i o w m MAX_EPOCH e.after.topics e.says.topics) (configs_return i o w m e.after.broker_configs e.says.configs)
       (quotas_return i o w m e.after.quotas e.says.quotas) (users_return i o w m e.after.users e.says.users) (acls_return i o w m e.after.acls e.says.entries) e.says.next)
       ∙ m.znodes
 
-  not_over : nat_lt max_records (length records + further_records) ≡ false
-  not_over = le-ltb max_records (length records + further_records) few
+  not_over : nat_lt MAX_RECORDS (length records + further_records) ≡ false
+  not_over = le-ltb MAX_RECORDS (length records + further_records) few
 
   translated : translate rows ≡ Ok records
   unfolding translate

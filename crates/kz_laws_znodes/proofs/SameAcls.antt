@@ -128,16 +128,16 @@ pub some_on : (path : List ℕ) (acls : List AclEntry) (a : AclEntry) → Contai
 some_on path [] a has is none = Contains-nil a has
 some_on path (b ∷ rest) a has is none = elim (Contains-cons_cases b rest a has) [
   | inl e ↦ first (is_on path b.row) ((bytes_eq-Decides (path_of_entry b.row) path).1 (ap (λ (x : AclEntry). path_of_entry x.row) e ∙ is)) none
-  | inr later ↦ some_on path rest a later is (behind (is_on path b.row) none)
+  | inr later ↦ some_on path rest a later is (after (is_on path b.row) none)
 ]
   where
     first : (t : Bool) → t ≡ true → map row_of_acl (cond t (b ∷ filter (λ (x : AclEntry). is_on path x.row) rest) (filter (λ (x : AclEntry). is_on path x.row) rest)) ≡ [] → ⊥
     first true h e = let no : b.row ∷ map row_of_acl (filter (λ (x : AclEntry). is_on path x.row) rest) ≡ [] = e in cc
     first false h e = false≢true h
 
-    behind : (t : Bool) → map row_of_acl (cond t (b ∷ filter (λ (x : AclEntry). is_on path x.row) rest) (filter (λ (x : AclEntry). is_on path x.row) rest)) ≡ [] → rows_on rest path ≡ []
-    behind true e = absurd (let no : b.row ∷ map row_of_acl (filter (λ (x : AclEntry). is_on path x.row) rest) ≡ [] = e in cc)
-    behind false e = e
+    after : (t : Bool) → map row_of_acl (cond t (b ∷ filter (λ (x : AclEntry). is_on path x.row) rest) (filter (λ (x : AclEntry). is_on path x.row) rest)) ≡ [] → rows_on rest path ≡ []
+    after true e = absurd (let no : b.row ∷ map row_of_acl (filter (λ (x : AclEntry). is_on path x.row) rest) ≡ [] = e in cc)
+    after false e = e
 
 module _ (i : Image) (o : IsInOrder i) (w : IsWritable i) (m : MayReturn i) where
   abbrev rows : List Row
@@ -191,7 +191,7 @@ module _ (i : Image) (o : IsInOrder i) (w : IsWritable i) (m : MayReturn i) wher
       let rise : Rises bytes_cmp path_of_row (s.front ++ r ∷ s.rest) = subst (Rises bytes_cmp path_of_row) s.whole (are_rows i o w m).rising in
       let before : filter (is_on path) (all_entries s.front) ≡ [] = none_of_all path s.front (λ x within. none_of path x (subst (λ xs. Contains xs x) (sym s.whole) (Contains-append_left s.front (r ∷ s.rest) x within))
       (λ b other place same. less_differs bytes_order x.path r.path (All-contains (λ y. bytes_cmp (path_of_row y) r.path ≡ Less) s.front x (below_split bytes_order path_of_row s.front r s.rest rise) within) (sym place ∙ same ∙ sym is))) in
-      let behind : filter (is_on path) (all_entries s.rest) ≡ [] = none_of_all path s.rest (λ x within. none_of path x (subst (λ xs. Contains xs x) (sym s.whole) (Contains-append_right s.front (r ∷ s.rest) x (Contains-tail r s.rest x within)))
+      let after : filter (is_on path) (all_entries s.rest) ≡ [] = none_of_all path s.rest (λ x within. none_of path x (subst (λ xs. Contains xs x) (sym s.whole) (Contains-append_right s.front (r ∷ s.rest) x (Contains-tail r s.rest x within)))
       (λ b other place same. less_differs bytes_order r.path x.path (All-contains (λ y. bytes_cmp r.path (path_of_row y) ≡ Less) s.rest x (all_from_rises_above bytes_order path_of_row r.path s.rest (above_split bytes_order path_of_row s.front r s.rest rise)) within) (is ∙ sym same ∙ place))) in
       let own : entries_of r ≡ rows_on i.acls (path_of k) = held_entries (acl_znode i.acls a) k (body.Acls (resource_rows i o w a.row)) (entries_held i o w a has) in
       ap (λ xs. filter (is_on path) (all_entries xs)) s.whole
@@ -199,7 +199,7 @@ module _ (i : Image) (o : IsInOrder i) (w : IsWritable i) (m : MayReturn i) wher
       ∙ filter-append (is_on path) (all_entries s.front) (entries_of r ++ all_entries s.rest)
       ∙ ap (λ xs. xs ++ filter (is_on path) (entries_of r ++ all_entries s.rest)) before
       ∙ filter-append (is_on path) (entries_of r) (all_entries s.rest)
-      ∙ ap (λ xs. filter (is_on path) (entries_of r) ++ xs) behind
+      ∙ ap (λ xs. filter (is_on path) (entries_of r) ++ xs) after
       ∙ append-nil (filter (is_on path) (entries_of r))
       ∙ ap (filter (is_on path)) own
       ∙ kept path (path_of k) i.acls true ((bytes_eq-Decides (path_of k) path).1 is)

@@ -28,7 +28,7 @@ use Rattle.kz_laws_paths.proofs.Legal.{IsGoodKey}
 use Rattle.kz_laws_paths.proofs.Keys.{path_holds}
 use Rattle.kz_laws_znodes.specs.RoundTrip.{new_znode, znodes_of, AreQuotasWritable, IsUserWritable, IsWritable, MayReturn}
 use Rattle.kz_laws_znodes.proofs.Within.{to_flat, to_map}
-use Rattle.kz_laws_znodes.proofs.Shown.{Shown, shown_topic, shown_state, shown_topic_config, shown_config, shown_parent, shown_quotas, shown_user, shown_entries, shown_producer, shown_blank, shown_scaffold, shown, quota_key_good, behind_quotas}
+use Rattle.kz_laws_znodes.proofs.Shown.{Shown, shown_topic, shown_state, shown_topic_config, shown_config, shown_parent, shown_quotas, shown_user, shown_entries, shown_producer, shown_blank, shown_scaffold, shown, quota_key_good, after_quotas}
 use Rattle.kz_laws_znodes.proofs.Held.{IsHeld, has_quotas, quota_kind_of, quota_path, topic_held, state_held, topic_config_held, config_held, quota_held, user_held, parent_held, resource_rows, entries_held, producer_held, blank_held}
 use Rattle.kz_laws_znodes.proofs.Found.{low_epoch, is_there}
 use Rattle.kz_laws_znodes.proofs.FoundQuotas.{quotas_at, no_scrams, with_scrams}
@@ -109,8 +109,8 @@ module _ (i : Image) (o : IsInOrder i) (w : IsWritable i) (m : MayReturn i) wher
   who_says_quotas x (shown_scaffold scaffold) = inr (scaffold_says i o w m quotas_said x scaffold.none)
 
   among_quotas : (x : Rendered) → Contains (quota_znodes i.quotas i.users) x → Contains (entity_znodes i) x
-  among_quotas x has = Contains-append_right (flat_map topic_znodes i.topics) (map config_znode i.broker_configs ++ (quota_znodes i.quotas i.users ++ behind_quotas i o w)) x
-      (Contains-append_right (map config_znode i.broker_configs) (quota_znodes i.quotas i.users ++ behind_quotas i o w) x (Contains-append_left (quota_znodes i.quotas i.users) (behind_quotas i o w) x has))
+  among_quotas x has = Contains-append_right (flat_map topic_znodes i.topics) (map config_znode i.broker_configs ++ (quota_znodes i.quotas i.users ++ after_quotas i o w)) x
+      (Contains-append_right (map config_znode i.broker_configs) (quota_znodes i.quotas i.users ++ after_quotas i o w) x (Contains-append_left (quota_znodes i.quotas i.users) (after_quotas i o w) x has))
 
   own_found : (q : QuotaEntry) (k : EntityKey) → Contains i.quotas q → key_of q.path ≡ Some k → (r : Rendered) × (find bytes_cmp path_of_rendered (path_of k) (render i) ≡ Some r)
   own_found q k has named =

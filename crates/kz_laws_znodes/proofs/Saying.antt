@@ -94,7 +94,7 @@ abbrev pub entries_said : EntityKey → Body → List AclRow
 entries_said k (body.Acls rows) = rows
 entries_said k b = []
 
--- the next producer id is the one behind the block
+-- the next producer id is the one after the block
 abbrev pub next_said : EntityKey → Body → Option ℤ
 next_said k (body.Producer broker start end) = Some (end +ℤ pos 1)
 next_said k b = None

@@ -140,12 +140,12 @@ module _ (i : Image) (o : IsInOrder i) (w : IsWritable i) where
     | inr none ↦ absurd (Contains-nil r none)
   ]
 
-  -- the znodes that are put behind those of clients' parents
-  abbrev pub behind_parents : List Rendered
-  behind_parents = flat_map own_znodes i.quotas ++ map (user_znode i.quotas) i.users
+  -- the znodes that are put after those of clients' parents
+  abbrev pub after_parents : List Rendered
+  after_parents = flat_map own_znodes i.quotas ++ map (user_znode i.quotas) i.users
 
-  pub of_behind : (r : Rendered) → Contains behind_parents r → Shown i r
-  of_behind r at = elim (Contains-append_cases (flat_map own_znodes i.quotas) (map (user_znode i.quotas) i.users) r at) [
+  pub of_after : (r : Rendered) → Contains after_parents r → Shown i r
+  of_after r at = elim (Contains-append_cases (flat_map own_znodes i.quotas) (map (user_znode i.quotas) i.users) r at) [
     | inl own ↦ let f = from_flat own_znodes i.quotas r own in of_own f.source f.has (key_of f.source.path) refl r f.gives
     | inr user ↦ let f = from_map (user_znode i.quotas) i.users r user in shown_user f.source f.has f.is
   ]
@@ -159,28 +159,28 @@ module _ (i : Image) (o : IsInOrder i) (w : IsWritable i) where
     | inr none ↦ absurd (Contains-nil r none)
   ]
 
-  -- the znodes that are put behind those of quotas
-  abbrev pub behind_quotas : List Rendered
-  behind_quotas = map (acl_znode i.acls) i.acls ++ producer_znodes i.next_producer
+  -- the znodes that are put after those of quotas
+  abbrev pub after_quotas : List Rendered
+  after_quotas = map (acl_znode i.acls) i.acls ++ producer_znodes i.next_producer
 
-  pub of_last : (r : Rendered) → Contains behind_quotas r → Shown i r
+  pub of_last : (r : Rendered) → Contains after_quotas r → Shown i r
   of_last r at = elim (Contains-append_cases (map (acl_znode i.acls) i.acls) (producer_znodes i.next_producer) r at) [
     | inl acl ↦ let f = from_map (acl_znode i.acls) i.acls r acl in shown_entries f.source f.has f.is
     | inr block ↦ of_producer i.next_producer refl r block
   ]
 
   of_quotas : (r : Rendered) → Contains (quota_znodes i.quotas i.users) r → Shown i r
-  of_quotas r at = elim (Contains-append_cases (flat_map quota_parents i.quotas) behind_parents r at) [
+  of_quotas r at = elim (Contains-append_cases (flat_map quota_parents i.quotas) after_parents r at) [
     | inl parent ↦ let f = from_flat quota_parents i.quotas r parent in of_parents f.source f.has (key_of f.source.path) refl r f.gives
-    | inr behind ↦ of_behind r behind
+    | inr after ↦ of_after r after
   ]
 
   of_entities : (r : Rendered) → Contains (entity_znodes i) r → Shown i r
-  of_entities r at = elim (Contains-append_cases (flat_map topic_znodes i.topics) (map config_znode i.broker_configs ++ (quota_znodes i.quotas i.users ++ behind_quotas)) r at) [
+  of_entities r at = elim (Contains-append_cases (flat_map topic_znodes i.topics) (map config_znode i.broker_configs ++ (quota_znodes i.quotas i.users ++ after_quotas)) r at) [
     | inl topic ↦ let f = from_flat topic_znodes i.topics r topic in of_topic f.source f.has r f.gives
-    | inr later ↦ elim (Contains-append_cases (map config_znode i.broker_configs) (quota_znodes i.quotas i.users ++ behind_quotas) r later) [
+    | inr later ↦ elim (Contains-append_cases (map config_znode i.broker_configs) (quota_znodes i.quotas i.users ++ after_quotas) r later) [
       | inl config ↦ let f = from_map config_znode i.broker_configs r config in shown_config f.source f.has f.is
-      | inr more ↦ elim (Contains-append_cases (quota_znodes i.quotas i.users) behind_quotas r more) [
+      | inr more ↦ elim (Contains-append_cases (quota_znodes i.quotas i.users) after_quotas r more) [
         | inl quota ↦ of_quotas r quota
         | inr last ↦ of_last r last
       ]

@@ -39,17 +39,17 @@ use Rattle.kz_laws_znodes.proofs.Walk.{AreRows, Split, split_at_found, HasRecord
 
 -- ---- paths of topics
 
-pub same_behind : (xs ys zs : List ℕ) → xs ++ ys ≡ xs ++ zs → ys ≡ zs
-same_behind [] ys zs e = e
-same_behind (x ∷ xs) ys zs e = let both : x ∷ (xs ++ ys) ≡ x ∷ (xs ++ zs) = e in same_behind xs ys zs (cc)
+pub same_after : (xs ys zs : List ℕ) → xs ++ ys ≡ xs ++ zs → ys ≡ zs
+same_after [] ys zs e = e
+same_after (x ∷ xs) ys zs e = let both : x ∷ (xs ++ ys) ≡ x ∷ (xs ++ zs) = e in same_after xs ys zs (cc)
 
 pub topic_names : (name other : List ℕ) → path_of (key.Topic name) ≡ path_of (key.Topic other) → name ≡ other
 unfolding path_of
-topic_names name other e = same_behind (codes "/brokers/topics/") name other e
+topic_names name other e = same_after (codes "/brokers/topics/") name other e
 
 pub config_names : (name other : List ℕ) → path_of (key.TopicConfig name) ≡ path_of (key.TopicConfig other) → name ≡ other
 unfolding path_of
-config_names name other e = same_behind (codes "/config/topics/") name other e
+config_names name other e = same_after (codes "/config/topics/") name other e
 
 pub topic_before_config : (name other : List ℕ) → bytes_cmp (path_of (key.Topic name)) (path_of (key.TopicConfig other)) ≡ Less
 unfolding path_of

@@ -96,9 +96,9 @@ module _ (epoch : ℤ) (i : Image) (name : List ℕ) (id : Id) (f : IsFresh i na
   numbers_below : (done : List PartitionRecord) (p : PartitionRecord) → AllBelow int_cmp number_of_record done p.partition_id → partition_at p.partition_id (map (entry_of epoch) done) ≡ None
   numbers_below done p under = ap (option_map (λ (x : PartitionEntry). x.row)) (find-map int_cmp number_of_record number_of_partition (entry_of epoch) (λ q. refl) p.partition_id done ∙ ap (option_map (entry_of epoch)) (find_all_below int_order number_of_record p.partition_id done under))
 
-  put_behind : (done : List PartitionRecord) (p : PartitionRecord) → AllBelow int_cmp number_of_record done p.partition_id
+  put_after : (done : List PartitionRecord) (p : PartitionRecord) → AllBelow int_cmp number_of_record done p.partition_id
       → put int_cmp number_of_partition (entry_of epoch p) (map (entry_of epoch) done) ≡ map (entry_of epoch) (done ++ p ∷ [])
-  put_behind done p under = sym (map-put int_cmp number_of_record number_of_partition (entry_of epoch) (λ q. refl) p done) ∙ ap (map (entry_of epoch)) (put_last int_order number_of_record p done under)
+  put_after done p under = sym (map-put int_cmp number_of_record number_of_partition (entry_of epoch) (λ q. refl) p done) ∙ ap (map (entry_of epoch)) (put_last int_order number_of_record p done under)
 
   partition_made : (done : List PartitionRecord) (p : PartitionRecord) → AllBelow int_cmp number_of_record done p.partition_id → IsMade id p → Leads epoch (meta.Partition p ∷ []) (state done) (state (done ++ p ∷ []))
   partition_made done p under h =
@@ -106,7 +106,7 @@ module _ (epoch : ℤ) (i : Image) (name : List ℕ) (id : Id) (f : IsFresh i na
       leads_to epoch (meta.Partition p ∷ []) (state done) (effect epoch (meta.Partition p) (state done)) (state (done ++ p ∷ []))
       (ap (λ o. record (state done) { topics = with_changed (put_partition p.partition_id (new_row epoch p)) o (state done).topics }) there
       ∙ ap (λ topics. record i { topics = topics }) (put_over bytes_order name_of_topic (put_partition p.partition_id (new_row epoch p) (topic_of epoch name id done)) (topic_of epoch name id done) i.topics refl)
-      ∙ ap (λ partitions. with_topic i (record { name = name; id = id; partitions = partitions; pairs = [] })) (put_behind done p under))
+      ∙ ap (λ partitions. with_topic i (record { name = name; id = id; partitions = partitions; pairs = [] })) (put_after done p under))
       (leads_one epoch (state done) (meta.Partition p) (record {
         plain = refl;
         named = ap is_zero h.topic ∙ f.identified;

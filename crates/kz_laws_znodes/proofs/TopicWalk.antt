@@ -31,7 +31,7 @@ use Rattle.kz_laws_znodes.proofs.TopicSteps.{topic_of, with_topic, IsFresh, topi
 use Rattle.kz_laws_znodes.proofs.Saying.{Assignment, entity_of, entity_by, entity_read, pick, pick_row, topic_said, topic_config_said, broker_config_said, quotas_said, scrams_said, next_said, said, unsaid, said_elsewhere, said_here, said_nowhere, entries_by}
 use Rattle.kz_laws_znodes.proofs.Says.{partition_in, topic_by, SaysTopics, Says}
 use Rattle.kz_laws_znodes.proofs.Stays.{Step, stay_configs, stay_quotas, stay_users, stay_entries, stay_next}
-use Rattle.kz_laws_znodes.proofs.Walk.{AreRows, AllHaveRecords, absent_here, absent_behind}
+use Rattle.kz_laws_znodes.proofs.Walk.{AreRows, AllHaveRecords, absent_here, absent_after}
 use Rattle.kz_laws_znodes.proofs.TopicRows.{topic_names, topic_before_config, good, legal, placed, partitions_made, partitions_rise, records_are}
 
 -- ---- a topic that is there by its id
@@ -121,7 +121,7 @@ module _ (epoch : ℤ) (rows : List Row) (brokers : List RegisterBrokerRecord) (
 
     no_config : said topic_config_said (path_of (key.TopicConfig name)) earlier ≡ None
     no_config = said_nowhere topic_config_said (path_of (key.TopicConfig name)) earlier
-        (absent_behind rows earlier r rest whole z (path_of (key.TopicConfig name)) (subst (λ p. bytes_cmp p (path_of (key.TopicConfig name)) ≡ Less) at (topic_before_config name name)))
+        (absent_after rows earlier r rest whole z (path_of (key.TopicConfig name)) (subst (λ p. bytes_cmp p (path_of (key.TopicConfig name)) ≡ Less) at (topic_before_config name name)))
 
     new_topic : TopicEntry
     new_topic = topic_of epoch name id (map (partition_in rows name id) ps)

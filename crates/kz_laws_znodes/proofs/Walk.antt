@@ -20,7 +20,7 @@ use Rattle.kz_ordered.proofs.Append.{below_split, find_all_below, find-append, R
 use Rattle.kz_spec_values.specs.Bodies.{read_body}
 use Rattle.kz_spec_stores.specs.Tree.{path_of_row, row_at}
 use Rattle.kz_spec_stores.specs.ImageRules.{is_epoch}
-use Rattle.kz_spec_znodes.specs.Translation.{Translated, RowRecords, records_of, entity_records, records_by_kind, row_records, joined, records_behind}
+use Rattle.kz_spec_znodes.specs.Translation.{Translated, RowRecords, records_of, entity_records, records_by_kind, row_records, joined, records_after}
 use Rattle.kz_laws_paths.proofs.Legal.{IsGoodKey}
 use Rattle.kz_laws_paths.proofs.Texts.{key_good}
 use Rattle.kz_laws_znodes.specs.Translations.{AreZnodes}
@@ -76,13 +76,13 @@ pub record Split {A : Type 0} (xs : List A) (x : A) : Type 0 where
 pub split_at_found : {A K : Type 0} {cmp : K → K → Ordering} (o : TotalOrder cmp) (key : A → K) (k : K) (xs : List A) (x : A) → find cmp key k xs ≡ Some x → Split xs x
 split_at_found o key k [] x e = absurd (some_is_none (sym e))
 split_at_found {A} o key k (y ∷ ys) x e = elim (place o k (key y)) [
-  | below h ↦ behind (split_at_found o key k ys x (sym (find_skip o key k y ys (less_differs o k (key y) h)) ∙ e))
+  | below h ↦ after (split_at_found o key k ys x (sym (find_skip o key k y ys (less_differs o k (key y) h)) ∙ e))
   | equal h ↦ record { front = []; rest = ys; whole = ap (λ z. z ∷ ys) (same_some y x (sym (find_here o key k y ys h) ∙ e)) }
-  | above h ↦ behind (split_at_found o key k ys x (sym (find_skip o key k y ys (less_differs_back o k (key y) h)) ∙ e))
+  | above h ↦ after (split_at_found o key k ys x (sym (find_skip o key k y ys (less_differs_back o k (key y) h)) ∙ e))
 ]
   where
-    behind : Split ys x → Split (y ∷ ys) x
-    behind s = record { front = y ∷ s.front; rest = s.rest; whole = ap (λ zs. y ∷ zs) s.whole }
+    after : Split ys x → Split (y ∷ ys) x
+    after s = record { front = y ∷ s.front; rest = s.rest; whole = ap (λ zs. y ∷ zs) s.whole }
 
 -- ---- the records of each znode
 
@@ -101,36 +101,36 @@ pub record FirstRecords (rows earlier : List Row) (r : Row) (rest : List Row) (r
   pub one : List MetaRecord
   pub more : List MetaRecord
   pub first : row_records rows earlier r ≡ Ok one
-  pub others : records_behind rows (earlier ++ r ∷ []) rest ≡ Ok more
+  pub others : records_after rows (earlier ++ r ∷ []) rest ≡ Ok more
   pub whole : one ++ more ≡ rs
 
-pub first_records : (rows earlier : List Row) (r : Row) (rest : List Row) (rs : List MetaRecord) → records_behind rows earlier (r ∷ rest) ≡ Ok rs → FirstRecords rows earlier r rest rs
+pub first_records : (rows earlier : List Row) (r : Row) (rest : List Row) (rs : List MetaRecord) → records_after rows earlier (r ∷ rest) ≡ Ok rs → FirstRecords rows earlier r rest rs
 first_records rows earlier r rest rs e =
-    let k = both_ok r.path (row_records rows earlier r) (records_behind rows (earlier ++ r ∷ []) rest) rs e in
+    let k = both_ok r.path (row_records rows earlier r) (records_after rows (earlier ++ r ∷ []) rest) rs e in
     record { one = k.0; more = k.1; first = k.2; others = k.3; whole = k.4 }
 
-each_behind : (rows earlier todo : List Row) (rs : List MetaRecord) → records_behind rows earlier todo ≡ Ok rs → (front : List Row) (r : Row) (rest : List Row) → todo ≡ front ++ r ∷ rest → HasRecords rows (earlier ++ front) r
-each_behind rows earlier [] rs e [] r rest whole = absurd (let no : [] ≡ r ∷ rest = whole in cc)
-each_behind rows earlier [] rs e (f ∷ front) r rest whole = absurd (let no : [] ≡ f ∷ (front ++ r ∷ rest) = whole in cc)
-each_behind rows earlier (x ∷ todo) rs e [] r rest whole =
+each_after : (rows earlier todo : List Row) (rs : List MetaRecord) → records_after rows earlier todo ≡ Ok rs → (front : List Row) (r : Row) (rest : List Row) → todo ≡ front ++ r ∷ rest → HasRecords rows (earlier ++ front) r
+each_after rows earlier [] rs e [] r rest whole = absurd (let no : [] ≡ r ∷ rest = whole in cc)
+each_after rows earlier [] rs e (f ∷ front) r rest whole = absurd (let no : [] ≡ f ∷ (front ++ r ∷ rest) = whole in cc)
+each_after rows earlier (x ∷ todo) rs e [] r rest whole =
     let k = first_records rows earlier x todo rs e in
     let both : x ∷ todo ≡ r ∷ rest = whole in
     let is : x ≡ r = cc in
     (k.one, ap (λ es. row_records rows es r) (append-nil earlier) ∙ ap (row_records rows earlier) (sym is) ∙ k.first)
-each_behind rows earlier (x ∷ todo) rs e (f ∷ front) r rest whole =
+each_after rows earlier (x ∷ todo) rs e (f ∷ front) r rest whole =
     let k = first_records rows earlier x todo rs e in
     let both : x ∷ todo ≡ f ∷ (front ++ r ∷ rest) = whole in
     let is : x ≡ f = cc in
-    let behind : todo ≡ front ++ r ∷ rest = cc in
-    let there = each_behind rows (earlier ++ x ∷ []) todo k.more k.others front r rest behind in
+    let after : todo ≡ front ++ r ∷ rest = cc in
+    let there = each_after rows (earlier ++ x ∷ []) todo k.more k.others front r rest after in
     (there.0, ap (λ es. row_records rows es r) (sym (append_assoc earlier (x ∷ []) front ∙ ap (λ y. earlier ++ y ∷ front) is)) ∙ there.1)
 
 -- each of these znodes has records
 abbrev pub AllHaveRecords : List Row → Type 0
 AllHaveRecords rows = (earlier : List Row) (r : Row) (rest : List Row) → rows ≡ earlier ++ r ∷ rest → HasRecords rows earlier r
 
-pub all_have_records : (rows : List Row) (rs : List MetaRecord) → records_behind rows [] rows ≡ Ok rs → AllHaveRecords rows
-all_have_records rows rs e earlier r rest whole = each_behind rows [] rows rs e earlier r rest whole
+pub all_have_records : (rows : List Row) (rs : List MetaRecord) → records_after rows [] rows ≡ Ok rs → AllHaveRecords rows
+all_have_records rows rs e earlier r rest whole = each_after rows [] rows rs e earlier r rest whole
 
 -- ---- a znode among others
 
@@ -170,9 +170,9 @@ module _ (rows earlier : List Row) (r : Row) (rest : List Row) (whole : rows ≡
   pub absent_here : row_at r.path earlier ≡ None
   absent_here = find_all_below bytes_order path_of_row r.path earlier below_here
 
-  -- nor at one behind it
-  pub absent_behind : (path : List ℕ) → bytes_cmp r.path path ≡ Less → row_at path earlier ≡ None
-  absent_behind path less = find_all_below bytes_order path_of_row path earlier (λ k d within. bytes_order.chain _ r.path path (below_here k d within) less)
+  -- nor at one after it
+  pub absent_after : (path : List ℕ) → bytes_cmp r.path path ≡ Less → row_at path earlier ≡ None
+  absent_after path less = find_all_below bytes_order path_of_row path earlier (λ k d within. bytes_order.chain _ r.path path (below_here k d within) less)
 
   here : Contains rows r
   here = subst (λ xs. Contains xs r) (sym whole) (Contains-append_right earlier (r ∷ rest) r (Contains-head r rest))

@@ -6,6 +6,7 @@ use Rattle.std.proofs.lemmas.List.Elements.{All-nil}
 use Rattle.std.proofs.lemmas.List.Sums.{sum_by-append, sum_by-cons}
 use Rattle.std.specs.Str.{is_utf8}
 use Rattle.std.specs.Result.{result_ok}
+use Rattle.kz_types.specs.declared.limits.TheConstants.{MAX_EPOCH, MAX_RECORDS}
 use Rattle.kz_types.specs.declared.id.Id.{Id}
 use Rattle.kz_types.specs.declared.tree.Row.{Row}
 use Rattle.kz_types.specs.declared.row.AclRow.{AclRow}
@@ -27,9 +28,8 @@ use Rattle.kz_ordered.specs.Order.{bytes_cmp}
 use Rattle.kz_spec_values.specs.Bodies.{read_body, are_some_of}
 use Rattle.kz_spec_stores.specs.Metadata.{Image, empty_image, id_of_acl}
 use Rattle.kz_spec_stores.specs.Image.{applied, all_applied, unless_bad, first_bad}
-use Rattle.kz_spec_stores.specs.Log.{max_records, max_epoch}
 use Rattle.kz_spec_znodes.specs.Rendering.{Excess, excess}
-use Rattle.kz_spec_znodes.specs.Translation.{RowRecords, Translated, topic_records, records_of_topic, is_taken, assigned, may_lead, leader_of, bad_field, records_of_state, records_if_assigned, scram_records, quota_record, records_of_quotas, migrated_id, acl_records, entries_in, count_of_entries, body_of_row, records_of_acls, max_block_end, records_of_producer, records_of, row_records, records_behind, all_records, further_records, bounded, within_limits, translate}
+use Rattle.kz_spec_znodes.specs.Translation.{RowRecords, Translated, topic_records, records_of_topic, is_taken, assigned, may_lead, leader_of, bad_field, records_of_state, records_if_assigned, scram_records, quota_record, records_of_quotas, migrated_id, acl_records, entries_in, count_of_entries, body_of_row, records_of_acls, max_block_end, records_of_producer, records_of, row_records, records_after, all_records, further_records, bounded, within_limits, translate}
 use Rattle.kz_laws_bodies.specs.Readable.{IsBlock}
 use Rattle.kz_laws_znodes.specs.Translations.{AreZnodes, bare_image}
 use Rattle.kz_laws_znodes.proofs.ReadQuotas.{IsQuotaBodyRead}
@@ -290,7 +290,7 @@ pub record Ends (epoch : ℤ) (rows : List Row) (brokers : List RegisterBrokerRe
   pub says : Says epoch rows brokers state rows after
 
 module _ (epoch : ℤ) (rows : List Row) (brokers : List RegisterBrokerRecord) (state : ℤ) (z : AreRows rows) (all : AllHaveRecords rows) where
-  all_steps : (earlier todo : List Row) (i : Image) (rs : List MetaRecord) → rows ≡ earlier ++ todo → Says epoch rows brokers state earlier i → records_behind rows earlier todo ≡ Ok rs → count_of_entries earlier + length rs < 2 ^ 64
+  all_steps : (earlier todo : List Row) (i : Image) (rs : List MetaRecord) → rows ≡ earlier ++ todo → Says epoch rows brokers state earlier i → records_after rows earlier todo ≡ Ok rs → count_of_entries earlier + length rs < 2 ^ 64
       → Ends epoch rows brokers state rs i
   all_steps earlier [] i rs whole s e few = record {
     after = i;
@@ -336,28 +336,28 @@ nothing_counted epoch rows brokers state = record {
 -- What a translation that is Ok gives.
 pub record IsTranslated (rows : List Row) (records : List MetaRecord) : Type 0 where
   pub all : all_records rows ≡ Ok records
-  pub few : length records + further_records ≤ max_records
+  pub few : length records + further_records ≤ MAX_RECORDS
 
 pub translated : (rows : List Row) (records : List MetaRecord) → translate rows ≡ Ok records → IsTranslated rows records
 unfolding translate
 translated rows records e = by (all_records rows) refl e
   where
-    counted : (rs : List MetaRecord) → all_records rows ≡ Ok rs → (t : Bool) → nat_lt max_records (length rs + further_records) ≡ t
+    counted : (rs : List MetaRecord) → all_records rows ≡ Ok rs → (t : Bool) → nat_lt MAX_RECORDS (length rs + further_records) ≡ t
         → if◌then◌else◌ {A = Translated} t (Err (record { path = codes "/brokers/topics"; why = why.Over 7 })) (Ok rs) ≡ Ok records → IsTranslated rows records
     counted rs is true over h = absurd (cc)
     counted rs is false over h =
         let same : rs ≡ records = cc in
-        record { all = is ∙ ap (λ x. Ok x) same; few = subst (λ x. length x + further_records ≤ max_records) same (ltb-false max_records (length rs + further_records) over) }
+        record { all = is ∙ ap (λ x. Ok x) same; few = subst (λ x. length x + further_records ≤ MAX_RECORDS) same (ltb-false MAX_RECORDS (length rs + further_records) over) }
 
     limited : (rs : List MetaRecord) → all_records rows ≡ Ok rs → (x : Option Excess) → bounded x rs ≡ Ok records → IsTranslated rows records
     limited rs is (Some x) h = absurd (cc)
-    limited rs is None h = counted rs is (nat_lt max_records (length rs + further_records)) refl h
+    limited rs is None h = counted rs is (nat_lt MAX_RECORDS (length rs + further_records)) refl h
 
     by : (t : Translated) → all_records rows ≡ t → within_limits t ≡ Ok records → IsTranslated rows records
     by (Err u) is h = absurd (cc)
-    by (Ok rs) is h = limited rs is (excess (all_applied max_epoch rs empty_image)) h
+    by (Ok rs) is h = limited rs is (excess (all_applied MAX_EPOCH rs empty_image)) h
 
-pub translation_leads : (epoch : ℤ) (rows : List Row) (brokers : List RegisterBrokerRecord) (state : ℤ) (records : List MetaRecord) → AreRows rows → all_records rows ≡ Ok records → length records + further_records ≤ max_records
+pub translation_leads : (epoch : ℤ) (rows : List Row) (brokers : List RegisterBrokerRecord) (state : ℤ) (records : List MetaRecord) → AreRows rows → all_records rows ≡ Ok records → length records + further_records ≤ MAX_RECORDS
     → Ends epoch rows brokers state records (bare_image brokers state)
 translation_leads epoch rows brokers state records z all few =
     let none : count_of_entries [] ≡ 0 = refl in

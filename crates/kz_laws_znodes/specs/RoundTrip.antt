@@ -2,6 +2,7 @@
 use Rattle.std.specs.Prelude.{◌≡◌, ⊤, ℕ, ◌+◌, ◌≤◌, true, ℤ, pos, ◌+ℤ◌, ◌≤ℤ◌, List, length, map, Option, Some, None, option_map, Ok, All}
 use Rattle.std.specs.Str.{is_utf8}
 use Rattle.std.specs.List.{filter}
+use Rattle.kz_types.specs.declared.limits.TheConstants.{MAX_EPOCH, MAX_RECORDS}
 use Rattle.base64.specs.GeneralPurpose.{IsBytes}
 use Rattle.kz_types.specs.declared.tree.Row.{Row}
 use Rattle.kz_types.specs.declared.tree.Rendered.{Rendered}
@@ -20,7 +21,6 @@ use Rattle.kz_types.specs.declared.record.MetaRecord.{MetaRecord}
 use Rattle.kz_types.specs.Paths.{key_of}
 use Rattle.kz_spec_stores.specs.Image.{Image, empty_image, all_applied}
 use Rattle.kz_spec_stores.specs.InOrder.{IsInOrder}
-use Rattle.kz_spec_stores.specs.Log.{max_records, max_epoch}
 use Rattle.kz_spec_znodes.specs.Rendering.{is_of_resource, row_of_acl, render, excess}
 use Rattle.kz_spec_znodes.specs.Translation.{all_records, further_records, translate}
 
@@ -108,9 +108,9 @@ abbrev pub topic_at_epoch : ℤ → TopicEntry → TopicEntry
 topic_at_epoch epoch t = record t { partitions = map (at_epoch epoch) t.partitions }
 
 -- The metadata as it is at most once it has returned: each partition with the greatest controller epoch, and the next producer
--- id behind a block of 1,000.
+-- id after a block of 1,000.
 abbrev pub grown : Image → Image
-grown i = record i { topics = map (topic_at_epoch max_epoch) i.topics; next_producer = option_map (λ next. next +ℤ pos 1000) i.next_producer }
+grown i = record i { topics = map (topic_at_epoch MAX_EPOCH) i.topics; next_producer = option_map (λ next. next +ℤ pos 1000) i.next_producer }
 
 abbrev pub HasEpoch : PartitionEntry → Type 0
 HasEpoch p = pos 0 ≤ℤ p.row.controller_epoch
@@ -125,7 +125,7 @@ pub record MayReturn (i : Image) : Type 0 where
   pub epochs : All (λ (t : TopicEntry). All HasEpoch t.partitions) i.topics
   pub next : HasRoom i.next_producer
   pub znodes : excess (grown i) ≡ None
-  pub records : (rs : List MetaRecord) → all_records (znodes_of i) ≡ Ok rs → length rs + further_records ≤ max_records
+  pub records : (rs : List MetaRecord) → all_records (znodes_of i) ≡ Ok rs → length rs + further_records ≤ MAX_RECORDS
 
 -- ---- what returns
 
@@ -149,7 +149,10 @@ pub record IsSameBut (i j : Image) : Type 0 where
   pub users : j.users ≡ i.users
   pub acls : (row : AclRow) → entries_of_resource row j.acls ≡ entries_of_resource row i.acls
 
+-- Rendered to znodes, translated to records and made again, it is the same metadata.
+abbrev pub Returns : Image → Type 0
+Returns i = (records : List MetaRecord) × (translate (znodes_of i) ≡ Ok records) × ((epoch : ℤ) → IsSameBut i (all_applied epoch records empty_image))
+
 -- Metadata is rendered to znodes that are translated to records that make the same metadata.
 abbrev pub ReturnsTheSame : Type 0
-ReturnsTheSame = (i : Image) → IsInOrder i → IsWritable i → MayReturn i
-    → (records : List MetaRecord) × (translate (znodes_of i) ≡ Ok records) × ((epoch : ℤ) → IsSameBut i (all_applied epoch records empty_image))
+ReturnsTheSame = (i : Image) → IsInOrder i → IsWritable i → MayReturn i → Returns i

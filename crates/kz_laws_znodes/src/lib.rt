@@ -9,6 +9,8 @@ ghost use Rattle.kz_laws_znodes.specs.Operations.{DifferenceIsMade, ChunkLeavesR
 ghost use Rattle.kz_laws_znodes.specs.Translations.{TranslatedIsAccepted};
 ghost use Rattle.kz_laws_znodes.specs.RoundTrip.{ReturnsTheSame};
 
+pub use round_trip_examples::worked_metadata;
+
 /// The operations of a difference make the second rendering of the first. Once the operations of the next write are made, at
 /// most 64, the difference is the rest of them.
 pub fn chunk_leaves_rest()

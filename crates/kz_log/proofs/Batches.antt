@@ -1,20 +1,22 @@
 -- The batches of a log: their records, how many there are, and their offsets.
-use Rattle.std.proofs.Common.{◌≡◌, ℕ, zero, suc, ◌+◌, ◌<◌, ◌≤◌, Bool, true, false, ◌&&◌, cond, nat_lt, ℤ, pos, negsuc, ◌+ℤ◌, ◌≤ℤ◌, ◌<ℤ◌, int_le, int_lt, List, [], ◌∷◌, ◌++◌, length, get_or, drop, Option, Some, None, refl, sym, ap, ◌∙◌, subst, take, filter, map, w64, to_z, of_z, arith}
+use Rattle.std.proofs.Common.{◌≡◌, ℕ, zero, suc, ◌+◌, ◌^◌, ◌<◌, ◌≤◌, Bool, true, false, ◌&&◌, cond, nat_lt, ℤ, pos, negsuc, ◌+ℤ◌, ◌≤ℤ◌, ◌<ℤ◌, int_le, int_lt, List, [], ◌∷◌, ◌++◌, length, get_or, drop, Some, None, refl, sym, ap, ◌∙◌, subst, take, filter, map, w64, to_z, of_z, arith}
 use Rattle.std.proofs.lemmas.List.{take_more, map-append}
 use Rattle.std.proofs.lemmas.Int.{ints, to_z-of_z}
 use mir.Val.{SFits}
 use Rattle.std.proofs.lemmas.Bool.Decides.{nat_tests}
 use Rattle.std.specs.List.{find}
 use Rattle.std.proofs.lemmas.List.Sums.{sum_by-cons, sum_by_push, sum_by_more}
+use Rattle.kz_types.specs.declared.limits.Limit.TheVariants as limits
+use Rattle.kz_types.specs.declared.limits.TheConstants.{MAX_LONG, MAX_RECORDS}
+use Rattle.kz_types.specs.Limits.{number_of_limit}
 use Rattle.kz_types.specs.declared.log.BatchRow.{BatchRow}
 use Rattle.kz_types.specs.declared.log.Entry.{Entry}
 use Rattle.kz_types.specs.declared.record.MetaRecord.{MetaRecord}
-use Rattle.kz_spec_stores.specs.Log.{Log, IsLog, Follow, Climb, is_behind, end_of, image_at, full_log, with_batch, max_records, last_of, last_end, record_count, numbered, entries, all_entries_applied}
+use Rattle.kz_spec_stores.specs.Log.{Log, IsLog, Follow, Climb, begins_after, end_of, image_at, full_log, with_batch, last_of, last_end, record_count, numbered, entries, all_entries_applied}
 use Rattle.kz_spec_stores.specs.Settlement.{counted, closes, is_end, is_ended_by}
-use Rattle.kz_spec_stores.specs.Tree.{max_long}
 use Rattle.kz_settle.specs.Settling.{closes_entry, opened, passed, ends_by}
 use Rattle.kz_settle.proofs.Passing.{counted_is_passed}
-use Rattle.kz_log.specs.Reading.{placed, remaining, image_after}
+use Rattle.kz_log.specs.Reading.{entries_after, unread_entries, image_after}
 use Rattle.kz_log.proofs.Offsets.{Consecutive, numbered_consecutive, consecutive_rises, last_of_is, last_end-append, of_lt, not_lt, of_not_lt, of_le}
 
 -- ---- how many records there are, and the last offset
@@ -41,20 +43,20 @@ Climb-push least most more (x ∷ bs) b h rise low above high =
 
 -- ---- the records with their offsets
 
-pub entries_placed : (from : ℤ) (bs : List BatchRow) → Follow from bs → entries bs ≡ placed from bs
-entries_placed from [] h = refl
-entries_placed from (b ∷ bs) h =
-    ap (λ es. numbered b.first b.epoch b.items ++ es) (entries_placed (last_of b) bs h.2 ∙ ap (λ o. placed o bs) (last_of_is from b h.0))
-    ∙ ap (λ o. numbered o b.epoch b.items ++ placed (from +ℤ pos (length b.items)) bs) h.0
+pub entries_by_offset : (from : ℤ) (bs : List BatchRow) → Follow from bs → entries bs ≡ entries_after from bs
+entries_by_offset from [] h = refl
+entries_by_offset from (b ∷ bs) h =
+    ap (λ es. numbered b.first b.epoch b.items ++ es) (entries_by_offset (last_of b) bs h.2 ∙ ap (λ o. entries_after o bs) (last_of_is from b h.0))
+    ∙ ap (λ o. numbered o b.epoch b.items ++ entries_after (from +ℤ pos (length b.items)) bs) h.0
 
-pub placed_consecutive : (from : ℤ) (bs : List BatchRow) → Consecutive from (placed from bs)
-placed_consecutive from [] = tt
-placed_consecutive from (b ∷ bs) = numbered_consecutive from (from +ℤ pos 1) b.epoch b.items (placed (from +ℤ pos (length b.items)) bs) refl (placed_consecutive (from +ℤ pos (length b.items)) bs)
+pub entries_after_consecutive : (from : ℤ) (bs : List BatchRow) → Consecutive from (entries_after from bs)
+entries_after_consecutive from [] = tt
+entries_after_consecutive from (b ∷ bs) = numbered_consecutive from (from +ℤ pos 1) b.epoch b.items (entries_after (from +ℤ pos (length b.items)) bs) refl (entries_after_consecutive (from +ℤ pos (length b.items)) bs)
 
-pub remaining_consecutive : (from epoch : ℤ) (items : List MetaRecord) (rest : List BatchRow) → Consecutive from (remaining from epoch items rest)
-remaining_consecutive from epoch items rest = numbered_consecutive from (from +ℤ pos 1) epoch items (placed (from +ℤ pos (length items)) rest) refl (placed_consecutive (from +ℤ pos (length items)) rest)
+pub unread_consecutive : (from epoch : ℤ) (items : List MetaRecord) (rest : List BatchRow) → Consecutive from (unread_entries from epoch items rest)
+unread_consecutive from epoch items rest = numbered_consecutive from (from +ℤ pos 1) epoch items (entries_after (from +ℤ pos (length items)) rest) refl (entries_after_consecutive (from +ℤ pos (length items)) rest)
 
--- ---- what the records behind an offset do to the metadata
+-- ---- what the records after an offset do to the metadata
 
 -- what tests of an offset in range say
 pub is_before : (x y : ℤ) → SFits w64 x → int_lt (to_z w64 (of_z w64 x)) y ≡ true → x <ℤ y
@@ -95,7 +97,7 @@ skip_by : (c : Bool) (at : ℤ) (e : Entry) (es : List Entry) → c ≡ false �
 skip_by true at e es h = cc
 skip_by false at e es h = refl
 
--- what ends no transaction leaves the end to the records behind it
+-- what ends no transaction leaves the end to the records after it
 pub ends_skip : (at : ℤ) (e : Entry) (es : List Entry) → closes e.item ≡ false → ends_by at (e ∷ es) ≡ ends_by at es
 ends_skip at e es h = skip_by (closes e.item) at e es h
 
@@ -108,31 +110,35 @@ end_is l k = last_end_is l.base l.batches k.follow
 pub end_low : (l : Log) → IsLog l → negsuc 0 ≤ℤ end_of l
 end_low l k = let e = end_is l k in let base = k.base in omega (arith, ints, e, base)
 
-pub end_high : (l : Log) → IsLog l → (l.base +ℤ pos (record_count l.batches)) ≤ℤ max_long
-end_high l k = subst (λ o. o ≤ℤ max_long) (end_is l k) k.end
+pub end_high : (l : Log) → IsLog l → (l.base +ℤ pos (record_count l.batches)) ≤ℤ MAX_LONG
+end_high l k = subst (λ o. o ≤ℤ MAX_LONG) (end_is l k) k.end
 
-pub image_at_is : (l : Log) → IsLog l → (at : ℤ) → image_at l at ≡ image_after at false (placed l.base l.batches) l.base_image
+-- so a list in memory has room for all records
+pub count_fits : (l : Log) → IsLog l → record_count l.batches < 2 ^ 64
+count_fits l k = let high = end_high l k in let base = k.base in omega (arith, ints, high, base)
+
+pub image_at_is : (l : Log) → IsLog l → (at : ℤ) → image_at l at ≡ image_after at false (entries_after l.base l.batches) l.base_image
 unfolding image_at
 image_at_is l k at =
-    ap (λ es. all_entries_applied (counted es at) l.base_image) (entries_placed l.base l.batches k.follow)
+    ap (λ es. all_entries_applied (counted es at) l.base_image) (entries_by_offset l.base l.batches k.follow)
     ∙ ap (λ es. all_entries_applied es l.base_image)
-    (counted_is_passed (placed l.base l.batches) at (consecutive_rises l.base (placed l.base l.batches) (placed_consecutive l.base l.batches)))
+    (counted_is_passed (entries_after l.base l.batches) at (consecutive_rises l.base (entries_after l.base l.batches) (entries_after_consecutive l.base l.batches)))
 
 -- ---- a batch more
 
-room_by : (many far : Bool) → cond {A = Option ℕ} many (Some 7) (cond far (Some 17) None) ≡ None → (many ≡ false) × (far ≡ false)
-room_by true far h = cc
-room_by false true h = cc
-room_by false false h = (refl, refl)
+room_by : (records long : ℕ) (many far : Bool) → cond many (Some records) (cond far (Some long) None) ≡ None → (many ≡ false) × (far ≡ false)
+room_by records long true far h = cc
+room_by records long false true h = cc
+room_by records long false false h = (refl, refl)
 
-of_few : (count : ℕ) → nat_lt max_records count ≡ false → count ≤ max_records
+of_few : (count : ℕ) → nat_lt MAX_RECORDS count ≡ false → count ≤ MAX_RECORDS
 of_few count h = grind (arith, nat_tests)
 
 -- what isn't full has room
-pub room_for : (l : Log) (items : List MetaRecord) → full_log l items ≡ None → (record_count l.batches + length items ≤ max_records) × ((end_of l +ℤ pos (length items)) ≤ℤ max_long)
+pub room_for : (l : Log) (items : List MetaRecord) → full_log l items ≡ None → (record_count l.batches + length items ≤ MAX_RECORDS) × ((end_of l +ℤ pos (length items)) ≤ℤ MAX_LONG)
 room_for l items h =
-    let both = room_by (nat_lt max_records (record_count l.batches + length items)) (int_lt max_long (end_of l +ℤ pos (length items))) h in
-    (of_few (record_count l.batches + length items) both.0, of_not_lt max_long (end_of l +ℤ pos (length items)) both.1)
+    let both = room_by (number_of_limit limits.Records) (number_of_limit limits.Long) (nat_lt MAX_RECORDS (record_count l.batches + length items)) (int_lt MAX_LONG (end_of l +ℤ pos (length items))) h in
+    (of_few (record_count l.batches + length items) both.0, of_not_lt MAX_LONG (end_of l +ℤ pos (length items)) both.1)
 
 pub is_log_added : (l : Log) (epoch now : ℤ) (items : List MetaRecord) → IsLog l → pos 1 ≤ℤ epoch → l.epoch ≤ℤ epoch → 0 < length items → full_log l items ≡ None → IsLog (with_batch l epoch now items)
 is_log_added l epoch now items k elected climbs some free =
@@ -145,8 +151,7 @@ is_log_added l epoch now items k elected climbs some free =
       base_image = k.base_image;
       follow = Follow-push l.base l.batches b k.follow refl some;
       epochs = Climb-push (pos 1) l.epoch epoch l.batches b k.epochs climbs elected climbs (omega (arith, ints));
-      few = subst (λ n. n ≤ max_records) (sym (record_count-push l.batches b)) room.0;
-      end = subst (λ o. o ≤ℤ max_long) (sym last) room.1;
+      end = subst (λ o. o ≤ℤ MAX_LONG) (sym last) room.1;
     }
 
 -- the log with this batch, where its parts are those of the definition
@@ -159,26 +164,26 @@ added_is l b epoch now items first e t is =
     ∙ ap (λ y. row (end_of l +ℤ pos 1) epoch y b.items) t ∙ ap (row (end_of l +ℤ pos 1) epoch now) is in
     ap (λ (x : BatchRow). record l { epoch = epoch; batches = l.batches ++ x ∷ [] }) same
 
--- ---- the batches behind an offset
+-- ---- the batches after an offset
 
-first_behind : (from : ℤ) (bs : List BatchRow) (i : ℕ) (b : BatchRow) → Follow from bs → i < length bs → b ≡ get_or bs i b → from <ℤ b.first
-first_behind from [] i b h lt is = absurd (omega arith)
-first_behind from (x ∷ bs) zero b h lt is = let e = ap (λ (y : BatchRow). y.first) is ∙ h.0 in omega (arith, ints, e)
-first_behind from (x ∷ bs) (suc i) b h lt is =
-    let rest = first_behind (last_of x) bs i b h.2 (omega arith) is in
+first_after : (from : ℤ) (bs : List BatchRow) (i : ℕ) (b : BatchRow) → Follow from bs → i < length bs → b ≡ get_or bs i b → from <ℤ b.first
+first_after from [] i b h lt is = absurd (omega arith)
+first_after from (x ∷ bs) zero b h lt is = let e = ap (λ (y : BatchRow). y.first) is ∙ h.0 in omega (arith, ints, e)
+first_after from (x ∷ bs) (suc i) b h lt is =
+    let rest = first_after (last_of x) bs i b h.2 (omega arith) is in
     let last = last_of_is from x h.0 in omega (arith, ints, rest, last)
 
 -- none of those before one that isn't
-pub none_behind : (from after : ℤ) (bs : List BatchRow) (i : ℕ) (b : BatchRow) → Follow from bs → i < length bs → b ≡ get_or bs i b → b.first ≤ℤ after
-    → drop (suc i) bs ≡ filter (is_behind after) (drop (suc i) bs) → drop (suc i) bs ≡ filter (is_behind after) bs
-none_behind from after [] i b h lt is le rest = absurd (omega arith)
-none_behind from after (x ∷ bs) zero b h lt is le rest =
-    let t : is_behind after x ≡ false = ap (λ (y : BatchRow). is_behind after y) (sym is) ∙ not_lt after b.first le in
+pub none_later : (from after : ℤ) (bs : List BatchRow) (i : ℕ) (b : BatchRow) → Follow from bs → i < length bs → b ≡ get_or bs i b → b.first ≤ℤ after
+    → drop (suc i) bs ≡ filter (begins_after after) (drop (suc i) bs) → drop (suc i) bs ≡ filter (begins_after after) bs
+none_later from after [] i b h lt is le rest = absurd (omega arith)
+none_later from after (x ∷ bs) zero b h lt is le rest =
+    let t : begins_after after x ≡ false = ap (λ (y : BatchRow). begins_after after y) (sym is) ∙ not_lt after b.first le in
     rw t rest
-none_behind from after (x ∷ bs) (suc i) b h lt is le rest =
-    let later = first_behind (last_of x) bs i b h.2 (omega arith) is in
+none_later from after (x ∷ bs) (suc i) b h lt is le rest =
+    let later = first_after (last_of x) bs i b h.2 (omega arith) is in
     let first : x.first ≤ℤ after = let last = last_of_is from x h.0 in let f = h.0 in omega (arith, ints, later, last, f, le) in
-    rw (not_lt after x.first first) (none_behind (last_of x) after bs i b h.2 (omega arith) is le rest)
+    rw (not_lt after x.first first) (none_later (last_of x) after bs i b h.2 (omega arith) is le rest)
 
 -- ---- the ends of batches
 

@@ -10,17 +10,17 @@ use Rattle.kz_ordered.specs.Ordered.{Rises}
 use Rattle.kz_ordered.proofs.Order.{int_order}
 use Rattle.kz_ordered.proofs.Append.{Rises_left}
 use Rattle.kz_spec_stores.specs.Image.{Image}
-use Rattle.kz_spec_stores.specs.Log.{Log, View, Follow, IsLog, IsAt, IsViewOf, is_behind, last_of, last_end, last_epoch, end_of, numbered, entries_of_batch, entries, entries_by, image_at, all_entries_applied, fed, feed_from, read_epoch, read_view}
+use Rattle.kz_spec_stores.specs.Log.{Log, View, Follow, IsLog, IsAt, IsViewOf, begins_after, last_of, last_end, last_epoch, end_of, numbered, entries_of_batch, entries, entries_by, image_at, all_entries_applied, fed, feed_from, read_epoch, read_view}
 use Rattle.kz_spec_stores.specs.Settlement.{counted, begun, kept}
 use Rattle.kz_settle.specs.Settling.{offset_of}
 use Rattle.kz_settle.specs.Stands.{Settling, Stands, AllBy}
 use Rattle.kz_settle.proofs.Bounds.{counted_same}
-use Rattle.kz_log.specs.Building.{Building, building_of, started, view_of, Takes, Took}
+use Rattle.kz_log.specs.Building.{Building, building_of, building_from, view_of, Takes, Took}
 use Rattle.kz_log.specs.Requests.{IsFeed}
 use Rattle.kz_log.specs.Views.{Fits, start_of, known_epoch, GoesOn}
 use Rattle.kz_log.proofs.Cuts.{Chain, chain_of, Chain-append, Follow-left, Follow-right, chain_end, entries-append, entries_rise, entries_end, cut_of, of_cut, by_here}
 use Rattle.kz_log.proofs.Offsets.{last_end-append, le_of_lt}
-use Rattle.kz_log.proofs.Views.{at_of, behind_base, behind_cut, based, baseless}
+use Rattle.kz_log.proofs.Views.{at_of, after_base, after_cut, based, baseless}
 
 -- ---- one after another
 
@@ -179,7 +179,7 @@ stands_at l v chain is at =
     }
 
 is_at_of : (l : Log) (v : View) (base : Option (ℤ × Image)) (batches : List BatchRow) (b : Building) (epoch : ℤ) → GoesOn l v base → Follow (start_of v base) batches
-    → Took (entries batches) (last_end (start_of v base) batches) epoch (started base v) b → IsAt (fed l base batches) (view_of b)
+    → Took (entries batches) (last_end (start_of v base) batches) epoch (building_from base v) b → IsAt (fed l base batches) (view_of b)
 unfolding image_at
 is_at_of l v None batches b epoch on follow took =
     let old = chain_of l.base l.batches on.0 in
@@ -216,11 +216,11 @@ reads_by : (l : Log) (v n : View) (f : Feed) → IsLog l → IsViewOf l v → Is
     → (t : Bool) → int_lt v.position l.base ≡ t → n ≡ read_view l v
 reads_by l v n f k is read at position epoch true below =
     let base = based (int_lt v.position l.base) l f.base read.base below in
-    let batches : f.batches ≡ l.batches = read.batches ∙ behind_base l v.position k (le_of_lt v.position l.base below) in
+    let batches : f.batches ≡ l.batches = read.batches ∙ after_base l v.position k (le_of_lt v.position l.base below) in
     let whole : fed l f.base f.batches ≡ l = ap (λ b. fed l b f.batches) base ∙ ap (fed l (Some (l.base, l.base_image))) batches in
     read_is l v n k (subst (λ m. IsAt m n) whole (at l (subst (GoesOn l v) (sym base) tt))) (position ∙ read.end)
     (epoch ∙ ap (λ b. last_epoch (known_epoch b v.epoch) f.batches) base ∙ ap (last_epoch (pos 0)) read.batches
-    ∙ ap (λ t. last_epoch (cond t (pos 0) v.epoch) (filter (is_behind v.position) l.batches)) (sym below))
+    ∙ ap (λ t. last_epoch (cond t (pos 0) v.epoch) (filter (begins_after v.position) l.batches)) (sym below))
 reads_by l v n f k is read at position epoch false passed =
     let base = baseless (int_lt v.position l.base) l f.base read.base passed in
     let chain = chain_of l.base l.batches k.follow in
@@ -228,26 +228,26 @@ reads_by l v n f k is read at position epoch false passed =
     let m : Log = record l { batches = c.bs } in
     let follow : Follow l.base c.bs = Follow-left l.base c.bs c.cs (subst (Follow l.base) c.whole k.follow) in
     let here : IsAt m v = of_cut m v (chain_of l.base c.bs follow) (record { bs = c.bs; cs = []; whole = sym (append-nil c.bs); at = c.at; image = c.image; begun = c.begun; kept = c.kept }) in
-    let batches : f.batches ≡ c.cs = read.batches ∙ behind_cut l v c k in
+    let batches : f.batches ≡ c.cs = read.batches ∙ after_cut l v c k in
     let whole : fed m f.base f.batches ≡ l = ap (λ b. fed m b f.batches) base ∙ ap (fed m None) batches ∙ ap (λ bs. record l { batches = bs }) (sym c.whole) in
     read_is l v n k (subst (λ x. IsAt x n) whole (at m (subst (GoesOn m v) (sym base) (follow, here, c.at)))) (position ∙ read.end)
     (epoch ∙ ap (λ b. last_epoch (known_epoch b v.epoch) f.batches) base ∙ ap (last_epoch v.epoch) read.batches
-    ∙ ap (λ t. last_epoch (cond t (pos 0) v.epoch) (filter (is_behind v.position) l.batches)) (sym passed))
+    ∙ ap (λ t. last_epoch (cond t (pos 0) v.epoch) (filter (begins_after v.position) l.batches)) (sym passed))
 
--- what is read behind a view of a log makes it the view of the log's end
+-- what is read after a view of a log makes it the view of the log's end
 pub reads_of : (v n : View) (f : Feed) → ((m : Log) → GoesOn m v f.base → IsAt (fed m f.base f.batches) n) → n.position ≡ f.end → n.epoch ≡ last_epoch (known_epoch f.base v.epoch) f.batches
     → (l : Log) → IsLog l → IsViewOf l v → IsFeed (feed_from l v.position) f → n ≡ read_view l v
 reads_of v n f at position epoch l k is read = reads_by l v n f k is read at position epoch (int_lt v.position l.base) refl
 
 -- ---- what a feed makes of a view
 
--- what was built of a view and a feed is a view of the log behind it
-pub advanced : (v n : View) (f : Feed) (b : Building) → Fits v f → Took (entries f.batches) f.end (last_epoch (known_epoch f.base v.epoch) f.batches) (started f.base v) b → n ≡ view_of b
+-- what was built of a view and a feed is a view of the log after it
+pub advanced : (v n : View) (f : Feed) (b : Building) → Fits v f → Took (entries f.batches) f.end (last_epoch (known_epoch f.base v.epoch) f.batches) (building_from f.base v) b → n ≡ view_of b
     → (l : Log) → GoesOn l v f.base → IsAt (fed l f.base f.batches) n
 advanced v n f b fits took is l on =
     let epoch = last_epoch (known_epoch f.base v.epoch) f.batches in
     subst (λ x. IsAt (fed l f.base f.batches) x) (sym is) (is_at_of l v f.base f.batches b epoch on fits.follow
-    (took_to (entries f.batches) (entries f.batches) f.end (last_end (start_of v f.base) f.batches) epoch epoch (started f.base v) b refl fits.end refl took))
+    (took_to (entries f.batches) (entries f.batches) f.end (last_end (start_of v f.base) f.batches) epoch epoch (building_from f.base v) b refl fits.end refl took))
 
 -- so is the view itself where nothing was read
 pub still : (v : View) (f : Feed) → f.base ≡ None → f.batches ≡ [] → (l : Log) → GoesOn l v f.base → IsAt (fed l f.base f.batches) v

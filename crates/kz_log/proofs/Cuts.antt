@@ -7,16 +7,16 @@ use Rattle.kz_types.specs.declared.log.BatchRow.{BatchRow}
 use Rattle.kz_types.specs.declared.log.Entry.{Entry}
 use Rattle.kz_types.specs.declared.record.MetaRecord.{MetaRecord}
 use Rattle.kz_ordered.specs.Ordered.{Rises}
-use Rattle.kz_spec_stores.specs.Log.{Log, View, Follow, IsAt, is_behind, last_of, last_end, batch_ends, numbered, entries_of_batch, entries, entries_by, image_at, all_entries_applied}
+use Rattle.kz_spec_stores.specs.Log.{Log, View, Follow, IsAt, begins_after, last_of, last_end, batch_ends, numbered, entries_of_batch, entries, entries_by, image_at, all_entries_applied}
 use Rattle.kz_spec_stores.specs.Settlement.{counted, begun, kept}
 use Rattle.kz_settle.specs.Settling.{offset_of}
 use Rattle.kz_settle.specs.Stands.{AllBy}
-use Rattle.kz_settle.proofs.Bounds.{AllBehind, counted_before, by_split}
+use Rattle.kz_settle.proofs.Bounds.{AllLater, counted_before, by_split}
 use Rattle.kz_log.proofs.Offsets.{Consecutive, numbered_consecutive, consecutive_rises, last_of_is, is_lt, not_lt, not_le}
 
 -- ---- batches
 
--- Each batch begins behind the one before it, from behind an offset on. It may be empty.
+-- Each batch begins after the one before it, from after an offset on. It may be empty.
 abbrev pub Chain : ℤ → List BatchRow → Type 0
 Chain from [] = Unit {0}
 Chain from (b ∷ bs) = (b.first ≡ from +ℤ pos 1) × Chain (last_of b) bs
@@ -69,11 +69,11 @@ consecutive_by from to (e ∷ es) h k =
     let here : e.offset ≤ℤ to = let at = h.0 in omega (arith, ints, at, k) in
     All-cons (λ (x : Entry). x.offset ≤ℤ to) e es here (consecutive_by (from +ℤ pos 1) to es h.1 (omega (arith, ints, k)))
 
-consecutive_behind : (from at : ℤ) (es : List Entry) → Consecutive from es → at ≤ℤ from → AllBehind at es
-consecutive_behind from at [] h k = All-nil (λ (e : Entry). int_le e.offset at ≡ false)
-consecutive_behind from at (e ∷ es) h k =
+consecutive_after : (from at : ℤ) (es : List Entry) → Consecutive from es → at ≤ℤ from → AllLater at es
+consecutive_after from at [] h k = All-nil (λ (e : Entry). int_le e.offset at ≡ false)
+consecutive_after from at (e ∷ es) h k =
     let here : at <ℤ e.offset = let is = h.0 in omega (arith, ints, is, k) in
-    All-cons (λ (x : Entry). int_le x.offset at ≡ false) e es (not_le e.offset at here) (consecutive_behind (from +ℤ pos 1) at es h.1 (omega (arith, ints, k)))
+    All-cons (λ (x : Entry). int_le x.offset at ≡ false) e es (not_le e.offset at here) (consecutive_after (from +ℤ pos 1) at es h.1 (omega (arith, ints, k)))
 
 pub entries_rise : (from : ℤ) (bs : List BatchRow) → Chain from bs → Rises int_cmp offset_of (entries bs)
 entries_rise from bs h = consecutive_rises from (entries bs) (entries_consecutive from bs h)
@@ -108,7 +108,7 @@ end_there : (from : ℤ) (bs cs : List BatchRow) → (before after : List ℤ) �
 end_there from [] cs = ([], map last_of cs, refl)
 end_there from (b ∷ bs) cs = let rest = end_there (last_of b) bs cs in (from ∷ rest.0, rest.1, ap (λ es. from ∷ es) rest.2)
 
--- A view of a log, said by the batches up to its position and those behind it.
+-- A view of a log, said by the batches up to its position and those after it.
 pub record Cut (l : Log) (v : View) : Type 0 where
   pub bs : List BatchRow
   pub cs : List BatchRow
@@ -125,9 +125,9 @@ module _ (l : Log) (position : ℤ) (bs cs : List BatchRow) (whole : l.batches �
   by : AllBy position (entries bs)
   by = subst (λ p. AllBy p (entries bs)) at (entries_end l.base bs (chain_left l.base bs cs chained))
 
-  behind : AllBehind position (entries cs)
-  behind = subst (λ p. AllBehind p (entries cs)) at
-      (consecutive_behind (last_end l.base bs) (last_end l.base bs) (entries cs) (entries_consecutive (last_end l.base bs) cs (chain_right l.base bs cs chained)) (omega (arith, ints)))
+  following : AllLater position (entries cs)
+  following = subst (λ p. AllLater p (entries cs)) at
+      (consecutive_after (last_end l.base bs) (last_end l.base bs) (entries cs) (entries_consecutive (last_end l.base bs) cs (chain_right l.base bs cs chained)) (omega (arith, ints)))
 
   rises : Rises int_cmp offset_of (entries bs ++ entries cs)
   rises = subst (λ es. Rises int_cmp offset_of es) (entries-append bs cs) (entries_rise l.base (bs ++ cs) chained)
@@ -136,10 +136,10 @@ module _ (l : Log) (position : ℤ) (bs cs : List BatchRow) (whole : l.batches �
   split = ap entries whole ∙ entries-append bs cs
 
   counted_here : counted (entries l.batches) position ≡ counted (entries bs) position
-  counted_here = ap (λ es. counted es position) split ∙ counted_before position (entries bs) (entries cs) rises behind
+  counted_here = ap (λ es. counted es position) split ∙ counted_before position (entries bs) (entries cs) rises following
 
   pub by_here : entries_by position (entries l.batches) ≡ entries bs
-  by_here = ap (entries_by position) split ∙ by_split position (entries bs) (entries cs) by behind
+  by_here = ap (entries_by position) split ∙ by_split position (entries bs) (entries cs) by following
 
   ends_here : (before after : List ℤ) × (batch_ends l ≡ before ++ position ∷ after)
   ends_here =
@@ -172,28 +172,28 @@ of_cut l v chain c =
       kept = c.kept ∙ ap kept (sym same);
     }
 
--- ---- the batches behind an offset
+-- ---- the batches after an offset
 
-pub behind_all : (from at : ℤ) (cs : List BatchRow) → at ≤ℤ from → Chain from cs → filter (is_behind at) cs ≡ cs
-behind_all from at [] le h = refl
-behind_all from at (b ∷ bs) le h =
+pub after_all : (from at : ℤ) (cs : List BatchRow) → at ≤ℤ from → Chain from cs → filter (begins_after at) cs ≡ cs
+after_all from at [] le h = refl
+after_all from at (b ∷ bs) le h =
     let first = h.0 in
     let last = last_of_is from b first in
-    rw (is_lt at b.first (omega (arith, ints, first, le))) (ap (λ l. b ∷ l) (behind_all (last_of b) at bs (omega (arith, ints, last, le)) h.1))
+    rw (is_lt at b.first (omega (arith, ints, first, le))) (ap (λ l. b ∷ l) (after_all (last_of b) at bs (omega (arith, ints, last, le)) h.1))
 
-behind_none : (from at : ℤ) (bs : List BatchRow) → last_end from bs ≤ℤ at → Follow from bs → filter (is_behind at) bs ≡ []
-behind_none from at [] le h = refl
-behind_none from at (b ∷ bs) le h =
+later_none : (from at : ℤ) (bs : List BatchRow) → last_end from bs ≤ℤ at → Follow from bs → filter (begins_after at) bs ≡ []
+later_none from at [] le h = refl
+later_none from at (b ∷ bs) le h =
     let first = h.0 in
     let some = h.1 in
     let last = last_of_is from b first in
     let end = chain_end (last_of b) bs (chain_of (last_of b) bs h.2) in
-    rw (not_lt at b.first (omega (arith, ints, first, some, last, end, le))) (behind_none (last_of b) at bs le h.2)
+    rw (not_lt at b.first (omega (arith, ints, first, some, last, end, le))) (later_none (last_of b) at bs le h.2)
 
--- behind the end of a batch are the batches that follow it
-pub behind_right : (from : ℤ) (bs cs : List BatchRow) → Follow from (bs ++ cs) → filter (is_behind (last_end from bs)) (bs ++ cs) ≡ cs
-behind_right from bs cs h =
+-- after the end of a batch are the batches that follow it
+pub after_right : (from : ℤ) (bs cs : List BatchRow) → Follow from (bs ++ cs) → filter (begins_after (last_end from bs)) (bs ++ cs) ≡ cs
+after_right from bs cs h =
     let at = last_end from bs in
-    filter-append (is_behind at) bs cs
-    ∙ ap (λ l. l ++ filter (is_behind at) cs) (behind_none from at bs (omega (arith, ints)) (Follow-left from bs cs h))
-    ∙ behind_all at at cs (omega (arith, ints)) (chain_of at cs (Follow-right from bs cs h))
+    filter-append (begins_after at) bs cs
+    ∙ ap (λ l. l ++ filter (begins_after at) cs) (later_none from at bs (omega (arith, ints)) (Follow-left from bs cs h))
+    ∙ after_all at at cs (omega (arith, ints)) (chain_of at cs (Follow-right from bs cs h))

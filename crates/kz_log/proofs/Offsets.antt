@@ -45,7 +45,7 @@ last_end-append from (b ∷ bs) cs = last_end-append (last_of b) bs cs
 
 -- ---- one after another
 
--- offsets that follow each other from behind an offset on
+-- offsets that follow each other from after an offset on
 abbrev pub Consecutive : ℤ → List Entry → Type 0
 Consecutive from [] = Unit {0}
 Consecutive from (e ∷ es) = (e.offset ≡ from +ℤ pos 1) × Consecutive (from +ℤ pos 1) es

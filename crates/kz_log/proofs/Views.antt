@@ -2,19 +2,20 @@
 use Rattle.std.proofs.Common.{◌≡◌, inl, inr, ℕ, Bool, true, false, cond, ℤ, pos, negsuc, ◌+ℤ◌, ◌≤ℤ◌, int_lt, List, [], ◌∷◌, ◌++◌, Option, Some, None, Ok, Err, refl, sym, ap, ◌∙◌, subst, append_assoc, append-nil, get_or, filter, arith}
 use Rattle.std.proofs.lemmas.Int.{ints}
 use Rattle.std.specs.Ordering.{int_eq}
+use Rattle.kz_types.specs.declared.limits.TheConstants.{MAX_EPOCH}
 use Rattle.kz_types.specs.declared.log.BatchRow.{BatchRow}
 use Rattle.kz_types.specs.declared.record.MetaRecord.{MetaRecord}
 use Rattle.kz_types.specs.declared.fault.LogFault.{LogFault}
 use Rattle.kz_image.specs.declared.feed.Feed.{Feed}
 use Rattle.kz_spec_stores.specs.Image.{Image}
-use Rattle.kz_spec_stores.specs.Log.{Log, View, new_view, Follow, IsLog, IsAt, IsViewOf, read_view, feed_from, is_behind, last_end, end_of, entries, image_at, new_batch, with_batch, with_next_epoch, added, full_log, max_epoch}
-use Rattle.kz_settle.proofs.Passing.{is_inside_behind}
+use Rattle.kz_spec_stores.specs.Log.{Log, View, new_view, Follow, IsLog, IsAt, IsViewOf, read_view, feed_from, begins_after, last_end, end_of, entries, image_at, new_batch, with_batch, with_next_epoch, added, full_log}
+use Rattle.kz_settle.proofs.Passing.{is_inside_after}
 use Rattle.kz_settle.proofs.Stepping.{is_begun}
 use Rattle.kz_log.specs.Requests.{IsFeed}
 use Rattle.kz_log.specs.Rows.{log_of, base_of, image_of_base}
 use Rattle.kz_log.specs.Views.{Fits, start_of}
 use Rattle.kz_log.specs.ViewLaws.{NewIsView, FeedFits, AppendLeavesViews, ElectLeavesViews, OpenIsBegun}
-use Rattle.kz_log.proofs.Cuts.{chain_of, Chain-append, Follow-right, entries_rise, entries_end, Cut, cut_of, of_cut, behind_all, behind_right}
+use Rattle.kz_log.proofs.Cuts.{chain_of, Chain-append, Follow-right, entries_rise, entries_end, Cut, cut_of, of_cut, after_all, after_right}
 use Rattle.kz_log.proofs.Offsets.{last_end-append, is_lt, of_lt, le_of_lt, of_not_lt}
 
 -- ---- before the first read
@@ -70,7 +71,7 @@ append_leaves_views l new v epoch now items k is h =
 
 pub elect_leaves_views : ElectLeavesViews
 elect_leaves_views l new v now items k is h =
-    subst (λ m. IsViewOf m v) (append_by (int_lt l.epoch max_epoch) (full_log l items) (with_batch (with_next_epoch l) (l.epoch +ℤ pos 1) now items) new _ h)
+    subst (λ m. IsViewOf m v) (append_by (int_lt l.epoch MAX_EPOCH) (full_log l items) (with_batch (with_next_epoch l) (l.epoch +ℤ pos 1) now items) new _ h)
     (batch_leaves l v (l.epoch +ℤ pos 1) now items k is)
 
 -- ---- whether a transaction is open
@@ -80,7 +81,7 @@ open_is_begun l k =
     let chain = chain_of l.base l.batches k.follow in
     let rises = entries_rise l.base l.batches chain in
     let by = entries_end l.base l.batches chain in
-    is_inside_behind (entries l.batches) (end_of l +ℤ pos 1) rises
+    is_inside_after (entries l.batches) (end_of l +ℤ pos 1) rises
     (λ i d lt. let le = by i d lt in is_lt (get_or (entries l.batches) i d).offset (end_of l +ℤ pos 1) (omega (arith, ints, le)))
     ∙ sym (is_begun (entries l.batches) rises)
 
@@ -101,18 +102,18 @@ read_is_view l v k =
 
 -- ---- feeds
 
--- what is read behind a position of the log that the view has passed
+-- what is read after a position of the log that the view has passed
 pub at_of : (l : Log) (v : View) → IsViewOf l v → int_lt v.position l.base ≡ false → IsAt l v
 at_of l v (inl below) h = let over = of_not_lt v.position l.base h in absurd (omega (arith, ints, below, over))
 at_of l v (inr at) h = at
 
-pub behind_base : (l : Log) (after : ℤ) → IsLog l → after ≤ℤ l.base → filter (is_behind after) l.batches ≡ l.batches
-behind_base l after k le = behind_all l.base after l.batches le (chain_of l.base l.batches k.follow)
+pub after_base : (l : Log) (after : ℤ) → IsLog l → after ≤ℤ l.base → filter (begins_after after) l.batches ≡ l.batches
+after_base l after k le = after_all l.base after l.batches le (chain_of l.base l.batches k.follow)
 
-pub behind_cut : (l : Log) (v : View) (c : Cut l v) → IsLog l → filter (is_behind v.position) l.batches ≡ c.cs
-behind_cut l v c k =
-    ap (filter (is_behind v.position)) c.whole ∙ ap (λ p. filter (is_behind p) (c.bs ++ c.cs)) (sym c.at)
-    ∙ behind_right l.base c.bs c.cs (subst (Follow l.base) c.whole k.follow)
+pub after_cut : (l : Log) (v : View) (c : Cut l v) → IsLog l → filter (begins_after v.position) l.batches ≡ c.cs
+after_cut l v c k =
+    ap (filter (begins_after v.position)) c.whole ∙ ap (λ p. filter (begins_after p) (c.bs ++ c.cs)) (sym c.at)
+    ∙ after_right l.base c.bs c.cs (subst (Follow l.base) c.whole k.follow)
 
 fits_whole : (l : Log) (v : View) (f : Feed) → IsLog l → f.base ≡ Some (l.base, l.base_image) → f.batches ≡ l.batches → f.end ≡ end_of l → Fits v f
 fits_whole l v f k base batches end =
@@ -143,10 +144,10 @@ baseless false l b h is = h
 
 fits_by : (l : Log) (v : View) (f : Feed) → IsLog l → IsViewOf l v → IsFeed (feed_from l v.position) f → (t : Bool) → int_lt v.position l.base ≡ t → Fits v f
 fits_by l v f k is read true below =
-    fits_whole l v f k (based (int_lt v.position l.base) l f.base read.base below) (read.batches ∙ behind_base l v.position k (le_of_lt v.position l.base below)) read.end
+    fits_whole l v f k (based (int_lt v.position l.base) l f.base read.base below) (read.batches ∙ after_base l v.position k (le_of_lt v.position l.base below)) read.end
 fits_by l v f k is read false passed =
     let c = cut_of l v (chain_of l.base l.batches k.follow) (at_of l v is passed) in
-    fits_rest l v f c k (baseless (int_lt v.position l.base) l f.base read.base passed) (read.batches ∙ behind_cut l v c k) read.end
+    fits_rest l v f c k (baseless (int_lt v.position l.base) l f.base read.base passed) (read.batches ∙ after_cut l v c k) read.end
 
 pub feed_fits : FeedFits
 feed_fits l v f k is read = fits_by l v f k is read (int_lt v.position l.base) refl
@@ -157,6 +158,6 @@ pub log_is_read : (l : Log) (epoch : ℤ) (f : Feed) → IsLog l → epoch ≡ l
 log_is_read l epoch f k by read =
     let low = k.base in
     let base = based (int_lt (negsuc 1) l.base) l f.base read.base (is_lt (negsuc 1) l.base (omega (arith, ints, low))) in
-    let batches = read.batches ∙ behind_base l (negsuc 1) k (omega (arith, ints, low)) in
+    let batches = read.batches ∙ after_base l (negsuc 1) k (omega (arith, ints, low)) in
     let made : Option (ℤ × Image) → List BatchRow → Log = λ b bs. record { epoch = l.epoch; base = base_of b; base_image = image_of_base b; batches = bs } in
     ap (λ e. log_of e f) by ∙ ap (λ b. made b f.batches) base ∙ ap (made (Some (l.base, l.base_image))) batches

@@ -20,15 +20,15 @@ abbrev pub building_of : View → Building
 building_of v = record { position = v.position; epoch = v.epoch; image = v.image; settling = record { begun = v.begun; kept = v.kept; released = [] } }
 
 -- what a view's records are taken on: the base, or the view as it stands
-abbrev pub started : Option (ℤ × Image) → View → Building
-started None v = building_of v
-started (Some base) v = record { position = base.0; epoch = pos 0; image = base.1; settling = record { begun = None; kept = []; released = [] } }
+abbrev pub building_from : Option (ℤ × Image) → View → Building
+building_from None v = building_of v
+building_from (Some base) v = record { position = base.0; epoch = pos 0; image = base.1; settling = record { begun = None; kept = []; released = [] } }
 
 -- the view that is built where nothing is still to be popped
 abbrev pub view_of : Building → View
 view_of b = record { position = b.position; epoch = b.epoch; image = b.image; begun = b.settling.begun; kept = b.settling.kept }
 
--- Taking these entries led from one state to another: whatever entries were pushed before, the settler stands behind all of
+-- Taking these entries led from one state to another: whatever entries were pushed before, the settler stands after all of
 -- them, and what was handed out since was applied.
 abbrev pub Takes : List Entry → Building → Building → Type 0
 Takes es old new = (pushed given : List Entry) → Rises int_cmp offset_of (pushed ++ es) → Stands pushed given old.settling

@@ -1,5 +1,6 @@
 pub mod Building
 pub mod Requests
+pub mod OneProof
 pub mod Views
 pub mod ViewLaws
 pub mod Rows

@@ -10,7 +10,7 @@ use Rattle.kz_log.specs.Views.{Fits}
 abbrev pub NewIsView : Type 0
 NewIsView = (l : Log) → IsLog l → IsViewOf l new_view
 
--- What is read behind a view of a log can be taken by it.
+-- What is read after a view of a log can be taken by it.
 abbrev pub FeedFits : Type 0
 FeedFits = (l : Log) (v : View) (f : Feed) → IsLog l → IsViewOf l v → IsFeed (feed_from l v.position) f → Fits v f
 

@@ -1,8 +1,8 @@
 //! Building the view that a feed leads to.
 ghost use Rattle.std.specs.Prelude.{◌≡◌, ◌≤ℤ◌, ◌+ℤ◌, pos, [], ◌∷◌, ◌++◌, OnOk};
+ghost use Rattle.kz_types.specs.declared.limits.TheConstants.{MAX_LONG};
 ghost use Rattle.kz_spec_stores.specs.Image.{applied};
 ghost use Rattle.kz_spec_stores.specs.Log.{Follow, all_entries_applied, entries, entries_of_batch, last_of, last_end, last_epoch};
-ghost use Rattle.kz_spec_stores.specs.Tree.{max_long};
 ghost use Rattle.kz_settle.specs.Stands.{LeavesNone, handed};
 ghost use Rattle.kz_log.specs.Building.{Building, Took};
 
@@ -26,9 +26,9 @@ impl Model for Builder {
     ghost view = { λ b. record { position = b.position; epoch = b.epoch; image = b.image; settling = b.settler } };
 }
 
-// The offset behind this one.
+// The offset after this one.
 fn next(offset: i64) -> i64
-    requires { (offset +ℤ pos 1) ≤ℤ max_long }
+    requires { (offset +ℤ pos 1) ≤ℤ MAX_LONG }
     ensures { result ≡ offset +ℤ pos 1 }
 {
     offset + 1
@@ -95,7 +95,7 @@ impl Builder {
     // Takes the next record of a batch of this epoch.
     fn take(&mut self, epoch: i32, item: MetaRecord) -> Result<(), NoMemory>
         requires popped { self.old.settling.released ≡ [] }
-        requires fits { (self.old.position +ℤ pos 1) ≤ℤ max_long }
+        requires fits { (self.old.position +ℤ pos 1) ≤ℤ MAX_LONG }
         ensures { OnOk result (Took (record { offset = self.old.position +ℤ pos 1; epoch = epoch; item = item } ∷ []) (self.old.position +ℤ pos 1) self.old.epoch self.old self.new) }
     {
         let offset = next(self.position);
@@ -108,11 +108,11 @@ impl Builder {
         Ok(())
     }
 
-    // Takes a batch that begins behind the position.
+    // Takes a batch that begins after the position.
     fn take_batch(&mut self, batch: BatchRow) -> Result<(), NoMemory>
         requires popped { self.old.settling.released ≡ [] }
         requires first { batch.first ≡ self.old.position +ℤ pos 1 }
-        requires fits { last_of batch ≤ℤ max_long }
+        requires fits { last_of batch ≤ℤ MAX_LONG }
         ensures { OnOk result (Took (entries_of_batch batch) (last_of batch) batch.epoch self.old self.new) }
     {
         let epoch = batch.epoch;
@@ -127,7 +127,7 @@ impl Builder {
     pub fn take_all(&mut self, batches: Vec<BatchRow>) -> Result<(), NoMemory>
         requires popped { self.old.settling.released ≡ [] }
         requires follow { Follow self.old.position batches.items }
-        requires fits { last_end self.old.position batches.items ≤ℤ max_long }
+        requires fits { last_end self.old.position batches.items ≤ℤ MAX_LONG }
         ensures { OnOk result (Took (entries batches.items) (last_end self.old.position batches.items) (last_epoch self.old.epoch batches.items) self.old self.new) }
     {
         for batch in batches {

@@ -1,7 +1,7 @@
 //! Laws of views. Each is the contract of a function that does nothing.
 ghost use Rattle.kz_log.specs.ViewLaws.{NewIsView, FeedFits, AppendLeavesViews, ElectLeavesViews, OpenIsBegun};
 
-/// What is known before the first read is a view of every log; what is read behind a view can be taken by it; and a batch
+/// What is known before the first read is a view of every log; what is read after a view can be taken by it; and a batch
 /// more leaves each view of the log a view of it. A transaction is open at a log's end exactly where one has begun there.
 pub fn views_stay()
     ensures first { NewIsView }

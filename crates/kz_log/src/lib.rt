@@ -1,4 +1,4 @@
-//! A committed metadata log, in memory or behind a trait of stores, and what a controller knows of it.
+//! A committed metadata log, in memory or after a trait of stores, and what a controller knows of it.
 #![tactic(auto)]
 
 mod builder;
@@ -18,7 +18,7 @@ pub use kz_types::{BatchRow, LogFault};
 pub use laws::views_stay;
 pub use memory::MemoryLog;
 pub use reading::{read_all, read_to_end};
-pub use rows::{LogRows, MAX_EPOCH, MAX_RECORDS};
+pub use rows::LogRows;
 pub use store::{Elected, MetaLog};
 pub use view::View;
 pub use wire::{LogWire, LogWireFault};

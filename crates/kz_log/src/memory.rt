@@ -1,32 +1,26 @@
 //! A log in memory.
-ghost use Rattle.std.specs.Prelude.{◌≡◌, false, None};
-ghost use Rattle.kz_spec_stores.specs.Log.{empty_log};
+ghost use Rattle.std.specs.Prelude.{◌≡◌, None, Option};
+ghost use Rattle.kz_spec_stores.specs.Log.{Log, IsLog, empty_log};
+ghost use Rattle.kz_spec_stores.specs.Requests.{no_disk};
+ghost use Rattle.kz_log.specs.OneProof.{IsLog-prop};
 
-use crate::{Elected, LogRows, MAX_EPOCH, MetaLog};
+use crate::{Elected, LogRows, MetaLog};
 use kz_image::Feed;
-use kz_types::{LogFault, MetaRecord, NoMemory};
+use kz_types::{Limit, LogFault, MAX_EPOCH, MetaRecord, NoMemory};
 use std::alloc::Global;
-use std::marker::Model;
 
-/// A log in memory. It has no disk: no call of it answers `Failed`, `Down` or `Full`, and a stop leaves nothing of it.
+/// A log in memory. It has no disk: no request of it answers `Failed`, `Down` or `Full`, and a stop leaves nothing of it.
 #[derive(Drop)]
 pub struct MemoryLog {
     alloc: Global,
     rows: LogRows,
-}
-
-impl Model for MemoryLog {
-    ghost use Rattle.kz_spec_stores.specs.Log.{Log};
-
-    ghost Value = { Log };
-
-    ghost view = { λ l. l.rows };
+    ghost is_log: { IsLog rows } by { IsLog-prop rows-code rows },
 }
 
 impl MemoryLog {
     /// The empty log, of epoch 0, whose last offset is -1.
     pub fn new(alloc: Global) -> MemoryLog
-        ensures { result ≡ empty_log }
+        ensures { ⟦<MemoryLog as MetaLog>⟧.log result ≡ empty_log }
     {
         MemoryLog {
             alloc,
@@ -36,15 +30,15 @@ impl MemoryLog {
 }
 
 impl MetaLog for MemoryLog {
-    ghost log = { λ l. l };
+    ghost log = { λ l. l.rows };
 
-    ghost faults = { λ l. 0 };
+    ghost disk = { λ l. no_disk };
 
-    ghost down = { λ l. false };
-
-    ghost length = { λ l. None };
+    ghost length_with = { λ l change. None };
 
     ghost left = { λ l found. ⊥ };
+
+    ghost is_log = { λ l. l.is_log };
 
     ghost settled = { λ l up found none. absurd none };
 
@@ -53,12 +47,10 @@ impl MetaLog for MemoryLog {
     }
 
     fn base(&self) -> i64 {
-        let _kept = self.rows.epoch();
         self.rows.base()
     }
 
     fn end(&self) -> i64 {
-        let _kept = self.rows.epoch();
         self.rows.end()
     }
 
@@ -79,7 +71,9 @@ impl MetaLog for MemoryLog {
 
     fn elect(&mut self, now: i64, items: &[MetaRecord]) -> Result<Elected, LogFault> {
         if self.rows.epoch() == MAX_EPOCH {
-            return Err(LogFault::Limit { number: 15 });
+            return Err(LogFault::Limit {
+                number: Limit::Epoch.number(),
+            });
         }
         if let Some(number) = self.rows.full(items.len()) {
             return Err(LogFault::Limit { number });

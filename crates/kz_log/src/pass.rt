@@ -1,10 +1,10 @@
 //! The metadata at an offset, in one pass over the records.
 ghost use Rattle.std.specs.Prelude.{◌≡◌, ◌+ℤ◌, ◌≤ℤ◌, ◌∷◌, false, true, int_le, pos, is_some, IfOk, List};
+ghost use Rattle.kz_types.specs.declared.limits.TheConstants.{MAX_LONG};
 ghost use Rattle.kz_types.specs.declared.log.Entry.{Entry};
 ghost use Rattle.kz_spec_stores.specs.Log.{record_count};
-ghost use Rattle.kz_spec_stores.specs.Tree.{max_long};
 ghost use Rattle.kz_settle.specs.Settling.{opened, ends_by};
-ghost use Rattle.kz_log.specs.Reading.{placed, remaining, unread, Knows, image_after};
+ghost use Rattle.kz_log.specs.Reading.{entries_after, unread_entries, unread_count, Knows, image_after};
 
 use crate::cursor::{Cursor, read, start};
 use kz_image::Image;
@@ -14,8 +14,8 @@ use std::alloc::Global;
 
 // Whether the open transaction ends at or before an offset.
 fn ends(cursor: Cursor<'_>, at: i64) -> bool
-    requires { (cursor.position +ℤ pos (unread cursor.items.now cursor.rest.now)) ≤ℤ max_long }
-    ensures { result ≡ ends_by at (remaining cursor.entry.position cursor.entry.epoch cursor.entry.items.now cursor.entry.rest.now) }
+    requires { (cursor.position +ℤ pos (unread_count cursor.items.now cursor.rest.now)) ≤ℤ MAX_LONG }
+    ensures { result ≡ ends_by at (unread_entries cursor.entry.position cursor.entry.epoch cursor.entry.items.now cursor.entry.rest.now) }
 {
     let mut here = cursor;
     while here.position < at {
@@ -32,7 +32,7 @@ fn ends(cursor: Cursor<'_>, at: i64) -> bool
     false
 }
 
-// Takes in a record where it counts. What is known of the open transaction, before the record and then behind it: that
+// Takes in a record where it counts. What is known of the open transaction, before the record and then after it: that
 // there is none, or whether it ends at or before the offset.
 fn take(
     image: &mut Image,
@@ -42,8 +42,8 @@ fn take(
     next: Cursor<'_>,
     at: i64,
 ) -> Result<Option<bool>, NoMemory>
-    requires { (next.position +ℤ pos (unread next.items.now next.rest.now)) ≤ℤ max_long }
-    ensures { IfOk result (λ then. (es : List Entry) (e : Entry) → es ≡ remaining next.entry.position next.entry.epoch next.entry.items.now next.entry.rest.now
+    requires { (next.position +ℤ pos (unread_count next.items.now next.rest.now)) ≤ℤ MAX_LONG }
+    ensures { IfOk result (λ then. (es : List Entry) (e : Entry) → es ≡ unread_entries next.entry.position next.entry.epoch next.entry.items.now next.entry.rest.now
         → e.epoch ≡ epoch → e.item ≡ item.now → int_le e.offset at ≡ true → Knows at known (e ∷ es)
         → Knows at then es × (is_some then ≡ opened (is_some known) e.item) × (image_after at (is_some known) (e ∷ es) image.old ≡ image_after at (is_some then) es image.new)) }
 {
@@ -63,16 +63,16 @@ fn take(
     }
 }
 
-/// What the records behind a base make of the metadata there, of those that count at an offset.
-pub fn image_behind(
+/// What the records after a base make of the metadata there, of those that count at an offset.
+pub fn later_image(
     alloc: Global,
     base: i64,
     image: &Image,
     batches: &[BatchRow],
     at: i64,
 ) -> Result<Image, NoMemory>
-    requires { (base +ℤ pos (record_count batches.now)) ≤ℤ max_long }
-    ensures { IfOk result (λ made. made ≡ image_after at false (placed base batches.now) image.now) }
+    requires { (base +ℤ pos (record_count batches.now)) ≤ℤ MAX_LONG }
+    ensures { IfOk result (λ made. made ≡ image_after at false (entries_after base batches.now) image.now) }
 {
     let mut made = image.copy(alloc)?;
     let mut known = None;

@@ -1,24 +1,20 @@
 //! Reading a log.
-ghost use Rattle.std.specs.Prelude.{◌≡◌, true, IfOk, OnOk, IfErr, OnErr};
+ghost use Rattle.std.specs.Prelude.{◌≡◌, IfOk, OnOk, OnErr};
 ghost use Rattle.kz_spec_stores.specs.Log.{IsViewOf, read_view};
-ghost use Rattle.kz_log.specs.Requests.{IsReadFault, IsDown};
+ghost use Rattle.kz_spec_stores.specs.Requests.{answer_of_log_fault, answer_by, ReadsDisk};
 
 use crate::{LogRows, MetaLog, View};
 use kz_types::{LogFault, NoMemory};
 
-/// Brings a view to the log's end. At `Err` it is as it was.
+/// Brings a view to the log's end. At `Err` it is as it was. The faults are those of `read_from`.
 pub fn read_to_end<L: MetaLog>(view: &mut View, log: &mut L) -> Result<(), LogFault>
     requires { IsViewOf (L.log log.old) view.old }
     ensures ok { OnOk result (view.new ≡ read_view (L.log log.old) view.old) }
     ensures is_view { IsViewOf (L.log log.new) view.new }
     ensures err { OnErr result (view.new ≡ view.old) }
-    ensures failed { IfErr result (IsReadFault (L.down log.old)) }
     ensures same { L.log log.new ≡ L.log log.old }
-    ensures calm { L.faults log.new ≡ L.faults log.old }
-    ensures up { L.down log.new ≡ L.down log.old }
-    ensures was_down { L.down log.old ≡ true → IsDown result }
+    ensures disk { ReadsDisk (answer_by answer_of_log_fault result) (L.disk log.old) (L.disk log.new) }
 {
-    let _kept = log.epoch();
     let feed = match log.read_from(view.position()) {
         Ok(feed) => feed,
         Err(fault) => return Err(fault),
@@ -29,14 +25,11 @@ pub fn read_to_end<L: MetaLog>(view: &mut View, log: &mut L) -> Result<(), LogFa
     }
 }
 
-/// All of a log.
+/// All of a log. The faults are those of `read_from`.
 pub fn read_all<L: MetaLog>(log: &mut L) -> Result<LogRows, LogFault>
     ensures ok { IfOk result (λ rows. rows ≡ L.log log.old) }
-    ensures failed { IfErr result (IsReadFault (L.down log.old)) }
     ensures same { L.log log.new ≡ L.log log.old }
-    ensures calm { L.faults log.new ≡ L.faults log.old }
-    ensures up { L.down log.new ≡ L.down log.old }
-    ensures was_down { L.down log.old ≡ true → IsDown result }
+    ensures disk { ReadsDisk (answer_by answer_of_log_fault result) (L.disk log.old) (L.disk log.new) }
 {
     let epoch = log.epoch();
     match log.read_from(-2) {

@@ -2,24 +2,20 @@
 ghost use Rattle.std.specs.Prelude.{◌≡◌, ◌≤◌, ◌<◌, ◌≤ℤ◌, pos, None, List, length, drop, IfOk, OnOk, OnErr};
 ghost use Rattle.std.specs.List.{filter};
 ghost use Rattle.kz_types.specs.declared.record.MetaRecord.{MetaRecord as MetaRecordValue};
-ghost use Rattle.kz_spec_stores.specs.Log.{IsLog, empty_log, end_of, batch_ends, image_at, full_log, with_batch, is_behind, feed_from, reset};
+ghost use Rattle.kz_spec_stores.specs.Log.{IsLog, empty_log, end_of, batch_ends, image_at, full_log, with_batch, begins_after, feed_from, reset};
 ghost use Rattle.kz_log.specs.Requests.{IsFeed};
 ghost use Rattle.kz_log.specs.Rows.{log_of};
 
-use crate::ends::{all_ends, count_of, offset_behind};
-use crate::pass::image_behind;
+use crate::ends::{all_ends, count_of, offset_after};
+use crate::pass::later_image;
 use kz_image::{Feed, Image};
-use kz_types::{BatchRow, Duplicate, MetaRecord, NoMemory, Sequence, copy_all};
+use kz_types::{
+    BatchRow, Duplicate, Limit, MAX_LONG, MAX_RECORDS, MetaRecord, NoMemory, Sequence, copy_all,
+};
 use std::alloc::Global;
 use std::marker::Model;
 
-/// The most records that a log has behind its base.
-pub const MAX_RECORDS: usize = 1_000_000;
-
-/// The greatest epoch of a log.
-pub const MAX_EPOCH: i32 = 2147483647;
-
-/// A log that is held whole: its epoch, its base with the metadata there, and the batches behind it.
+/// A log that is held whole: its epoch, its base with the metadata there, and the batches after it.
 #[derive(Drop)]
 pub struct LogRows {
     epoch: i32,
@@ -43,7 +39,8 @@ impl Model for LogRows {
 impl LogRows {
     /// The empty log, of epoch 0, whose last offset is -1.
     pub fn new(alloc: Global) -> Self
-        ensures { result ≡ empty_log }
+        ensures empty { result ≡ empty_log }
+        ensures is_log { IsLog result }
     {
         LogRows {
             epoch: 0,
@@ -76,8 +73,7 @@ impl LogRows {
 
     /// The epoch of the controller that was elected last, or 0.
     pub fn epoch(&self) -> i32
-        ensures epoch { result ≡ self.now.epoch }
-        ensures kept { IsLog self.now }
+        ensures { result ≡ self.now.epoch }
     {
         self.epoch
     }
@@ -89,11 +85,11 @@ impl LogRows {
         self.base
     }
 
-    /// The last offset, or the base where there is no record behind it.
+    /// The last offset, or the base where there is no record after it.
     pub fn end(&self) -> i64
         ensures { result ≡ end_of self.now }
     {
-        offset_behind(self.base, self.count)
+        offset_after(self.base, self.count)
     }
 
     /// The base and the last offset of each batch, which rise.
@@ -107,18 +103,19 @@ impl LogRows {
     pub fn image_at(&self, alloc: Global, offset: i64) -> Result<Image, NoMemory>
         ensures { IfOk result (λ image. image ≡ image_at self.now offset) }
     {
-        image_behind(alloc, self.base, &self.base_image, &self.batches, offset)
+        later_image(alloc, self.base, &self.base_image, &self.batches, offset)
     }
 
-    /// Which limit so many further records would pass, if any: 7 where the log would have more than 1,000,000 records behind
-    /// its base, else 17 where its last offset would be above 9,223,372,036,854,775,807.
+    /// The number of the limit that so many further records would pass, if any: that of `Limit::Records` where the log would
+    /// have more than `MAX_RECORDS` records after its base, else that of `Limit::Long` where its last offset would be above
+    /// `MAX_LONG`.
     pub fn full(&self, count: usize) -> Option<u8>
         ensures { (items : List MetaRecordValue) → length items ≡ count → result ≡ full_log self.now items }
     {
-        if MAX_RECORDS - self.count < count {
-            Some(7)
-        } else if i64::MAX - (count as i64) < self.end() {
-            Some(17)
+        if MAX_RECORDS < self.count.saturating_add(count) {
+            Some(Limit::Records.number())
+        } else if MAX_LONG - (count as i64) < self.end() {
+            Some(Limit::Long.number())
         } else {
             None
         }
@@ -137,6 +134,7 @@ impl LogRows {
         requires elected { pos 1 ≤ℤ epoch }
         requires climbs { self.old.epoch ≤ℤ epoch }
         ensures ok { OnOk result (self.new ≡ with_batch self.old epoch now items.now) }
+        ensures is_log { OnOk result (IsLog self.new) }
         ensures err { OnErr result (self.new ≡ self.old) }
     {
         let copies = copy_all(alloc, items)?;
@@ -152,10 +150,10 @@ impl LogRows {
         Ok(())
     }
 
-    // The place of the first batch behind an offset.
-    fn place_behind(&self, after: i64) -> usize
+    // The place of the first batch after an offset.
+    fn place_after(&self, after: i64) -> usize
         ensures low { result ≤ length self.now.batches }
-        ensures place { drop result self.now.batches ≡ filter (is_behind after) self.now.batches }
+        ensures place { drop result self.now.batches ≡ filter (begins_after after) self.now.batches }
     {
         let mut place = self.batches.len();
         while 0 < place {
@@ -168,7 +166,7 @@ impl LogRows {
     }
 
     // The base with its metadata, where an offset is below it.
-    fn base_behind(&self, alloc: Global, after: i64) -> Result<Option<(i64, Image)>, NoMemory>
+    fn base_after(&self, alloc: Global, after: i64) -> Result<Option<(i64, Image)>, NoMemory>
         ensures { IfOk result (λ base. base ≡ (feed_from self.now after).base) }
     {
         if after < self.base {
@@ -178,12 +176,12 @@ impl LogRows {
         }
     }
 
-    /// The batches behind an offset, and, where the offset is below the base, the base with its metadata.
+    /// The batches after an offset, and, where the offset is below the base, the base with its metadata.
     pub fn read_from(&self, alloc: Global, after: i64) -> Result<Feed, NoMemory>
         ensures { IfOk result (λ feed. IsFeed (feed_from self.now after) feed) }
     {
-        let base = self.base_behind(alloc, after)?;
-        let batches = copy_all(alloc, &self.batches[self.place_behind(after)..])?;
+        let base = self.base_after(alloc, after)?;
+        let batches = copy_all(alloc, &self.batches[self.place_after(after)..])?;
         Ok(Feed {
             base,
             batches: Sequence::from_vec(batches),
@@ -193,7 +191,8 @@ impl LogRows {
 
     /// Drops all batches and the base. The epoch stays.
     pub fn reset(&mut self, alloc: Global)
-        ensures { self.new ≡ reset self.old }
+        ensures reset { self.new ≡ reset self.old }
+        ensures is_log { IsLog self.new }
     {
         self.base = -1;
         self.base_image = Image::new(alloc);

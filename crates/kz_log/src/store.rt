@@ -1,10 +1,9 @@
 //! A store that holds a metadata log.
-ghost use Rattle.std.specs.Prelude.{◌≡◌, ◌<◌, ◌≤ℤ◌, ℕ, Bool, true, false, Option, pos, length as len, IfOk, IfErr, OnOk, OnErr, IsErrOf, Ok};
-ghost use Rattle.kz_types.specs.Causes.{Rose};
+ghost use Rattle.std.specs.Prelude.{◌≡◌, ◌<◌, ◌≤ℤ◌, ℕ, false, Option, pos, length, IfOk, IfErr, OnOk, OnErr, IsErrOf, Ok};
 ghost use Rattle.kz_spec_stores.specs.Log as logs;
 ghost use Rattle.kz_spec_stores.specs.Log.{Log, IsLog, end_of, feed_from};
-ghost use Rattle.kz_spec_stores.specs.Requests.{Only, Between};
-ghost use Rattle.kz_log.specs.Requests.{IsElected, IsFeed, IsChangeFault, IsReadFault, IsDown, made_by_reset};
+ghost use Rattle.kz_spec_stores.specs.Requests.{Disk, LogChange, Append, Elect, Reset, answer_of_log_fault, answer_by, IsTaken, ChangesDisk, ReadsDisk, Only, Between};
+ghost use Rattle.kz_log.specs.Requests.{IsElected, IsFeed, IsRefusal, made_by_reset};
 
 use kz_image::Feed;
 use kz_types::{LogFault, MetaRecord};
@@ -19,88 +18,77 @@ pub struct Elected {
 }
 
 /// A store that holds a committed metadata log (KIP-595, KIP-630), in memory or on a disk. Its offsets begin at 0.
-///
-/// Contracts see the log as it stands; how often the disk below has failed; whether the store is down, which it is from the
-/// first call on that answers `Failed`; the length of its file, where it has one; and what a stop at this moment may leave: a
-/// log, or `None` where what is left stands for none. A store that tells nothing of its disk leaves nothing.
 pub trait MetaLog {
+    /// The log as it stands.
     ghost log: { Self → Log };
 
-    ghost faults: { Self → ℕ };
+    /// What the store tells of its disk: how often a call of it has failed, whether the store is down, which it is from the
+    /// first request on that answers `Failed`, and the bytes of its file.
+    ghost disk: { Self → Disk };
 
-    ghost down: { Self → Bool };
+    /// The bytes that the store's file would have after a change that nothing refuses; `None` where the store has no file.
+    ghost length_with: { Self → LogChange → Option ℕ };
 
-    ghost length: { Self → Option ℕ };
-
+    /// What a stop at this moment may leave: a log, or `None` where what is left stands for none. A store in memory leaves
+    /// nothing.
     ghost left: { Self → Option Log → Type 0 };
 
     /// The epoch of the controller that was elected last, or 0.
     fn epoch(&self) -> i32
-        ensures epoch { result ≡ (log self.now).epoch }
-        ensures kept { IsLog (log self.now) };
+        ensures { result ≡ (log self.now).epoch };
 
     /// The offset up to which the log is metadata alone, or -1 where it begins with its first record.
     fn base(&self) -> i64
-        ensures base { result ≡ (log self.now).base }
-        ensures kept { IsLog (log self.now) };
+        ensures { result ≡ (log self.now).base };
 
-    /// The last offset, or the base where there is no record behind it.
+    /// The last offset, or the base where there is no record after it.
     fn end(&self) -> i64
-        ensures end { result ≡ end_of (log self.now) }
-        ensures kept { IsLog (log self.now) };
+        ensures { result ≡ end_of (log self.now) };
 
     /// A controller of this epoch appends a batch, and is told its last offset. Refused are, in this order: `Stale` with the
-    /// log's epoch where the controller's is another; `Limit` 7 where the log would have more than 1,000,000 records behind
-    /// its base; `Limit` 17 where its last offset would be above 9,223,372,036,854,775,807. `Full`: the file would have that
-    /// length.
+    /// log's epoch where the controller's is another; `Limit` with the number of `Limit::Records` where the log would have
+    /// more than `MAX_RECORDS` records after its base, and with that of `Limit::Long` where its last offset would be above
+    /// `MAX_LONG`. Where nothing refuses the batch: `Full` with the bytes that the file would have, where these are more than
+    /// `MAX_FILE_BYTES`; `Failed` where a call of the disk fails. `Down`: one failed in an earlier request. `NoMemory`.
     fn append(&mut self, epoch: i32, now: i64, items: &[MetaRecord]) -> Result<i64, LogFault>
-        requires some { 0 < len items.now }
+        requires some { 0 < length items.now }
         requires elected { pos 1 ≤ℤ epoch }
         ensures ok { IfOk result (λ end. (logs.append (log self.old) epoch now items.now ≡ Ok (log self.new)) × (end ≡ end_of (log self.new))) }
-        ensures err { IfErr result (IsChangeFault (logs.append (log self.old) epoch now items.now) (length self.old) (down self.old)) }
+        ensures refused { IfErr result (IsRefusal (logs.append (log self.old) epoch now items.now)) }
         ensures same { OnErr result (log self.new ≡ log self.old) }
-        ensures device { IsErrOf result LogFault.Failed → Rose (faults self.old) (faults self.new) }
-        ensures falls { IsErrOf result LogFault.Failed → down self.new ≡ true }
-        ensures calm { (IsErrOf result LogFault.Failed → ⊥) → faults self.new ≡ faults self.old }
-        ensures up { (IsErrOf result LogFault.Failed → ⊥) → down self.new ≡ down self.old }
-        ensures was_down { down self.old ≡ true → IsDown result }
-        ensures stop { IsErrOf result LogFault.Failed → down self.old ≡ false → Between (log self.old) (logs.append (log self.old) epoch now items.now) (left self.new) };
+        ensures disk { ChangesDisk (IsTaken (logs.append (log self.old) epoch now items.now)) (length_with self.old (Append epoch now items.now)) (answer_by answer_of_log_fault result) (disk self.old) (disk self.new) }
+        ensures stop { IsErrOf result LogFault.Failed → Between (log self.old) (logs.append (log self.old) epoch now items.now) (left self.new) };
 
     /// A controller is elected: the epoch rises by one, and a batch of that epoch is appended. Refused are, in this order:
-    /// `Limit` 15 where the epoch is 2,147,483,647; `Limit` 7 and `Limit` 17 as in an append.
+    /// `Limit` with the number of `Limit::Epoch` where the epoch is `MAX_EPOCH`, and then as in an append. The faults of the
+    /// disk and `NoMemory` are those of an append too.
     fn elect(&mut self, now: i64, items: &[MetaRecord]) -> Result<Elected, LogFault>
-        requires { 0 < len items.now }
+        requires { 0 < length items.now }
         ensures ok { IfOk result (λ elected. (logs.elect (log self.old) now items.now ≡ Ok (log self.new)) × IsElected (log self.new) elected) }
-        ensures err { IfErr result (IsChangeFault (logs.elect (log self.old) now items.now) (length self.old) (down self.old)) }
+        ensures refused { IfErr result (IsRefusal (logs.elect (log self.old) now items.now)) }
         ensures same { OnErr result (log self.new ≡ log self.old) }
-        ensures device { IsErrOf result LogFault.Failed → Rose (faults self.old) (faults self.new) }
-        ensures falls { IsErrOf result LogFault.Failed → down self.new ≡ true }
-        ensures calm { (IsErrOf result LogFault.Failed → ⊥) → faults self.new ≡ faults self.old }
-        ensures up { (IsErrOf result LogFault.Failed → ⊥) → down self.new ≡ down self.old }
-        ensures was_down { down self.old ≡ true → IsDown result }
-        ensures stop { IsErrOf result LogFault.Failed → down self.old ≡ false → Between (log self.old) (logs.elect (log self.old) now items.now) (left self.new) };
+        ensures disk { ChangesDisk (IsTaken (logs.elect (log self.old) now items.now)) (length_with self.old (Elect now items.now)) (answer_by answer_of_log_fault result) (disk self.old) (disk self.new) }
+        ensures stop { IsErrOf result LogFault.Failed → Between (log self.old) (logs.elect (log self.old) now items.now) (left self.new) };
 
-    /// The batches behind an offset, and, where the offset is below the base, the base with its metadata.
+    /// The batches after an offset, and, where the offset is below the base, the base with its metadata. It makes no call of
+    /// the disk: the faults are `Down`, where one failed in an earlier request, and `NoMemory`.
     fn read_from(&mut self, after: i64) -> Result<Feed, LogFault>
         ensures ok { IfOk result (λ feed. IsFeed (feed_from (log self.old) after) feed) }
-        ensures err { IfErr result (IsReadFault (down self.old)) }
         ensures same { log self.new ≡ log self.old }
-        ensures calm { faults self.new ≡ faults self.old }
-        ensures up { down self.new ≡ down self.old }
-        ensures was_down { down self.old ≡ true → IsDown result };
+        ensures disk { ReadsDisk (answer_by answer_of_log_fault result) (disk self.old) (disk self.new) };
 
-    /// Drops all batches and the base. The epoch stays.
+    /// Drops all batches and the base. The epoch stays. Nothing refuses it; the faults of the disk and `NoMemory` are those of
+    /// an append.
     fn reset(&mut self) -> Result<(), LogFault>
         ensures ok { OnOk result (log self.new ≡ logs.reset (log self.old)) }
-        ensures err { IfErr result (IsChangeFault (made_by_reset (log self.old)) (length self.old) (down self.old)) }
+        ensures refused { IfErr result (IsRefusal (made_by_reset (log self.old))) }
         ensures same { OnErr result (log self.new ≡ log self.old) }
-        ensures device { IsErrOf result LogFault.Failed → Rose (faults self.old) (faults self.new) }
-        ensures falls { IsErrOf result LogFault.Failed → down self.new ≡ true }
-        ensures calm { (IsErrOf result LogFault.Failed → ⊥) → faults self.new ≡ faults self.old }
-        ensures up { (IsErrOf result LogFault.Failed → ⊥) → down self.new ≡ down self.old }
-        ensures was_down { down self.old ≡ true → IsDown result }
-        ensures stop { IsErrOf result LogFault.Failed → down self.old ≡ false → Between (log self.old) (made_by_reset (log self.old)) (left self.new) };
+        ensures disk { ChangesDisk (IsTaken (made_by_reset (log self.old))) (length_with self.old Reset) (answer_by answer_of_log_fault result) (disk self.old) (disk self.new) }
+        ensures stop { IsErrOf result LogFault.Failed → Between (log self.old) (made_by_reset (log self.old)) (left self.new) };
 
-    /// While no call has answered `Failed`, a stop leaves the log as it stands.
-    ghost settled: { (s : Self) → down s ≡ false → Only (log s) (left s) };
+    /// What the store holds is a log.
+    ghost is_log: { (s : Self) → IsLog (log s) };
+
+    /// While the store isn't down, a stop leaves the log as it stands, and nothing else.
+    ghost settled: { (s : Self) → (disk s).down ≡ false → Only (log s) (left s) };
 }

@@ -61,7 +61,7 @@ fn log_of_three(rt: &impl Abort, alloc: Global) -> MemoryLog {
     log
 }
 
-// An offset, whether it is below the base, and the batches behind it.
+// An offset, whether it is below the base, and the batches after it.
 static READS: [(i64, bool, usize, Option<i64>); 7] = [
     (-2, true, 3, Some(0)),
     (-1, false, 3, Some(0)),
@@ -73,7 +73,7 @@ static READS: [(i64, bool, usize, Option<i64>); 7] = [
 ];
 
 #[test]
-fn batches_behind_an_offset_are_read(rt: HostRuntime) {
+fn batches_after_an_offset_are_read(rt: HostRuntime) {
     let mut log = log_of_three(&rt, rt.alloc());
     for (after, below, count, first) in &READS {
         let feed = made(&rt, log.read_from(*after));

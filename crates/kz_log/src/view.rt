@@ -1,7 +1,7 @@
 //! What a controller knows of a log.
 ghost use Rattle.std.specs.Prelude.{◌≡◌, [], OnOk, OnErr, IfOk};
 ghost use Rattle.kz_spec_stores.specs.Log.{Log, new_view, IsLog, IsAt, IsViewOf, entries, fed, feed_from, last_epoch, read_view};
-ghost use Rattle.kz_log.specs.Building.{started, view_of, Took};
+ghost use Rattle.kz_log.specs.Building.{building_from, view_of, Took};
 ghost use Rattle.kz_log.specs.Requests.{IsFeed};
 ghost use Rattle.kz_log.specs.Views.{Fits, GoesOn, known_epoch};
 
@@ -76,18 +76,18 @@ impl View {
         self.settler.begun()
     }
 
-    /// Takes what was read of a log: all of a log from its base on, or the batches behind the position. At `Err` the view is
+    /// Takes what was read of a log: all of a log from its base on, or the batches after the position. At `Err` the view is
     /// as it was.
     pub fn advance(&mut self, feed: Feed) -> Result<(), NoMemory>
         requires { Fits self.old feed }
         ensures position { OnOk result (self.new.position ≡ feed.end) }
         ensures epoch { OnOk result (self.new.epoch ≡ last_epoch (known_epoch feed.base self.old.epoch) feed.batches) }
 
-        // A view of a log's end becomes one of the log with these batches behind it, and with a base it becomes one of the
+        // A view of a log's end becomes one of the log with these batches after it, and with a base it becomes one of the
         // log from that base on.
         ensures is_at { OnOk result ((l : Log) → GoesOn l self.old feed.base → IsAt (fed l feed.base feed.batches) self.new) }
 
-        // What is read behind a view of a log makes it the view of the log's end.
+        // What is read after a view of a log makes it the view of the log's end.
         ensures reads { OnOk result ((l : Log) → IsLog l → IsViewOf l self.old → IsFeed (feed_from l self.old.position) feed → self.new ≡ read_view l self.old) }
         ensures err { OnErr result (self.new ≡ self.old) }
     {
@@ -101,7 +101,7 @@ impl View {
 
     // What a view is built on: the base of a feed, or a copy of the view.
     fn start(&self, base: Option<(i64, Image)>) -> Result<Builder, NoMemory>
-        ensures { IfOk result (λ builder. builder ≡ started base self.now) }
+        ensures { IfOk result (λ builder. builder ≡ building_from base self.now) }
     {
         match base {
             Some((position, image)) => Ok(Builder {
@@ -122,7 +122,7 @@ impl View {
     // What the view and a feed lead to.
     fn build(&self, feed: Feed) -> Result<Builder, NoMemory>
         requires { Fits self.now feed }
-        ensures { IfOk result (λ builder. Took (entries feed.batches) feed.end (last_epoch (known_epoch feed.base self.now.epoch) feed.batches) (started feed.base self.now) builder) }
+        ensures { IfOk result (λ builder. Took (entries feed.batches) feed.end (last_epoch (known_epoch feed.base self.now.epoch) feed.batches) (building_from feed.base self.now) builder) }
     {
         let Feed {
             base,

@@ -32,10 +32,10 @@ fn config(rt: &impl Abort, alloc: Global) -> MetaRecord {
 const BEGIN: MetaRecord = MetaRecord::BeginTransaction { name: None };
 
 // Brings a view to the end of the log, which it then has with this many configurations.
-fn reads(rt: &impl Abort, view: &mut View, log: &mut MemoryLog, end: i64, configs: usize)
-    requires { IsViewOf log.old view.old }
-    ensures log { log.new ≡ log.old }
-    ensures view { IsViewOf log.new view.new }
+fn reads<L: MetaLog>(rt: &impl Abort, view: &mut View, log: &mut L, end: i64, configs: usize)
+    requires { IsViewOf (L.log log.old) view.old }
+    ensures log { L.log log.new ≡ L.log log.old }
+    ensures view { IsViewOf (L.log log.new) view.new }
 {
     made(rt, read_to_end(view, log));
     assert!(rt; view.position() == end);
@@ -43,14 +43,13 @@ fn reads(rt: &impl Abort, view: &mut View, log: &mut MemoryLog, end: i64, config
     assert!(rt; view.image().broker_configs().len() == configs);
 }
 
-// Appends a batch, behind which the view is one of the log.
-fn append(rt: &impl Abort, view: &View, log: &mut MemoryLog, items: &[MetaRecord])
+// Appends a batch, after which the view is one of the log.
+fn append<L: MetaLog>(rt: &impl Abort, view: &View, log: &mut L, items: &[MetaRecord])
     requires some { 0 < length items.now }
-    requires view { IsViewOf log.old view.now }
-    ensures { IsViewOf log.new view.now }
+    requires view { IsViewOf (L.log log.old) view.now }
+    ensures { IsViewOf (L.log log.new) view.now }
 {
     views_stay();
-    let _kept = log.epoch();
     match log.append(1, 6, items) {
         Ok(_) => {}
         Err(_) => panic!(rt; "a call failed"),
@@ -65,7 +64,6 @@ fn a_view_is_brought_to_the_end_by_one_feed(rt: HostRuntime) {
     let ended = [BEGIN, config(&rt, alloc), MetaRecord::EndTransaction];
     made(&rt, log.append(1, 6, &ended));
     views_stay();
-    let _kept = log.epoch();
     let mut view = View::new(alloc);
     reads(&rt, &mut view, &mut log, 3, 1);
     assert!(rt; view.begun().is_none());
@@ -81,7 +79,6 @@ fn a_transaction_is_open_between_two_feeds(rt: HostRuntime) {
     let begun = [BEGIN, config(&rt, alloc)];
     made(&rt, log.append(1, 6, &begun));
     views_stay();
-    let _kept = log.epoch();
     let mut view = View::new(alloc);
     reads(&rt, &mut view, &mut log, 2, 0);
     assert!(rt; view.begun() == Some(1));

@@ -1,15 +1,17 @@
 //! A connection to a log that may lose requests.
-ghost use Rattle.std.specs.Prelude.{◌≡◌, ◌<◌, ◌≤ℤ◌, pos, length, true, false, IfOk, IfErr, OnOk, OnErr, IsErrOf, Ok, Err};
+ghost use Rattle.std.specs.Prelude.{◌≡◌, ◌<◌, ◌≤ℤ◌, pos, length, ⊤, IfOk, IfErr, IsErrOf, Ok, Err};
+ghost use Rattle.std.specs.Borrow.{sem};
 ghost use Rattle.kz_types.specs.Causes.{Rose};
 ghost use Rattle.kz_spec_stores.specs.Log as logs;
 ghost use Rattle.kz_spec_stores.specs.Log.{end_of, feed_from};
-ghost use Rattle.kz_spec_stores.specs.Requests.{Between};
-ghost use Rattle.kz_log.specs.Requests.{IsFeed, IsChangeFault, IsReadFault};
-ghost use Rattle.kz_log.specs.Wires.{Wired, OfLog, IfLog, LostOr, is_loss, IsLostAppend, is_answered, arrives, IsWireDown};
+ghost use Rattle.kz_spec_stores.specs.Requests.{Append, Done, answer_by, answer_of_log_fault, IsTaken, ChangesDisk, ReadsDisk, Between};
+ghost use Rattle.kz_connection.specs.Connections.{Counts, EndsBy, OverConnection, without_sessions};
+ghost use Rattle.kz_log.specs.Requests.{IsFeed, IsRefusal};
+ghost use Rattle.kz_log.specs.Wires.{arrival_of, IfStore, IsUnanswered, IsAfterAppend};
 ghost use Rattle.kz_log.specs.Lending.{lends_log};
-ghost use Rattle.std.specs.Borrow.{sem};
 
 use crate::MetaLog;
+use kz_connection::Connection;
 use kz_image::Feed;
 use kz_types::{LogFault, MetaRecord, Plan};
 use std::marker::Model;
@@ -29,17 +31,15 @@ pub enum LogWireFault {
 /// Contracts see the log, the plan, and how often a request wasn't answered.
 #[derive(Drop)]
 pub struct LogWire<L> {
-    inner: L,
-    plan: Plan,
-    faults: u64,
+    connection: Connection<L>,
 }
 
 impl<L> Model for LogWire<L> {
-    ghost use Rattle.kz_log.specs.Wires.{Wired};
+    ghost use Rattle.kz_connection.specs.Connections.{Wired};
 
     ghost Value = { Wired L };
 
-    ghost view = { λ w. record { inner = w.inner; plan = w.plan; faults = w.faults } };
+    ghost view = { λ w. w.connection };
 }
 
 impl<L> LogWire<L> {
@@ -48,9 +48,7 @@ impl<L> LogWire<L> {
         ensures { result ≡ record { inner = log; plan = Plan.Deliver; faults = 0 } }
     {
         LogWire {
-            inner: log,
-            plan: Plan::Deliver,
-            faults: 0,
+            connection: Connection::new(log),
         }
     }
 
@@ -58,14 +56,14 @@ impl<L> LogWire<L> {
     pub fn plan(&mut self, plan: Plan)
         ensures { self.new ≡ record self.old { plan = plan } }
     {
-        self.plan = plan;
+        self.connection.plan(plan);
     }
 
     /// Lends the log, past the connection.
     pub fn inner(&self) -> &L
         ensures { result.now ≡ self.now.inner }
     {
-        &self.inner
+        self.connection.inner()
     }
 
     /// Lends the log to be changed, past the connection.
@@ -73,34 +71,26 @@ impl<L> LogWire<L> {
         ensures* writes_back { sem 𝓛 (lends_log L.row self.entry result) }
         ensures lent { result.now ≡ self.old.inner }
     {
-        &mut self.inner
+        self.connection.inner_mut()
     }
 
     /// Gives the log back.
     pub fn into_inner(self) -> L
         ensures { result ≡ self.inner }
     {
-        let LogWire { inner, .. } = self;
-        inner
+        let LogWire { connection } = self;
+        connection.into_inner()
     }
 
-    // The plan, which is spent.
-    fn take_plan(&mut self) -> Plan
-        ensures plan { result ≡ self.old.plan }
-        ensures spent { self.new ≡ record self.old { plan = Plan.Deliver } }
-    {
-        let plan = self.plan;
-        self.plan = Plan::Deliver;
-        plan
-    }
-
-    // Counts a request that isn't answered.
-    fn count(&mut self)
+    // The request, or its answer, is lost, which is counted.
+    fn lose<A>(&mut self) -> Result<A, LogWireFault>
+        ensures lost { result ≡ Err LogWireFault.Lost }
         ensures inner { self.new.inner ≡ self.old.inner }
         ensures plan { self.new.plan ≡ self.old.plan }
         ensures count { Rose self.old.faults self.new.faults }
     {
-        self.faults = self.faults.saturating_add(1);
+        self.connection.count();
+        Err(LogWireFault::Lost)
     }
 }
 
@@ -115,73 +105,49 @@ impl<L: MetaLog> LogWire<L> {
         requires some { 0 < length items.now }
         requires elected { pos 1 ≤ℤ epoch }
         ensures ok { IfOk result (λ end. (logs.append (L.log self.old.inner) epoch now items.now ≡ Ok (L.log self.new.inner)) × (end ≡ end_of (L.log self.new.inner))) }
-        ensures delivered { is_answered self.old.plan ≡ true → IfErr result (OfLog (IsChangeFault (logs.append (L.log self.old.inner) epoch now items.now) (L.length self.old.inner) (L.down self.old.inner))) }
-        ensures lost_after { self.old.plan ≡ Plan.LostAfter → OnOk result ⊥ × IfErr result (LostOr (IsChangeFault (logs.append (L.log self.old.inner) epoch now items.now) (L.length self.old.inner) (L.down self.old.inner))) }
-        ensures taken { self.old.plan ≡ Plan.LostAfter → IsErrOf result LogWireFault.Lost → IsLostAppend (L.log self.old.inner) (L.log self.new.inner) (logs.append (L.log self.old.inner) epoch now items.now) }
-        ensures same { IfErr result (IfLog (L.log self.new.inner ≡ L.log self.old.inner)) }
-        ensures lost_before { self.old.plan ≡ Plan.LostBefore → (result ≡ Err LogWireFault.Lost) × (self.new.inner ≡ self.old.inner) }
-        ensures was_down { L.down self.old.inner ≡ true → arrives self.old.plan ≡ true → IsWireDown result }
+        ensures refused { IfErr result (IfStore (IsRefusal (logs.append (L.log self.old.inner) epoch now items.now))) }
+        ensures same { IfErr result (IfStore (λ fault. L.log self.new.inner ≡ L.log self.old.inner)) }
+        ensures by_plan { EndsBy (without_sessions self.old.plan) (arrival_of result) (self.new.inner ≡ self.old.inner)
+            (IsUnanswered (IsAfterAppend (L.log self.old.inner) (logs.append (L.log self.old.inner) epoch now items.now) (L.log self.new.inner)) result) }
         ensures spent { self.new.plan ≡ Plan.Deliver }
-        ensures counted { is_loss result ≡ true → Rose self.old.faults self.new.faults }
-        ensures uncounted { is_loss result ≡ false → self.new.faults ≡ self.old.faults }
-        ensures device { IsErrOf result (LogWireFault.Log LogFault.Failed) → Rose (L.faults self.old.inner) (L.faults self.new.inner) }
-        ensures falls { IsErrOf result (LogWireFault.Log LogFault.Failed) → L.down self.new.inner ≡ true }
-        ensures calm { (IsErrOf result (LogWireFault.Log LogFault.Failed) → ⊥) → L.faults self.new.inner ≡ L.faults self.old.inner }
-        ensures up { (IsErrOf result (LogWireFault.Log LogFault.Failed) → ⊥) → L.down self.new.inner ≡ L.down self.old.inner }
-        ensures stop { IsErrOf result (LogWireFault.Log LogFault.Failed) → L.down self.old.inner ≡ false
-            → Between (L.log self.old.inner) (logs.append (L.log self.old.inner) epoch now items.now) (L.left self.new.inner) }
+        ensures counted { Counts (arrival_of result) self.old.faults self.new.faults }
+        ensures disk { OverConnection (ChangesDisk (IsTaken (logs.append (L.log self.old.inner) epoch now items.now)) (L.length_with self.old.inner (Append epoch now items.now)))
+            (answer_by answer_of_log_fault (logs.append (L.log self.old.inner) epoch now items.now)) (without_sessions self.old.plan) (arrival_of result) (L.disk self.old.inner) (L.disk self.new.inner) }
+        ensures stop { IsErrOf result (LogWireFault.Log LogFault.Failed) → Between (L.log self.old.inner) (logs.append (L.log self.old.inner) epoch now items.now) (L.left self.new.inner) }
     {
-        match self.take_plan() {
-            Plan::Deliver | Plan::Expired => match self.inner.append(epoch, now, items) {
-                Ok(end) => Ok(end),
-                Err(fault) => Err(LogWireFault::Log(fault)),
-            },
-            Plan::LostBefore => {
-                self.count();
-                Err(LogWireFault::Lost)
+        match self.connection.take_plan() {
+            Plan::Deliver | Plan::Expired => {
+                match self.connection.inner_mut().append(epoch, now, items) {
+                    Ok(end) => Ok(end),
+                    Err(fault) => Err(LogWireFault::Log(fault)),
+                }
             }
-            Plan::LostAfter => match self.inner.append(epoch, now, items) {
-                Ok(_) => {
-                    self.count();
-                    Err(LogWireFault::Lost)
-                }
-                Err(LogFault::Stale { .. }) => {
-                    self.count();
-                    Err(LogWireFault::Lost)
-                }
+            Plan::LostBefore => self.lose(),
+            Plan::LostAfter => match self.connection.inner_mut().append(epoch, now, items) {
+                Ok(_) => self.lose(),
+                Err(LogFault::Stale { .. }) => self.lose(),
                 Err(fault) => Err(LogWireFault::Log(fault)),
             },
         }
     }
 
-    /// The batches behind an offset, and, where the offset is below the base, the base with its metadata; by the plan.
+    /// The batches after an offset, and, where the offset is below the base, the base with its metadata; by the plan.
     pub fn read_from(&mut self, after: i64) -> Result<Feed, LogWireFault>
         ensures ok { IfOk result (λ feed. IsFeed (feed_from (L.log self.old.inner) after) feed) }
-        ensures delivered { is_answered self.old.plan ≡ true → IfErr result (OfLog (IsReadFault (L.down self.old.inner))) }
-        ensures lost_after { self.old.plan ≡ Plan.LostAfter → OnOk result ⊥ × IfErr result (LostOr (IsReadFault (L.down self.old.inner))) }
-        ensures lost_before { self.old.plan ≡ Plan.LostBefore → (result ≡ Err LogWireFault.Lost) × (self.new.inner ≡ self.old.inner) }
         ensures same { L.log self.new.inner ≡ L.log self.old.inner }
-        ensures was_down { L.down self.old.inner ≡ true → arrives self.old.plan ≡ true → IsWireDown result }
+        ensures by_plan { EndsBy (without_sessions self.old.plan) (arrival_of result) (self.new.inner ≡ self.old.inner) (IsUnanswered ⊤ result) }
         ensures spent { self.new.plan ≡ Plan.Deliver }
-        ensures counted { is_loss result ≡ true → Rose self.old.faults self.new.faults }
-        ensures uncounted { is_loss result ≡ false → self.new.faults ≡ self.old.faults }
-        ensures calm { L.faults self.new.inner ≡ L.faults self.old.inner }
-        ensures up { L.down self.new.inner ≡ L.down self.old.inner }
+        ensures counted { Counts (arrival_of result) self.old.faults self.new.faults }
+        ensures disk { OverConnection ReadsDisk Done (without_sessions self.old.plan) (arrival_of result) (L.disk self.old.inner) (L.disk self.new.inner) }
     {
-        match self.take_plan() {
-            Plan::Deliver | Plan::Expired => match self.inner.read_from(after) {
+        match self.connection.take_plan() {
+            Plan::Deliver | Plan::Expired => match self.connection.inner_mut().read_from(after) {
                 Ok(feed) => Ok(feed),
                 Err(fault) => Err(LogWireFault::Log(fault)),
             },
-            Plan::LostBefore => {
-                self.count();
-                Err(LogWireFault::Lost)
-            }
-            Plan::LostAfter => match self.inner.read_from(after) {
-                Ok(_) => {
-                    self.count();
-                    Err(LogWireFault::Lost)
-                }
+            Plan::LostBefore => self.lose(),
+            Plan::LostAfter => match self.connection.inner_mut().read_from(after) {
+                Ok(_) => self.lose(),
                 Err(fault) => Err(LogWireFault::Log(fault)),
             },
         }

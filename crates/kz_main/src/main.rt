@@ -8,7 +8,7 @@ use std::io::{ErrorKind, Print};
 use std::process::ExitCode;
 use std::{env, io};
 
-// The words behind the program's name. Where one isn't Unicode there are none, which name no command.
+// The words after the program's name. Where one isn't Unicode there are none, which name no command.
 fn words(rt: &HostRuntime) -> Result<Vec<String>, NoMemory> {
     let mut words = Vec::new(rt.alloc());
     let all = match env::args(rt) {

@@ -60,7 +60,7 @@ module _ {A K : Type 0} {cmp : K → K → Ordering} (o : TotalOrder cmp) (key :
   pub put_at_split : (x : A) (xs : List A) (y : A) (ys : List A) → AllBelow cmp key xs (key x) → key x ≡ key y → put cmp key x (xs ++ y ∷ ys) ≡ xs ++ x ∷ ys
   put_at_split x xs y ys h e = put-append x xs (y ∷ ys) h ∙ rw (cmp_equal o (key x) (key y) e)
 
-  -- behind all items
+  -- after all items
   pub put_last : (x : A) (xs : List A) → AllBelow cmp key xs (key x) → put cmp key x xs ≡ xs ++ x ∷ []
   put_last x [] h = refl
   put_last x (y ∷ xs) h = rw (cmp_greater o (key x) (key y) (first_below (key x) y xs h)) (ap (λ zs. y ∷ zs) (put_last x xs (rest_below (key x) y xs h)))
@@ -107,7 +107,7 @@ module _ {A K : Type 0} {cmp : K → K → Ordering} (o : TotalOrder cmp) (key :
   pub Rises-append : (xs ys : List A) → Rises cmp key xs → Rises cmp key ys → All (λ y. AllBelow cmp key xs (key y)) ys → Rises cmp key (xs ++ ys)
   Rises-append xs ys h g apart = Rises-append_by xs ys h g (All-turned (λ y x. cmp (key x) (key y) ≡ Less) ys xs apart)
 
-  -- one more item behind all others
+  -- one more item after all others
   RisesAbove-push : (k : K) (xs : List A) (y : A) → RisesAbove cmp key k xs → cmp k (key y) ≡ Less → AllBelow cmp key xs (key y) → RisesAbove cmp key k (xs ++ y ∷ [])
   RisesAbove-push k [] y h lt under = (lt, tt)
   RisesAbove-push k (x ∷ xs) y h lt under = (h.0, RisesAbove-push (key x) xs y h.1 (first_below (key y) x xs under) (rest_below (key y) x xs under))

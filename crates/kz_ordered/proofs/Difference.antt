@@ -80,13 +80,13 @@ module _ {A K : Type 0} {cmp : K → K → Ordering} (o : TotalOrder cmp) (key :
       }
 
   first_drop_by : (x : A) (a b : List A) (e : Edit A K) (es : List (Edit A K)) → Rises cmp key (x ∷ a) → (fs : List (Edit A K)) → drops cmp key a b ≡ fs → fs ++ drop_unless (key x) (find cmp key (key x) b) ≡ e ∷ es → ((g : Edit A K) (gs : List (Edit A K)) → drops cmp key a b ≡ g ∷ gs → FirstDrop a b g gs) → FirstDrop (x ∷ a) b e es
-  first_drop_by x a b e es h [] eq d behind = last_dropped x a b e es (find cmp key (key x) b) refl eq d
-  first_drop_by x a b e es h (f ∷ fs) eq d behind =
+  first_drop_by x a b e es h [] eq d after = last_dropped x a b e es (find cmp key (key x) b) refl eq d
+  first_drop_by x a b e es h (f ∷ fs) eq d after =
       let own = drop_unless (key x) (find cmp key (key x) b) in
       let whole : f ∷ (fs ++ own) ≡ e ∷ es = d in
       let head : f ≡ e = cc in
       let tail : fs ++ own ≡ es = cc in
-      let r = behind f fs eq in
+      let r = after f fs eq in
       let ne : r.k ≢ key x = less_differs_back o r.k (key x) (found_above o key (key x) r.k a r.y h r.here) in
       record {
         k = r.k;
@@ -153,8 +153,8 @@ module _ {A K : Type 0} {cmp : K → K → Ordering} (o : TotalOrder cmp) (key :
         rest : makes cmp key same (put cmp key x a) b ≡ es
 
       first_make_by : (a : List A) (x : A) (b : List A) (e : Edit A K) (es : List (Edit A K)) → Rises cmp key (x ∷ b) → Made x (find cmp key (key x) a) → make_or_alter same x (find cmp key (key x) a) ++ makes cmp key same a b ≡ e ∷ es → (makes cmp key same a b ≡ e ∷ es → FirstMake a b e es) → FirstMake a (x ∷ b) e es
-      first_make_by a x b e es h (as_it_is none) whole behind =
-          let r = behind (rw none at whole) in
+      first_make_by a x b e es h (as_it_is none) whole after =
+          let r = after (rw none at whole) in
           let lt : cmp (key x) (key r.x) ≡ Less = found_above o key (key x) (key r.x) b r.x h r.here in
           let first = ap (make_or_alter same x) (find-put_other o key r.x a (key x) (less_differs o (key x) (key r.x) lt)) ∙ none in
           record {
@@ -163,7 +163,7 @@ module _ {A K : Type 0} {cmp : K → K → Ordering} (o : TotalOrder cmp) (key :
             here = find_skip o key (key r.x) x b (less_differs_back o (key r.x) (key x) lt) ∙ r.here;
             rest = rw first r.rest;
           }
-      first_make_by a x b e es h (is_put f one acts) whole behind =
+      first_make_by a x b e es h (is_put f one acts) whole after =
           let both : f ∷ makes cmp key same a b ≡ e ∷ es = rw one at whole in
           let head : f ≡ e = cc in
           let tail : makes cmp key same a b ≡ es = cc in

@@ -12,7 +12,7 @@ some_is_none e = cc
 pub same_some : {A : Type 0} (x y : A) → Some x ≡ Some y → x ≡ y
 same_some x y e = cc
 
--- what a list contains is its first item or stands behind it
+-- what a list contains is its first item or stands after it
 pub Contains-cons_cases : {A : Type 0} (x : A) (xs : List A) (y : A) → Contains (x ∷ xs) y → (x ≡ y) ⊎ Contains xs y
 Contains-cons_cases x xs y (zero, within, is) = inl is
 Contains-cons_cases x xs y (suc i, within, is) = inr (i, omega arith, is)
@@ -157,8 +157,8 @@ module _ {A K : Type 0} {cmp : K → K → Ordering} (o : TotalOrder cmp) (key :
   -- ---- lists that rise and answer alike are one list
 
   -- below the first two items, which have one key, the look-ups agree too
-  alike_behind : (x y : A) (xs ys : List A) → key x ≡ key y → RisesAbove cmp key (key x) xs → RisesAbove cmp key (key y) ys → ((k : K) → find cmp key k (x ∷ xs) ≡ find cmp key k (y ∷ ys)) → (k : K) → find cmp key k xs ≡ find cmp key k ys
-  alike_behind x y xs ys e hx hy alike k = elim (place o k (key x)) [
+  alike_later : (x y : A) (xs ys : List A) → key x ≡ key y → RisesAbove cmp key (key x) xs → RisesAbove cmp key (key y) ys → ((k : K) → find cmp key k (x ∷ xs) ≡ find cmp key k (y ∷ ys)) → (k : K) → find cmp key k xs ≡ find cmp key k ys
+  alike_later x y xs ys e hx hy alike k = elim (place o k (key x)) [
     | below p ↦ find_below k (key x) xs p hx ∙ sym (find_below k (key y) ys (subst (λ q. cmp k q ≡ Less) e p) hy)
     | equal p ↦ ap (λ q. find cmp key q xs) p ∙ find_at_bound (key x) xs hx ∙ sym (ap (λ q. find cmp key q ys) (p ∙ e) ∙ find_at_bound (key y) ys hy)
     | above p ↦ let ne : k ≢ key x = less_differs_back o k (key x) p in sym (find_skip k x xs ne) ∙ alike k ∙ find_skip k y ys (λ f. ne (f ∙ sym e))
@@ -179,7 +179,7 @@ module _ {A K : Type 0} {cmp : K → K → Ordering} (o : TotalOrder cmp) (key :
   same_items (x ∷ xs) (y ∷ ys) hx hy alike =
       let keys : key x ≡ key y = first_keys x y xs ys hx hy alike in
       let first : x ≡ y = same_some x y (sym (find_head x xs) ∙ alike (key x) ∙ ap (λ k. find cmp key k (y ∷ ys)) keys ∙ find_head y ys) in
-      let rest : xs ≡ ys = same_items xs ys (rest_rises x xs hx) (rest_rises y ys hy) (alike_behind x y xs ys keys hx hy alike) in
+      let rest : xs ≡ ys = same_items xs ys (rest_rises x xs hx) (rest_rises y ys hy) (alike_later x y xs ys keys hx hy alike) in
       ap (λ z. z ∷ xs) first ∙ ap (λ zs. y ∷ zs) rest
 
   -- ---- the items of a list that rises, by their keys and by their places
@@ -229,17 +229,17 @@ module _ {A K : Type 0} {cmp : K → K → Ordering} (o : TotalOrder cmp) (key :
   Contains-put_cases x [] z has = Contains-cons_cases x [] z has
   Contains-put_cases x (y ∷ ys) z has = put_cases_by x y ys z (cmp (key x) (key y)) has (Contains-put_cases x ys z)
     where
-      behind : (x y : A) (ys : List A) (z : A) → (x ≡ z) ⊎ Contains ys z → (x ≡ z) ⊎ Contains (y ∷ ys) z
-      behind x y ys z (inl e) = inl e
-      behind x y ys z (inr has) = inr (Contains-tail y ys z has)
+      after : (x y : A) (ys : List A) (z : A) → (x ≡ z) ⊎ Contains ys z → (x ≡ z) ⊎ Contains (y ∷ ys) z
+      after x y ys z (inl e) = inl e
+      after x y ys z (inr has) = inr (Contains-tail y ys z has)
 
       first_or : (x y : A) (ys zs : List A) (z : A) → (y ≡ z) ⊎ Contains zs z → (Contains zs z → (x ≡ z) ⊎ Contains ys z) → (x ≡ z) ⊎ Contains (y ∷ ys) z
       first_or x y ys zs z (inl e) later = inr (subst (Contains (y ∷ ys)) e (Contains-head y ys))
-      first_or x y ys zs z (inr has) later = behind x y ys z (later has)
+      first_or x y ys zs z (inr has) later = after x y ys z (later has)
 
       put_cases_by : (x y : A) (ys : List A) (z : A) (r : Ordering) → Contains (match_ordering r (x ∷ y ∷ ys) (x ∷ ys) (y ∷ put cmp key x ys)) z → (Contains (put cmp key x ys) z → (x ≡ z) ⊎ Contains ys z) → (x ≡ z) ⊎ Contains (y ∷ ys) z
       put_cases_by x y ys z Less has later = Contains-cons_cases x (y ∷ ys) z has
-      put_cases_by x y ys z Equal has later = behind x y ys z (Contains-cons_cases x ys z has)
+      put_cases_by x y ys z Equal has later = after x y ys z (Contains-cons_cases x ys z has)
       put_cases_by x y ys z Greater has later = first_or x y ys (put cmp key x ys) z (Contains-cons_cases y (put cmp key x ys) z has) later
 
   pub Contains-without : (k : K) (xs : List A) (z : A) → Contains (without cmp key k xs) z → Contains xs z

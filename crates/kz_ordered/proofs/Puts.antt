@@ -45,7 +45,7 @@ module _ {A K : Type 0} {cmp : K → K → Ordering} (o : TotalOrder cmp) (key :
       before x xs ys z (inl has) = inl (Contains-tail x xs z has)
       before x xs ys z (inr has) = put_before x xs ys z (Contains-put_cases o key x ys z has)
 
-  -- items that rise are put behind one another
+  -- items that rise are put after one another
   pub all_put_in_order : (xs ys : List A) → Rises cmp key (ys ++ xs) → all_put cmp key xs ys ≡ ys ++ xs
   all_put_in_order [] ys h = sym (append-nil ys)
   all_put_in_order (x ∷ xs) ys h =

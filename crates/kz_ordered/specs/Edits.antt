@@ -29,7 +29,7 @@ IsNoDrop (drop_key k) = ⊥
 IsNoDrop (make x) = ⊤
 IsNoDrop (alter x) = ⊤
 
--- The edits are drops whose keys fall, and behind them others whose keys rise.
+-- The edits are drops whose keys fall, and after them others whose keys rise.
 pub record DropsFallOthersRise {A K : Type 0} (cmp : K → K → Ordering) (key : A → K) (es : List (Edit A K)) : Type 0 where
   pub first : List (Edit A K)
   pub others : List (Edit A K)

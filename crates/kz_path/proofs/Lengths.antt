@@ -21,13 +21,13 @@ joined_short c most (p ∷ q ∷ ps) few =
     let sum = length-append p (c ∷ join_with_byte c (q ∷ ps)) in
     (omega (arith, sum, few), joined_short c most (q ∷ ps) (omega (arith, sum, few)))
 
-behind_first : (most : ℕ) (ps : List (List ℕ)) → AreShort most ps → AreShort most (drop 1 ps)
-behind_first most [] short = tt
-behind_first most (p ∷ ps) short = short.1
+after_first : (most : ℕ) (ps : List (List ℕ)) → AreShort most ps → AreShort most (drop 1 ps)
+after_first most [] short = tt
+after_first most (p ∷ ps) short = short.1
 
 parts_short : (path : List ℕ) (most : ℕ) → length path ≤ most → AreShort most (parts path)
 parts_short path most few =
-    behind_first most (slice_split (λ b. b == 47) path)
+    after_first most (slice_split (λ b. b == 47) path)
     (joined_short 47 most (slice_split (λ b. b == 47) path) (subst (λ (l : List ℕ). length l ≤ most) (sym (join_with_byte-slice_split 47 path)) few))
 
 by_parts : (most : ℕ) (ps : List (List ℕ)) (p : Parts) → IsCut ps p → AreShort most ps → AreWithin most p

@@ -4,6 +4,8 @@ ghost use Rattle.std.specs.List.{slice_split};
 ghost use Rattle.kz_types.specs.PathRule.{parts, is_path};
 ghost use Rattle.kz_path.specs.Cut.{IsCut, AreWithin};
 
+use kz_types::MAX_PATH_BYTES;
+
 /// The parts of a path, up to six.
 #[derive(Clone, Copy)]
 pub enum Parts<'a> {
@@ -16,7 +18,7 @@ pub enum Parts<'a> {
     More,
 }
 
-/// What stands before the first slash, and what behind it.
+/// What stands before the first slash, and what after it.
 fn first_part(text: &str) -> (&str, Option<&str>)
     ensures { MatchOption result.1
         (slice_split (λ b. b == 47) text.now ≡ result.0.now ∷ [])
@@ -28,7 +30,7 @@ fn first_part(text: &str) -> (&str, Option<&str>)
     }
 }
 
-/// The parts of what stands behind a path's first slash.
+/// The parts of what stands after a path's first slash.
 fn cut_rest(rest: &str) -> Parts<'_>
     ensures { IsCut (slice_split (λ b. b == 47) rest.now) result }
 {
@@ -63,7 +65,7 @@ fn cut_rest(rest: &str) -> Parts<'_>
 pub fn cut(path: &str) -> Parts<'_>
     requires { is_path path.now ≡ true }
     ensures parts { IsCut (parts path.now) result }
-    ensures within { AreWithin 1024 result }
+    ensures within { AreWithin MAX_PATH_BYTES result }
 {
     let (_, rest) = first_part(path);
     match rest {

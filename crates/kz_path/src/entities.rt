@@ -6,11 +6,11 @@ ghost use Rattle.kz_types.specs.Paths.{key_of, key_of_three, key_of_four, key_of
 use crate::cut::{Parts, cut};
 use crate::keys::{DEFAULT, are, broker_of, resource_type_of};
 use crate::names::may_be_name;
-use kz_types::{ZPath, may_be_part, may_be_topic, number_in};
+use kz_types::{MAX_PATH_BYTES, ZPath, may_be_part, may_be_topic, number_in};
 
 /// Whether a part is the default's or a name's.
 pub fn holds_name(part: &str) -> bool
-    requires { length part.now ≤ 1024 }
+    requires { length part.now ≤ MAX_PATH_BYTES }
     ensures { result ≡ is_some (default_or restored part.now) }
 {
     if part == DEFAULT {
@@ -31,7 +31,7 @@ fn holds_address(part: &str) -> bool
 
 /// Whether three parts hold an entity.
 fn holds_of_three(a: &str, b: &str, c: &str) -> bool
-    requires { length c.now ≤ 1024 }
+    requires { length c.now ≤ MAX_PATH_BYTES }
     ensures { result ≡ is_some (key_of_three a.now b.now c.now) }
 {
     if are(a, b, "brokers", "topics") {
@@ -70,8 +70,8 @@ fn holds_of_four(a: &str, b: &str, c: &str, d: &str) -> bool
 
 /// Whether five parts hold an entity.
 fn holds_of_five(a: &str, b: &str, c: &str, d: &str, e: &str) -> bool
-    requires user { length c.now ≤ 1024 }
-    requires client { length e.now ≤ 1024 }
+    requires user { length c.now ≤ MAX_PATH_BYTES }
+    requires client { length e.now ≤ MAX_PATH_BYTES }
     ensures { result ≡ is_some (key_of_five a.now b.now c.now d.now e.now) }
 {
     if are(a, b, "config", "users") && d == "clients" {

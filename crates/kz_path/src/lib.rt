@@ -5,7 +5,7 @@ mod cut;
 mod names;
 
 pub use keys::key_of;
-pub use kinds::{is_migrated, kind};
+pub use kinds::kind;
 pub use names::{restore, sanitise};
 pub use paths::path_of;
 

@@ -3,7 +3,8 @@ ghost use Rattle.std.specs.Prelude.{◌≡◌, ◌++◌, ◌&&◌, ◌<◌, ◌�
 ghost use Rattle.std.specs.Str.{is_utf8};
 ghost use Rattle.kz_types.specs.Paths.{hex_digit, hex_value, sanitised_byte, sanitised, is_plain, unescaped, restored};
 
-use kz_types::{NoMemory, PathBuffer, Text, is_text};
+use kz_path_buffer::PathBuffer;
+use kz_types::{MAX_PATH_BYTES, NoMemory, Text, is_text};
 use std::alloc::Global;
 
 /// An upper-case hexadecimal digit.
@@ -93,7 +94,7 @@ pub fn sanitise(alloc: Global, name: &Text) -> Result<Vec<u8>, NoMemory>
 fn unescape_into(buffer: &mut PathBuffer, part: &[u8]) -> bool
     requires { buffer.old ≡ [] }
     ensures put { result ≡ true → buffer.new ≡ unescaped part.now }
-    ensures too_long { result ≡ false → 1024 < length (unescaped part.now) }
+    ensures too_long { result ≡ false → MAX_PATH_BYTES < length (unescaped part.now) }
 {
     let mut at = 0;
     while at < part.len() {
@@ -114,7 +115,7 @@ fn unescape_into(buffer: &mut PathBuffer, part: &[u8]) -> bool
 
 /// Whether the name of these bytes is written as this part.
 fn is_written_as(bytes: &[u8], part: &[u8]) -> bool
-    requires { length part.now ≤ 1024 }
+    requires { length part.now ≤ MAX_PATH_BYTES }
     ensures { result ≡ bytes_eq (sanitised bytes.now) part.now }
 {
     let mut again = PathBuffer::new();
@@ -127,7 +128,7 @@ fn is_written_as(bytes: &[u8], part: &[u8]) -> bool
 /// Whether a name is written as this part, which is at most as long as a path. It takes no memory.
 #[tactic(auto, unfolding(kz_types::specs::Paths::restored))]
 pub fn may_be_name(part: &[u8]) -> bool
-    requires { length part.now ≤ 1024 }
+    requires { length part.now ≤ MAX_PATH_BYTES }
     ensures { result ≡ is_some (restored part.now) }
 {
     let mut bytes = PathBuffer::new();

@@ -59,7 +59,7 @@ fn part_of_broker(alloc: Global, broker: Option<i32>) -> Result<Vec<u8>, NoMemor
     }
 }
 
-/// A text behind a beginning.
+/// A text after a beginning.
 fn joined(alloc: Global, front: &str, back: &[u8]) -> Result<Vec<u8>, NoMemory>
     ensures { IfOk result (λ text. text.items ≡ front.now ++ back.now) }
 {

@@ -1,5 +1,5 @@
 //! Each public call with ample memory, on a table of paths.
-use crate::{is_migrated, key_of, kind, path_of, restore, sanitise};
+use crate::{key_of, kind, path_of, restore, sanitise};
 use kz_types::{EntityKey, Kind, Text, ZPath};
 use std::test::Fail;
 
@@ -35,7 +35,6 @@ fn kinds(rt: HostRuntime) -> Result<(), Fail> {
         let path = ZPath::new(rt.alloc(), text.as_bytes())?;
         assert_eq!(rt; kind(&path), wanted, "{text}");
     }
-    assert!(rt; is_migrated("/kafka-acl/topic") == false);
     Ok(())
 }
 

@@ -3,7 +3,7 @@ use Rattle.std.proofs.Common.{◌≡◌, ℕ, ◌+◌, ◌<◌, ◌≤◌, List,
 use Rattle.std.proofs.lemmas.List.{length-append}
 use Rattle.kz_types.specs.declared.tree.Row.{Row}
 use Rattle.kz_types.specs.declared.record.MetaRecord.{MetaRecord}
-use Rattle.kz_spec_znodes.specs.Translation.{body_of_row, row_records, records_behind}
+use Rattle.kz_spec_znodes.specs.Translation.{body_of_row, row_records, records_after}
 use Rattle.kz_reader.specs.declared.seen.Note.{Note}
 use Rattle.kz_reader.specs.declared.reading.Reading.{Reading}
 use Rattle.kz_reader.specs.Seen.{note_of, HasSeen, IsOfIfAny}
@@ -36,7 +36,7 @@ one_more_read rows old new row note more h e reading n made items done entries s
       seen = seen;
       few = subst (λ k. k ≤ length new.records.items) (sym entries) (no_more_than_records rows old row note more new.records.items reading n made items);
       last = subst (λ l. IsOfIfAny rows l) (sym last) reading.last;
-      records = ap (λ xs. after_records xs (records_behind rows (take new.seen.done rows) (drop new.seen.done rows))) items
-          ∙ ap (λ k. after_records (old.records.items ++ more) (records_behind rows (take k rows) (drop k rows))) done
+      records = ap (λ xs. after_records xs (records_after rows (take new.seen.done rows) (drop new.seen.done rows))) items
+          ∙ ap (λ k. after_records (old.records.items ++ more) (records_after rows (take k rows) (drop k rows))) done
           ∙ with_records rows old.seen.done row old.records.items more h e made reading.records;
     }

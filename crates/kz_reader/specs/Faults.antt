@@ -2,13 +2,13 @@
 use Rattle.std.specs.Prelude.{◌≡◌, ◌≤◌, ⊤, Ok, Err, List, ◌++◌, length, take, drop}
 use Rattle.kz_types.specs.declared.tree.Row.{Row}
 use Rattle.kz_types.specs.declared.record.MetaRecord.{MetaRecord}
-use Rattle.kz_spec_znodes.specs.Translation.{Translated, records_behind, all_records}
+use Rattle.kz_spec_znodes.specs.Translation.{Translated, records_after, all_records}
 use Rattle.kz_reader.specs.declared.fault.ReadFault.{ReadFault}
 use Rattle.kz_reader.specs.declared.fault.ReadFault.TheVariants.{Untranslatable, NoMemory}
 use Rattle.kz_reader.specs.declared.reading.Reading.{Reading}
 use Rattle.kz_reader.specs.Seen.{HasSeen, IsOfIfAny}
 
--- the path and the reason of the translation, or want of memory
+-- the path and the reason of the translation, or out of memory
 abbrev pub IsReadFault : Translated → ReadFault → Type 0
 IsReadFault t (Untranslatable path why) = t ≡ Err (record { path = path; why = why })
 IsReadFault t NoMemory = ⊤
@@ -23,4 +23,4 @@ pub record IsReading (rows : List Row) (r : Reading) : Type 0 where
   pub seen : HasSeen rows r.seen
   pub few : r.seen.entries ≤ length r.records.items
   pub last : IsOfIfAny rows r.last
-  pub records : after_records r.records.items (records_behind rows (take r.seen.done rows) (drop r.seen.done rows)) ≡ all_records rows
+  pub records : after_records r.records.items (records_after rows (take r.seen.done rows) (drop r.seen.done rows)) ≡ all_records rows

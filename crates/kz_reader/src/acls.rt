@@ -50,7 +50,7 @@ fn acl_records(alloc: Global, first: u64, rows: &[AclRow]) -> Result<Sequence<Me
     Ok(records)
 }
 
-/// The records of access control entries, or why there are none. They are numbered behind those of the znodes that were
+/// The records of access control entries, or why there are none. They are numbered after those of the znodes that were
 /// read.
 pub fn records_of_acls(
     alloc: Global,

@@ -12,7 +12,6 @@ mod numbers;
 mod producer;
 mod quotas;
 mod reading;
-mod replicas;
 mod rows;
 mod seen;
 mod states;

@@ -6,7 +6,7 @@ ghost use Rattle.kz_spec_znodes.specs.Translation.{max_block_end, bad_field, rec
 use kz_types::{Body, BodyFault, MetaRecord, NoMemory, ProducerIdsRecord, ReadWhy, Sequence, Text};
 use std::alloc::Global;
 
-/// The greatest end of a block: behind it begins the last block that there is.
+/// The greatest end of a block: after it begins the last block that there is.
 const MAX_BLOCK_END: i64 = 9_223_372_036_854_774_807;
 
 // The record of a block that ends here.

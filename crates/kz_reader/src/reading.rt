@@ -47,7 +47,7 @@ impl Reading {
         }
     }
 
-    // Keeps what a znode gave, which stands behind those that were read.
+    // Keeps what a znode gave, which stands after those that were read.
     fn keep(
         &mut self,
         rows: &[Row],

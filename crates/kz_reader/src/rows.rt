@@ -99,7 +99,7 @@ fn read_other(alloc: Global, kind: Kind) -> RowRead
     }
 }
 
-/// What a znode gives, behind those that were read.
+/// What a znode gives, after those that were read.
 #[tactic(auto, unfolding(kz_types::specs::Paths::kind_of))]
 pub fn read_row(
     alloc: Global,

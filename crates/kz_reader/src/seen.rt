@@ -72,7 +72,7 @@ impl Seen {
         is_among(&self.ids, id)
     }
 
-    /// One znode more was read, which stands behind the others.
+    /// One znode more was read, which stands after the others.
     pub fn add(&mut self, rows: &[Row], row: &Row, note: Note) -> Result<(), NoMemory>
         requires seen { HasSeen rows.now self.old }
         requires within { self.old.done < length rows.now }

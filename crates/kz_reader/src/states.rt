@@ -3,7 +3,7 @@ ghost use Rattle.std.specs.Prelude.{◌≡◌, [], not, option_map, IfOk, Ok, co
 ghost use Rattle.kz_spec_values.specs.Bodies.{are_some_of};
 ghost use Rattle.kz_spec_znodes.specs.Translation.{leader_of, may_lead, bad_field, records_of_state, records_if_assigned};
 
-use crate::replicas::{are_some_of, is_in};
+use kz_replicas::{are_some_of, is_in};
 use kz_types::{AssignmentRow, Body, BodyFault, MetaRecord, NoMemory, ReadWhy, Sequence, Text};
 use std::alloc::Global;
 

@@ -1,10 +1,10 @@
 //! The records of all znodes.
 ghost use Rattle.std.specs.Prelude.{◌≡◌, IfOk, IfErr, Ok, Err, MatchOption};
+ghost use Rattle.kz_types.specs.declared.limits.TheConstants.{MAX_EPOCH};
 ghost use Rattle.kz_ordered.specs.Order.{bytes_cmp};
 ghost use Rattle.kz_ordered.specs.Ordered.{Rises};
 ghost use Rattle.kz_spec_stores.specs.Tree.{path_of_row};
 ghost use Rattle.kz_spec_stores.specs.Image.{all_applied, empty_image};
-ghost use Rattle.kz_spec_stores.specs.Log.{max_epoch};
 ghost use Rattle.kz_spec_znodes.specs.Rendering.{render, excess};
 ghost use Rattle.kz_spec_znodes.specs.Translation.{bounded, translate};
 ghost use Rattle.kz_types.specs.declared.fault.ReadWhy.TheVariants.{Over};
@@ -14,18 +14,15 @@ use crate::fault::ReadFault;
 use crate::reading::all_records;
 use kz_image::Image;
 use kz_render::{Excess, first_excess, render, whole_path};
-use kz_types::{MetaRecord, NoMemory, ReadWhy, Rendered, Row};
+use kz_types::{MAX_RECORDS, MetaRecord, NoMemory, ReadWhy, Rendered, Row};
 use std::alloc::Global;
 
 /// The records beside the translated ones that the limit leaves room for.
 const FURTHER_RECORDS: usize = 4;
 
-/// The most records of a log.
-const MAX_RECORDS: usize = 1_000_000;
-
 // The znodes of the metadata that these records make.
 fn rendered(alloc: Global, records: &[MetaRecord]) -> Result<Vec<Rendered>, NoMemory>
-    ensures { IfOk result (λ znodes. znodes.items ≡ render (all_applied max_epoch records.now empty_image)) }
+    ensures { IfOk result (λ znodes. znodes.items ≡ render (all_applied MAX_EPOCH records.now empty_image)) }
 {
     let mut image = Image::new(alloc);
     image.apply_all(i32::MAX, records)?;
@@ -36,8 +33,8 @@ fn rendered(alloc: Global, records: &[MetaRecord]) -> Result<Vec<Rendered>, NoMe
 #[tactic(auto, unfolding(kz_spec_znodes::specs::Rendering::render))]
 fn passed_limit(alloc: Global, records: &[MetaRecord]) -> Result<Option<Excess>, NoMemory>
     ensures { IfOk result (λ told. MatchOption told
-        (bounded (excess (all_applied max_epoch records.now empty_image)) records.now ≡ Ok records.now)
-        (λ e. bounded (excess (all_applied max_epoch records.now empty_image)) records.now ≡ Err (record { path = e.path; why = Over e.number }))) }
+        (bounded (excess (all_applied MAX_EPOCH records.now empty_image)) records.now ≡ Ok records.now)
+        (λ e. bounded (excess (all_applied MAX_EPOCH records.now empty_image)) records.now ≡ Err (record { path = e.path; why = Over e.number }))) }
 {
     let znodes = rendered(alloc, records)?;
     match first_excess(alloc, &znodes)? {
@@ -52,7 +49,7 @@ fn passed_limit(alloc: Global, records: &[MetaRecord]) -> Result<Option<Excess>,
 
 /// The records of the znodes of the migrated area, which are given in path order: topics with their partitions, the
 /// configurations of topics and brokers, quotas and credentials, access control entries with new ids, and the block of
-/// producer ids behind the last that was given out.
+/// producer ids after the last that was given out.
 ///
 /// The leader and the replicas in sync of a partition are those of its state, with its data version as the partition's
 /// epoch; where it has no state, its first replica leads. The configuration of a topic and the state of a partition

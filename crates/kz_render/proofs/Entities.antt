@@ -12,7 +12,7 @@ use Rattle.kz_spec_stores.specs.Tree.{path_of_rendered}
 use Rattle.kz_spec_znodes.specs.Rendering.{bare, topic_znodes, config_znode, quota_znodes, acl_znode, producer_znodes, entity_znodes, render}
 use Rattle.kz_render.specs.Gathered.{PutAlike}
 
--- lists that are put alike still are with more behind each
+-- lists that are put alike still are with more after each
 put_alike_more : (xs ys more : List Rendered) → PutAlike xs ys → PutAlike (xs ++ more) (ys ++ more)
 put_alike_more xs ys more same =
     all_put-append bytes_order path_of_rendered xs more [] ∙ ap (all_put bytes_cmp path_of_rendered more) same ∙ sym (all_put-append bytes_order path_of_rendered ys more [])

@@ -21,7 +21,7 @@ is_ascii b = nat_lt b 128
 abbrev pub is_ascii_part : List ℕ → Bool
 is_ascii_part part = is_part part && list_all is_ascii part
 
--- these parts behind each other, with a slash between two
+-- these parts after each other, with a slash between two
 abbrev pub joined : List ℕ → List (List ℕ) → List ℕ
 joined p [] = p
 joined p (q ∷ qs) = p ++ 47 ∷ joined q qs

@@ -1,5 +1,5 @@
 -- What the entries of quotas and credentials of every metadata keep.
-use Rattle.std.proofs.Common.{◌≡◌, ℕ, ◌<◌, Bool, true, false, not, ◌&&◌, ◌||◌, List, [], ◌∷◌, Option, Some, None, length, sym, refl, arith}
+use Rattle.std.proofs.Common.{◌≡◌, ℕ, ◌<◌, Bool, true, false, not, ◌&&◌, List, [], ◌∷◌, Option, Some, None, length, sym, refl, arith}
 use Rattle.std.specs.List.{All}
 use Rattle.std.proofs.lemmas.Bool.{and_parts, false≢true}
 use Rattle.std.proofs.lemmas.List.Elements.{All-head, All-contains}
@@ -18,7 +18,7 @@ use Rattle.kz_ordered.proofs.Order.{bytes_order}
 use Rattle.kz_json.specs.Entries.{are_quotas}
 use Rattle.kz_spec_stores.specs.Metadata.{path_of_quotas}
 use Rattle.kz_spec_stores.specs.Image.{quotas_in}
-use Rattle.kz_spec_stores.specs.ImageRules.{is_empty, is_dots, is_mechanism}
+use Rattle.kz_spec_stores.specs.ImageRules.{is_empty, is_dots}
 use Rattle.kz_spec_stores.specs.InOrder.{IsUserFilled}
 use Rattle.kz_spec_stores.specs.Legal.{IsQuotaEntry, IsScramEntry, IsScramOf}
 
@@ -42,17 +42,13 @@ unfolding is_legal
 name_legal [] h = absurd (false≢true (sym h))
 name_legal (b ∷ bs) h = grind arith
 
-placed : (mechanism : Bool) (path : Bool) → mechanism ≡ true → not mechanism || path ≡ true → path ≡ true
-placed true path e h = h
-placed false path e h = absurd (false≢true e)
-
 first_scram : (name : List ℕ) (ss : List ScramPair) → 0 < length ss → All (IsScramOf name) ss → (is_legal (User (Some name)) ≡ true) × (has_path (User (Some name)) ≡ true)
 first_scram name [] some h = absurd (omega arith)
 first_scram name (s ∷ ss) some h =
     let one = All-head (IsScramOf name) s ss h in
-    let a = and_parts (not (is_empty name) && not (is_dots name)) (not (is_mechanism s.mechanism) || has_path (User (Some name))) one.0 in
+    let a = and_parts (not (is_empty name) && not (is_dots name)) (has_path (User (Some name))) one.0 in
     let b = and_parts (not (is_empty name)) (not (is_dots name)) a.0 in
-    (name_legal name (from_not (is_empty name) b.0), placed (is_mechanism s.mechanism) (has_path (User (Some name))) one.1 a.1)
+    (name_legal name (from_not (is_empty name) b.0), a.1)
 
 -- the key of a user with credentials is legal, and it has a path
 pub scram_user : (u : ScramEntry) → IsUserFilled u → IsScramEntry u → (is_legal (User (Some u.name)) ≡ true) × (has_path (User (Some u.name)) ≡ true)

@@ -18,8 +18,6 @@ mod users;
 mod znodes;
 
 pub use kz_types::Rendered;
-pub use limits::{
-    Excess, FitFault, MAX_BODIES, MAX_BODY, MAX_ZNODES, first_excess, fits, whole_path,
-};
+pub use limits::{Excess, FitFault, first_excess, fits, whole_path};
 pub use roots::bare_roots;
 pub use znodes::{render, render_one};

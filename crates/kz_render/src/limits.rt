@@ -1,24 +1,18 @@
 //! Whether a rendering keeps the limits.
 ghost use Rattle.std.specs.Prelude.{◌≡◌, length, IfOk, IfErr, OnOk, None, nat_lt, option_map, codes, true};
 ghost use Rattle.std.specs.List.{find, sum_by};
+ghost use Rattle.kz_types.specs.declared.limits.TheConstants.{MAX_BODIES_BYTES};
 ghost use Rattle.kz_types.specs.PathRule.{is_path};
 ghost use Rattle.kz_types.specs.declared.tree.Rendered.{Rendered as RenderedValue};
-ghost use Rattle.kz_spec_znodes.specs.Rendering.{is_long, max_bodies, excess_of, excess};
+ghost use Rattle.kz_spec_znodes.specs.Rendering.{is_long, excess_of, excess};
 ghost use Rattle.kz_render.specs.Limits.{excess_of_told, IsExcess};
 
 use crate::znodes::render;
 use kz_image::Image;
-use kz_types::{Duplicate, NoMemory, Rendered, Text, ZPath};
+use kz_types::{
+    Duplicate, MAX_BODIES_BYTES, MAX_BODY_BYTES, MAX_ZNODES, NoMemory, Rendered, Text, ZPath,
+};
 use std::alloc::Global;
-
-/// The most bytes of a znode's data.
-pub const MAX_BODY: usize = 1_048_575;
-
-/// The most znodes of the migrated area.
-pub const MAX_ZNODES: usize = 200_000;
-
-/// The most bytes of all data of the migrated area.
-pub const MAX_BODIES: usize = 67_108_864;
 
 /// A limit that is passed, and the path at which that is told.
 #[derive(Drop)]
@@ -33,14 +27,16 @@ pub struct Excess {
 fn long_znode(znodes: &[Rendered]) -> Option<&Rendered>
     ensures { option_map (λ znode. znode.now) result ≡ find is_long znodes.entry.now }
 {
-    znodes.iter().find(|znode| znode.body.len() > MAX_BODY)
+    znodes
+        .iter()
+        .find(|znode| znode.body.len() > MAX_BODY_BYTES)
 }
 
 // Whether all data together is too long.
 fn are_bodies_long(znodes: &[Rendered]) -> bool
-    ensures { result ≡ nat_lt max_bodies (sum_by (λ (znode : RenderedValue). length znode.body) znodes.now) }
+    ensures { result ≡ nat_lt MAX_BODIES_BYTES (sum_by (λ (znode : RenderedValue). length znode.body) znodes.now) }
 {
-    let mut left = MAX_BODIES;
+    let mut left = MAX_BODIES_BYTES;
     for znode in znodes {
         let count = znode.body.len();
         if count > left {

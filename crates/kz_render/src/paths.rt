@@ -22,7 +22,7 @@ pub fn entity_path(alloc: Global, key: &EntityKey) -> Result<ZPath, NoMemory>
 }
 
 /// The path that goes on from this one.
-pub fn path_behind(alloc: Global, path: &ZPath, rest: &str) -> Result<ZPath, NoMemory>
+pub fn path_after(alloc: Global, path: &ZPath, rest: &str) -> Result<ZPath, NoMemory>
     requires { is_path (path.now ++ rest.now) ≡ true }
     ensures { IfOk result (λ made. made ≡ path.now ++ rest.now) }
 {

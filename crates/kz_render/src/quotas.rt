@@ -11,7 +11,7 @@ ghost use Rattle.kz_spec_stores.specs.InOrder.{IsUserFilled};
 ghost use Rattle.kz_spec_stores.specs.Legal.{IsQuotaEntry, IsScramEntry};
 ghost use Rattle.kz_spec_znodes.specs.Rendering.{bare, client_parents, quota_parents, own_znodes, quota_znodes};
 
-use crate::paths::{entity_path, path_behind};
+use crate::paths::{entity_path, path_after};
 use crate::push::{push_bare, push_znode};
 use crate::quota_body::quota_text;
 use crate::users::push_users;
@@ -31,7 +31,7 @@ fn push_client_parents(
     ensures { OnOk result (znodes.new.items ≡ znodes.old.items ++ (bare (path_of user) ∷ bare (path_of user ++ codes "/clients") ∷ [])) }
 {
     let path = entity_path(alloc, &user)?;
-    let clients = path_behind(alloc, &path, "/clients")?;
+    let clients = path_after(alloc, &path, "/clients")?;
     push_bare(alloc, znodes, path)?;
     push_bare(alloc, znodes, clients)
 }

@@ -5,7 +5,7 @@ ghost use Rattle.kz_types.specs.Paths.{path_of, has_path, is_topic_name, is_not_
 ghost use Rattle.kz_types.specs.declared.key.EntityKey.TheVariants as key;
 ghost use Rattle.kz_spec_znodes.specs.Rendering.{partitions_path, number_path};
 
-use crate::paths::{entity_path, path_behind};
+use crate::paths::{entity_path, path_after};
 use kz_types::{Duplicate, EntityKey, NoMemory, Text, ZPath};
 use std::alloc::Global;
 
@@ -27,7 +27,7 @@ pub fn partitions_path(alloc: Global, name: &Text) -> Result<ZPath, NoMemory>
     ensures { IfOk result (λ path. path ≡ partitions_path name.now) }
 {
     let topic = topic_path(alloc, name)?;
-    let path = path_behind(alloc, &topic, "/partitions")?;
+    let path = path_after(alloc, &topic, "/partitions")?;
     Ok(path)
 }
 
@@ -50,7 +50,7 @@ pub fn number_path(
     ensures { IfOk result (λ path. path ≡ number_path name.now number) }
 {
     let part = number_part(alloc, number)?;
-    let path = path_behind(alloc, partitions, &part)?;
+    let path = path_after(alloc, partitions, &part)?;
     Ok(path)
 }
 

@@ -1,5 +1,10 @@
 pub mod Outcomes
 pub mod Cut
+pub mod Takings
 pub mod Runs
 pub mod Statuses
 pub mod Records
+pub mod Memories
+pub mod Failures
+pub mod TopCall
+pub mod CutOff

@@ -1,68 +1,115 @@
--- The outcome of a list of lines, by its first line.
-use Rattle.std.proofs.Common.{◌≡◌, ℕ, ◌+◌, true, false, List, [], ◌∷◌, ◌++◌, append-nil, Option, Some, None, option_map, is_some, Result, Ok, Err, IfOk, refl, sym, ◌∙◌, ap}
-use Rattle.kz_types.specs.declared.memory.NoMemory.{NoMemory}
+-- What a line does to the outcome of a run, and to what it has written.
+use Rattle.std.proofs.Common.{◌≡◌, ℕ, Bool, true, false, if◌then◌else◌, List, [], ◌∷◌, ◌++◌, append-nil, append_assoc, Option, Some, None, refl, sym, ◌∙◌, ap, subst}
+use Rattle.kz_types.specs.declared.limits.TheConstants.{MAX_INPUT_BYTES, MAX_LINE_BYTES}
+use Rattle.kz_types.specs.declared.limits.Limit.TheVariants as limits
+use Rattle.kz_types.specs.Limits.{number_of_limit}
 use Rattle.kz_types.specs.declared.machine.Event.{Event}
+use Rattle.kz_types.specs.declared.outside.Status.{Status}
 use Rattle.kz_types.specs.declared.outside.Status.TheVariants as status
-use Rattle.kz_spec_lines.specs.Lines.{Item, line, long, much, is_passed_over, max_line, max_input}
+use Rattle.kz_spec_lines.specs.Lines.{Item, line, long, much, is_passed_over}
 use Rattle.kz_spec_lines.specs.Events.{line_event}
-use Rattle.kz_spec_machine.specs.Machine.{next}
-use Rattle.kz_spec_runs.specs.Output.{Outcome, Place, outcome, after, ended, ending, unless_ended, passed, served, written_for, summary}
-use Rattle.kz_replay.specs.declared.ending.Ending.{Ending}
-use Rattle.kz_replay.specs.declared.ending.Printed.{Printed}
-use Rattle.kz_replay.specs.Endings.{status_of, followed}
+use Rattle.kz_spec_runs.specs.Output.{Outcome, Place, outcome, after, ended, unless_ended, on_event, passed, summary, written, nothing_if_ended, written_on_event}
+use Rattle.kz_spec_runs.specs.Endings.{IsFront}
+use Rattle.kz_replay.specs.declared.ending.Next.{Next}
+use Rattle.kz_replay.specs.declared.ending.Next.TheVariants as next_is
+use Rattle.kz_replay.specs.Endings.{status_of, IsNext, Begins}
+use Rattle.kz_replay.specs.Lines.{Effect, effect_by, effect_of_line, Prints}
 
-module _ (p : Place) (l : List ℕ) (more : List Item) where
-  pub outcome_passed : is_passed_over l ≡ true → outcome p (line l ∷ more) ≡ outcome (passed p) more
-  unfolding outcome
-  outcome_passed h = rw h refl
+-- ---- the first line
 
-  pub outcome_bad : is_passed_over l ≡ false → line_event l ≡ None → outcome p (line l ∷ more) ≡ ended (status.Script (p.lines + 1))
-  unfolding outcome
-  outcome_bad h e = rw (h, e) refl
+by_line : (b : Bool) (o : Option Event) (p : Place) (go : Place → Outcome)
+    → (if b then go (passed p) else on_event p o go) ≡ after (effect_by p b o).text (unless_ended (effect_by p b o).end (go (effect_by p b o).place))
+by_line true o p go = refl
+by_line false None p go = refl
+by_line false (Some e) p go = refl
 
-  pub outcome_event : (e : Event) → is_passed_over l ≡ false → line_event l ≡ Some e
-      → outcome p (line l ∷ more) ≡ after (written_for p e) (unless_ended (ending (next p.world e).1) (outcome (served p e) more))
-  unfolding outcome
-  outcome_event e h s = rw (h, s) refl
+outcome_line : (p : Place) (l : List ℕ) (more : List Item)
+    → outcome p (line l ∷ more) ≡ after (effect_of_line p l).text (unless_ended (effect_of_line p l).end (outcome (effect_of_line p l).place more))
+unfolding outcome
+outcome_line p l more = by_line (is_passed_over l) (line_event l) p (λ q. outcome q more)
+
+lines_by_line : (b : Bool) (o : Option Event) (p : Place) (go : Place → List ℕ)
+    → (if b then go (passed p) else written_on_event p o go) ≡ (effect_by p b o).text ++ nothing_if_ended (effect_by p b o).end (go (effect_by p b o).place)
+lines_by_line true o p go = refl
+lines_by_line false None p go = refl
+lines_by_line false (Some e) p go = refl
+
+written_line : (p : Place) (l : List ℕ) (more : List Item)
+    → written p (line l ∷ more) ≡ (effect_of_line p l).text ++ nothing_if_ended (effect_of_line p l).end (written (effect_of_line p l).place more)
+unfolding written
+written_line p l more = lines_by_line (is_passed_over l) (line_event l) p (λ q. written q more)
+
+-- ---- no line
 
 pub outcome_end : (p : Place) → outcome p [] ≡ record { text = summary p; status = status.Done }
 unfolding outcome
 outcome_end p = refl
 
-pub outcome_long : (p : Place) (more : List Item) → outcome p (long ∷ more) ≡ ended (status.Limit 10 max_line)
+pub written_end : (p : Place) → written p [] ≡ []
+unfolding written
+written_end p = refl
+
+pub outcome_long : (p : Place) (more : List Item) → outcome p (long ∷ more) ≡ ended (status.Limit (number_of_limit limits.LineBytes) MAX_LINE_BYTES)
 unfolding outcome
 outcome_long p more = refl
 
-pub outcome_much : (p : Place) (more : List Item) → outcome p (much ∷ more) ≡ ended (status.Limit 11 max_input)
+pub outcome_much : (p : Place) (more : List Item) → outcome p (much ∷ more) ≡ ended (status.Limit (number_of_limit limits.InputBytes) MAX_INPUT_BYTES)
 unfolding outcome
 outcome_much p more = refl
 
--- where nothing is printed
-pub after-none : (text : List ℕ) (o : Outcome) → text ≡ [] → o ≡ after text o
-after-none text o e = rw e refl
+-- ---- fronts
 
--- an event's lines, and what follows them
-pub outcome_served : (r : Result Printed NoMemory) (p new : Place) (e : Event) (l : List ℕ) → is_passed_over l ≡ false → line_event l ≡ Some e
-    → IfOk r (λ x. x.text.items ≡ written_for p e) → IfOk r (λ x. option_map status_of x.end ≡ ending (next p.world e).1) → IfOk r (λ x. new ≡ served p e)
-    → IfOk r (λ x. (more : List Item) → outcome p (line l ∷ more) ≡ followed x (outcome new more))
-outcome_served (Ok x) p new e l h s text end place = λ more.
-    outcome_event p l more e h s
-    ∙ ap (λ q. after (written_for p e) (unless_ended (ending (next p.world e).1) (outcome q more))) (sym place)
-    ∙ ap (λ s. after (written_for p e) (unless_ended s (outcome new more))) (sym end)
-    ∙ ap (λ t. after t (unless_ended (option_map status_of x.end) (outcome new more))) (sym text)
-outcome_served (Err m) p new e l h s text end place = tt
+pub front_more : (front text all more : List ℕ) → IsFront front text → all ≡ text ++ more → IsFront front all
+front_more front text all more h is = (h.0 ++ more, is ∙ ap (λ t. t ++ more) h.1 ∙ append_assoc front h.0 more)
 
--- what is printed behind the end of a run is nothing
-pub unless_ended_some : (o : Option Ending) (x y : Outcome) → is_some o ≡ true → unless_ended (option_map status_of o) x ≡ unless_ended (option_map status_of o) y
-unless_ended_some None x y h = cc
-unless_ended_some (Some e) x y h = refl
+pub no_text : (text all : List ℕ) → text ≡ [] → IsFront text all
+no_text text all none = (all, ap (λ t. t ++ all) (sym none))
 
--- what is printed where the run goes on
-pub followed_none : (p : Printed) (o : Outcome) → p.end ≡ None → followed p o ≡ after p.text.items o
-followed_none p o e = ap (λ s. after p.text.items (unless_ended (option_map status_of s) o)) e
+-- ---- what is printed for a line
 
--- the summary at the end of the input
-pub followed_summary : (o : Option Ending) (text all : List ℕ) (p : Place) → is_some o ≡ false → all ≡ text ++ summary p
-    → after text (unless_ended (option_map status_of o) (outcome p [])) ≡ after all (unless_ended (option_map status_of o) (ended status.Done))
-followed_summary None text all p h e = ap (after text) (outcome_end p) ∙ ap (λ t. record { text = t; status = status.Done }) (sym (append-nil all ∙ e))
-followed_summary (Some x) text all p h e = cc
+abbrev with_status : Status → List ℕ → Outcome
+with_status s text = record { text = text; status = s }
+
+-- the run goes on, and whatever is told of it
+went_on : {X : Type 0} (joined : List ℕ → X → X) (unless : Option Status → X → X) (e : Effect) (text : List ℕ) (q : Place) (x : X) (go : Place → X)
+    → Prints e text next_is.GoesOn q → x ≡ joined e.text (unless e.end (go e.place)) → x ≡ joined text (unless None (go q))
+went_on joined unless e text q x go h is =
+    is ∙ ap (λ s. joined e.text (unless s (go e.place))) h.1 ∙ ap (λ t. joined t (unless None (go e.place))) (sym h.0) ∙ ap (λ r. joined text (unless None (go r))) (sym h.2)
+
+begins_by : (e : Effect) (text : List ℕ) (what : Next) (q : Place) (o : Outcome) (go : Place → Outcome) → Prints e text what q
+    → o ≡ after e.text (unless_ended e.end (go e.place)) → Begins text what o (go q)
+begins_by e text next_is.GoesOn q o go h is = went_on after unless_ended e text q o go h is
+begins_by e text (next_is.Ends why) q o go h is =
+    is ∙ ap (λ s. after e.text (unless_ended s (go e.place))) h.1 ∙ ap (with_status (status_of why)) (append-nil e.text ∙ sym h.0)
+begins_by e text next_is.NoMemory q o go h is = front_more text e.text o.text (unless_ended e.end (go e.place)).text h (ap (λ (r : Outcome). r.text) is)
+
+pub begins_line : (p q : Place) (l text : List ℕ) (what : Next) → Prints (effect_of_line p l) text what q → (more : List Item) → Begins text what (outcome p (line l ∷ more)) (outcome q more)
+begins_line p q l text what h more = begins_by (effect_of_line p l) text what q (outcome p (line l ∷ more)) (λ r. outcome r more) h (outcome_line p l more)
+
+pub lines_of_line : (p q : Place) (l text : List ℕ) (what : Next) → Prints (effect_of_line p l) text what q → what ≡ next_is.GoesOn
+    → (more : List Item) → written p (line l ∷ more) ≡ text ++ written q more
+lines_of_line p q l text what h goes more =
+    went_on (λ t u. t ++ u) nothing_if_ended (effect_of_line p l) text q (written p (line l ∷ more)) (λ r. written r more) (subst (λ (n : Next). Prints (effect_of_line p l) text n q) goes h) (written_line p l more)
+
+-- all of it is printed
+pub prints_all : (e : Effect) (text : List ℕ) (what : Next) (q : Place) → text ≡ e.text → IsNext what e.end → q ≡ e.place → Prints e text what q
+prints_all e text next_is.GoesOn q t n p = (t, n, p)
+prints_all e text (next_is.Ends why) q t n p = (t, n)
+prints_all e text next_is.NoMemory q t n p = absurd n
+
+-- a line that is passed over, one that is no event, and one that is
+pub effect_passed : (p : Place) (l : List ℕ) → is_passed_over l ≡ true → effect_of_line p l ≡ record { text = []; end = None; place = passed p }
+effect_passed p l h = rw h refl
+
+pub effect_of_other : (p : Place) (l : List ℕ) (o : Option Event) → is_passed_over l ≡ false → line_event l ≡ o → effect_of_line p l ≡ effect_by p false o
+effect_of_other p l o h e = rw (h, e) refl
+
+-- ---- what begins an outcome
+
+pub begins_none : (text : List ℕ) (what : Next) (o rest : Outcome) → what ≡ next_is.GoesOn → Begins text what o rest → o ≡ after text rest
+begins_none text what o rest goes h = subst (λ (n : Next). Begins text n o rest) goes h
+
+pub begins_front : (text : List ℕ) (what : Next) (o rest : Outcome) → Begins text what o rest → IsFront text o.text
+begins_front text next_is.GoesOn o rest h = (rest.text, ap (λ (r : Outcome). r.text) h)
+begins_front text (next_is.Ends why) o rest h = ([], ap (λ (r : Outcome). r.text) h ∙ sym (append-nil text))
+begins_front text next_is.NoMemory o rest h = h

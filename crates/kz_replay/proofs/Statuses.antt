@@ -1,10 +1,12 @@
 -- What the status of a stop says.
 use Rattle.std.proofs.Common.{◌≡◌, ◌≢◌, ℕ, Bool, true, false, cond, eqb, List, refl, subst}
+use Rattle.kz_types.specs.declared.limits.Limit.TheVariants as limits
+use Rattle.kz_types.specs.Limits.{number_of_limit}
+use Rattle.kz_types.specs.declared.limits.TheConstants.{MAX_RECORDS}
 use Rattle.kz_types.specs.declared.outside.Status.{Status}
 use Rattle.kz_types.specs.declared.outside.Status.TheVariants as status
 use Rattle.kz_spec_runs.specs.Output.{Outcome, limit_status}
-use Rattle.kz_spec_runs.specs.Endings.{Agrees}
-use Rattle.kz_spec_stores.specs.Log.{max_records}
+use Rattle.kz_spec_runs.specs.Endings.{EndsAs}
 use Rattle.kz_replay.specs.declared.ending.Ending.TheVariants as ending
 use Rattle.kz_replay.specs.declared.ending.Stop.{Stop}
 use Rattle.kz_replay.specs.declared.ending.Stop.TheVariants as stop
@@ -14,23 +16,23 @@ use Rattle.kz_replay.specs.Endings.{stop_status, Stops}
 data IsLimit : Status → Type 0 where
   limit : (which number : ℕ) → IsLimit (status.Limit which number)
 
-one_limit : (b : Bool) (n : ℕ) → IsLimit (cond b (status.Limit 7 max_records) (status.Limit n 9223372036854775807))
-one_limit true n = limit 7 max_records
+one_limit : (b : Bool) (n : ℕ) → IsLimit (cond b (status.Limit n MAX_RECORDS) (status.Limit n 9223372036854775807))
+one_limit true n = limit n MAX_RECORDS
 one_limit false n = limit n 9223372036854775807
 
 is_limit : (n : ℕ) → IsLimit (limit_status n)
-is_limit n = one_limit (eqb n 7) n
+is_limit n = one_limit (eqb n (number_of_limit limits.Records)) n
 
-limit_agrees : (s : Status) → IsLimit s → (o : Outcome) (sent : List ℕ) → o ≡ record { text = sent; status = s } → Agrees o sent s
-limit_agrees _ (limit which number) o sent h = h
+limit_ends : (s : Status) → IsLimit s → (o : Outcome) (lines sent : List ℕ) → o ≡ record { text = sent; status = s } → EndsAs o lines sent s
+limit_ends _ (limit which number) o lines sent h = h
 
-pub Stops-Agrees : (o : Outcome) (sent : List ℕ) (s : Stop) → Stops o sent s → Agrees o sent (stop_status s)
-Stops-Agrees o sent (stop.Ends (ending.BadLine line)) h = h
-Stops-Agrees o sent (stop.Ends ending.LongLine) h = h
-Stops-Agrees o sent (stop.Ends ending.LongInput) h = h
-Stops-Agrees o sent (stop.Ends (ending.LogLimit n)) h = limit_agrees (limit_status n) (is_limit n) o sent h
-Stops-Agrees o sent stop.NoMemory h = h
-Stops-Agrees o sent stop.SinkFailed h = h
+pub Stops-EndsAs : (o : Outcome) (lines sent : List ℕ) (s : Stop) → Stops o sent s → EndsAs o lines sent (stop_status s)
+Stops-EndsAs o lines sent (stop.Ends (ending.BadLine line)) h = h
+Stops-EndsAs o lines sent (stop.Ends ending.LongLine) h = h
+Stops-EndsAs o lines sent (stop.Ends ending.LongInput) h = h
+Stops-EndsAs o lines sent (stop.Ends (ending.LogLimit n)) h = limit_ends (limit_status n) (is_limit n) o lines sent h
+Stops-EndsAs o lines sent stop.NoMemory h = h
+Stops-EndsAs o lines sent stop.SinkFailed h = h
 
 -- the statuses that no stop has
 abbrev IsOther : Status → Type 0

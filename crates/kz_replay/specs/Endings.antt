@@ -1,21 +1,24 @@
 -- Why a run stops before the end of its input, and what it has written by then.
-use Rattle.std.specs.Prelude.{◌≡◌, ℕ, List, option_map}
+use Rattle.std.specs.Prelude.{◌≡◌, ℕ, Bool, List, Option, Some, None, Result, Err}
+use Rattle.kz_types.specs.declared.limits.Limit.TheVariants as limits
+use Rattle.kz_types.specs.Limits.{number_of_limit}
+use Rattle.kz_types.specs.declared.limits.TheConstants.{MAX_INPUT_BYTES, MAX_LINE_BYTES}
 use Rattle.kz_types.specs.declared.outside.Status.{Status}
 use Rattle.kz_types.specs.declared.outside.Status.TheVariants as status
-use Rattle.kz_spec_lines.specs.Lines.{max_line, max_input}
-use Rattle.kz_spec_runs.specs.Output.{Outcome, after, limit_status, unless_ended}
-use Rattle.kz_spec_runs.specs.Endings.{IsFront}
+use Rattle.kz_spec_runs.specs.Output.{Outcome, after, limit_status}
+use Rattle.kz_spec_runs.specs.Endings.{IsFront, EndsAtFailure}
 use Rattle.kz_replay.specs.declared.ending.Ending.{Ending}
 use Rattle.kz_replay.specs.declared.ending.Ending.TheVariants as ending
+use Rattle.kz_replay.specs.declared.ending.Next.{Next}
+use Rattle.kz_replay.specs.declared.ending.Next.TheVariants as next_is
 use Rattle.kz_replay.specs.declared.ending.Stop.{Stop}
 use Rattle.kz_replay.specs.declared.ending.Stop.TheVariants as stop
-use Rattle.kz_replay.specs.declared.ending.Printed.{Printed}
 
 -- the status of a run that ends for this reason
 abbrev pub status_of : Ending → Status
 status_of (ending.BadLine line) = status.Script line
-status_of ending.LongLine = status.Limit 10 max_line
-status_of ending.LongInput = status.Limit 11 max_input
+status_of ending.LongLine = status.Limit (number_of_limit limits.LineBytes) MAX_LINE_BYTES
+status_of ending.LongInput = status.Limit (number_of_limit limits.InputBytes) MAX_INPUT_BYTES
 status_of (ending.LogLimit number) = limit_status number
 
 -- the status of a run that stops for this reason
@@ -24,9 +27,18 @@ stop_status (stop.Ends e) = status_of e
 stop_status stop.NoMemory = status.NoMemory
 stop_status stop.SinkFailed = status.WriteFault
 
--- what is printed, and then the end of the run, where there is one, or what follows
-abbrev pub followed : Printed → Outcome → Outcome
-followed p rest = after p.text.items (unless_ended (option_map status_of p.end) rest)
+-- what a run does that ends with this status, or goes on
+abbrev pub IsNext : Next → Option Status → Type 0
+IsNext next_is.GoesOn end = end ≡ None
+IsNext (next_is.Ends e) end = end ≡ Some (status_of e)
+IsNext next_is.NoMemory end = ⊥
+
+-- This is printed at the beginning of an outcome, and then the run goes on with the rest, or ends: at the outcome's own end, or,
+-- where memory ran out, earlier.
+abbrev pub Begins : List ℕ → Next → Outcome → Outcome → Type 0
+Begins text next_is.GoesOn o rest = o ≡ after text rest
+Begins text (next_is.Ends e) o rest = o ≡ record { text = text; status = status_of e }
+Begins text next_is.NoMemory o rest = IsFront text o.text
 
 -- A run that should have this outcome has written this much and stopped: at the outcome's own end, or earlier, where
 -- memory ran out or the sink failed.
@@ -34,3 +46,7 @@ abbrev pub Stops : Outcome → List ℕ → Stop → Type 0
 Stops o sent (stop.Ends e) = o ≡ record { text = sent; status = status_of e }
 Stops o sent stop.NoMemory = IsFront sent o.text
 Stops o sent stop.SinkFailed = IsFront sent o.text
+
+-- A part of a run stops with `SinkFailed` exactly where a write failed, and that was the last one.
+abbrev pub StopsAtSink : {T : Type 0} → Result T Stop → ℕ → ℕ → Bool → Bool → Type 0
+StopsAtSink result faults faults_now failed failed_now = EndsAtFailure (Err stop.SinkFailed) result faults faults_now failed failed_now

@@ -1,6 +1,6 @@
 -- What places and streams keep.
 use Rattle.std.specs.Prelude.{ℕ, ◌≤◌, ◌*◌, ◌^◌, length}
-use Rattle.kz_spec_lines.specs.Lines.{max_line, max_input}
+use Rattle.kz_types.specs.declared.limits.TheConstants.{MAX_INPUT_BYTES, MAX_LINE_BYTES}
 use Rattle.kz_replay.specs.Pending.{State}
 
 -- each event is a line, and takes fewer steps than a list can have items
@@ -10,6 +10,6 @@ pub record IsCounted (lines events steps : ℕ) : Type 0 where
 
 -- a stream is within its limits, and each line ended at a byte
 pub record IsKept (s : State) : Type 0 where
-  pub line : length s.line ≤ max_line
-  pub taken : s.taken ≤ max_input
+  pub line : length s.line ≤ MAX_LINE_BYTES
+  pub taken : s.taken ≤ MAX_INPUT_BYTES
   pub lines : s.place.lines ≤ s.taken

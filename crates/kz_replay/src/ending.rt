@@ -1,9 +1,10 @@
 //! How a run ends before the end of its input.
-ghost use Rattle.std.specs.Prelude.{◌≡◌};
+ghost use Rattle.std.specs.Prelude.{◌≡◌, []};
 ghost use Rattle.kz_spec_runs.specs.Output.{limit_status};
 ghost use Rattle.kz_replay.specs.Endings.{status_of, stop_status};
 
-use kz_types::Status;
+use kz_types::{Limit, MAX_INPUT_BYTES, MAX_LINE_BYTES, MAX_RECORDS, Status};
+use std::alloc::Global;
 
 /// Why a run ends at a place of its input.
 #[derive(Clone, Copy, Debug, PartialEq, Eq)]
@@ -18,6 +19,17 @@ pub enum Ending {
     LogLimit { number: u8 },
 }
 
+/// What a run does after something is printed.
+#[derive(Clone, Copy, Debug, PartialEq, Eq)]
+pub enum Next {
+    /// It goes on.
+    GoesOn,
+    /// Its input ends it.
+    Ends(Ending),
+    /// It ends, since an event ran out of memory.
+    NoMemory,
+}
+
 /// Why a run goes no further.
 #[derive(Clone, Copy, Debug, PartialEq, Eq)]
 pub enum Stop {
@@ -29,22 +41,33 @@ pub enum Stop {
     SinkFailed,
 }
 
-/// What is printed for a part of the input, and whether the run ends behind it.
+/// What is printed for a part of the input, and what the run does then.
 #[derive(Drop)]
 pub struct Printed {
     pub text: Vec<u8>,
-    pub end: Option<Ending>,
+    pub next: Next,
 }
 
-const MAX_RECORDS: u64 = 1_000_000;
+impl Printed {
+    /// Nothing is printed.
+    pub fn nothing(alloc: Global, next: Next) -> Printed
+        ensures text { result.text.items ≡ [] }
+        ensures next { result.next ≡ next }
+    {
+        Printed {
+            text: Vec::new(alloc),
+            next,
+        }
+    }
+}
 
 fn limit_status(number: u8) -> Status
     ensures { result ≡ limit_status number }
 {
-    if number == 7 {
+    if number == Limit::Records.number() {
         Status::Limit {
-            which: 7,
-            number: MAX_RECORDS,
+            which: number,
+            number: MAX_RECORDS as u64,
         }
     } else {
         Status::Limit {
@@ -60,12 +83,12 @@ fn status_of(ending: Ending) -> Status
     match ending {
         Ending::BadLine { line } => Status::Script { line },
         Ending::LongLine => Status::Limit {
-            which: 10,
-            number: 2_097_152,
+            which: Limit::LineBytes.number(),
+            number: MAX_LINE_BYTES as u64,
         },
         Ending::LongInput => Status::Limit {
-            which: 11,
-            number: 4_294_967_296,
+            which: Limit::InputBytes.number(),
+            number: MAX_INPUT_BYTES,
         },
         Ending::LogLimit { number } => limit_status(number),
     }

@@ -1,6 +1,7 @@
 //! The top call: reads a script, runs it, and writes the replies.
 #![tactic(auto)]
 
+mod answer;
 mod command;
 mod ending;
 mod exit;

@@ -1,12 +1,13 @@
 //! What a run asks of the machine.
-ghost use Rattle.std.specs.Prelude.{◌≡◌, IfOk};
+ghost use Rattle.std.specs.Prelude.{◌≡◌, true, false, IfOk};
 ghost use Rattle.kz_spec_stores.specs.Log.{end_of};
 ghost use Rattle.kz_spec_machine.specs.Machine.{World as WorldValue, empty_world, next};
 ghost use Rattle.kz_spec_machine.specs.Sound.{IsLawful};
+ghost use Rattle.kz_spec_machine.specs.Failures.{is_failure, IsLeft};
 ghost use Rattle.kz_spec_runs.specs.Output.{recorded_offset};
+ghost use Rattle.kz_replay.specs.Failures.{FailsByNoDisk};
 ghost use Rattle.kz_world.specs.Worlds.{seen};
 
-use kz_driver::StepFault;
 use kz_log::{MemoryLog, MetaLog};
 use kz_session::MemoryTree;
 use kz_tree::ZTree;
@@ -23,10 +24,14 @@ pub trait Machine: Drop + Sized {
     fn new(alloc: Global) -> Result<Self, NoMemory>
         ensures { IfOk result (λ machine. world machine ≡ empty_world) };
 
-    /// Lets an event happen, as a line of a script gives it. Where memory runs out nothing is said of the world.
-    fn event(&mut self, event: Event) -> Result<Answer, NoMemory>
-        requires { IsLawful event }
-        ensures { IfOk result (λ answer. next (world self.old) event ≡ (world self.new, answer)) };
+    /// Lets an event happen, as a line of a script gives it, and answers it. Its stores are in memory, so an event fails only
+    /// where memory runs out. It then leaves the world as it was, but for a turn: the last reply of `Turn` tells the failure after
+    /// the replies of the steps before, and the world is as these left it.
+    fn event(&mut self, event: &Event) -> Answer
+        requires { IsLawful event.now }
+        ensures next { is_failure result ≡ false → next (world self.old) event.now ≡ (world self.new, result) }
+        ensures failed { is_failure result ≡ true → IsLeft (world self.old) event.now result (world self.new) }
+        ensures disk { FailsByNoDisk event.now result };
 
     /// The last transaction of the tree.
     fn zxid(&self) -> i64
@@ -49,13 +54,8 @@ impl Machine for World<MemoryTree, MemoryLog> {
     }
 
     #[tactic(auto, using(crate::proofs::Records::is_asked))]
-    fn event(&mut self, event: Event) -> Result<Answer, NoMemory> {
-        match World::event(self, event) {
-            Ok(answer) => Ok(answer),
-            Err(StepFault::NoMemory) => Err(NoMemory),
-            Err(StepFault::Tree(_)) => unreachable!(),
-            Err(StepFault::Log(_)) => unreachable!(),
-        }
+    fn event(&mut self, event: &Event) -> Answer {
+        World::event(self, event)
     }
 
     fn zxid(&self) -> i64 {

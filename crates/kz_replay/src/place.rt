@@ -1,17 +1,17 @@
 //! Where a run stands between two lines.
-ghost use Rattle.std.specs.Prelude.{◌≡◌, ◌+◌, ◌<◌, ◌≤◌, ◌^◌, ◌∷◌, List, IfOk, option_map};
-ghost use Rattle.kz_types.specs.declared.outside.Status.TheVariants as status;
-ghost use Rattle.kz_spec_lines.specs.Lines.{Item, line as line_item, is_passed_over};
-ghost use Rattle.kz_spec_machine.specs.Machine.{next};
+ghost use Rattle.std.specs.Prelude.{◌≡◌, ◌+◌, ◌<◌, ◌≤◌, ◌^◌, IfOk};
+ghost use Rattle.kz_spec_lines.specs.Lines.{is_passed_over};
 ghost use Rattle.kz_spec_machine.specs.Sound.{IsLawful};
-ghost use Rattle.kz_spec_runs.specs.Output.{Place as PlaceValue, opening, served, written_for, steps_of, ending, ending_of_reply, ended, outcome, summary};
-ghost use Rattle.kz_replay.specs.Endings.{status_of, followed};
+ghost use Rattle.kz_spec_runs.specs.Output.{Place as PlaceValue, summary};
+ghost use Rattle.kz_replay.specs.Failures.{printed_lines};
 ghost use Rattle.kz_replay.specs.Kept.{IsCounted};
+ghost use Rattle.kz_replay.specs.Lines.{effect_of_event, effect_of_line, Prints};
 
-use crate::ending::{Ending, Printed};
+use crate::answer::{is_failure, next_after, steps_of};
+use crate::ending::{Ending, Next, Printed};
 use crate::machine::Machine;
 use kz_script::{LineFault, read_event, summary, write_answer};
-use kz_types::{Answer, Event, LogFault, NoMemory, Reply};
+use kz_types::{Answer, Event, NoMemory};
 use std::alloc::Global;
 use std::marker::Model;
 
@@ -41,37 +41,25 @@ fn is_passed_over(line: &[u8]) -> bool
     }
 }
 
-fn steps_of(answer: &Answer) -> usize
-    ensures { result ≡ steps_of answer.now }
+// The lines that are printed for the answer to the event of this line. An event that failed prints none, but for a turn: the
+// lines of its steps before the failure.
+fn answer_lines(
+    alloc: Global,
+    line: u64,
+    event: &Event,
+    answer: &Answer,
+) -> Result<Vec<u8>, NoMemory>
+    ensures { IfOk result (λ text. text.items ≡ printed_lines line event.now answer.now) }
 {
-    match answer {
-        Answer::Turn(replies) => replies.len(),
-        _ => 0,
-    }
-}
-
-fn ending_of_reply(reply: &Reply) -> Option<Ending>
-    ensures { option_map status_of result ≡ ending_of_reply reply.now }
-{
-    match reply {
-        Reply::LogFailed(LogFault::Limit { number }) => Some(Ending::LogLimit { number: *number }),
-        _ => None,
-    }
-}
-
-fn ending_of(answer: &Answer) -> Option<Ending>
-    ensures { option_map status_of result ≡ ending answer.now }
-{
-    let Answer::Turn(replies) = answer else {
-        return None;
-    };
-    for reply in replies.as_slice() {
-        let ending = ending_of_reply(reply);
-        if ending.is_some() {
-            return ending;
+    match event {
+        Event::Turn { .. } => write_answer(alloc, line, answer),
+        _ => {
+            if is_failure(answer) {
+                return Ok(Vec::new(alloc));
+            }
+            write_answer(alloc, line, answer)
         }
     }
-    None
 }
 
 impl<M: Machine> Place<M> {
@@ -88,46 +76,38 @@ impl<M: Machine> Place<M> {
     }
 
     // Lets the event of a line happen.
-    fn serve(&mut self, alloc: Global, event: Event) -> Result<Printed, NoMemory>
+    fn serve(&mut self, alloc: Global, event: &Event) -> Result<Printed, NoMemory>
         requires lines { self.old.lines < 2 ^ 33 }
-        requires lawful { IsLawful event }
-        ensures text { IfOk result (λ p. p.text.items ≡ written_for self.old event) }
-        ensures end { IfOk result (λ p. option_map status_of p.end ≡ ending (next self.old.world event).1) }
-        ensures place { IfOk result (λ p. self.new ≡ served self.old event) }
+        requires lawful { IsLawful event.now }
+        ensures prints { IfOk result (λ p. Prints (effect_of_event self.old event.now) p.text.items p.next self.new) }
         ensures lines { self.new.lines ≤ self.old.lines + 1 }
     {
-        let answer = self.machine.event(event)?;
-        let text = write_answer(alloc, self.lines + 1, &answer)?;
-        let end = ending_of(&answer);
+        let answer = self.machine.event(event);
+        let text = answer_lines(alloc, self.lines + 1, event, &answer)?;
+        let next = next_after(&answer);
         self.steps += steps_of(&answer) as u128;
         self.lines += 1;
         self.events += 1;
-        Ok(Printed { text, end })
+        Ok(Printed { text, next })
     }
 
     /// Goes over a line.
     #[tactic(auto, using(kz_laws_machine::proofs::Lawful::lawful_line))]
     pub fn advance(&mut self, alloc: Global, line: &[u8]) -> Result<Printed, NoMemory>
         requires { self.old.lines < 2 ^ 33 }
-        ensures ok { IfOk result (λ p. (more : List Item) → outcome self.old (line_item line.now ∷ more)
-            ≡ followed p (outcome self.new more)) }
+        ensures prints { IfOk result (λ p. Prints (effect_of_line self.old line.now) p.text.items p.next self.new) }
         ensures lines { self.new.lines ≤ self.old.lines + 1 }
     {
         if is_passed_over(line) {
             self.lines += 1;
-            return Ok(Printed {
-                text: Vec::new(alloc),
-                end: None,
-            });
+            return Ok(Printed::nothing(alloc, Next::GoesOn));
         }
         match read_event(alloc, line) {
-            Ok(event) => self.serve(alloc, event),
-            Err(LineFault::BadLine) => Ok(Printed {
-                text: Vec::new(alloc),
-                end: Some(Ending::BadLine {
-                    line: self.lines + 1,
-                }),
-            }),
+            Ok(event) => self.serve(alloc, &event),
+            Err(LineFault::BadLine) => {
+                let line = self.lines + 1;
+                Ok(Printed::nothing(alloc, Next::Ends(Ending::BadLine { line })))
+            }
             Err(LineFault::NoMemory) => Err(NoMemory),
         }
     }

@@ -1,12 +1,9 @@
 //! The top call, over any machine.
-ghost use Rattle.std.specs.Prelude.{◌≡◌, ◌≢◌, ◌+◌, ◌<◌, ◌≤◌, ◌↔◌, ◌++◌, ◌∷◌, [], List, ℕ, length, IfSome, IsTrue, codes, map, string_bytes};
-ghost use Rattle.std.specs.Io.KnownBytes.{Appends, IsAtEnd, Keeps};
-ghost use Rattle.kz_types.specs.Causes.{Rose};
-ghost use Rattle.kz_spec_lines.specs.Lines.{max_input};
-ghost use Rattle.kz_spec_runs.specs.Endings.{Agrees, IsReplay};
-ghost use Rattle.kz_spec_runs.specs.InStep.{StaysInStep, script_events};
-ghost use Rattle.kz_spec_runs.specs.Output.{replayed};
-ghost use Rattle.kz_replay.specs.Pending.{pending};
+ghost use Rattle.std.specs.Prelude.{◌≡◌, ◌≢◌, ◌↔◌, [], List, ℕ, IfSome, IsTrue};
+ghost use Rattle.std.specs.Io.KnownBytes.{Appends, Consumes, IsAtEnd};
+ghost use Rattle.kz_spec_runs.specs.Endings.{EndsAs, EndsAtFailure, IsReplay};
+ghost use Rattle.kz_replay.specs.Pending.{pending, pending_lines};
+ghost use Rattle.kz_replay.specs.Runs.{side, Runs};
 
 use crate::ending::stop_status;
 use crate::machine::Machine;
@@ -22,16 +19,8 @@ pub fn run_on<M: Machine, S: Source, K: Sink>(
     input: &mut S,
     out: &mut K,
 ) -> Status
-    ensures usage { (result ≡ Status.Usage) ↔ (IsReplay words.now → ⊥) }
-    ensures untouched { result ≡ Status.Usage → Keeps (S.left input.old) (S.left input.new) × Keeps (K.taken out.old) (K.taken out.new) }
-    ensures output { IsReplay words.now → IfSome (S.left input.old) (λ script. (sent : List ℕ)
-        × Appends (K.taken out.old) (K.taken out.new) sent × Agrees (replayed script) sent result) }
-    ensures whole { result ≡ Status.Done → IsAtEnd (S.left input.new) }
-    ensures read_fault { result ≡ Status.ReadFault → Rose (S.faults input.old) (S.faults input.new) }
-    ensures write_fault { result ≡ Status.WriteFault → Rose (K.faults out.old) (K.faults out.new) }
-    ensures read_calm { result ≢ Status.ReadFault → S.faults input.new ≡ S.faults input.old }
-    ensures write_calm { result ≢ Status.WriteFault → K.faults out.new ≡ K.faults out.old }
-    ensures in_step { IsReplay words.now → IfSome (S.left input.old) (λ script. StaysInStep (script_events script)) }
+    ensures { Runs words.now (side S.left S.faults S.last_failed input.old) (side S.left S.faults S.last_failed input.new)
+        (side K.taken K.faults K.last_failed out.old) (side K.taken K.faults K.last_failed out.new) result }
 {
     if !is_replay(words) {
         return Status::Usage;
@@ -56,9 +45,9 @@ fn is_replay(words: &[String]) -> bool
 fn close<M: Machine, K: Sink>(stream: Stream<M>, out: &mut K) -> Status
     ensures ran { result ≢ Status.Usage }
     ensures no_read { result ≢ Status.ReadFault }
-    ensures ends { (sent : List ℕ) × Appends (K.taken out.old) (K.taken out.new) sent × Agrees (pending stream []) sent result }
-    ensures fault { result ≡ Status.WriteFault → Rose (K.faults out.old) (K.faults out.new) }
-    ensures calm { result ≢ Status.WriteFault → K.faults out.new ≡ K.faults out.old }
+    ensures output { (sent : List ℕ) × Appends (K.taken out.old) (K.taken out.new) sent
+        × ((lines : List ℕ) → EndsAs (pending stream []) lines sent result) }
+    ensures sink { EndsAtFailure Status.WriteFault result (K.faults out.old) (K.faults out.new) (K.last_failed out.old) (K.last_failed out.new) }
 {
     match stream.finish(out) {
         Ok(()) => Status::Done,
@@ -69,13 +58,12 @@ fn close<M: Machine, K: Sink>(stream: Stream<M>, out: &mut K) -> Status
 // Hands the input to the stream, a piece at a time.
 fn pump<M: Machine, S: Source, K: Sink>(mut stream: Stream<M>, input: &mut S, out: &mut K) -> Status
     ensures ran { result ≢ Status.Usage }
-    ensures ends { IfSome (S.left input.old) (λ script. (sent : List ℕ)
-        × Appends (K.taken out.old) (K.taken out.new) sent × Agrees (pending stream script) sent result) }
+    ensures output { IfSome (S.left input.old) (λ script. (taken sent : List ℕ)
+        × Consumes (S.left input.old) (S.left input.new) taken × Appends (K.taken out.old) (K.taken out.new) sent
+        × EndsAs (pending stream script) (pending_lines stream taken) sent result) }
     ensures whole { result ≡ Status.Done → IsAtEnd (S.left input.new) }
-    ensures read_fault { result ≡ Status.ReadFault → Rose (S.faults input.old) (S.faults input.new) }
-    ensures write_fault { result ≡ Status.WriteFault → Rose (K.faults out.old) (K.faults out.new) }
-    ensures read_calm { result ≢ Status.ReadFault → S.faults input.new ≡ S.faults input.old }
-    ensures write_calm { result ≢ Status.WriteFault → K.faults out.new ≡ K.faults out.old }
+    ensures source { EndsAtFailure Status.ReadFault result (S.faults input.old) (S.faults input.new) (S.last_failed input.old) (S.last_failed input.new) }
+    ensures sink { EndsAtFailure Status.WriteFault result (K.faults out.old) (K.faults out.new) (K.last_failed out.old) (K.last_failed out.new) }
 {
     let mut piece = [0u8; 4096];
     for turn in 0..4_294_967_298u64 {

@@ -1,26 +1,22 @@
 //! A script that comes in pieces.
-ghost use Rattle.std.specs.Prelude.{◌≡◌, ◌≢◌, ◌+◌, ◌<◌, ◌≤◌, ◌^◌, [], ◌∷◌, ◌++◌, List, ℕ, length, IfOk, IfErr, OnOk, Err, option_map};
+ghost use Rattle.std.specs.Prelude.{◌≡◌, ◌≢◌, ◌+◌, ◌<◌, ◌≤◌, ◌^◌, [], ◌∷◌, ◌++◌, List, ℕ, IfOk, IfErr, OnOk};
 ghost use Rattle.std.specs.Io.KnownBytes.{Appends};
+ghost use Rattle.kz_types.specs.declared.limits.TheConstants.{MAX_INPUT_BYTES, MAX_LINE_BYTES};
 ghost use Rattle.kz_types.specs.declared.outside.Status.TheVariants as status;
-ghost use Rattle.kz_types.specs.Causes.{Rose};
-ghost use Rattle.kz_spec_lines.specs.Lines.{max_line, max_input, with_front};
+ghost use Rattle.kz_spec_lines.specs.Lines.{with_front};
 ghost use Rattle.kz_spec_machine.specs.Machine.{empty_world};
-ghost use Rattle.kz_spec_runs.specs.Output.{Outcome, opening, ended, outcome, unless_ended};
-ghost use Rattle.kz_replay.specs.Endings.{status_of, followed, Stops};
+ghost use Rattle.kz_spec_runs.specs.Output.{Outcome, opening, ended, outcome};
+ghost use Rattle.kz_replay.specs.Endings.{Begins, Stops, StopsAtSink};
 ghost use Rattle.kz_replay.specs.Kept.{IsKept};
-ghost use Rattle.kz_replay.specs.Pending.{State, pending, GoesOn};
+ghost use Rattle.kz_replay.specs.Pending.{State, pending, Takes, GoesOn};
 
-use crate::ending::{Ending, Printed, Stop};
+use crate::ending::{Ending, Next, Printed, Stop};
 use crate::machine::Machine;
 use crate::place::Place;
 use kz_io::{Sink, send};
-use kz_types::{Failed, NoMemory};
+use kz_types::{Failed, MAX_INPUT_BYTES, MAX_LINE_BYTES, NoMemory};
 use std::alloc::Global;
 use std::marker::Model;
-
-const MAX_LINE: usize = 2_097_152;
-
-const MAX_INPUT: u64 = 4_294_967_296;
 
 /// A run in the middle of its input: its place, the bytes of the line so far, and how many bytes it has taken.
 #[derive(Drop)]
@@ -41,20 +37,19 @@ impl<M: Machine> Model for Stream<M> {
 
 // Writes what is printed.
 fn print<K: Sink>(printed: &Printed, out: &mut K) -> Result<(), Stop>
-    ensures ok { OnOk result (Appends (K.taken out.old) (K.taken out.new) printed.now.text.items × (printed.now.end ≡ None)) }
+    ensures ok { OnOk result (Appends (K.taken out.old) (K.taken out.new) printed.now.text.items × (printed.now.next ≡ Next.GoesOn)) }
     ensures stop { IfErr result (λ stop. (sent : List ℕ) × Appends (K.taken out.old) (K.taken out.new) sent
-        × ((rest : Outcome) → Stops (followed printed.now rest) sent stop)) }
-    ensures later { K.faults out.old ≤ K.faults out.new }
-    ensures fault { result ≡ Err Stop.SinkFailed → Rose (K.faults out.old) (K.faults out.new) }
-    ensures calm { result ≢ Err Stop.SinkFailed → K.faults out.new ≡ K.faults out.old }
+        × ((o rest : Outcome) → Begins printed.now.text.items printed.now.next o rest → Stops o sent stop)) }
+    ensures sink { StopsAtSink result (K.faults out.old) (K.faults out.new) (K.last_failed out.old) (K.last_failed out.new) }
 {
     match send(out, &printed.text) {
         Ok(()) => {}
         Err(Failed) => return Err(Stop::SinkFailed),
     }
-    match printed.end {
-        None => Ok(()),
-        Some(ending) => Err(Stop::Ends(ending)),
+    match printed.next {
+        Next::GoesOn => Ok(()),
+        Next::Ends(ending) => Err(Stop::Ends(ending)),
+        Next::NoMemory => Err(Stop::NoMemory),
     }
 }
 
@@ -65,35 +60,35 @@ fn last_line<M: Machine>(
     line: &[u8],
 ) -> Result<Printed, NoMemory>
     requires { place.old.lines < 2 ^ 33 }
-    ensures { IfOk result (λ p. outcome place.old (with_front line.now []) ≡ followed p (outcome place.new [])) }
+    ensures { IfOk result (λ p. Begins p.text.items p.next (outcome place.old (with_front line.now [])) (outcome place.new [])) }
 {
     if line.is_empty() {
-        Ok(Printed {
-            text: Vec::new(alloc),
-            end: None,
-        })
+        Ok(Printed::nothing(alloc, Next::GoesOn))
     } else {
         place.advance(alloc, line)
     }
 }
 
-// What is printed, and behind it the summary, unless the run ends without.
+// What is printed, and after it the summary, unless the run ends without.
 fn with_summary<M: Machine>(
     alloc: Global,
     place: &Place<M>,
     printed: Printed,
 ) -> Result<Printed, NoMemory>
-    ensures { IfOk result (λ p. followed printed (outcome place.now []) ≡ followed p (ended status.Done)) }
+    ensures { IfOk result (λ p. (o : Outcome) → Begins printed.text.items printed.next o (outcome place.now []) → Begins p.text.items p.next o (ended status.Done)) }
 {
-    if printed.end.is_some() {
+    let Next::GoesOn = printed.next else {
         return Ok(printed);
-    }
-    let Printed { mut text, end } = printed;
+    };
+    let Printed { mut text, next: _ } = printed;
     let summary = place.summary(alloc)?;
     let Ok(()) = text.extend_from_slice(&summary) else {
         return Err(NoMemory);
     };
-    Ok(Printed { text, end })
+    Ok(Printed {
+        text,
+        next: Next::GoesOn,
+    })
 }
 
 impl<M: Machine> Stream<M> {
@@ -110,35 +105,29 @@ impl<M: Machine> Stream<M> {
     }
 
     // A byte of a line.
-    fn push(&mut self, byte: u8) -> Result<Option<Ending>, NoMemory>
+    fn push(&mut self, byte: u8) -> Result<Printed, NoMemory>
         requires { byte ≢ 10 }
-        ensures ok { IfOk result (λ end. (rest : List ℕ) → pending self.old (byte ∷ rest)
-            ≡ unless_ended (option_map status_of end) (pending self.new rest)) }
-        ensures count { IfOk result (λ end. end ≡ None → self.new.taken ≡ self.old.taken + 1) }
+        ensures { IfOk result (λ p. Takes self.old self.new (byte ∷ []) p.text.items p.next) }
     {
-        if self.line.len() >= MAX_LINE {
-            return Ok(Some(Ending::LongLine));
+        if self.line.len() >= MAX_LINE_BYTES {
+            return Ok(Printed::nothing(self.alloc, Next::Ends(Ending::LongLine)));
         }
-        if self.taken >= MAX_INPUT {
-            return Ok(Some(Ending::LongInput));
+        if self.taken >= MAX_INPUT_BYTES {
+            return Ok(Printed::nothing(self.alloc, Next::Ends(Ending::LongInput)));
         }
         let Ok(()) = self.line.push(byte) else {
             return Err(NoMemory);
         };
         self.taken += 1;
-        Ok(None)
+        Ok(Printed::nothing(self.alloc, Next::GoesOn))
     }
 
     // The end of a line.
     fn end_line(&mut self) -> Result<Printed, NoMemory>
-        ensures ok { IfOk result (λ p. (rest : List ℕ) → pending self.old (10 ∷ rest) ≡ followed p (pending self.new rest)) }
-        ensures count { IfOk result (λ p. p.end ≡ None → self.new.taken ≡ self.old.taken + 1) }
+        ensures { IfOk result (λ p. Takes self.old self.new (10 ∷ []) p.text.items p.next) }
     {
-        if self.taken >= MAX_INPUT {
-            return Ok(Printed {
-                text: Vec::new(self.alloc),
-                end: Some(Ending::LongInput),
-            });
+        if self.taken >= MAX_INPUT_BYTES {
+            return Ok(Printed::nothing(self.alloc, Next::Ends(Ending::LongInput)));
         }
         self.taken += 1;
         let printed = match self.place.advance(self.alloc, &self.line) {
@@ -151,18 +140,12 @@ impl<M: Machine> Stream<M> {
 
     // A byte of the input.
     fn step(&mut self, byte: u8) -> Result<Printed, NoMemory>
-        ensures ok { IfOk result (λ p. (rest : List ℕ) → pending self.old (byte ∷ rest) ≡ followed p (pending self.new rest)) }
-        ensures count { IfOk result (λ p. p.end ≡ None → self.new.taken ≡ self.old.taken + 1) }
+        ensures { IfOk result (λ p. Takes self.old self.new (byte ∷ []) p.text.items p.next) }
     {
         if byte == b'\n' {
-            return self.end_line();
-        }
-        match self.push(byte) {
-            Ok(end) => Ok(Printed {
-                text: Vec::new(self.alloc),
-                end,
-            }),
-            Err(NoMemory) => Err(NoMemory),
+            self.end_line()
+        } else {
+            self.push(byte)
         }
     }
 
@@ -170,12 +153,9 @@ impl<M: Machine> Stream<M> {
     fn take<K: Sink>(&mut self, byte: u8, out: &mut K) -> Result<(), Stop>
         ensures ok { OnOk result ((sent : List ℕ) × Appends (K.taken out.old) (K.taken out.new) sent
             × GoesOn self.old self.new (byte ∷ []) sent) }
-        ensures count { OnOk result (self.new.taken ≡ self.old.taken + 1) }
         ensures stop { IfErr result (λ stop. (sent : List ℕ) × Appends (K.taken out.old) (K.taken out.new) sent
             × ((rest : List ℕ) → Stops (pending self.old (byte ∷ rest)) sent stop)) }
-        ensures later { K.faults out.old ≤ K.faults out.new }
-        ensures fault { result ≡ Err Stop.SinkFailed → Rose (K.faults out.old) (K.faults out.new) }
-        ensures calm { result ≢ Err Stop.SinkFailed → K.faults out.new ≡ K.faults out.old }
+        ensures sink { StopsAtSink result (K.faults out.old) (K.faults out.new) (K.last_failed out.old) (K.last_failed out.new) }
     {
         let printed = match self.step(byte) {
             Ok(printed) => printed,
@@ -189,13 +169,10 @@ impl<M: Machine> Stream<M> {
     pub fn feed<K: Sink>(&mut self, piece: &[u8], out: &mut K) -> Result<(), Stop>
         ensures ok { OnOk result ((sent : List ℕ) × Appends (K.taken out.old) (K.taken out.new) sent
             × GoesOn self.old self.new piece.now sent) }
-        ensures count { OnOk result (self.new.taken ≡ self.old.taken + length piece.now) }
-        ensures bound { OnOk result (self.new.taken ≤ max_input) }
+        ensures bound { OnOk result (self.new.taken ≤ MAX_INPUT_BYTES) }
         ensures stop { IfErr result (λ stop. (sent : List ℕ) × Appends (K.taken out.old) (K.taken out.new) sent
             × ((rest : List ℕ) → Stops (pending self.old (piece.now ++ rest)) sent stop)) }
-        ensures later { K.faults out.old ≤ K.faults out.new }
-        ensures fault { result ≡ Err Stop.SinkFailed → Rose (K.faults out.old) (K.faults out.new) }
-        ensures calm { result ≢ Err Stop.SinkFailed → K.faults out.new ≡ K.faults out.old }
+        ensures sink { StopsAtSink result (K.faults out.old) (K.faults out.new) (K.last_failed out.old) (K.last_failed out.new) }
     {
         for byte in piece {
             match self.take(*byte, out) {
@@ -209,7 +186,7 @@ impl<M: Machine> Stream<M> {
 
     // What is printed for the rest of the last line, and the summary.
     fn close(self) -> Result<Printed, NoMemory>
-        ensures { IfOk result (λ p. pending self [] ≡ followed p (ended status.Done)) }
+        ensures { IfOk result (λ p. Begins p.text.items p.next (pending self []) (ended status.Done)) }
     {
         let Stream {
             alloc,
@@ -227,9 +204,7 @@ impl<M: Machine> Stream<M> {
             × (pending self [] ≡ record { text = sent; status = status.Done })) }
         ensures stop { IfErr result (λ stop. (sent : List ℕ) × Appends (K.taken out.old) (K.taken out.new) sent
             × Stops (pending self []) sent stop) }
-        ensures later { K.faults out.old ≤ K.faults out.new }
-        ensures fault { result ≡ Err Stop.SinkFailed → Rose (K.faults out.old) (K.faults out.new) }
-        ensures calm { result ≢ Err Stop.SinkFailed → K.faults out.new ≡ K.faults out.old }
+        ensures sink { StopsAtSink result (K.faults out.old) (K.faults out.new) (K.last_failed out.old) (K.last_failed out.new) }
     {
         let printed = match self.close() {
             Ok(printed) => printed,

@@ -266,11 +266,13 @@ struct SingleBytes {
 }
 
 impl Source for SingleBytes {
-    ghost use Rattle.std.specs.Prelude.{None};
+    ghost use Rattle.std.specs.Prelude.{None, false};
 
     ghost left = { λ _. None };
 
     ghost faults = { λ _. 0 };
+
+    ghost last_failed = { λ _. false };
 
     fn read(&mut self, buf: &mut [u8]) -> Result<usize, Failed> {
         if self.at < self.bytes.len() && !buf.is_empty() {
@@ -298,6 +300,24 @@ static SINGLE_REPLIES: [Part; 2] = [
         1,
     ),
 ];
+
+// The replies to the lines that have ended.
+static WHOLE_REPLIES: [Part; 2] = [
+    (MIGRATED, 1),
+    (
+        "7 appended 5\n8 looked\n8 recorded 5\n8 idle\n9 closed 5\n",
+        1,
+    ),
+];
+
+#[test]
+fn at_a_failed_read_whole_lines_have_their_replies(rt: HostRuntime) {
+    let alloc = rt.alloc();
+    let failures: Failures = (&[1], &[], &[]);
+    let script = joined(&rt, alloc, &SINGLE);
+    let replies = joined(&rt, alloc, &WHOLE_REPLIES);
+    replays(&rt, alloc, script, &failures, Status::ReadFault, replies);
+}
 
 #[test]
 fn pieces_of_one_byte_change_nothing(rt: HostRuntime) {

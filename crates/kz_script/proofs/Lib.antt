@@ -1,5 +1,1 @@
-mod Base64
-mod Json
-mod Floats
-mod PlainRecords
 mod Plain

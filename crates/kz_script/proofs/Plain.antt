@@ -13,8 +13,8 @@ use Rattle.kz_types.specs.declared.tree.Op.TheVariants as op
 use Rattle.kz_spec_lines.specs.Members.{with_text, with_whole, with_bytes}
 use Rattle.kz_spec_lines.specs.WrittenRecords.{record_data}
 use Rattle.kz_spec_lines.specs.Written.{event_members, controller_members, with_now, with_body, with_owner, op_members, op_data, members_of_event}
-use Rattle.kz_script.proofs.Floats.{Calm, no_members_calm, put_calm, text_no_float, whole_no_float, one_of, flag_no_float, bytes_no_float, each_no_float, ints_no_float}
-use Rattle.kz_script.proofs.PlainRecords.{record_no_float}
+use Rattle.kz_record_fields.proofs.Floats.{Calm, no_members_calm, put_calm, text_no_float, whole_no_float, one_of, flag_no_float, bytes_no_float, each_no_float, ints_no_float}
+use Rattle.kz_record_json.proofs.PlainRecords.{record_no_float}
 
 now_no_float : (now : ℤ) (ms : Members) → Calm ms → Calm (with_now now ms)
 now_no_float now ms all = one_of (int_eq now (pos 0)) ms (with_whole (codes "now") now ms) all (whole_no_float (codes "now") now ms all)

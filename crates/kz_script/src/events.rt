@@ -3,10 +3,11 @@ ghost use Rattle.std.specs.Prelude.{◌≡◌, ◌∷◌, [], IfOk, None, Some, 
 ghost use Rattle.serde_json.specs.View.{view, items_view};
 ghost use Rattle.kz_spec_lines.specs.Events.{controller_of, now_of, timed_count, only_id, quorum_of, start_of, elect_of, turn_of, records_in, change_of, register_of, check_of, session_of, open_of, expire_of, ops_in, zk_of, event_of, line_event};
 
-use crate::fault::LineFault;
-use crate::members::{id_of, member_count, read_json, text_member, time_of};
+use crate::numbers::{id_of, time_of};
 use crate::ops::{op_of, session_in};
-use crate::records::record_of;
+use kz_members::read_json;
+use kz_record_fields::{member_count, text_member};
+use kz_record_json::{LineFault, record_of};
 use kz_types::{Event, MetaRecord, NoMemory, Op, Sequence};
 use serde_json::Value;
 use std::alloc::Global;

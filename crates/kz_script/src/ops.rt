@@ -3,9 +3,8 @@ ghost use Rattle.std.specs.Prelude.{◌≡◌, IfOk, Some, None, option_map};
 ghost use Rattle.serde_json.specs.View.{view};
 ghost use Rattle.kz_spec_lines.specs.Ops.{session_in, path_in, version_in, body_by, body_in, owner_by, bodied_count, create_of, set_of, delete_of, check_of, op_of};
 
-use crate::fields::bytes;
-use crate::members::{member_count, text_member};
-use kz_types::{NoMemory, Op, PathFault, Sequence, ZPath};
+use kz_record_fields::{bytes, member_count, text_member};
+use kz_types::{MAX_LONG, MAX_VERSION, NoMemory, Op, PathFault, Sequence, ZPath};
 use serde_json::Value;
 use std::alloc::Global;
 
@@ -14,7 +13,7 @@ pub fn session_in(value: &Value) -> Option<i64>
     ensures { result ≡ session_in (view value.now) }
 {
     let number = value.as_u64()?;
-    if 1 <= number && number <= 9_223_372_036_854_775_807 {
+    if 1 <= number && number <= MAX_LONG as u64 {
         Some(number as i64)
     } else {
         None
@@ -40,7 +39,7 @@ fn version_in(value: &Value) -> Option<i32>
     ensures { result ≡ version_in (view value.now) }
 {
     let version = value.get("version")?.as_i64()?;
-    if -1 <= version && version <= 2_147_483_647 {
+    if -1 <= version && version <= MAX_VERSION as i64 {
         Some(version as i32)
     } else {
         None

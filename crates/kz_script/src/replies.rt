@@ -32,7 +32,8 @@ fn quoted(alloc: Global, text: &str) -> Result<String, NoMemory>
     Ok(Value::try_from_str(alloc, text)?.to_string(alloc)?)
 }
 
-fn body_text(alloc: Global, fault: &BodyFault) -> Result<Option<String>, NoMemory>
+/// Why the body of a znode can't be read, as reply lines have it. `None` where it is out of memory.
+pub fn body_text(alloc: Global, fault: &BodyFault) -> Result<Option<String>, NoMemory>
     ensures { IfOk result (λ made. option_map string_bytes made ≡ body_text fault.now) }
 {
     let text = match fault {

@@ -8,8 +8,8 @@ ghost use Rattle.kz_spec_lines.specs.Members.{with_whole};
 ghost use Rattle.kz_spec_lines.specs.WrittenRecords.{record_data};
 ghost use Rattle.kz_spec_lines.specs.Written.{event_members, controller_members, with_now, with_body, with_owner, op_members, op_data, members_of_event, written_event};
 
-use crate::puts::{ints_value, put_bytes, put_text, put_whole};
-use crate::records::write_item;
+use kz_record_fields::{ints_value, put_bytes, put_text, put_whole};
+use kz_record_json::write_item;
 use kz_types::{Event, MetaRecord, NoMemory, Op, ZPath};
 use serde_json::{Map, Value};
 use std::alloc::Global;

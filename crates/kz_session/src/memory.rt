@@ -1,6 +1,7 @@
 //! A tree in memory.
-ghost use Rattle.std.specs.Prelude.{◌≡◌, Ok, IfOk, IfErr, false, None};
+ghost use Rattle.std.specs.Prelude.{◌≡◌, None};
 ghost use Rattle.kz_spec_stores.specs.Tree as znodes;
+ghost use Rattle.kz_spec_stores.specs.Requests.{no_disk};
 ghost use Rattle.kz_session.specs.Memory.{session_fault};
 
 use crate::{SessionFault, ZSessions};
@@ -39,11 +40,9 @@ fn session_fault(fault: MoveFault) -> SessionFault
 impl ZTree for MemoryTree {
     ghost tree = { λ s. s.tree };
 
-    ghost faults = { λ s. 0 };
+    ghost disk = { λ s. no_disk };
 
-    ghost down = { λ s. false };
-
-    ghost length = { λ s. None };
+    ghost length_with = { λ s change. None };
 
     ghost left = { λ s found. ⊥ };
 

@@ -1,9 +1,8 @@
 //! A store whose tree has sessions.
-ghost use Rattle.std.specs.Prelude.{◌≡◌, ◌≤ℤ◌, pos, true, false, IfOk, IfErr, OnErr, IsErrOf, Ok};
-ghost use Rattle.kz_types.specs.Causes.{Rose};
+ghost use Rattle.std.specs.Prelude.{◌≡◌, ◌≤ℤ◌, pos, IfOk, IfErr, OnErr, IsErrOf, Ok};
 ghost use Rattle.kz_spec_stores.specs.Tree as znodes;
-ghost use Rattle.kz_spec_stores.specs.Requests.{Between};
-ghost use Rattle.kz_session.specs.Sessions.{IsSessionFault, IsDown};
+ghost use Rattle.kz_spec_stores.specs.Requests.{BeginSession, EndSession, answer_by, IsTaken, ChangesDisk, Between};
+ghost use Rattle.kz_session.specs.Sessions.{answer_of_session_fault, IsRefusal};
 
 use kz_tree::ZTree;
 
@@ -16,11 +15,11 @@ pub enum SessionFault {
     Unknown,
     /// Memory ran out.
     NoMemory,
-    /// The disk failed.
+    /// A call of the disk failed, and the store is down.
     Device,
-    /// The disk failed in an earlier call.
+    /// A call of the disk failed in an earlier request.
     Down,
-    /// The file would have this length.
+    /// The file would have so many bytes.
     Full { length: u64 },
     /// The limit of this number would be passed.
     Limit { number: u8 },
@@ -32,24 +31,16 @@ pub trait ZSessions: ZTree {
     fn begin_session(&mut self, session: i64) -> Result<i64, SessionFault>
         requires { pos 1 ≤ℤ session }
         ensures ok { IfOk result (λ zxid. (znodes.begin_session (Self.tree self.old) session ≡ Ok (Self.tree self.new)) × (zxid ≡ (Self.tree self.new).zxid)) }
-        ensures err { IfErr result (IsSessionFault (znodes.begin_session (Self.tree self.old) session) (Self.length self.old) (Self.down self.old)) }
+        ensures refused { IfErr result (IsRefusal (znodes.begin_session (Self.tree self.old) session)) }
         ensures same { OnErr result (Self.tree self.new ≡ Self.tree self.old) }
-        ensures device { IsErrOf result SessionFault.Device → Rose (Self.faults self.old) (Self.faults self.new) }
-        ensures falls { IsErrOf result SessionFault.Device → Self.down self.new ≡ true }
-        ensures calm { (IsErrOf result SessionFault.Device → ⊥) → Self.faults self.new ≡ Self.faults self.old }
-        ensures up { (IsErrOf result SessionFault.Device → ⊥) → Self.down self.new ≡ Self.down self.old }
-        ensures was_down { Self.down self.old ≡ true → IsDown result }
-        ensures stop { IsErrOf result SessionFault.Device → Self.down self.old ≡ false → Between (Self.tree self.old) (znodes.begin_session (Self.tree self.old) session) (Self.left self.new) };
+        ensures disk { ChangesDisk (IsTaken (znodes.begin_session (Self.tree self.old) session)) (Self.length_with self.old (BeginSession session)) (answer_by answer_of_session_fault result) (Self.disk self.old) (Self.disk self.new) }
+        ensures stop { IsErrOf result SessionFault.Device → Between (Self.tree self.old) (znodes.begin_session (Self.tree self.old) session) (Self.left self.new) };
 
     /// Ends a session, and its ephemeral znodes with it, in one transaction, and answers the zxid. `Unknown`: it isn't live.
     fn end_session(&mut self, session: i64) -> Result<i64, SessionFault>
         ensures ok { IfOk result (λ zxid. (znodes.end_session (Self.tree self.old) session ≡ Ok (Self.tree self.new)) × (zxid ≡ (Self.tree self.new).zxid)) }
-        ensures err { IfErr result (IsSessionFault (znodes.end_session (Self.tree self.old) session) (Self.length self.old) (Self.down self.old)) }
+        ensures refused { IfErr result (IsRefusal (znodes.end_session (Self.tree self.old) session)) }
         ensures same { OnErr result (Self.tree self.new ≡ Self.tree self.old) }
-        ensures device { IsErrOf result SessionFault.Device → Rose (Self.faults self.old) (Self.faults self.new) }
-        ensures falls { IsErrOf result SessionFault.Device → Self.down self.new ≡ true }
-        ensures calm { (IsErrOf result SessionFault.Device → ⊥) → Self.faults self.new ≡ Self.faults self.old }
-        ensures up { (IsErrOf result SessionFault.Device → ⊥) → Self.down self.new ≡ Self.down self.old }
-        ensures was_down { Self.down self.old ≡ true → IsDown result }
-        ensures stop { IsErrOf result SessionFault.Device → Self.down self.old ≡ false → Between (Self.tree self.old) (znodes.end_session (Self.tree self.old) session) (Self.left self.new) };
+        ensures disk { ChangesDisk (IsTaken (znodes.end_session (Self.tree self.old) session)) (Self.length_with self.old (EndSession session)) (answer_by answer_of_session_fault result) (Self.disk self.old) (Self.disk self.new) }
+        ensures stop { IsErrOf result SessionFault.Device → Between (Self.tree self.old) (znodes.end_session (Self.tree self.old) session) (Self.left self.new) };
 }

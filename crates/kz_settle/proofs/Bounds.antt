@@ -12,9 +12,9 @@ use Rattle.kz_settle.specs.Settling.{offset_of, closes_entry, opened, ends_by, p
 use Rattle.kz_settle.specs.Stands.{AllBy}
 use Rattle.kz_settle.proofs.Passing.{counted_is_passed, and_false}
 
--- Every entry stands behind an offset.
-abbrev pub AllBehind : ℤ → List Entry → Type 0
-AllBehind at es = All (λ (e : Entry). int_le e.offset at ≡ false) es
+-- Every entry stands after an offset.
+abbrev pub AllLater : ℤ → List Entry → Type 0
+AllLater at es = All (λ (e : Entry). int_le e.offset at ≡ false) es
 
 le_true : (x y : ℤ) → x ≤ℤ y → int_le x y ≡ true
 le_true x y h = grind (arith, ints)
@@ -24,46 +24,46 @@ module _ (at : ℤ) where
   skipped_by true e es h rest = and_false (is_end e.item) (int_le e.offset at) h
   skipped_by false e es h rest = rest
 
-  ends_behind : (es : List Entry) → AllBehind at es → ends_by at es ≡ false
-  ends_behind [] h = refl
-  ends_behind (e ∷ es) h =
-      skipped_by (closes e.item) e es (All-head (λ (x : Entry). int_le x.offset at ≡ false) e es h) (ends_behind es (All-tail (λ (x : Entry). int_le x.offset at ≡ false) e es h))
+  ends_after : (es : List Entry) → AllLater at es → ends_by at es ≡ false
+  ends_after [] h = refl
+  ends_after (e ∷ es) h =
+      skipped_by (closes e.item) e es (All-head (λ (x : Entry). int_le x.offset at ≡ false) e es h) (ends_after es (All-tail (λ (x : Entry). int_le x.offset at ≡ false) e es h))
 
   found_by : (c : Bool) (x : Entry) (xs ys : List Entry) → ends_by at (xs ++ ys) ≡ ends_by at xs
       → is_ended_by at (cond c (Some x) (find closes_entry (xs ++ ys))) ≡ is_ended_by at (cond c (Some x) (find closes_entry xs))
   found_by true x xs ys h = refl
   found_by false x xs ys h = h
 
-  ends_before : (xs ys : List Entry) → AllBehind at ys → ends_by at (xs ++ ys) ≡ ends_by at xs
-  ends_before [] ys h = ends_behind ys h
+  ends_before : (xs ys : List Entry) → AllLater at ys → ends_by at (xs ++ ys) ≡ ends_by at xs
+  ends_before [] ys h = ends_after ys h
   ends_before (x ∷ xs) ys h = found_by (closes x.item) x xs ys (ends_before xs ys h)
 
-  passed_behind : (inside : Bool) (es : List Entry) → AllBehind at es → passed at inside es ≡ []
-  passed_behind inside [] h = refl
-  passed_behind inside (e ∷ es) h =
-      rw (All-head (λ (x : Entry). int_le x.offset at ≡ false) e es h) (passed_behind (opened inside e.item) es (All-tail (λ (x : Entry). int_le x.offset at ≡ false) e es h))
+  passed_after : (inside : Bool) (es : List Entry) → AllLater at es → passed at inside es ≡ []
+  passed_after inside [] h = refl
+  passed_after inside (e ∷ es) h =
+      rw (All-head (λ (x : Entry). int_le x.offset at ≡ false) e es h) (passed_after (opened inside e.item) es (All-tail (λ (x : Entry). int_le x.offset at ≡ false) e es h))
 
-  passed_before : (inside : Bool) (xs ys : List Entry) → AllBehind at ys → passed at inside (xs ++ ys) ≡ passed at inside xs
-  passed_before inside [] ys h = passed_behind inside ys h
+  passed_before : (inside : Bool) (xs ys : List Entry) → AllLater at ys → passed at inside (xs ++ ys) ≡ passed at inside xs
+  passed_before inside [] ys h = passed_after inside ys h
   passed_before inside (x ∷ xs) ys h = rw (ends_before xs ys h, passed_before (opened inside x.item) xs ys h) refl
 
-  -- the records behind an offset don't change what counts at it
-  pub counted_before : (xs ys : List Entry) → Rises int_cmp offset_of (xs ++ ys) → AllBehind at ys → counted (xs ++ ys) at ≡ counted xs at
+  -- the records after an offset don't change what counts at it
+  pub counted_before : (xs ys : List Entry) → Rises int_cmp offset_of (xs ++ ys) → AllLater at ys → counted (xs ++ ys) at ≡ counted xs at
   counted_before xs ys rises h =
       counted_is_passed (xs ++ ys) at rises ∙ passed_before false xs ys h ∙ sym (counted_is_passed xs at (Rises_left int_order offset_of xs ys rises))
 
-  none_kept : (ys : List Entry) → AllBehind at ys → filter (λ (e : Entry). int_le e.offset at) ys ≡ []
+  none_kept : (ys : List Entry) → AllLater at ys → filter (λ (e : Entry). int_le e.offset at) ys ≡ []
   none_kept [] h = refl
   none_kept (y ∷ ys) h =
       rw (All-head (λ (x : Entry). int_le x.offset at ≡ false) y ys h) (none_kept ys (All-tail (λ (x : Entry). int_le x.offset at ≡ false) y ys h))
 
-  -- the records at or before an offset are those before the ones behind it
-  pub by_split : (xs ys : List Entry) → AllBy at xs → AllBehind at ys → filter (λ (e : Entry). int_le e.offset at) (xs ++ ys) ≡ xs
+  -- the records at or before an offset are those before the ones after it
+  pub by_split : (xs ys : List Entry) → AllBy at xs → AllLater at ys → filter (λ (e : Entry). int_le e.offset at) (xs ++ ys) ≡ xs
   by_split [] ys by h = none_kept ys h
   by_split (x ∷ xs) ys by h =
       rw (le_true x.offset at (All-head (λ (e : Entry). e.offset ≤ℤ at) x xs by)) (ap (λ es. x ∷ es) (by_split xs ys (All-tail (λ (e : Entry). e.offset ≤ℤ at) x xs by) h))
 
--- ---- two offsets that no record is behind
+-- ---- two offsets that no record is after
 
 module _ (at to : ℤ) where
   ended_same : (c : Bool) (e : Entry) (es : List Entry) → e.offset ≤ℤ at → e.offset ≤ℤ to → ends_by at es ≡ ends_by to es
@@ -84,6 +84,6 @@ module _ (at to : ℤ) where
       let after = All-tail (λ (x : Entry). x.offset ≤ℤ to) e es k in
       rw (le_true e.offset at (All-head (λ (x : Entry). x.offset ≤ℤ at) e es h), le_true e.offset to (All-head (λ (x : Entry). x.offset ≤ℤ to) e es k), ends_same es later after, passed_same (opened inside e.item) es later after) refl
 
-  -- at all offsets that no record is behind, the same count
+  -- at all offsets that no record is after, the same count
   pub counted_same : (es : List Entry) → Rises int_cmp offset_of es → AllBy at es → AllBy to es → counted es at ≡ counted es to
   counted_same es rises h k = counted_is_passed es at rises ∙ passed_same false es h k ∙ sym (counted_is_passed es to rises)

@@ -69,11 +69,11 @@ lt_itself x = not_less_first (int_lt x x) (int_lt x x) Equal (int_order.itself x
 abbrev pub any_close : List Entry → Bool
 any_close es = list_any closes_entry es
 
--- an End or Abort behind an offset
+-- an End or Abort after an offset
 abbrev pub closed_after : List Entry → ℤ → Bool
 closed_after es from = list_any (λ (e : Entry). closes e.item && int_lt from e.offset) es
 
--- a Begin of these records has no End or Abort behind it
+-- a Begin of these records has no End or Abort after it
 abbrev pub open_among : List Entry → Bool
 open_among es = list_any (λ (b : Entry). is_begin b.item && not (closed_after es b.offset)) es
 
@@ -109,13 +109,13 @@ pub and_false : (a b : Bool) → b ≡ false → (a && b) ≡ false
 and_false true b h = h
 and_false false b h = refl
 
--- behind the first offset, every End or Abort of the rest stands
+-- after the first offset, every End or Abort of the rest stands
 closed_after_first : (x : Entry) (es : List Entry) → All (λ (e : Entry). int_cmp x.offset e.offset ≡ Less) es → closed_after (x ∷ es) x.offset ≡ any_close es
 closed_after_first x es h =
     rw (and_false (closes x.item) (int_lt x.offset x.offset) (lt_itself x.offset))
     (any_same (λ (e : Entry). closes e.item && int_lt x.offset e.offset) closes_entry es (λ k d lt. and_true (closes (get_or es k d).item) _ (lt_from_less x.offset (get_or es k d).offset (h k d lt))))
 
--- the first record closes nothing that begins behind it
+-- the first record closes nothing that begins after it
 closed_after_later : (x : Entry) (es : List Entry) (b : Entry) → int_cmp x.offset b.offset ≡ Less → closed_after (x ∷ es) b.offset ≡ closed_after es b.offset
 closed_after_later x es b h = rw (and_false (closes x.item) (int_lt b.offset x.offset) (lt_back x.offset b.offset h)) refl
 
@@ -142,28 +142,28 @@ abbrev NotBelow : ℤ → List Entry → Type 0
 NotBelow off es = All (λ (e : Entry). int_lt e.offset off ≡ false) es
 
 -- of the records before an offset and those that aren't, the first decide whether it is inside a transaction
-module _ (done rest : List Entry) (off : ℤ) (before : All (λ (e : Entry). int_lt e.offset off ≡ true) done) (behind : NotBelow off rest) where
+module _ (done rest : List Entry) (off : ℤ) (before : All (λ (e : Entry). int_lt e.offset off ≡ true) done) (after : NotBelow off rest) where
   closed_is : (from : ℤ) → is_closed_between (done ++ rest) from off ≡ closed_after done from
   closed_is from =
-      any_left (λ (e : Entry). closes e.item && int_lt from e.offset && int_lt e.offset off) done rest (λ k d lt. and_false _ _ (behind k d lt))
+      any_left (λ (e : Entry). closes e.item && int_lt from e.offset && int_lt e.offset off) done rest (λ k d lt. and_false _ _ (after k d lt))
       ∙ any_same (λ (e : Entry). closes e.item && int_lt from e.offset && int_lt e.offset off) (λ (e : Entry). closes e.item && int_lt from e.offset) done (λ k d lt. and_true _ _ (before k d lt))
 
   begins_before : (b : Entry) → int_lt b.offset off ≡ true → (is_begin b.item && int_lt b.offset off && not (is_closed_between (done ++ rest) b.offset off)) ≡ (is_begin b.item && not (closed_after done b.offset))
   begins_before b h = ap (λ x. x && not (is_closed_between (done ++ rest) b.offset off)) (and_true (is_begin b.item) (int_lt b.offset off) h) ∙ ap (λ x. is_begin b.item && not x) (closed_is b.offset)
 
-  begins_behind : (b : Entry) → int_lt b.offset off ≡ false → (is_begin b.item && int_lt b.offset off && not (is_closed_between (done ++ rest) b.offset off)) ≡ false
-  begins_behind b h = ap (λ x. x && not (is_closed_between (done ++ rest) b.offset off)) (and_false (is_begin b.item) (int_lt b.offset off) h)
+  begins_after : (b : Entry) → int_lt b.offset off ≡ false → (is_begin b.item && int_lt b.offset off && not (is_closed_between (done ++ rest) b.offset off)) ≡ false
+  begins_after b h = ap (λ x. x && not (is_closed_between (done ++ rest) b.offset off)) (and_false (is_begin b.item) (int_lt b.offset off) h)
 
   inside_among : is_inside (done ++ rest) off ≡ open_among done
   inside_among =
       let test : Entry → Bool = λ (b : Entry). is_begin b.item && int_lt b.offset off && not (is_closed_between (done ++ rest) b.offset off) in
-      any_left test done rest (λ k d lt. begins_behind (get_or rest k d) (behind k d lt))
+      any_left test done rest (λ k d lt. begins_after (get_or rest k d) (after k d lt))
       ∙ any_same test (λ (b : Entry). is_begin b.item && not (closed_after done b.offset)) done (λ k d lt. begins_before (get_or done k d) (before k d lt))
 
   pub inside_is : Rises int_cmp offset_of done → is_inside (done ++ rest) off ≡ open_after false done
   inside_is h = inside_among ∙ open_among_is done h
 
--- the first End or Abort behind a record is the first of the records behind it
+-- the first End or Abort after a record is the first of the records after it
 first_close_is : (done : List Entry) (e : Entry) (rest : List Entry) → Rises int_cmp offset_of (done ++ e ∷ rest) → first_close (done ++ e ∷ rest) e.offset ≡ find closes_entry rest
 first_close_is done e rest h =
     let test : Entry → Bool = λ (c : Entry). closes c.item && int_lt e.offset c.offset in
@@ -206,5 +206,5 @@ counted_is_passed es at h = pass_from at es [] es refl h
 
 -- ---- what is open at the end
 
-pub is_inside_behind : (es : List Entry) (off : ℤ) → Rises int_cmp offset_of es → All (λ (e : Entry). int_lt e.offset off ≡ true) es → is_inside es off ≡ open_after false es
-is_inside_behind es off h before = ap (λ xs. is_inside xs off) (sym (append-nil es)) ∙ inside_is es [] off before (All-nil (λ (e : Entry). int_lt e.offset off ≡ false)) h
+pub is_inside_after : (es : List Entry) (off : ℤ) → Rises int_cmp offset_of es → All (λ (e : Entry). int_lt e.offset off ≡ true) es → is_inside es off ≡ open_after false es
+is_inside_after es off h before = ap (λ xs. is_inside xs off) (sym (append-nil es)) ∙ inside_is es [] off before (All-nil (λ (e : Entry). int_lt e.offset off ≡ false)) h

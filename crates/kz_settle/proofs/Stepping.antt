@@ -58,7 +58,7 @@ ends_without at (x ∷ xs) h = none_by (closes x.item) (any_close xs) at x (find
 
 -- ---- the records that wait
 
--- Of these records, and with a transaction open before them or not, those of the transaction that is open behind them.
+-- Of these records, and with a transaction open before them or not, those of the transaction that is open after them.
 pending : Bool → List Entry → List Entry
 pending inside [] = []
 pending inside (e ∷ es) =
@@ -175,7 +175,7 @@ passed_end at inside (x ∷ xs) e h ended under all =
 
 -- ---- the records that wait, by offsets
 
--- behind a record of a log whose offsets rise, the End and Abort records are those of the records behind it
+-- after a record of a log whose offsets rise, the End and Abort records are those of the records after it
 closed_after_record : (done : List Entry) (e : Entry) (rest : List Entry) → Rises int_cmp offset_of (done ++ e ∷ rest) → closed_after (done ++ e ∷ rest) e.offset ≡ any_close rest
 closed_after_record done e rest h =
     let test : Entry → Bool = λ (c : Entry). closes c.item && int_lt e.offset c.offset in
@@ -193,9 +193,9 @@ kept_from whole done [] is h = refl
 kept_from whole done (e ∷ rest) is h =
     let rising = subst (λ es. Rises int_cmp offset_of es) is h in
     let inside : is_inside whole e.offset ≡ open_after false done = ap (λ es. is_inside es e.offset) is ∙ record_inside done e rest rising in
-    let behind : closed_after whole e.offset ≡ any_close rest = ap (λ es. closed_after es e.offset) is ∙ closed_after_record done e rest rising in
+    let after : closed_after whole e.offset ≡ any_close rest = ap (λ es. closed_after es e.offset) is ∙ closed_after_record done e rest rising in
     let next = kept_from whole (done ++ e ∷ []) rest (is ∙ sym (append_assoc done (e ∷ []) rest)) h ∙ ap (λ o. pending o rest) (open_after-append false done (e ∷ [])) in
-    rw (inside, behind, next) refl
+    rw (inside, after, next) refl
 
 kept_is_pending : (es : List Entry) → Rises int_cmp offset_of es → kept es ≡ pending false es
 kept_is_pending es h = kept_from es [] es refl h
@@ -300,7 +300,7 @@ shut_by true false false true later h = refl
 shut_by true false false false later h = cc
 shut_by false b c a later h = refl
 
--- where no transaction is open behind the records, none waits
+-- where no transaction is open after the records, none waits
 pending_shut : (inside : Bool) (xs : List Entry) → open_after inside xs ≡ false → pending inside xs ≡ []
 unfolding pending
 pending_shut inside [] h = refl

@@ -11,11 +11,11 @@ offset_of e = e.offset
 abbrev pub closes_entry : Entry → Bool
 closes_entry e = closes e.item
 
--- whether a transaction is open behind a record, where one is open before it or not
+-- whether a transaction is open after a record, where one is open before it or not
 abbrev pub opened : Bool → MetaRecord → Bool
 opened inside r = if is_begin r then true else (if closes r then false else inside)
 
--- whether a transaction is open behind these records
+-- whether a transaction is open after these records
 abbrev pub open_after : Bool → List Entry → Bool
 open_after inside [] = inside
 open_after inside (e ∷ es) = open_after (opened inside e.item) es
@@ -25,7 +25,7 @@ abbrev pub ends_by : ℤ → List Entry → Bool
 ends_by at es = is_ended_by at (find closes_entry es)
 
 -- Of these records, and with a transaction open before them or not, those that count: each that is no marker and stands
--- outside every transaction, or in one that ends among the records behind it.
+-- outside every transaction, or in one that ends among the records after it.
 abbrev pub passed : ℤ → Bool → List Entry → List Entry
 passed at inside [] = []
 passed at inside (e ∷ es) =

@@ -2,6 +2,7 @@
 use Rattle.std.specs.Prelude.{⊤}
 use Rattle.serde_json.proofs.OnLiterals.{serde_json_on_literals}
 use Rattle.kz_types.proofs.OnLiterals.{values_on_literals}
+use Rattle.kz_spec_quotas.proofs.QuotasOnLiterals.{quotas_on_literals}
 use Rattle.kz_spec_lines.specs.Ops.{op_of}
 use Rattle.kz_spec_lines.specs.Members.{with_tagged_whole, with_tagged_ints, with_tagged_text}
 use Rattle.kz_spec_lines.specs.TopicRecords.{partition_with}
@@ -12,5 +13,5 @@ use Rattle.kz_spec_lines.specs.Written.{written_event}
 use Rattle.kz_spec_lines.specs.Replies.{reply_lines, summary_line}
 
 unfoldable pub lines_on_literals : ⊤
-unfolding serde_json_on_literals values_on_literals op_of with_tagged_whole with_tagged_ints with_tagged_text partition_with log_forms user_forms topic_forms record_of line_event record_data written_event reply_lines summary_line
+unfolding serde_json_on_literals values_on_literals quotas_on_literals op_of with_tagged_whole with_tagged_ints with_tagged_text partition_with log_forms user_forms topic_forms record_of line_event record_data written_event reply_lines summary_line
 lines_on_literals = tt

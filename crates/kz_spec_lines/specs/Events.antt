@@ -2,6 +2,7 @@
 use Rattle.std.specs.Prelude.{ℕ, ◌==◌, ℤ, pos, List, [], ◌∷◌, Option, Some, None, option_map, option_and_then, if◌then◌else◌, codes}
 use Rattle.serde_json.specs.Data.{Data, Items, no_items, item}
 use Rattle.serde_json.specs.Find.{get, as_array, as_bool}
+use Rattle.kz_types.specs.declared.limits.TheConstants.{MAX_NUMBER}
 use Rattle.kz_types.specs.declared.machine.Event.{Event}
 use Rattle.kz_types.specs.declared.machine.Event.TheVariants.{Quorum, Start, Elect, Turn, Register, Change, Check, ZkOpen, ZkExpire, Zk}
 use Rattle.kz_types.specs.declared.record.MetaRecord.{MetaRecord}
@@ -14,7 +15,7 @@ use Rattle.kz_spec_lines.specs.Records.{record_of}
 
 -- the id of a controller or a broker: a whole number from 0 to the greatest of 32 bits
 abbrev pub id_of : Data → Option ℤ
-id_of d = whole_up_to 2147483647 d
+id_of d = whole_up_to MAX_NUMBER d
 
 -- a time: a whole number from 0 to the greatest of 64 bits; where it is absent, 0
 abbrev pub time_of : Option Data → Option ℤ

@@ -1,5 +1,6 @@
 -- How the bytes of a script are cut into lines.
 use Rattle.std.specs.Prelude.{ℕ, ◌-◌, Bool, true, not, ◌&&◌, ◌==◌, List, [], ◌∷◌, if◌then◌else◌}
+use Rattle.kz_types.specs.declared.limits.TheConstants.{MAX_INPUT_BYTES, MAX_LINE_BYTES}
 
 -- A line without its end, or the first byte at which a limit would be passed.
 pub data Item : Type 0 where
@@ -8,14 +9,6 @@ pub data Item : Type 0 where
   long : Item
   -- the input would have more bytes than are allowed
   much : Item
-
--- the greatest number of bytes of a line, without its end
-abbrev pub max_line : ℕ
-max_line = 2097152
-
--- the greatest number of bytes of an input
-abbrev pub max_input : ℕ
-max_input = 4294967296
 
 -- The first line begins with this byte. What stands in place of a line stays.
 abbrev pub with_byte : ℕ → List Item → List Item
@@ -31,12 +24,12 @@ items_from here all [] = []
 items_from here all (b ∷ bs) =
     if not (b == 10) && (here == 0) then long ∷ []
     else (if all == 0 then much ∷ []
-    else (if b == 10 then line [] ∷ items_from max_line (all - 1) bs
+    else (if b == 10 then line [] ∷ items_from MAX_LINE_BYTES (all - 1) bs
     else with_byte b (items_from (here - 1) (all - 1) bs)))
 
 -- The lines of an input. A line ends at a line feed; the last may lack it.
 abbrev pub items : List ℕ → List Item
-items bytes = items_from max_line max_input bytes
+items bytes = items_from MAX_LINE_BYTES MAX_INPUT_BYTES bytes
 
 -- this part of a line stands before them
 abbrev pub with_front : List ℕ → List Item → List Item

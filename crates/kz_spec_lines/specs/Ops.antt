@@ -4,6 +4,7 @@ use Rattle.serde_json.specs.Data.{Data}
 use Rattle.serde_json.specs.Find.{get, as_number, as_u64, as_str}
 use Rattle.base64.specs.Engines.{standard}
 use Rattle.base64.specs.GeneralPurpose.{decoded_of}
+use Rattle.kz_types.specs.declared.limits.TheConstants.{MAX_VERSION}
 use Rattle.kz_types.specs.Paths.{is_path}
 use Rattle.kz_types.specs.declared.tree.Op.{Op}
 use Rattle.kz_types.specs.declared.tree.Op.TheVariants.{Create, Set, Delete, Check}
@@ -19,7 +20,7 @@ path_in d = option_and_then (λ path. if is_path path then Some path else None) 
 
 -- the member `version`: -1 is any
 abbrev pub version_in : Data → Option ℤ
-version_in d = option_and_then (λ v. whole_within (negsuc 0) (pos 2147483647) v) (get (codes "version") d)
+version_in d = option_and_then (λ v. whole_within (negsuc 0) MAX_VERSION v) (get (codes "version") d)
 
 -- a body is a text, or bytes in base64 with its padding, and empty where it is neither
 abbrev pub body_by : Option Data → Option Data → Option (List ℕ)

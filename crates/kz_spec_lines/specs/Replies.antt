@@ -40,7 +40,7 @@ state_name state.SyncKraftToZk = codes "SYNC_KRAFT_TO_ZK"
 state_name state.KraftControllerToBrokerComm = codes "KRAFT_CONTROLLER_TO_BROKER_COMM"
 state_name state.DualWrite = codes "DUAL_WRITE"
 
--- why a body can't be read; want of memory is no reason
+-- why a body can't be read; running out of memory is no reason
 abbrev pub body_text : BodyFault → Option (List ℕ)
 body_text fault.NotJson = Some (codes "not-json")
 body_text (fault.Missing field) = Some (named (codes "missing") field)
@@ -56,7 +56,7 @@ why_text (why.Body f) = body_text f
 why_text why.SameId = Some (codes "same-id")
 why_text (why.Over number) = Some (counted (codes "over") number)
 
--- what a step of a driver prints; a store that fails and want of memory print nothing, and end the run
+-- what a step of a driver prints; a store that fails and running out of memory print nothing, and end the run
 abbrev pub reply_text : Reply → Option (List ℕ)
 reply_text reply.Idle = Some (codes "idle")
 reply_text (reply.WaitQuorum id) = Some (numbered (codes "wait-quorum") id)
@@ -97,11 +97,11 @@ is_client_answer (answer.Refused index code) = true
 is_client_answer (answer.OverOp index number) = true
 is_client_answer a = false
 
--- two numbers behind a word
+-- two numbers after a word
 abbrev pub numbers : List ℕ → ℤ → ℤ → List ℕ
 numbers word a b = numbered word a ++ (codes " " ++ signed_decimal b)
 
--- an index and a number behind a word
+-- an index and a number after a word
 abbrev pub placed : List ℕ → ℕ → List ℕ → List ℕ
 placed word index rest = counted word index ++ (codes " " ++ rest)
 

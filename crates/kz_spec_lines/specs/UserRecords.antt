@@ -4,7 +4,8 @@ use Rattle.std.specs.Result.{result_ok}
 use Rattle.serde_json.specs.Data.{Data}
 use Rattle.serde_json.specs.Find.{as_str, as_bool}
 use Rattle.kz_types.specs.QuotaEntities.{user_first}
-use Rattle.kz_types.specs.Quotas.{is_quota, quota_of}
+use Rattle.kz_types.specs.Quotas.{is_quota}
+use Rattle.kz_spec_quotas.specs.Quotas.{quota_of}
 use Rattle.kz_types.specs.declared.row.QuotaValue.{QuotaValue}
 use Rattle.kz_types.specs.declared.record.QuotaEntity.{QuotaEntity}
 use Rattle.kz_types.specs.declared.record.MetaRecord.{MetaRecord}

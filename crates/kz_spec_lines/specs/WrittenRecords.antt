@@ -2,7 +2,8 @@
 use Rattle.std.specs.Prelude.{ℕ, pos, negsuc, List, map, if◌then◌else◌, codes}
 use Rattle.serde_json.specs.Data.{Data, array, object, Members, no_members, put}
 use Rattle.serde_json.specs.View.{items_of}
-use Rattle.kz_types.specs.Quotas.{is_quota, quota_text}
+use Rattle.kz_types.specs.Quotas.{is_quota}
+use Rattle.kz_spec_quotas.specs.Quotas.{quota_text}
 use Rattle.kz_types.specs.declared.row.QuotaValue.{QuotaValue}
 use Rattle.kz_types.specs.declared.record.Endpoint.{Endpoint}
 use Rattle.kz_types.specs.declared.record.Feature.{Feature}

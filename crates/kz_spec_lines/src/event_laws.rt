@@ -57,7 +57,7 @@ pub fn no_events()
     ensures missing { line_event (codes "{\"event\":\"start\"}") ≡ None }
     ensures no_ids { line_event (codes "{\"event\":\"quorum\",\"ids\":[]}") ≡ None }
     ensures two_ids { line_event (codes "{\"event\":\"quorum\",\"ids\":[1,2]}") ≡ None }
-    ensures behind { line_event (codes "{\"event\":\"check\"}x") ≡ None }
+    ensures after { line_event (codes "{\"event\":\"check\"}x") ≡ None }
     ensures not_utf8 { line_event (codes "{\"event\":\"check\"" ++ (255 ∷ codes "}")) ≡ None }
 {}
 

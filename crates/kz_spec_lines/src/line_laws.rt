@@ -14,7 +14,7 @@ pub fn two_lines()
 pub fn a_long_line()
     ensures full { items_from 2 9 (codes "ab\nc") ≡ line (codes "ab") ∷ line (codes "c") ∷ [] }
     ensures longer { items_from 2 9 (codes "abc\nd") ≡ long ∷ [] }
-    ensures behind { items_from 9 9 (codes "a\nb") ≡ line (codes "a") ∷ line (codes "b") ∷ [] }
+    ensures after { items_from 9 9 (codes "a\nb") ≡ line (codes "a") ∷ line (codes "b") ∷ [] }
 {}
 
 /// Where an input may have two bytes, a third is the end of the lines, a line feed too.

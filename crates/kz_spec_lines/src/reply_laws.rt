@@ -46,7 +46,7 @@ pub fn client_lines()
     ensures refused { reply_lines 9 (answer.Refused 0 (negsuc 109)) ≡ codes "9 refused 0 -110\n" }
     ensures over { reply_lines 9 (answer.OverOp 1 2) ≡ codes "9 over-op 1 2\n" }
     ensures bad { reply_lines 9 (answer.BadRecord 1 3) ≡ codes "9 bad-record 1 3\n" }
-    ensures behind { reply_lines 9 (answer.Behind (pos 4) (pos 5)) ≡ codes "9 behind 4 5\n" }
+    ensures after { reply_lines 9 (answer.Behind (pos 4) (pos 5)) ≡ codes "9 behind 4 5\n" }
 {}
 
 /// The lines of a turn that can't translate a znode. A step without a line prints none.

@@ -3,6 +3,8 @@ use Rattle.std.specs.Prelude.{ℕ, ◌+◌, ◌*◌, ◌/◌, Bool, true, false,
 use Rattle.std.specs.Ordering.{int_eq}
 use Rattle.std.specs.Result.{result_unwrap_or}
 use Rattle.std.specs.List.{filter, list_any, zip, filter_map}
+use Rattle.kz_types.specs.declared.codes.TheConstants.{BAD_VERSION, MIGRATION, NO_NODE, POST_MIGRATION}
+use Rattle.kz_types.specs.declared.limits.TheConstants.{MAX_APPEND_RECORDS, MAX_CHUNK, MAX_SCAN_ROWS, MAX_VERSION}
 use Rattle.kz_types.specs.declared.tree.Row.{Row}
 use Rattle.kz_types.specs.declared.tree.Op.{Op}
 use Rattle.kz_types.specs.declared.tree.Op.TheVariants as op
@@ -25,12 +27,12 @@ use Rattle.kz_types.specs.declared.record.MetaRecord.TheVariants as meta
 use Rattle.kz_types.specs.declared.record.RegisterBrokerRecord.{RegisterBrokerRecord}
 use Rattle.kz_types.specs.Paths.{base_paths}
 use Rattle.kz_spec_values.specs.Control.{control_path, epoch_path, migration_path, read_epoch, written_epoch, shown_epoch, written_control, written_recorded}
-use Rattle.kz_spec_stores.specs.Tree.{Tree, row_at, multi, scan, look, broker_ids, area, rendered_row, max_version}
+use Rattle.kz_spec_stores.specs.Tree.{Tree, row_at, multi, scan, look, broker_ids, area, rendered_row}
 use Rattle.kz_spec_stores.specs.Image.{Image, is_migrated_state}
 use Rattle.kz_spec_stores.specs.Log.{Log, View, new_view, append, end_of, image_at, read_view}
 use Rattle.kz_spec_znodes.specs.Rendering.{render}
 use Rattle.kz_spec_znodes.specs.Translation.{Unreadable, translate}
-use Rattle.kz_spec_znodes.specs.Difference.{diff, chunk, max_chunk}
+use Rattle.kz_spec_znodes.specs.Difference.{diff, chunk}
 
 -- ---- what there is
 
@@ -58,20 +60,20 @@ new_driver id = record { id = id; epoch = None; claim = None; stage = stage.Unin
 abbrev pub state_of : Stage → DriverState
 state_of stage.Uninitialized = state.Uninitialized
 state_of stage.Inactive = state.Inactive
-state_of stage.WaitForQuorum = state.WaitForControllerQuorum
+state_of stage.WaitForControllerQuorum = state.WaitForControllerQuorum
 state_of stage.WaitForBrokers = state.WaitForBrokers
-state_of stage.CompareBrokers = state.WaitForBrokers
-state_of stage.Look = state.BecomeController
-state_of (stage.Claim seen) = state.BecomeController
-state_of (stage.ReadSource rows) = state.ZkMigration
-state_of (stage.Begin rows) = state.ZkMigration
-state_of (stage.Fill records) = state.ZkMigration
-state_of stage.ReadLog = state.SyncKraftToZk
-state_of (stage.ReadArea target rows) = state.SyncKraftToZk
-state_of (stage.WriteAll target ops) = state.SyncKraftToZk
-state_of stage.InformBrokers = state.KraftControllerToBrokerComm
-state_of stage.Rest = state.DualWrite
-state_of (stage.WriteChange target ops) = state.DualWrite
+state_of stage.ListBrokers = state.WaitForBrokers
+state_of stage.ReadControlZnodes = state.BecomeController
+state_of (stage.ClaimLeadership seen) = state.BecomeController
+state_of (stage.ScanForMigration rows) = state.ZkMigration
+state_of (stage.BeginMigration rows) = state.ZkMigration
+state_of (stage.AppendRecords records) = state.ZkMigration
+state_of stage.ReadLogForResync = state.SyncKraftToZk
+state_of (stage.ScanForResync target rows) = state.SyncKraftToZk
+state_of (stage.WriteResync target ops) = state.SyncKraftToZk
+state_of stage.KraftControllerToBrokerComm = state.KraftControllerToBrokerComm
+state_of stage.DualWrite = state.DualWrite
+state_of (stage.WriteDelta target ops) = state.DualWrite
 
 -- the epoch of a driver, 0 where it has none
 abbrev pub epoch_or_zero : Option ℤ → ℤ
@@ -80,15 +82,6 @@ epoch_or_zero (Some e) = e
 
 abbrev pub views_migrated : Driver → Bool
 views_migrated d = is_migrated_state d.view.image.state
-
--- ---- sizes
-
--- the znodes of a page, and the records of a batch of the migration
-abbrev pub page_size : ℕ
-page_size = 256
-
-abbrev pub batch_size : ℕ
-batch_size = 1000
 
 -- ---- where a driver goes
 
@@ -101,11 +94,11 @@ resigned d = record d { epoch = None; claim = None; stage = stage.Inactive }
 
 -- it looks at the tree anew, without a claim
 abbrev pub begins_again : Driver → Driver
-begins_again d = record d { claim = None; stage = stage.Look }
+begins_again d = record d { claim = None; stage = stage.ReadControlZnodes }
 
 -- a driver that is elected with an epoch
 abbrev pub elected_driver : ℤ → Driver → Driver
-elected_driver epoch d = record d { epoch = Some epoch; claim = None; stage = stage.WaitForQuorum }
+elected_driver epoch d = record d { epoch = Some epoch; claim = None; stage = stage.WaitForControllerQuorum }
 
 -- ---- the claim
 
@@ -128,7 +121,7 @@ unless_fenced (Some e) d rest = if int_lt (epoch_or_zero d.epoch) e then (resign
 
 abbrev pub unless_full_epoch : Result ℤ BodyFault → ℤ → Driver → Driver × Reply → Driver × Reply
 unless_full_epoch (Err e) version d rest = (d, reply.Untranslatable epoch_path (why.Body e))
-unless_full_epoch (Ok number) version d rest = if int_eq number max_version || int_eq version max_version then (d, reply.Limit epoch_path) else rest
+unless_full_epoch (Ok number) version d rest = if int_eq number MAX_VERSION || int_eq version MAX_VERSION then (d, reply.Limit epoch_path) else rest
 
 abbrev pub unless_bad_epoch : Option Row → Driver → Driver × Reply → Driver × Reply
 unless_bad_epoch None d rest = rest
@@ -136,7 +129,7 @@ unless_bad_epoch (Some r) d rest = unless_full_epoch (read_epoch r.body) r.versi
 
 abbrev pub unless_full_record : Option Row → Driver → Driver × Reply → Driver × Reply
 unless_full_record None d rest = rest
-unless_full_record (Some r) d rest = if not (views_migrated d) && int_eq r.version max_version then (d, reply.Limit migration_path) else rest
+unless_full_record (Some r) d rest = if not (views_migrated d) && int_eq r.version MAX_VERSION then (d, reply.Limit migration_path) else rest
 
 -- the driver after its look: another controller of a higher epoch fences it off; a number of `/controller_epoch` that can't
 -- be read or can't rise, or a znode that it couldn't set, stops it
@@ -144,7 +137,7 @@ abbrev pub looked : ClaimSeen → Driver → Driver × Reply
 looked seen d =
     unless_fenced (shown_by seen.control) d (
     unless_bad_epoch seen.epoch d (
-    unless_full_record seen.migration d (at_stage (stage.Claim seen) d, reply.Looked)))
+    unless_full_record seen.migration d (at_stage (stage.ClaimLeadership seen) d, reply.Looked)))
 
 abbrev pub epoch_number : Row → ℤ
 epoch_number r = result_unwrap_or (read_epoch r.body) (pos 0)
@@ -201,7 +194,7 @@ abbrev pub remaining_at : Tree → Log → ℤ → List Op
 remaining_at t l offset = diff (area t) (render (image_at l offset))
 
 abbrev pub is_last_write : List Op → Bool
-is_last_write ops = nat_le (length ops) max_chunk
+is_last_write ops = nat_le (length ops) MAX_CHUNK
 
 abbrev pub record_ops : Bool → Recorded → List Op
 record_ops true target = op.Set migration_path (written_recorded target) (negsuc 0) ∷ []
@@ -228,7 +221,7 @@ pub data Request : Type 0 where
   read_log : Request
   list_brokers : Request
   look_up : Request  -- the control and base znodes
-  read_page : Option (List ℕ) → Request  -- the znodes of the migrated area behind a path
+  read_page : Option (List ℕ) → Request  -- the znodes of the migrated area after a path
   write : List Op → Request
   add : List MetaRecord → Request
 
@@ -244,7 +237,7 @@ begin_record = meta.BeginTransaction (Some (codes "ZK Migration"))
 
 -- the records that commit the migration
 abbrev pub commit_records : List MetaRecord
-commit_records = meta.ZkMigrationState (pos 2) ∷ meta.EndTransaction ∷ []
+commit_records = meta.ZkMigrationState MIGRATION ∷ meta.EndTransaction ∷ []
 
 abbrev pub begin_request : Result (List MetaRecord) Unreadable → Request
 begin_request (Ok records) = add (begin_record ∷ [])
@@ -253,7 +246,7 @@ begin_request (Err e) = nothing
 -- the records of the next batch of the migration
 abbrev pub next_records : List MetaRecord → List MetaRecord
 next_records [] = commit_records
-next_records (r ∷ rs) = take batch_size (r ∷ rs)
+next_records (r ∷ rs) = take MAX_APPEND_RECORDS (r ∷ rs)
 
 abbrev pub write_request : Option ℤ → List Op → Recorded → Request
 write_request None ops target = nothing
@@ -263,20 +256,20 @@ write_request (Some claim) ops target = write (write_ops claim ops target)
 abbrev pub asked : Shared → ℤ → Driver → Stage → Request
 asked s now d stage.Uninitialized = nothing
 asked s now d stage.Inactive = nothing
-asked s now d stage.WaitForQuorum = read_log
+asked s now d stage.WaitForControllerQuorum = read_log
 asked s now d stage.WaitForBrokers = read_log
-asked s now d stage.CompareBrokers = list_brokers
-asked s now d stage.Look = look_up
-asked s now d (stage.Claim seen) = write (claim_ops seen d now)
-asked s now d (stage.ReadSource rows) = read_page (last_path rows)
-asked s now d (stage.Begin rows) = begin_request (translate rows)
-asked s now d (stage.Fill records) = add (next_records records)
-asked s now d stage.ReadLog = read_log
-asked s now d (stage.ReadArea target rows) = read_page (last_path rows)
-asked s now d (stage.WriteAll target ops) = write_request d.claim (remaining_at s.tree s.log target.offset) target
-asked s now d stage.InformBrokers = nothing
-asked s now d stage.Rest = read_log
-asked s now d (stage.WriteChange target ops) = write_request d.claim (remaining_at s.tree s.log target.offset) target
+asked s now d stage.ListBrokers = list_brokers
+asked s now d stage.ReadControlZnodes = look_up
+asked s now d (stage.ClaimLeadership seen) = write (claim_ops seen d now)
+asked s now d (stage.ScanForMigration rows) = read_page (last_path rows)
+asked s now d (stage.BeginMigration rows) = begin_request (translate rows)
+asked s now d (stage.AppendRecords records) = add (next_records records)
+asked s now d stage.ReadLogForResync = read_log
+asked s now d (stage.ScanForResync target rows) = read_page (last_path rows)
+asked s now d (stage.WriteResync target ops) = write_request d.claim (remaining_at s.tree s.log target.offset) target
+asked s now d stage.KraftControllerToBrokerComm = nothing
+asked s now d stage.DualWrite = read_log
+asked s now d (stage.WriteDelta target ops) = write_request d.claim (remaining_at s.tree s.log target.offset) target
 
 -- ---- what a request makes of the tree and the log
 
@@ -331,7 +324,7 @@ having_read l d = record d { view = read_view l d.view }
 
 -- a driver that sees that the migration is over resigns
 abbrev pub unless_finalised : Driver → Driver × Reply → Driver × Reply
-unless_finalised d rest = if int_eq d.view.image.state (pos 3) then (resigned d, reply.Moved state.Inactive) else rest
+unless_finalised d rest = if int_eq d.view.image.state POST_MIGRATION then (resigned d, reply.Moved state.Inactive) else rest
 
 abbrev pub wait_or_move : Option ℤ → Driver → Driver × Reply
 wait_or_move (Some id) d = (d, reply.WaitQuorum id)
@@ -339,12 +332,12 @@ wait_or_move None d = (at_stage stage.WaitForBrokers d, reply.Moved state.WaitFo
 
 abbrev pub after_quorum : List ℤ → List ℤ → Driver → Driver × Reply
 after_quorum declared running d = unless_finalised d (
-    if int_eq d.view.image.state (pos 2) then (at_stage stage.Look d, reply.Moved state.BecomeController)
+    if int_eq d.view.image.state MIGRATION then (at_stage stage.ReadControlZnodes d, reply.Moved state.BecomeController)
     else wait_or_move (missing_controller declared running) d)
 
 abbrev pub after_brokers : Option ℤ → Driver → Driver × Reply
 after_brokers (Some id) d = (at_stage stage.WaitForBrokers d, reply.WaitBroker id)
-after_brokers None d = (at_stage stage.Look d, reply.Moved state.BecomeController)
+after_brokers None d = (at_stage stage.ReadControlZnodes d, reply.Moved state.BecomeController)
 
 abbrev pub path_of_op : Op → List ℕ
 path_of_op (op.Create path body owner) = path
@@ -361,13 +354,13 @@ abbrev pub path_at : List Op → ℕ → List ℕ
 path_at ops index = path_or_empty (slice_get ops index)
 
 abbrev pub after_claim : ClaimSeen → Driver → List Op → Result Tree TreeFault → Driver × Reply
-after_claim seen d ops (Ok t) = (record d { claim = Some (claimed_version seen.epoch); stage = if views_migrated d then stage.ReadLog else stage.ReadSource [] }, reply.Claimed (claimed_number seen.epoch))
+after_claim seen d ops (Ok t) = (record d { claim = Some (claimed_version seen.epoch); stage = if views_migrated d then stage.ReadLogForResync else stage.ScanForMigration [] }, reply.Claimed (claimed_number seen.epoch))
 after_claim seen d ops (Err (tree_fault.Refused index code)) = (begins_again d, reply.Moved state.BecomeController)
 after_claim seen d ops (Err (tree_fault.Limit index number)) = (d, reply.Limit (path_at ops index))
 after_claim seen d ops (Err f) = (d, reply.TreeFailed f)
 
 abbrev pub after_page : List Row → List Row → (List Row → Stage) → (List Row → Stage) → Driver → Driver × Reply
-after_page rows page more last d = (at_stage (if nat_lt (length page) page_size then last (rows ++ page) else more (rows ++ page)) d, reply.Read (length page))
+after_page rows page more last d = (at_stage (if nat_lt (length page) MAX_SCAN_ROWS then last (rows ++ page) else more (rows ++ page)) d, reply.Read (length page))
 
 -- a driver that appends, and goes to a stage where its records are in the log
 abbrev pub after_append : Stage → Driver → Result Log LogFault → Driver × Reply
@@ -376,21 +369,22 @@ after_append next d (Err (log_fault.Stale epoch)) = (resigned d, reply.Stale epo
 after_append next d (Err f) = (d, reply.LogFailed f)
 
 abbrev pub after_translation : Shared → ℤ → Driver → Result (List MetaRecord) Unreadable → Driver × Reply
-after_translation s now d (Err e) = (at_stage (stage.ReadSource []) d, reply.Untranslatable e.path e.why)
-after_translation s now d (Ok records) = after_append (stage.Fill records) d (append s.log (epoch_or_zero d.epoch) now (begin_record ∷ []))
+after_translation s now d (Err e) = (at_stage (stage.ScanForMigration []) d, reply.Untranslatable e.path e.why)
+after_translation s now d (Ok records) = after_append (stage.AppendRecords records) d (append s.log (epoch_or_zero d.epoch) now (begin_record ∷ []))
 
 abbrev pub after_records : List MetaRecord → Stage
-after_records [] = stage.ReadLog
-after_records (r ∷ rs) = stage.Fill (drop batch_size (r ∷ rs))
+after_records [] = stage.ReadLogForResync
+after_records (r ∷ rs) = stage.AppendRecords (drop MAX_APPEND_RECORDS (r ∷ rs))
 
 -- the stage after a write: the last one records the offset
 abbrev pub written_driver : List Op → Recorded → (List Op → Stage) → Stage → Driver → Driver × Reply
 written_driver ops target more last d =
     if is_last_write ops then (record d { stage = last; recorded = Some target.offset }, reply.Recorded target.offset)
-    else (at_stage (more (drop max_chunk ops)) d, reply.Wrote (length (chunk ops)))
+    else (at_stage (more (drop MAX_CHUNK ops)) d, reply.Wrote (length (chunk ops)))
 
+-- the check of the claim fails: `/controller_epoch` has another version, or isn't there
 abbrev pub is_claim_refused : ℕ → ℤ → Bool
-is_claim_refused index code = nat_lt index 1 && int_eq code (negsuc 102)
+is_claim_refused index code = nat_lt index 1 && (int_eq code BAD_VERSION || int_eq code NO_NODE)
 
 abbrev pub after_write : ℤ → List Op → Recorded → (List Op → Stage) → Stage → Driver → Result Tree TreeFault → Driver × Reply
 after_write claim ops target more last d (Ok t) = written_driver ops target more last d
@@ -406,7 +400,7 @@ writes t (Some claim) ops target more last d = after_write claim ops target more
 
 -- the driver that has read the log before it reads the migrated area
 abbrev pub after_log : Driver → Driver × Reply
-after_log d = unless_finalised d (at_stage (stage.ReadArea (target_of d) []) d, reply.Looked)
+after_log d = unless_finalised d (at_stage (stage.ScanForResync (target_of d) []) d, reply.Looked)
 
 abbrev pub is_recorded_at : Option ℤ → ℤ → Bool
 is_recorded_at None offset = false
@@ -416,26 +410,26 @@ is_recorded_at (Some o) offset = int_eq o offset
 abbrev pub after_rest : Image → Driver → Driver × Reply
 after_rest before d = unless_finalised d (
     if is_recorded_at d.recorded d.view.position then (d, reply.Idle)
-    else (at_stage (stage.WriteChange (target_of d) (diff (render before) (render d.view.image))) d, reply.Looked))
+    else (at_stage (stage.WriteDelta (target_of d) (diff (render before) (render d.view.image))) d, reply.Looked))
 
 -- The driver after the answer to its request, and what it replies, by its stage.
 abbrev pub answered : Shared → List ℤ → ℤ → Driver → Stage → Driver × Reply
 answered s running now d stage.Uninitialized = (at_stage stage.Inactive d, reply.Moved state.Inactive)
 answered s running now d stage.Inactive = (d, reply.Idle)
-answered s running now d stage.WaitForQuorum = after_quorum s.declared running (having_read s.log d)
-answered s running now d stage.WaitForBrokers = unless_finalised (having_read s.log d) (at_stage stage.CompareBrokers (having_read s.log d), reply.Looked)
-answered s running now d stage.CompareBrokers = after_brokers (missing_broker (broker_ids s.tree) d.view.image) d
-answered s running now d stage.Look = looked (seen_in s.tree) d
-answered s running now d (stage.Claim seen) = after_claim seen d (claim_ops seen d now) (multi s.tree (claim_ops seen d now))
-answered s running now d (stage.ReadSource rows) = after_page rows (scan s.tree (last_path rows) page_size) (λ all. stage.ReadSource all) (λ all. stage.Begin all) d
-answered s running now d (stage.Begin rows) = after_translation s now d (translate rows)
-answered s running now d (stage.Fill records) = after_append (after_records records) d (append s.log (epoch_or_zero d.epoch) now (next_records records))
-answered s running now d stage.ReadLog = after_log (having_read s.log d)
-answered s running now d (stage.ReadArea target rows) = after_page rows (scan s.tree (last_path rows) page_size) (λ all. stage.ReadArea target all) (λ all. stage.WriteAll target (diff (map rendered_row all) (render d.view.image))) d
-answered s running now d (stage.WriteAll target ops) = writes s.tree d.claim (remaining_at s.tree s.log target.offset) target (λ rest. stage.WriteAll target rest) stage.InformBrokers d
-answered s running now d stage.InformBrokers = (at_stage stage.Rest d, reply.Moved state.DualWrite)
-answered s running now d stage.Rest = after_rest d.view.image (having_read s.log d)
-answered s running now d (stage.WriteChange target ops) = writes s.tree d.claim (remaining_at s.tree s.log target.offset) target (λ rest. stage.WriteChange target rest) stage.Rest d
+answered s running now d stage.WaitForControllerQuorum = after_quorum s.declared running (having_read s.log d)
+answered s running now d stage.WaitForBrokers = unless_finalised (having_read s.log d) (at_stage stage.ListBrokers (having_read s.log d), reply.Looked)
+answered s running now d stage.ListBrokers = after_brokers (missing_broker (broker_ids s.tree) d.view.image) d
+answered s running now d stage.ReadControlZnodes = looked (seen_in s.tree) d
+answered s running now d (stage.ClaimLeadership seen) = after_claim seen d (claim_ops seen d now) (multi s.tree (claim_ops seen d now))
+answered s running now d (stage.ScanForMigration rows) = after_page rows (scan s.tree (last_path rows) MAX_SCAN_ROWS) (λ all. stage.ScanForMigration all) (λ all. stage.BeginMigration all) d
+answered s running now d (stage.BeginMigration rows) = after_translation s now d (translate rows)
+answered s running now d (stage.AppendRecords records) = after_append (after_records records) d (append s.log (epoch_or_zero d.epoch) now (next_records records))
+answered s running now d stage.ReadLogForResync = after_log (having_read s.log d)
+answered s running now d (stage.ScanForResync target rows) = after_page rows (scan s.tree (last_path rows) MAX_SCAN_ROWS) (λ all. stage.ScanForResync target all) (λ all. stage.WriteResync target (diff (map rendered_row all) (render d.view.image))) d
+answered s running now d (stage.WriteResync target ops) = writes s.tree d.claim (remaining_at s.tree s.log target.offset) target (λ rest. stage.WriteResync target rest) stage.KraftControllerToBrokerComm d
+answered s running now d stage.KraftControllerToBrokerComm = (at_stage stage.DualWrite d, reply.Moved state.DualWrite)
+answered s running now d stage.DualWrite = after_rest d.view.image (having_read s.log d)
+answered s running now d (stage.WriteDelta target ops) = writes s.tree d.claim (remaining_at s.tree s.log target.offset) target (λ rest. stage.WriteDelta target rest) stage.DualWrite d
 
 -- ---- the driver that gets no answer
 

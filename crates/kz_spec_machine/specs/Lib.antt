@@ -3,3 +3,4 @@ pub mod Verdicts
 pub mod Machine
 pub mod Examples
 pub mod Sound
+pub mod Failures

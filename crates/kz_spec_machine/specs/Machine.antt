@@ -3,6 +3,10 @@ use Rattle.std.specs.Prelude.{ℕ, zero, suc, ◌+◌, ◌*◌, ◌/◌, Bool, t
 use Rattle.std.specs.Str.{bytes_eq}
 use Rattle.std.specs.Ordering.{int_eq}
 use Rattle.std.specs.List.{find, list_any}
+use Rattle.kz_types.specs.declared.codes.TheConstants.{NO_MIGRATION, PRE_MIGRATION}
+use Rattle.kz_types.specs.declared.limits.Limit.TheVariants as limits
+use Rattle.kz_types.specs.Limits.{number_of_limit}
+use Rattle.kz_types.specs.declared.limits.TheConstants.{MAX_APPEND_RECORDS, MAX_CHANGE_RECORDS, MAX_CHUNK, MAX_EPOCH, MAX_SCAN_ROWS}
 use Rattle.kz_types.specs.declared.tree.Op.{Op}
 use Rattle.kz_types.specs.declared.tree.Op.TheVariants as op
 use Rattle.kz_types.specs.declared.fault.TreeFault.{TreeFault}
@@ -25,7 +29,7 @@ use Rattle.kz_types.specs.declared.record.MetaRecord.{MetaRecord}
 use Rattle.kz_types.specs.declared.record.MetaRecord.TheVariants as meta
 use Rattle.kz_spec_stores.specs.Tree.{Tree, empty_tree, row_at, multi, begin_session, end_session, area, migrated_rows}
 use Rattle.kz_spec_stores.specs.Image.{empty_image, all_applied, is_migrated_state, Bad, first_bad, rule_number}
-use Rattle.kz_spec_stores.specs.Log.{Log, empty_log, end_of, begun_of, image_at, image_of, is_migrated_log, is_open_log, batch_ends, with_batch, with_next_epoch, full_log, max_epoch}
+use Rattle.kz_spec_stores.specs.Log.{Log, empty_log, end_of, begun_of, image_at, image_of, is_migrated_log, is_open_log, batch_ends, with_batch, with_next_epoch, full_log}
 use Rattle.kz_spec_znodes.specs.Rendering.{Excess, render, excess}
 use Rattle.kz_spec_znodes.specs.Translation.{Unreadable, translate}
 use Rattle.kz_spec_machine.specs.Driver.{Shared, Driver, new_driver, elected_driver, is_one_of, least, shown_by, path_of_op, Request, nothing, asked, Stepped, step}
@@ -130,7 +134,7 @@ translated_count (Err e) = 0
 -- the znodes that a turn ends with: of the log's end, or, before the migration, of what the tree translates to, if it does
 abbrev pub rendered_count : Bool → Log → Result (List MetaRecord) Unreadable → ℕ
 rendered_count true l translation = length (render (image_of l))
-rendered_count false l (Ok records) = length (render (all_applied max_epoch records empty_image))
+rendered_count false l (Ok records) = length (render (all_applied MAX_EPOCH records empty_image))
 rendered_count false l (Err e) = length (render (image_of l))
 
 abbrev pub rendered_at : Log → Recorded → ℕ
@@ -138,14 +142,14 @@ rendered_at l target = if is_one_of (batch_ends l) target.offset then length (re
 
 -- how many operations may remain to be written
 abbrev pub remaining_count : Log → Stage → ℕ
-remaining_count l (stage.ReadArea target rows) = rendered_at l target
-remaining_count l (stage.WriteAll target []) = rendered_at l target
-remaining_count l (stage.WriteAll target (o ∷ os)) = length (o ∷ os)
-remaining_count l (stage.WriteChange target ops) = length ops
+remaining_count l (stage.ScanForResync target rows) = rendered_at l target
+remaining_count l (stage.WriteResync target []) = rendered_at l target
+remaining_count l (stage.WriteResync target (o ∷ os)) = length (o ∷ os)
+remaining_count l (stage.WriteDelta target ops) = length ops
 remaining_count l s = 0
 
 abbrev pub most_steps : ℕ → ℕ → ℕ → ℕ → ℕ
-most_steps znodes records rendered remaining = 20 + 2 * (znodes / 256) + records / 1000 + (znodes + rendered + 2 * remaining) / 64
+most_steps znodes records rendered remaining = 20 + 2 * (znodes / MAX_SCAN_ROWS) + records / MAX_APPEND_RECORDS + (znodes + rendered + 2 * remaining) / MAX_CHUNK
 
 -- the most steps of a turn
 abbrev pub work : Shared → Driver → ℕ
@@ -216,7 +220,7 @@ started_world w id = record { shared = w.shared; drivers = w.drivers ++ new_driv
 abbrev pub election_records : Log → List MetaRecord
 election_records l = meta.NoOp
     ∷ ((if is_open_log l then meta.AbortTransaction None ∷ [] else [])
-    ++ (if int_eq (image_of l).state (pos 0) then meta.ZkMigrationState (pos 1) ∷ [] else []))
+    ++ (if int_eq (image_of l).state NO_MIGRATION then meta.ZkMigrationState PRE_MIGRATION ∷ [] else []))
 
 abbrev pub next_epoch : Log → ℤ
 next_epoch l = l.epoch +ℤ pos 1
@@ -225,7 +229,7 @@ abbrev pub elected_log : Log → ℤ → Log
 elected_log l now = with_batch (with_next_epoch l) (next_epoch l) now (election_records l)
 
 abbrev pub election_refusal : World → ℤ → Option Answer
-election_refusal w id = first_of (running_refusal w id) (first_of (unless (int_lt w.shared.log.epoch max_epoch) (over 15)) (full w.shared.log (election_records w.shared.log)))
+election_refusal w id = first_of (running_refusal w id) (first_of (unless (int_lt w.shared.log.epoch MAX_EPOCH) (over (number_of_limit limits.Epoch))) (full w.shared.log (election_records w.shared.log)))
 
 abbrev pub elected_world : World → ℤ → ℤ → World
 elected_world w id now = record {
@@ -255,17 +259,13 @@ event_turn_pairs w now (Some d) = turn_pairs (work w.shared d) w.shared (running
 abbrev pub over_excess : Option Excess → Option Answer
 over_excess e = option_map (λ (x : Excess). over x.number) e
 
--- the most records of a change
-abbrev pub max_changes : ℕ
-max_changes = 1000
-
 abbrev pub bad_record : Option Bad → Option Answer
 bad_record b = option_map (λ (bad : Bad). answer.BadRecord bad.index (rule_number bad.why)) b
 
 abbrev pub change_refusal : World → ℤ → List MetaRecord → Option Answer
 change_refusal w id records = first_of (leader_refusal w id) (
     first_of (unless (is_migrated_log w.shared.log) answer.NotMigrated) (
-    first_of (unless (nat_le (length records) max_changes) (over 8)) (
+    first_of (unless (nat_le (length records) MAX_CHANGE_RECORDS) (over (number_of_limit limits.ChangeRecords))) (
     first_of (bad_record (first_bad 0 records (image_of w.shared.log))) (
     first_of (over_excess (excess (all_applied w.shared.log.epoch records (image_of w.shared.log)))) (
     full w.shared.log records)))))

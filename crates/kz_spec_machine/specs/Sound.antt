@@ -1,6 +1,7 @@
 -- What is true of every world of a run. Each group of facts is a record over the values that it reads, so that what
 -- changes anything else keeps the group as it stands.
 use Rattle.std.specs.Prelude.{◌≡◌, ◌≢◌, ◌≤◌, ℕ, Bool, true, false, not, ◌&&◌, ◌||◌, ℤ, pos, negsuc, ◌+ℤ◌, ◌≤ℤ◌, List, [], ◌∷◌, ◌++◌, length, Option, Some, None, is_some, option_map, All, IsTrue, ⊤}
+use Rattle.kz_types.specs.declared.limits.TheConstants.{MAX_NUMBER, MAX_BODY_BYTES, MAX_EPOCH, MAX_LONG, MAX_RECORDS, MAX_VERSION, MAX_ZNODES}
 use Rattle.kz_types.specs.declared.tree.Row.{Row}
 use Rattle.kz_types.specs.declared.tree.Op.{Op}
 use Rattle.kz_types.specs.declared.tree.Op.TheVariants as op
@@ -19,9 +20,9 @@ use Rattle.kz_types.specs.Paths.{base_paths, control_paths, is_among, is_below, 
 use Rattle.kz_ordered.specs.Order.{bytes_cmp}
 use Rattle.kz_ordered.specs.Ordered.{Rises}
 use Rattle.kz_spec_values.specs.Control.{control_path, epoch_path, migration_path, shown_epoch}
-use Rattle.kz_spec_stores.specs.Tree.{Tree, row_at, parent_of, is_root, has_parent, is_ephemeral, may_own, path_of_row, migrated_rows, area, recorded, unclosed, max_body, max_znodes, max_version, max_long}
+use Rattle.kz_spec_stores.specs.Tree.{Tree, row_at, parent_of, is_root, has_parent, is_ephemeral, may_own, path_of_row, migrated_rows, area, recorded, unclosed}
 use Rattle.kz_spec_stores.specs.Image.{empty_image, is_migrated_state}
-use Rattle.kz_spec_stores.specs.Log.{Log, View, last_of, end_of, batch_ends, record_count, image_at, is_migrated_log, max_records, max_epoch}
+use Rattle.kz_spec_stores.specs.Log.{Log, View, last_of, end_of, batch_ends, record_count, image_at, is_migrated_log}
 use Rattle.kz_spec_znodes.specs.Rendering.{render}
 use Rattle.kz_spec_machine.specs.Driver.{Shared, Driver, is_one_of, shown_by, remaining_at}
 use Rattle.kz_spec_machine.specs.Machine.{World, driver_of, is_held_tree}
@@ -31,22 +32,22 @@ use Rattle.kz_spec_machine.specs.Machine.{World, driver_of, is_held_tree}
 -- from 0 to the greatest of 32 bits
 pub record IsId (id : ℤ) : Type 0 where
   pub least : pos 0 ≤ℤ id
-  pub most : id ≤ℤ pos 2147483647
+  pub most : id ≤ℤ pos MAX_NUMBER
 
 -- from 1 to the greatest of 32 bits
 pub record IsEpoch (epoch : ℤ) : Type 0 where
   pub least : pos 1 ≤ℤ epoch
-  pub most : epoch ≤ℤ max_epoch
+  pub most : epoch ≤ℤ MAX_EPOCH
 
 -- from 0, which stands for none, to the greatest of 32 bits
 pub record IsEpochOrNone (epoch : ℤ) : Type 0 where
   pub least : pos 0 ≤ℤ epoch
-  pub most : epoch ≤ℤ max_epoch
+  pub most : epoch ≤ℤ MAX_EPOCH
 
 -- from 0 to the greatest of 64 bits
 pub record IsTime (now : ℤ) : Type 0 where
   pub least : pos 0 ≤ℤ now
-  pub most : now ≤ℤ max_long
+  pub most : now ≤ℤ MAX_LONG
 
 -- ---- the tree and the log
 
@@ -93,19 +94,19 @@ IsOwned sessions r = may_own r.owner sessions ≡ true
 
 -- the body and the data version of a znode keep their limits
 pub record IsSmall (r : Row) : Type 0 where
-  pub body : length r.body ≤ max_body
-  pub version : r.version ≤ℤ max_version
+  pub body : length r.body ≤ MAX_BODY_BYTES
+  pub version : r.version ≤ℤ MAX_VERSION
 
 -- The znodes keep the limits: each by itself, and the numbers of those of the migrated area and of all others.
 pub record Limits (rows : List Row) : Type 0 where
   pub each : All IsSmall rows
-  pub migrated : count_by (λ (r : Row). is_migrated r.path) rows ≤ max_znodes
-  pub others : count_by (λ (r : Row). not (is_migrated r.path)) rows ≤ max_znodes
+  pub migrated : count_by (λ (r : Row). is_migrated r.path) rows ≤ MAX_ZNODES
+  pub others : count_by (λ (r : Row). not (is_migrated r.path)) rows ≤ MAX_ZNODES
 
 -- from 0 to the greatest of 64 bits
 pub record IsZxid (zxid : ℤ) : Type 0 where
   pub least : pos 0 ≤ℤ zxid
-  pub most : zxid ≤ℤ max_long
+  pub most : zxid ≤ℤ MAX_LONG
 
 -- The znodes rise by path, none of them is the root or stands below a control znode, their parents are there, and their
 -- transactions are those of the tree. Those that end with a session are no parents, and none of those that last. The
@@ -124,7 +125,7 @@ pub record TreeShape (t : Tree) : Type 0 where
   pub owned : All (IsOwned t.sessions) t.rows
   pub limits : Limits t.rows
 
--- each batch begins behind the one before it
+-- each batch begins after the one before it
 abbrev pub Follows : ℤ → List BatchRow → Type 0
 Follows end [] = ⊤
 Follows end (b ∷ bs) = (b.first ≡ end +ℤ pos 1) × Follows (last_of b) bs
@@ -135,7 +136,7 @@ pub record LogShape (l : Log) : Type 0 where
   pub base : l.base ≡ negsuc 0
   pub empty : l.base_image ≡ empty_image
   pub follows : Follows l.base l.batches
-  pub few : record_count l.batches ≤ max_records
+  pub few : record_count l.batches ≤ MAX_RECORDS
   pub epochs : All (λ (b : BatchRow). IsEpochOrNone b.epoch) l.batches
   pub epoch : IsEpochOrNone l.epoch
   pub begun : pos 1 ≤ℤ l.epoch → pos 0 ≤ℤ end_of l
@@ -241,16 +242,16 @@ IsTranslated r = ⊤
 -- What holds at each stage, by cases: a driver that migrates has a claim. What is said of the tree is said of a current
 -- driver alone.
 abbrev pub AtStage : Tree → Log → Driver → Stage → Type 0
-AtStage t l d (stage.Claim seen) = (r : Row) → seen.epoch ≡ Some r → pos 0 ≤ℤ r.version
-AtStage t l d (stage.ReadSource rows) = d.claim ≢ None
-AtStage t l d (stage.Begin rows) = d.claim ≢ None
-AtStage t l d (stage.Fill records) = (d.claim ≢ None) × All IsTranslated records
-AtStage t l d stage.ReadLog = is_migrated_log l ≡ true
-AtStage t l d (stage.ReadArea target rows) = Aims target d.id d.epoch d.view × (IsCurrent t d.claim → Reads t rows)
-AtStage t l d (stage.WriteAll target ops) = Aims target d.id d.epoch d.view × (IsCurrent t d.claim → Writes t l target ops)
-AtStage t l d stage.InformBrokers = (d.claim ≢ None) × (IsCurrent t d.claim → Rests t d.view d.recorded)
-AtStage t l d stage.Rest = (d.claim ≢ None) × (IsCurrent t d.claim → Rests t d.view d.recorded)
-AtStage t l d (stage.WriteChange target ops) = Aims target d.id d.epoch d.view × (IsCurrent t d.claim → Writes t l target ops)
+AtStage t l d (stage.ClaimLeadership seen) = (r : Row) → seen.epoch ≡ Some r → pos 0 ≤ℤ r.version
+AtStage t l d (stage.ScanForMigration rows) = d.claim ≢ None
+AtStage t l d (stage.BeginMigration rows) = d.claim ≢ None
+AtStage t l d (stage.AppendRecords records) = (d.claim ≢ None) × All IsTranslated records
+AtStage t l d stage.ReadLogForResync = is_migrated_log l ≡ true
+AtStage t l d (stage.ScanForResync target rows) = Aims target d.id d.epoch d.view × (IsCurrent t d.claim → Reads t rows)
+AtStage t l d (stage.WriteResync target ops) = Aims target d.id d.epoch d.view × (IsCurrent t d.claim → Writes t l target ops)
+AtStage t l d stage.KraftControllerToBrokerComm = (d.claim ≢ None) × (IsCurrent t d.claim → Rests t d.view d.recorded)
+AtStage t l d stage.DualWrite = (d.claim ≢ None) × (IsCurrent t d.claim → Rests t d.view d.recorded)
+AtStage t l d (stage.WriteDelta target ops) = Aims target d.id d.epoch d.view × (IsCurrent t d.claim → Writes t l target ops)
 AtStage t l d s = ⊤
 
 -- What one driver believes, against what is shared. No other driver is named.
@@ -289,7 +290,7 @@ pub record Alone (w : World) : Type 0 where
 -- from 1 to the greatest of 64 bits
 pub record IsSession (session : ℤ) : Type 0 where
   pub least : pos 1 ≤ℤ session
-  pub most : session ≤ℤ max_long
+  pub most : session ≤ℤ MAX_LONG
 
 -- an owner that may be absent
 abbrev pub IsOwner : Option ℤ → Type 0
@@ -299,7 +300,7 @@ IsOwner (Some session) = IsSession session
 -- from -1, which stands for any, to the greatest of 32 bits
 pub record IsVersion (version : ℤ) : Type 0 where
   pub least : negsuc 0 ≤ℤ version
-  pub most : version ≤ℤ pos 2147483647
+  pub most : version ≤ℤ MAX_VERSION
 
 -- an operation whose path keeps the rule of paths, whose owner is a session, and whose version is in range
 abbrev pub IsLawfulOp : Op → Type 0

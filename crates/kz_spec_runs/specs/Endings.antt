@@ -1,24 +1,38 @@
--- How a run of the program agrees with the outcome that its input has.
-use Rattle.std.specs.Prelude.{◌≡◌, ℕ, List, [], ◌∷◌, ◌++◌, map, codes, String, string_bytes}
+-- How a run of the program agrees with what its input asks for, and how it ends where an object of the outside fails.
+use Rattle.std.specs.Prelude.{◌≡◌, ◌≢◌, ℕ, Bool, true, List, [], ◌∷◌, ◌++◌, map, codes, String, string_bytes}
 use Rattle.std.specs.declared.alloc.Global.{Global}
 use Rattle.kz_types.specs.declared.outside.Status.{Status}
 use Rattle.kz_types.specs.declared.outside.Status.TheVariants as status
-use Rattle.kz_spec_runs.specs.Output.{Outcome}
+use Rattle.kz_types.specs.Causes.{Rose}
+use Rattle.kz_spec_runs.specs.Output.{Outcome, replayed, written_so_far}
 
 -- a text that another begins with
 abbrev pub IsFront : List ℕ → List ℕ → Type 0
 IsFront front text = (rest : List ℕ) × (text ≡ front ++ rest)
 
--- A run that should have this outcome has written this much and ended with this status: exactly that outcome; or a
--- front of its text, where the source or the sink failed, or memory ran out.
-abbrev pub Agrees : Outcome → List ℕ → Status → Type 0
-Agrees o sent status.Done = o ≡ record { text = sent; status = status.Done }
-Agrees o sent status.Usage = ⊥
-Agrees o sent (status.Script line) = o ≡ record { text = sent; status = status.Script line }
-Agrees o sent status.ReadFault = IsFront sent o.text
-Agrees o sent status.WriteFault = IsFront sent o.text
-Agrees o sent status.NoMemory = IsFront sent o.text
-Agrees o sent (status.Limit which number) = o ≡ record { text = sent; status = status.Limit which number }
+-- A run that is to have this outcome, and these replies to the lines that it has taken whole, has written so much and ended with this
+-- status: exactly the outcome; where a read failed, exactly those replies; and where a write failed or memory ran out, a front
+-- of the outcome's text.
+abbrev pub EndsAs : Outcome → List ℕ → List ℕ → Status → Type 0
+EndsAs o replies sent status.Done = o ≡ record { text = sent; status = status.Done }
+EndsAs o replies sent status.Usage = ⊥
+EndsAs o replies sent (status.Script line) = o ≡ record { text = sent; status = status.Script line }
+EndsAs o replies sent status.ReadFault = sent ≡ replies
+EndsAs o replies sent status.WriteFault = IsFront sent o.text
+EndsAs o replies sent status.NoMemory = IsFront sent o.text
+EndsAs o replies sent (status.Limit which number) = o ≡ record { text = sent; status = status.Limit which number }
+
+-- A run on this script that has taken these bytes of it and written so much ended as the script asks for, with this status.
+abbrev pub Agrees : List ℕ → List ℕ → List ℕ → Status → Type 0
+Agrees script taken sent result = EndsAs (replayed script) (written_so_far taken) sent result
+
+-- Each object of the outside has a result of its own. A run, or a part of it, ends with that result exactly where a call of the
+-- object failed, and that was the object's last call. With any other result no call of it has failed.
+pub record EndsAtFailure {A : Type 0} (own result : A) (faults faults_now : ℕ) (failed failed_now : Bool) : Type 0 where
+  pub cause : result ≡ own → Rose faults faults_now
+  pub last : result ≡ own → failed_now ≡ true
+  pub calm : result ≢ own → faults_now ≡ faults
+  pub none : result ≢ own → failed_now ≡ true → failed ≡ true
 
 -- the one word `replay`
 abbrev pub IsReplay : List (String Global) → Type 0

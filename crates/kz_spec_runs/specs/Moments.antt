@@ -1,5 +1,5 @@
 -- What a stop may find at each moment of a run: what is written by then, and the tree and the log.
-use Rattle.std.specs.Prelude.{ℕ, List, [], ◌∷◌, ◌++◌, Option, Some, None, if◌then◌else◌}
+use Rattle.std.specs.Prelude.{ℕ, ◌-◌, take, length, List, [], ◌∷◌, ◌++◌, Option, Some, None, if◌then◌else◌}
 use Rattle.kz_types.specs.declared.machine.Event.{Event}
 use Rattle.kz_types.specs.declared.outside.Status.{Status}
 use Rattle.kz_spec_lines.specs.Lines.{Item, line, long, much, items, is_passed_over}
@@ -13,19 +13,23 @@ pub record Moment : Type 0 where
   pub reply : List ℕ
   pub pair : Pair
 
--- a moment before these lines are written
+-- a moment at which any front of these bytes may stand
 abbrev pub moment_at : List ℕ → Pair → Moment
 moment_at reply pair = record { text = []; reply = reply; pair = pair }
 
--- the moments of these requests, before anything is written of the event
-abbrev pub moments_at : List Pair → List Moment
-moments_at [] = []
-moments_at (p ∷ ps) = moment_at [] p ∷ moments_at ps
+-- a text without its last byte
+abbrev pub without_last : List ℕ → List ℕ
+without_last text = take (length text - 1) text
+
+-- the moments at these requests
+abbrev pub moments_at : List ℕ → List Pair → List Moment
+moments_at reply [] = []
+moments_at reply (p ∷ ps) = moment_at reply p ∷ moments_at reply ps
 
 abbrev pub prefixed : List ℕ → Moment → Moment
 prefixed text m = record { text = text ++ m.text; reply = m.reply; pair = m.pair }
 
--- these moments, behind a text
+-- these moments, after a text
 abbrev pub later : List ℕ → List Moment → List Moment
 later text [] = []
 later text (m ∷ ms) = prefixed text m ∷ later text ms
@@ -36,11 +40,11 @@ moments_unless None p rest = rest
 
 abbrev pub moments_on : Place → Option Event → (Place → List Moment) → List Moment
 moments_on p None go = moment_at [] (pair_of p.world.shared) ∷ []
-moments_on p (Some e) go = moments_at (pair_of p.world.shared ∷ event_pairs p.world e)
-    ++ (moment_at (written_for p e) (pair_of (next p.world e).0.shared)
-    ∷ later (written_for p e) (moments_unless (ending (next p.world e).1) (served p e) (go (served p e))))
+moments_on p (Some e) go = moments_at (without_last (written_for p e)) (pair_of p.world.shared ∷ event_pairs p.world e)
+    ++ later (written_for p e) (moments_unless (ending (next p.world e).1) (served p e) (go (served p e)))
 
--- The moments of these lines from a place on. The lines of an event are written after its last request.
+-- The moments of these lines from a place on. In an event, at each of its requests, a stop
+-- may find any front of the event's lines but all of them: these stand only where all its requests are made.
 unfoldable pub moments : Place → List Item → List Moment
 moments p [] = moment_at (summary p) (pair_of p.world.shared) ∷ []
 moments p (long ∷ is) = moment_at [] (pair_of p.world.shared) ∷ []

@@ -1,6 +1,9 @@
 -- What `replay` writes for its input, and how it ends.
-use Rattle.std.specs.Prelude.{ℕ, ◌+◌, ◌==◌, ℤ, List, [], ◌∷◌, ◌++◌, length, Option, Some, None, option_map, if◌then◌else◌}
-use Rattle.std.specs.List.{filter_map}
+use Rattle.std.specs.Prelude.{ℕ, ◌+◌, ◌==◌, Bool, ℤ, List, [], ◌∷◌, ◌++◌, length, Option, Some, None, option_map, if◌then◌else◌}
+use Rattle.std.specs.List.{filter_map, list_any}
+use Rattle.kz_types.specs.declared.limits.Limit.TheVariants as limits
+use Rattle.kz_types.specs.Limits.{number_of_limit}
+use Rattle.kz_types.specs.declared.limits.TheConstants.{MAX_INPUT_BYTES, MAX_LINE_BYTES, MAX_RECORDS}
 use Rattle.kz_types.specs.declared.machine.Event.{Event}
 use Rattle.kz_types.specs.declared.machine.Answer.{Answer}
 use Rattle.kz_types.specs.declared.machine.Answer.TheVariants as answer
@@ -11,11 +14,11 @@ use Rattle.kz_types.specs.declared.fault.LogFault.{LogFault}
 use Rattle.kz_types.specs.declared.fault.LogFault.TheVariants as fault
 use Rattle.kz_types.specs.declared.outside.Status.{Status}
 use Rattle.kz_types.specs.declared.outside.Status.TheVariants as status
-use Rattle.kz_spec_lines.specs.Lines.{Item, line, long, much, items, max_line, max_input, is_passed_over}
+use Rattle.kz_spec_lines.specs.Lines.{Item, line, long, much, items, is_passed_over}
 use Rattle.kz_spec_lines.specs.Events.{line_event}
 use Rattle.kz_spec_lines.specs.Replies.{reply_lines, summary_line}
 use Rattle.kz_spec_stores.specs.Tree.{Tree, recorded}
-use Rattle.kz_spec_stores.specs.Log.{max_records, end_of}
+use Rattle.kz_spec_stores.specs.Log.{end_of}
 use Rattle.kz_spec_machine.specs.Machine.{World, empty_world, next}
 
 -- A text, and how the run that writes it ends.
@@ -43,7 +46,7 @@ pub record Place : Type 0 where
 abbrev pub opening : Place
 opening = record { lines = 0; events = 0; steps = 0; world = empty_world }
 
--- the place behind a line that is passed over
+-- the place after a line that is passed over
 abbrev pub passed : Place → Place
 passed p = record p { lines = p.lines + 1 }
 
@@ -52,7 +55,7 @@ abbrev pub steps_of : Answer → ℕ
 steps_of (answer.Turn replies) = length replies
 steps_of a = 0
 
--- the place behind a line that is this event
+-- the place after a line that is this event
 abbrev pub served : Place → Event → Place
 served p e = record { lines = p.lines + 1; events = p.events + 1; steps = p.steps + steps_of (next p.world e).1; world = (next p.world e).0 }
 
@@ -62,9 +65,9 @@ written_for p e = reply_lines (p.lines + 1) (next p.world e).1
 
 -- ---- endings
 
--- the status of a limit of the log: on the records behind its base, or on its offsets
+-- the status of a limit of the log: on the records after its base, or on its offsets
 abbrev pub limit_status : ℕ → Status
-limit_status number = if number == 7 then status.Limit 7 max_records else status.Limit number 9223372036854775807
+limit_status number = if number == number_of_limit limits.Records then status.Limit number MAX_RECORDS else status.Limit number 9223372036854775807
 
 abbrev pub ending_of_fault : LogFault → Option Status
 ending_of_fault (fault.Limit number) = Some (limit_status number)
@@ -106,9 +109,39 @@ summary p = summary_line p.events p.steps p.world.shared.tree.zxid (end_of p.wor
 -- that ends the run, or a limit; and the summary at the end of the input.
 unfoldable pub outcome : Place → List Item → Outcome
 outcome p [] = record { text = summary p; status = status.Done }
-outcome p (long ∷ is) = ended (status.Limit 10 max_line)
-outcome p (much ∷ is) = ended (status.Limit 11 max_input)
+outcome p (long ∷ is) = ended (status.Limit (number_of_limit limits.LineBytes) MAX_LINE_BYTES)
+outcome p (much ∷ is) = ended (status.Limit (number_of_limit limits.InputBytes) MAX_INPUT_BYTES)
 outcome p (line l ∷ is) = if is_passed_over l then outcome (passed p) is else on_event p (line_event l) (λ q. outcome q is)
+
+-- ---- what is written while the input goes on
+
+abbrev pub has_line_end : List ℕ → Bool
+has_line_end bytes = list_any (λ b. b == 10) bytes
+
+-- the bytes up to and with the last line feed
+abbrev pub whole_lines : List ℕ → List ℕ
+whole_lines [] = []
+whole_lines (b ∷ bs) = if has_line_end (b ∷ bs) then b ∷ whole_lines bs else []
+
+abbrev pub nothing_if_ended : Option Status → List ℕ → List ℕ
+nothing_if_ended (Some s) text = []
+nothing_if_ended None text = text
+
+abbrev pub written_on_event : Place → Option Event → (Place → List ℕ) → List ℕ
+written_on_event p None go = []
+written_on_event p (Some e) go = written_for p e ++ nothing_if_ended (ending (next p.world e).1) (go (served p e))
+
+-- the lines that are written for these items from a place on, without the summary
+unfoldable pub written : Place → List Item → List ℕ
+written p [] = []
+written p (long ∷ is) = []
+written p (much ∷ is) = []
+written p (line l ∷ is) = if is_passed_over l then written (passed p) is else written_on_event p (line_event l) (λ q. written q is)
+
+-- What a replay has written once it has taken these bytes, and before it knows what follows: all lines of the events whose
+-- lines have ended.
+abbrev pub written_so_far : List ℕ → List ℕ
+written_so_far bytes = written opening (items (whole_lines bytes))
 
 -- What `replay` makes of its input.
 abbrev pub replayed : List ℕ → Outcome

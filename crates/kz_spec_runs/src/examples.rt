@@ -1,7 +1,7 @@
 //! Laws by example: what the program writes for worked scripts.
 ghost use Rattle.std.specs.Prelude.{◌≡◌, [], codes};
 ghost use Rattle.kz_types.specs.declared.outside.Status.TheVariants as status;
-ghost use Rattle.kz_spec_runs.specs.Output.{replayed};
+ghost use Rattle.kz_spec_runs.specs.Output.{replayed, written_so_far};
 
 /// One controller migrates an empty tree.
 #[tactic(auto, unfolding(crate::proofs::OnLiterals::runs_on_literals))]
@@ -43,4 +43,10 @@ pub fn refusals()
 pub fn no_event()
     ensures { replayed (codes "{\"event\":\"stop\"}\n")
         ≡ record { text = []; status = status.Script 1 } }
+{}
+
+/// What stands after the last line feed has no reply yet.
+#[tactic(auto, unfolding(crate::proofs::OnLiterals::runs_on_literals))]
+pub fn unfinished_line()
+    ensures { written_so_far (codes "{\"event\":\"quorum\",\"ids\":[3000]}\n{\"event\":\"start\",\"controller\":3000}") ≡ codes "1 done\n" }
 {}

@@ -2,6 +2,7 @@
 use Rattle.std.specs.Prelude.{ℕ, ◌+◌, not, ◌&&◌, ℤ, pos, int_le, List, [], ◌∷◌, Option, Some, None, if◌then◌else◌}
 use Rattle.std.specs.Ordering.{int_eq, int_cmp}
 use Rattle.std.specs.List.{filter}
+use Rattle.kz_types.specs.declared.codes.TheConstants.{NO_MIGRATION, POST_MIGRATION}
 use Rattle.kz_types.specs.declared.id.Id.{Id}
 use Rattle.kz_types.specs.declared.bodies.Pair.{Pair}
 use Rattle.kz_types.specs.declared.bodies.QuotaRow.{QuotaRow}
@@ -141,7 +142,7 @@ effect epoch (meta.ProducerIds r) i = record i { next_producer = Some r.next }
 effect epoch (meta.AccessControlEntry r) i = record i { acls = put bytes_cmp id_of_acl (record { id = r.id; row = acl_row r }) i.acls }
 effect epoch (meta.RemoveAccessControlEntry id) i = record i { acls = without bytes_cmp id_of_acl id.bytes i.acls }
 effect epoch meta.NoOp i = i
-effect epoch (meta.ZkMigrationState s) i = if int_le (pos 0) s && int_le s (pos 3) then record i { state = s } else i
+effect epoch (meta.ZkMigrationState s) i = if int_le NO_MIGRATION s && int_le s POST_MIGRATION then record i { state = s } else i
 effect epoch (meta.RemoveUserScramCredential name mechanism) i = record i { users = scram_removed name mechanism i.users }
 effect epoch (meta.BeginTransaction name) i = i
 effect epoch meta.EndTransaction i = i

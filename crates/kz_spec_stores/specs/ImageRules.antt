@@ -4,6 +4,7 @@ use Rattle.std.specs.Prelude.{ℕ, Bool, true, false, not, ◌&&◌, ◌||◌, �
 use Rattle.std.specs.Ordering.{int_eq}
 use Rattle.std.specs.Str.{bytes_eq}
 use Rattle.std.specs.List.{list_all}
+use Rattle.kz_types.specs.declared.limits.TheConstants.{MAX_EPOCH}
 use Rattle.kz_types.specs.declared.id.Id.{Id}
 use Rattle.kz_types.specs.declared.row.PartitionRow.{PartitionRow}
 use Rattle.kz_types.specs.declared.image_fault.ImageRule.{ImageRule}
@@ -45,15 +46,14 @@ is_dots name = bytes_eq name (codes ".") || bytes_eq name (codes "..")
 abbrev pub is_mechanism : ℤ → Bool
 is_mechanism mechanism = int_eq mechanism (pos 1) || int_eq mechanism (pos 2)
 
--- A user whose credential may be kept. Whether its znode's path is too long is asked only of a mechanism that there is.
-abbrev pub is_user : List ℕ → ℤ → Bool
-is_user name mechanism = not (is_empty name) && not (is_dots name) && (not (is_mechanism mechanism) || has_path (key.User (Some name)))
+-- A user whose credential may be kept: one whose znode has a path. The mechanism stands in no path, and isn't asked.
+abbrev pub is_user : List ℕ → Bool
+is_user name = not (is_empty name) && not (is_dots name) && has_path (key.User (Some name))
 
 abbrev pub are_codes : ℤ → ℤ → Bool
 are_codes kind pattern = is_resource_type kind && is_pattern pattern
 
--- A resource whose access control entries may be kept. Whether its znode's path is too long is asked only of codes that
--- there are.
+-- A resource whose access control entries may be kept. Codes that don't exist have no znode, and so no path to judge.
 abbrev pub is_resource : ℤ → ℤ → List ℕ → Bool
 is_resource kind pattern name = is_part name && (not (are_codes kind pattern) || has_path (key.Acl pattern kind name))
 
@@ -85,8 +85,8 @@ is_misnamed (meta.RemoveTopic id) = is_zero id
 is_misnamed (meta.Config r) = is_empty r.name
     || (int_eq r.resource_type (pos 2) && not (is_topic_name r.resource_name))
     || (int_eq r.resource_type (pos 4) && not (is_broker_name r.resource_name))
-is_misnamed (meta.UserScramCredential r) = not (is_user r.name r.mechanism)
-is_misnamed (meta.RemoveUserScramCredential name mechanism) = not (is_user name mechanism)
+is_misnamed (meta.UserScramCredential r) = not (is_user r.name)
+is_misnamed (meta.RemoveUserScramCredential name mechanism) = not (is_user name)
 is_misnamed (meta.ClientQuota r) = not (has_quota (quota_key r.entity) r.key)
 is_misnamed (meta.AccessControlEntry r) = is_zero r.id || not (is_resource r.resource_type r.pattern_type r.resource_name)
 is_misnamed (meta.RemoveAccessControlEntry id) = is_zero id
@@ -113,9 +113,9 @@ repeats i r = false
 
 -- ---- values
 
--- from 0 to the greatest of 32 bits
+-- a KRaft epoch
 abbrev pub is_epoch : ℤ → Bool
-is_epoch epoch = int_le (pos 0) epoch && int_le epoch (pos 2147483647)
+is_epoch epoch = int_le (pos 0) epoch && int_le epoch MAX_EPOCH
 
 abbrev pub is_replica : ℤ → Bool
 is_replica id = int_le (pos 0) id

@@ -1,6 +1,7 @@
 -- What the entries of every metadata are: their names are legal, and their values in range.
 use Rattle.std.specs.Prelude.{◌≡◌, ◌≢◌, ⊤, true, false, ℤ, pos, int_le, ◌&&◌, List, ℕ, Option, Some, None, All}
 use Rattle.std.specs.List.{AllPairs}
+use Rattle.kz_types.specs.declared.codes.TheConstants.{NO_MIGRATION, POST_MIGRATION}
 use Rattle.kz_types.specs.declared.bodies.Pair.{Pair}
 use Rattle.kz_types.specs.declared.bodies.QuotaRow.{QuotaRow}
 use Rattle.kz_types.specs.declared.bodies.ScramPair.{ScramPair}
@@ -66,7 +67,7 @@ pub record IsQuotaEntry (q : QuotaEntry) : Type 0 where
 
 -- A credential is one that a user of this name may have, by a mechanism that there is, with at least one iteration.
 abbrev pub IsScramOf : List ℕ → ScramPair → Type 0
-IsScramOf name s = (is_user name s.mechanism ≡ true) × (is_mechanism s.mechanism ≡ true) × (int_le (pos 1) s.value.iterations ≡ true)
+IsScramOf name s = (is_user name ≡ true) × (is_mechanism s.mechanism ≡ true) × (int_le (pos 1) s.value.iterations ≡ true)
 
 -- Each of a user's credentials is legal.
 abbrev pub IsScramEntry : ScramEntry → Type 0
@@ -102,4 +103,4 @@ pub record IsLegal (i : Image) : Type 0 where
   pub acls : All IsAcl i.acls
   pub brokers : All IsBroker i.brokers
   pub next : IsNext i.next_producer
-  pub state : int_le (pos 0) i.state && int_le i.state (pos 3) ≡ true
+  pub state : int_le NO_MIGRATION i.state && int_le i.state POST_MIGRATION ≡ true

@@ -2,6 +2,9 @@
 use Rattle.std.specs.Prelude.{◌≡◌, ◌⊎◌, ℕ, ◌+◌, ◌<◌, ◌≤◌, ⊤, Bool, nat_lt, ℤ, pos, negsuc, ◌+ℤ◌, ◌-ℤ◌, ◌≤ℤ◌, ◌<ℤ◌, int_le, int_lt, List, [], ◌∷◌, ◌++◌, length, map, Option, Some, None, Result, Ok, Err, if◌then◌else◌}
 use Rattle.std.specs.Ordering.{int_eq}
 use Rattle.std.specs.List.{filter, sum_by, flat_map}
+use Rattle.kz_types.specs.declared.limits.Limit.TheVariants as limits
+use Rattle.kz_types.specs.Limits.{number_of_limit}
+use Rattle.kz_types.specs.declared.limits.TheConstants.{MAX_EPOCH, MAX_LONG, MAX_RECORDS}
 use Rattle.kz_types.specs.declared.log.BatchRow.{BatchRow}
 use Rattle.kz_types.specs.declared.log.Entry.{Entry}
 use Rattle.kz_types.specs.declared.record.MetaRecord.{MetaRecord}
@@ -9,22 +12,11 @@ use Rattle.kz_types.specs.declared.fault.LogFault.{LogFault}
 use Rattle.kz_types.specs.declared.fault.LogFault.TheVariants as fault
 use Rattle.kz_spec_stores.specs.Image.{Image, empty_image, applied, is_migrated_state}
 use Rattle.kz_spec_stores.specs.Settlement.{counted, is_open, begun, kept, commit}
-use Rattle.kz_spec_stores.specs.Tree.{max_long}
-
--- ---- limits
-
--- the most records behind the base
-abbrev pub max_records : ℕ
-max_records = 1000000
-
--- the greatest epoch
-abbrev pub max_epoch : ℤ
-max_epoch = pos 2147483647
 
 -- ---- the log
 
--- The log's epoch, the offset up to which it is an image alone, that image, and the batches behind it. In every log of a
--- run the image is empty where the base is -1, and each batch begins behind the one before it.
+-- The log's epoch, the offset up to which it is an image alone, that image, and the batches after it. In every log of a
+-- run the image is empty where the base is -1, and each batch begins after the one before it.
 pub record Log : Type 0 where
   pub epoch : ℤ
   pub base : ℤ
@@ -54,7 +46,7 @@ batch_ends l = l.base ∷ map last_of l.batches
 abbrev pub record_count : List BatchRow → ℕ
 record_count batches = sum_by (λ (b : BatchRow). length b.items) batches
 
--- Batches follow each other from behind an offset on, and none is empty.
+-- Batches follow each other from after an offset on, and none is empty.
 abbrev pub Follow : ℤ → List BatchRow → Type 0
 Follow from [] = ⊤
 Follow from (b ∷ bs) = (b.first ≡ from +ℤ pos 1) × (0 < length b.items) × Follow (last_of b) bs
@@ -66,15 +58,14 @@ Climb least most (b ∷ bs) = (least ≤ℤ b.epoch) × (b.epoch ≤ℤ most) ×
 
 -- What is true of every log: its epoch isn't negative; its base is at least -1, and where it is -1 the base image is empty;
 -- the batches follow each other from the base on, in epochs of at least 1 that never fall and aren't above the log's; and
--- there are few enough records, the last at an offset in range.
+-- the last offset is in range. The limit on records is one of appends and elections, and no log's.
 pub record IsLog (l : Log) : Type 0 where
   pub epoch : pos 0 ≤ℤ l.epoch
   pub base : negsuc 0 ≤ℤ l.base
   pub base_image : l.base ≡ negsuc 0 → l.base_image ≡ empty_image
   pub follow : Follow l.base l.batches
   pub epochs : Climb (pos 1) l.epoch l.batches
-  pub few : record_count l.batches ≤ max_records
-  pub end : end_of l ≤ℤ max_long
+  pub end : end_of l ≤ℤ MAX_LONG
 
 -- records with the offsets from this one on
 abbrev pub numbered : ℤ → ℤ → List MetaRecord → List Entry
@@ -84,7 +75,7 @@ numbered offset epoch (r ∷ rs) = record { offset = offset; epoch = epoch; item
 abbrev pub entries_of_batch : BatchRow → List Entry
 entries_of_batch b = numbered b.first b.epoch b.items
 
--- the records behind the base, with their offsets and epochs
+-- the records after the base, with their offsets and epochs
 abbrev pub entries : List BatchRow → List Entry
 entries batches = flat_map entries_of_batch batches
 
@@ -127,8 +118,8 @@ with_batch l epoch now items = record l { epoch = epoch; batches = l.batches ++ 
 -- why these records can't be added
 abbrev pub full_log : Log → List MetaRecord → Option ℕ
 full_log l items =
-    if nat_lt max_records (record_count l.batches + length items) then Some 7
-    else (if int_lt max_long (end_of l +ℤ pos (length items)) then Some 17
+    if nat_lt MAX_RECORDS (record_count l.batches + length items) then Some (number_of_limit limits.Records)
+    else (if int_lt MAX_LONG (end_of l +ℤ pos (length items)) then Some (number_of_limit limits.Long)
     else None)
 
 abbrev pub added : Option ℕ → Log → Result Log LogFault
@@ -148,8 +139,8 @@ with_next_epoch l = record l { epoch = l.epoch +ℤ pos 1 }
 -- The log after an election: one batch of the next epoch, or why there is none.
 abbrev pub elect : Log → ℤ → List MetaRecord → Result Log LogFault
 elect l now items =
-    if int_lt l.epoch max_epoch then added (full_log l items) (with_batch (with_next_epoch l) (l.epoch +ℤ pos 1) now items)
-    else Err (fault.Limit 15)
+    if int_lt l.epoch MAX_EPOCH then added (full_log l items) (with_batch (with_next_epoch l) (l.epoch +ℤ pos 1) now items)
+    else Err (fault.Limit (number_of_limit limits.Epoch))
 
 -- the log without its batches and without a base, whose epoch stays
 abbrev pub reset : Log → Log
@@ -186,7 +177,7 @@ IsViewOf l v = (v.position <ℤ l.base) ⊎ IsAt l v
 
 -- ---- feeds
 
--- What is read of a log: its base with its image, where the reader stands before it; the batches behind; and its end.
+-- What is read of a log: its base with its image, where the reader stands before it; the batches after; and its end.
 pub record Feed : Type 0 where
   pub base : Option (ℤ × Image)
   pub batches : List BatchRow
@@ -202,21 +193,21 @@ abbrev pub last_epoch : ℤ → List BatchRow → ℤ
 last_epoch epoch [] = epoch
 last_epoch epoch (b ∷ bs) = last_epoch b.epoch bs
 
-abbrev pub is_behind : ℤ → BatchRow → Bool
-is_behind position b = int_lt position b.first
+abbrev pub begins_after : ℤ → BatchRow → Bool
+begins_after position b = int_lt position b.first
 
 -- the epoch of a view that has read to the log's end
 abbrev pub read_epoch : Log → View → ℤ
-read_epoch l v = last_epoch (if int_lt v.position l.base then pos 0 else v.epoch) (filter (is_behind v.position) l.batches)
+read_epoch l v = last_epoch (if int_lt v.position l.base then pos 0 else v.epoch) (filter (begins_after v.position) l.batches)
 
 -- the view that has read to the log's end
 abbrev pub read_view : Log → View → View
 read_view l v = record { position = end_of l; epoch = read_epoch l v; image = image_of l; begun = begun_of l; kept = kept (entries l.batches) }
 
--- what is read of a log behind an offset
+-- what is read of a log after an offset
 abbrev pub feed_from : Log → ℤ → Feed
 feed_from l after = record {
   base = if int_lt after l.base then Some (l.base, l.base_image) else None;
-  batches = filter (is_behind after) l.batches;
+  batches = filter (begins_after after) l.batches;
   end = end_of l;
 }

@@ -3,6 +3,7 @@ use Rattle.std.specs.Prelude.{ℕ, Bool, ℤ, pos, int_le, List, [], ◌∷◌, 
 use Rattle.std.specs.Ordering.{int_eq, int_cmp}
 use Rattle.std.specs.Str.{bytes_eq}
 use Rattle.std.specs.List.{find as find_by}
+use Rattle.kz_types.specs.declared.codes.TheConstants.{MIGRATION, NO_MIGRATION}
 use Rattle.kz_types.specs.declared.id.Id.{Id}
 use Rattle.kz_types.specs.declared.bodies.Pair.{Pair}
 use Rattle.kz_types.specs.declared.bodies.QuotaRow.{QuotaRow}
@@ -38,7 +39,7 @@ pub record Image : Type 0 where
   pub state : ℤ
 
 abbrev pub empty_image : Image
-empty_image = record { topics = []; broker_configs = []; quotas = []; users = []; acls = []; brokers = []; next_producer = None; state = pos 0 }
+empty_image = record { topics = []; broker_configs = []; quotas = []; users = []; acls = []; brokers = []; next_producer = None; state = NO_MIGRATION }
 
 -- ---- keys of lists
 
@@ -139,4 +140,4 @@ acl_of id i = option_map (λ (a : AclEntry). a.row) (find bytes_cmp id_of_acl id
 
 -- whether the migration is committed
 abbrev pub is_migrated_state : ℤ → Bool
-is_migrated_state state = int_le (pos 2) state
+is_migrated_state state = int_le MIGRATION state

@@ -2,6 +2,7 @@
 use Rattle.std.specs.Prelude.{Bool, true, false, not, ◌&&◌, ◌||◌, ℤ, pos, ◌+ℤ◌, int_le, int_lt, List, Option, Some, None, option_map}
 use Rattle.std.specs.Ordering.{int_eq}
 use Rattle.std.specs.List.{filter, find, list_any}
+use Rattle.kz_types.specs.declared.codes.TheConstants.{MIGRATION}
 use Rattle.kz_types.specs.declared.log.Entry.{Entry}
 use Rattle.kz_types.specs.declared.record.MetaRecord.{MetaRecord}
 use Rattle.kz_types.specs.declared.record.MetaRecord.TheVariants as meta
@@ -32,7 +33,7 @@ is_closed_between es from to = list_any (λ (e : Entry). closes e.item && int_lt
 abbrev pub is_inside : List Entry → ℤ → Bool
 is_inside es offset = list_any (λ (b : Entry). is_begin b.item && int_lt b.offset offset && not (is_closed_between es b.offset offset)) es
 
--- the first End or Abort behind an offset
+-- the first End or Abort after an offset
 abbrev pub first_close : List Entry → ℤ → Option Entry
 first_close es offset = find (λ (e : Entry). closes e.item && int_lt offset e.offset) es
 
@@ -50,23 +51,23 @@ is_counted es at e = int_le e.offset at && not (is_marker e.item) && (not (is_in
 abbrev pub counted : List Entry → ℤ → List Entry
 counted es at = filter (is_counted es at) es
 
--- A transaction is open at an offset where a Begin at or before it has no End or Abort behind it by then.
+-- A transaction is open at an offset where a Begin at or before it has no End or Abort after it by then.
 abbrev pub is_open : List Entry → ℤ → Bool
 is_open es at = is_inside es (at +ℤ pos 1)
 
--- The offset of the open transaction's Begin: the first with no End or Abort behind it.
+-- The offset of the open transaction's Begin: the first with no End or Abort after it.
 abbrev pub begun : List Entry → Option ℤ
 begun es = option_map (λ (e : Entry). e.offset) (find (λ (b : Entry). is_begin b.item && not (list_any (λ (e : Entry). closes e.item && int_lt b.offset e.offset) es)) es)
 
 -- The records of the open transaction: those that are no marker, stand inside a transaction, and have no End or Abort
--- behind them.
+-- after them.
 abbrev pub kept : List Entry → List Entry
 kept es = filter (λ (e : Entry). is_inside es e.offset && not (is_marker e.item) && not (list_any (λ (c : Entry). closes c.item && int_lt e.offset c.offset) es)) es
 
 -- ---- the commit of the migration
 
 abbrev pub is_migration : MetaRecord → Bool
-is_migration (meta.ZkMigrationState state) = int_eq state (pos 2)
+is_migration (meta.ZkMigrationState state) = int_eq state MIGRATION
 is_migration r = false
 
 abbrev pub is_at : ℤ → Option Entry → Bool

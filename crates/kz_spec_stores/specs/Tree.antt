@@ -3,6 +3,10 @@ use Rattle.std.specs.Prelude.{ℕ, ◌+◌, Bool, true, false, not, ◌&&◌, �
 use Rattle.std.specs.Ordering.{int_eq, int_cmp, match_ordering}
 use Rattle.std.specs.Str.{bytes_eq}
 use Rattle.std.specs.List.{filter, filter_map, list_any, count_by}
+use Rattle.kz_types.specs.declared.codes.TheConstants.{BAD_VERSION, NODE_EXISTS, NOT_EMPTY, NO_CHILDREN_FOR_EPHEMERALS, NO_NODE, SESSION_EXPIRED}
+use Rattle.kz_types.specs.declared.limits.Limit.TheVariants as limits
+use Rattle.kz_types.specs.Limits.{number_of_limit}
+use Rattle.kz_types.specs.declared.limits.TheConstants.{MAX_BODY_BYTES, MAX_LONG, MAX_VERSION, MAX_ZNODES}
 use Rattle.kz_types.specs.declared.tree.Row.{Row}
 use Rattle.kz_types.specs.declared.tree.Op.{Op}
 use Rattle.kz_types.specs.declared.tree.Op.TheVariants.{Create, Set, Delete, Check}
@@ -17,24 +21,6 @@ use Rattle.kz_types.specs.Paths.{is_migrated}
 use Rattle.kz_ordered.specs.Order.{bytes_cmp}
 use Rattle.kz_ordered.specs.Ordered.{find, put, without, all_put}
 use Rattle.kz_spec_values.specs.Control.{recorded_of, migration_path, broker_ids_path}
-
--- ---- limits
-
--- the most bytes of a znode's data
-abbrev pub max_body : ℕ
-max_body = 1048575
-
--- the most znodes of the migrated area, and the most of all others but the root
-abbrev pub max_znodes : ℕ
-max_znodes = 200000
-
--- the greatest data version
-abbrev pub max_version : ℤ
-max_version = pos 2147483647
-
--- the greatest zxid, and the greatest offset of a log
-abbrev pub max_long : ℤ
-max_long = pos 9223372036854775807
 
 -- ---- the tree
 
@@ -101,7 +87,7 @@ count_beside path rows = count_by (λ (r : Row). if is_migrated path then is_mig
 
 -- the number of the limit on znodes beside a path
 abbrev pub limit_beside : List ℕ → ℕ
-limit_beside path = if is_migrated path then 3 else 4
+limit_beside path = number_of_limit (if is_migrated path then limits.MigratedZnodes else limits.OtherZnodes)
 
 -- ---- one operation
 
@@ -115,36 +101,35 @@ abbrev pub first_refusal : List (Bool × Refusal) → Option Refusal
 first_refusal [] = None
 first_refusal (c ∷ cs) = if c.0 then Some c.1 else first_refusal cs
 
--- no node: -101; version mismatch: -103; ephemerals have no children: -108; node exists: -110; not empty: -111;
--- session expired: -112
+-- ZooKeeper's codes, in the order in which it asks
 abbrev pub create_refusal : List ℤ → List ℕ → List ℕ → Option ℤ → List Row → Option Refusal
 create_refusal sessions path body owner rows = first_refusal (
-    (not (may_own owner sessions), code (negsuc 111))
-    ∷ (not (has_parent path rows), code (negsuc 100))
-    ∷ (is_some (row_at path rows), code (negsuc 109))
-    ∷ (is_ephemeral (row_at (parent_of path) rows), code (negsuc 107))
-    ∷ (nat_lt max_body (length body), limit 2)
-    ∷ (nat_le max_znodes (count_beside path rows), limit (limit_beside path))
+    (not (may_own owner sessions), code SESSION_EXPIRED)
+    ∷ (not (has_parent path rows), code NO_NODE)
+    ∷ (is_some (row_at path rows), code NODE_EXISTS)
+    ∷ (is_ephemeral (row_at (parent_of path) rows), code NO_CHILDREN_FOR_EPHEMERALS)
+    ∷ (nat_lt MAX_BODY_BYTES (length body), limit (number_of_limit limits.BodyBytes))
+    ∷ (nat_le MAX_ZNODES (count_beside path rows), limit (limit_beside path))
     ∷ [])
 
 abbrev pub set_refusal : List ℕ → ℤ → Option Row → Option Refusal
-set_refusal body version None = Some (code (negsuc 100))
+set_refusal body version None = Some (code NO_NODE)
 set_refusal body version (Some r) = first_refusal (
-    (not (fits_version version r), code (negsuc 102))
-    ∷ (nat_lt max_body (length body), limit 2)
-    ∷ (int_le max_version r.version, limit 5)
+    (not (fits_version version r), code BAD_VERSION)
+    ∷ (nat_lt MAX_BODY_BYTES (length body), limit (number_of_limit limits.BodyBytes))
+    ∷ (int_le MAX_VERSION r.version, limit (number_of_limit limits.Version))
     ∷ [])
 
 abbrev pub delete_refusal : List ℕ → ℤ → List Row → Option Row → Option Refusal
-delete_refusal path version rows None = Some (code (negsuc 100))
+delete_refusal path version rows None = Some (code NO_NODE)
 delete_refusal path version rows (Some r) = first_refusal (
-    (not (fits_version version r), code (negsuc 102))
-    ∷ (has_children path rows, code (negsuc 110))
+    (not (fits_version version r), code BAD_VERSION)
+    ∷ (has_children path rows, code NOT_EMPTY)
     ∷ [])
 
 abbrev pub check_refusal : ℤ → Option Row → Option Refusal
-check_refusal version None = Some (code (negsuc 100))
-check_refusal version (Some r) = first_refusal ((not (fits_version version r), code (negsuc 102)) ∷ [])
+check_refusal version None = Some (code NO_NODE)
+check_refusal version (Some r) = first_refusal ((not (fits_version version r), code BAD_VERSION) ∷ [])
 
 -- why an operation is refused on these znodes
 abbrev pub op_refusal : List ℤ → Op → List Row → Option Refusal
@@ -189,7 +174,7 @@ after_ops sessions zxid index (o ∷ os) rows = refused index (op_refusal sessio
 
 abbrev pub with_zxid : Tree → Result (List Row) TreeFault → Result Tree TreeFault
 with_zxid t (Err e) = Err e
-with_zxid t (Ok rows) = if int_le max_long t.zxid then Err (fault.Limit 0 17) else Ok (record { zxid = t.zxid +ℤ pos 1; sessions = t.sessions; rows = rows })
+with_zxid t (Ok rows) = if int_le MAX_LONG t.zxid then Err (fault.Limit 0 (number_of_limit limits.Long)) else Ok (record { zxid = t.zxid +ℤ pos 1; sessions = t.sessions; rows = rows })
 
 -- The tree after a multi: all its operations with one new zxid, or none and the first that is refused.
 unfoldable pub multi : Tree → List Op → Result Tree TreeFault
@@ -199,7 +184,7 @@ multi t ops = with_zxid t (after_ops t.sessions (t.zxid +ℤ pos 1) 0 ops t.rows
 
 -- the tree with one transaction more, which makes these of its sessions and znodes
 abbrev pub with_sessions : Tree → List ℤ → List Row → Result Tree MoveFault
-with_sessions t sessions rows = if int_le max_long t.zxid then Err (move_fault.Limit 17) else Ok (record { zxid = t.zxid +ℤ pos 1; sessions = sessions; rows = rows })
+with_sessions t sessions rows = if int_le MAX_LONG t.zxid then Err (move_fault.Limit (number_of_limit limits.Long)) else Ok (record { zxid = t.zxid +ℤ pos 1; sessions = sessions; rows = rows })
 
 -- The tree after a session has begun, which isn't live yet.
 unfoldable pub begin_session : Tree → ℤ → Result Tree MoveFault
@@ -250,7 +235,7 @@ abbrev pub is_after : Option (List ℕ) → Row → Bool
 is_after None r = true
 is_after (Some path) r = match_ordering (bytes_cmp path r.path) true false false
 
--- the first znodes of the migrated area behind a path, at most so many
+-- the first znodes of the migrated area after a path, at most so many
 abbrev pub scan : Tree → Option (List ℕ) → ℕ → List Row
 scan t after most = take most (filter (is_after after) (migrated_rows t))
 
@@ -258,7 +243,7 @@ abbrev pub first_row : List Row → Option Row
 first_row [] = None
 first_row (r ∷ rs) = Some r
 
--- the first znode behind a path, of the whole tree
+-- the first znode after a path, of the whole tree
 abbrev pub next_row : Tree → Option (List ℕ) → Option Row
 next_row t after = first_row (filter (is_after after) t.rows)
 

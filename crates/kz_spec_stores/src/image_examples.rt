@@ -1,5 +1,5 @@
 //! Laws by example: the metadata after worked records, and the records that are refused.
-ghost use Rattle.std.specs.Prelude.{◌≡◌, [], ◌∷◌, Some, None, true, false, pos, negsuc, codes};
+ghost use Rattle.std.specs.Prelude.{◌≡◌, [], ◌∷◌, Some, None, true, false, pos, negsuc, codes, replicate};
 ghost use Rattle.kz_types.specs.declared.record.MetaRecord.TheVariants as meta;
 ghost use Rattle.kz_types.specs.declared.key.EntityKey.TheVariants as key;
 ghost use Rattle.kz_types.specs.declared.image_fault.ImageRule.TheVariants.{NotAllowed, Exists, Absent, BadName, BadValue};
@@ -63,4 +63,15 @@ pub fn refused_records()
     ensures in_sync { first_bad 0 (topic (codes "t") 1 ∷ partition 1 (pos 0) ∷ change 1 (Some (pos 3 ∷ [])) (negsuc 1) ∷ []) empty_image ≡ Some (record { index = 2; why = BadValue }) }
     ensures no_partition { first_bad 0 (topic (codes "t") 1 ∷ change 1 (Some (pos 3 ∷ [])) (negsuc 1) ∷ []) empty_image ≡ Some (record { index = 1; why = Absent }) }
     ensures full_epoch { first_bad 0 (topic (codes "t") 1 ∷ partition 1 (pos 2147483647) ∷ change 1 None (pos 2) ∷ []) empty_image ≡ Some (record { index = 2; why = BadValue }) }
+{}
+
+/// A name that makes a path too long is refused whatever the mechanism, in a removal too. A resource has a path only where its
+/// codes are those of one: others are judged by the codes.
+#[tactic(auto, unfolding(crate::proofs::OnLiterals::stores_on_literals))]
+pub fn long_names()
+    ensures user { first_bad 0 (credential (replicate 1100 97) (pos 1) (pos 1) ∷ []) empty_image ≡ Some (record { index = 0; why = BadName }) }
+    ensures mechanism { first_bad 0 (credential (replicate 1100 97) (pos 3) (pos 1) ∷ []) empty_image ≡ Some (record { index = 0; why = BadName }) }
+    ensures removal { first_bad 0 (meta.RemoveUserScramCredential (replicate 1100 97) (pos 3) ∷ []) empty_image ≡ Some (record { index = 0; why = BadName }) }
+    ensures resource { first_bad 0 (entry 1 (pos 2) (replicate 1100 97) ∷ []) empty_image ≡ Some (record { index = 0; why = BadName }) }
+    ensures code { first_bad 0 (entry 1 (pos 7) (replicate 1100 97) ∷ []) empty_image ≡ Some (record { index = 0; why = BadValue }) }
 {}

@@ -175,7 +175,7 @@ abbrev pub AreNumbered : ℕ → List Content → Type 0
 AreNumbered n [] = Unit {0}
 AreNumbered n (c ∷ cs) = (delta_of c ≡ pos n) × AreNumbered (n + 1) cs
 
--- The bytes behind the header are these records, the header counts them, and they stand in order.
+-- The bytes after the header are these records, the header counts them, and they stand in order.
 pub record AreRecords (bytes : List ℕ) (cs : List Content) : Type 0 where
   pub spelled : Each entry.spells cs (drop 61 bytes)
   pub count : stated_count bytes ≡ pos (length cs)

@@ -8,6 +8,7 @@ use Rattle.serde_json.specs.Read.{read}
 use Rattle.serde_json.specs.Find.{get, as_number, as_i64, as_str, as_array, as_object, of_integer}
 use Rattle.serde_json.specs.View.{items_of}
 use Rattle.serde_json.specs.Written.{compact_text}
+use Rattle.kz_types.specs.declared.limits.TheConstants.{MAX_NUMBER}
 use Rattle.kz_types.specs.Numbers.{number_in, digits_up_to}
 use Rattle.std.specs.Fmt.{signed_decimal}
 use Rattle.kz_types.specs.Ids.{id_of, id_text, zero_id}
@@ -58,7 +59,7 @@ whole low high d = option_and_then (within low high) (option_and_then as_i64 (as
 
 -- the greatest number of a field that names none
 abbrev pub greatest : ℤ
-greatest = pos 2147483647
+greatest = pos MAX_NUMBER
 
 -- the ids of brokers, from 0 on
 abbrev pub brokers_in : Items → Option (List ℤ)

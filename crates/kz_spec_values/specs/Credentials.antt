@@ -8,7 +8,7 @@ use Rattle.base64.specs.Engines.{standard}
 use Rattle.base64.specs.GeneralPurpose.{encode_of, decoded_of}
 use Rattle.kz_types.specs.Numbers.{canonical}
 use Rattle.kz_types.specs.Paths.{is_among}
-use Rattle.kz_types.specs.Quotas.{quota_of, quota_text}
+use Rattle.kz_spec_quotas.specs.Quotas.{quota_of, quota_text}
 use Rattle.kz_types.specs.declared.bodies.Pair.{Pair}
 use Rattle.kz_types.specs.declared.bodies.QuotaRow.{QuotaRow}
 use Rattle.kz_types.specs.declared.bodies.ScramPair.{ScramPair}
@@ -22,8 +22,8 @@ use Rattle.kz_types.specs.declared.key.EntityKey.TheVariants.{Topic, Partition, 
 -- ---- the text of a credential
 
 -- what follows a name and `=`, in a piece that begins with them
-abbrev pub behind_name : List ℕ → List ℕ → Option (List ℕ)
-behind_name name piece = if starts_with nat_eq piece (name ++ codes "=") then Some (drop (length name + 1) piece) else None
+abbrev pub after_name : List ℕ → List ℕ → Option (List ℕ)
+after_name name piece = if starts_with nat_eq piece (name ++ codes "=") then Some (drop (length name + 1) piece) else None
 
 abbrev pub or_else : Option (List ℕ) → Option (List ℕ) → Option (List ℕ)
 or_else (Some v) other = Some v
@@ -32,7 +32,7 @@ or_else None other = other
 -- the value of the first piece of that name
 abbrev pub value_of : List ℕ → List (List ℕ) → Option (List ℕ)
 value_of name [] = None
-value_of name (piece ∷ pieces) = or_else (behind_name name piece) (value_of name pieces)
+value_of name (piece ∷ pieces) = or_else (after_name name piece) (value_of name pieces)
 
 -- the bytes that a member's base64, with its padding, spells
 abbrev pub bytes_of : List ℕ → List (List ℕ) → Option (List ℕ)

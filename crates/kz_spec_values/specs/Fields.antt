@@ -25,11 +25,11 @@ start bytes = record { at = 0; left = bytes }
 abbrev pub end_of : Reading → ℕ
 end_of r = r.at + length r.left
 
--- the reader behind the next n bytes
+-- the reader after the next n bytes
 abbrev pub past : ℕ → Reading → Reading
 past n r = record { at = r.at + n; left = drop n r.left }
 
--- A value and the reader behind it, or a fault. What follows a value is read from there.
+-- A value and the reader after it, or a fault. What follows a value is read from there.
 infixl 10 ◌>>=◌
 abbrev pub ◌>>=◌ : {A B E : Type 0} → Result A E → (A → Result B E) → Result B E
 (Ok x) >>= f = f x
@@ -39,7 +39,7 @@ abbrev pub ◌>>=◌ : {A B E : Type 0} → Result A E → (A → Result B E) �
 pub record Format (E X : Type 0) : Type 1 where
   -- which bytes spell a value
   pub spells : X → List ℕ → Type 0
-  -- the value that stands next and the reader behind it, or the first fault
+  -- the value that stands next and the reader after it, or the first fault
   pub read : Reading → Result (X × Reading) E
   -- the bytes that are written
   pub written : X → List ℕ
@@ -214,7 +214,7 @@ is_null r = begins_null (uvarint.read r)
 
 -- ---- what calls of a reader and of a writer answer
 
--- A call of a reader answers what stands next, seen by `view`, and stands behind it, or answers the first fault and
+-- A call of a reader answers what stands next, seen by `view`, and stands after it, or answers the first fault and
 -- stands where it stood.
 abbrev pub Reads : {X Y : Type 0} → (X → Y) → Reading → Result X ByteFault → Reading → Result (Y × Reading) ByteFault → Type 0
 Reads view old (Ok x) new next = next ≡ Ok (view x, new)

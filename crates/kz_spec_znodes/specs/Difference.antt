@@ -1,6 +1,7 @@
 -- The operations that make one rendering of another.
 use Rattle.std.specs.Prelude.{ℕ, Bool, negsuc, List, map, take, None}
 use Rattle.std.specs.Str.{bytes_eq}
+use Rattle.kz_types.specs.declared.limits.TheConstants.{MAX_CHUNK}
 use Rattle.kz_types.specs.declared.tree.Op.{Op}
 use Rattle.kz_types.specs.declared.tree.Op.TheVariants.{Create, Set, Delete}
 use Rattle.kz_types.specs.declared.tree.Rendered.{Rendered}
@@ -21,10 +22,6 @@ op_of (alter r) = Set r.path r.body (negsuc 0)
 unfoldable pub diff : List Rendered → List Rendered → List Op
 diff have want = map op_of (difference bytes_cmp path_of_rendered same_body have want)
 
--- the most operations of one write
-abbrev pub max_chunk : ℕ
-max_chunk = 64
-
 -- the operations of the next write
 abbrev pub chunk : List Op → List Op
-chunk ops = take max_chunk ops
+chunk ops = take MAX_CHUNK ops

@@ -3,6 +3,9 @@ use Rattle.std.specs.Prelude.{ℕ, Bool, nat_lt, ℤ, pos, negsuc, ◌+ℤ◌, L
 use Rattle.std.specs.Str.{bytes_eq}
 use Rattle.std.specs.Fmt.{signed_decimal}
 use Rattle.std.specs.List.{find, filter, flat_map, sum_by}
+use Rattle.kz_types.specs.declared.limits.Limit.TheVariants as limits
+use Rattle.kz_types.specs.Limits.{number_of_limit}
+use Rattle.kz_types.specs.declared.limits.TheConstants.{MAX_BODIES_BYTES, MAX_BODY_BYTES, MAX_ZNODES}
 use Rattle.kz_types.specs.declared.tree.Rendered.{Rendered}
 use Rattle.kz_types.specs.declared.key.EntityKey.{EntityKey}
 use Rattle.kz_types.specs.declared.key.EntityKey.TheVariants as key
@@ -24,7 +27,7 @@ use Rattle.kz_types.specs.Paths.{roots, path_of, key_of}
 use Rattle.kz_spec_values.specs.Bodies.{written}
 use Rattle.kz_ordered.specs.Order.{bytes_cmp}
 use Rattle.kz_ordered.specs.Ordered.{find as find_by_key, all_put}
-use Rattle.kz_spec_stores.specs.Tree.{max_body, max_znodes, path_of_rendered}
+use Rattle.kz_spec_stores.specs.Tree.{path_of_rendered}
 use Rattle.kz_spec_stores.specs.Image.{Image, path_of_quotas, quotas_in}
 
 -- a znode without data
@@ -157,12 +160,8 @@ body_at_path i path = body_at path (render i)
 
 -- ---- whether the znodes keep the limits
 
--- the most bytes of all rendered bodies together
-abbrev pub max_bodies : ℕ
-max_bodies = 67108864
-
 abbrev pub is_long : Rendered → Bool
-is_long r = nat_lt max_body (length r.body)
+is_long r = nat_lt MAX_BODY_BYTES (length r.body)
 
 -- A limit that a rendering passes, with the path at which it is told.
 pub record Excess : Type 0 where
@@ -170,10 +169,10 @@ pub record Excess : Type 0 where
   pub path : List ℕ
 
 abbrev pub excess_by : Option Rendered → List Rendered → Option Excess
-excess_by (Some r) rs = Some (record { number = 2; path = r.path })
+excess_by (Some r) rs = Some (record { number = number_of_limit limits.BodyBytes; path = r.path })
 excess_by None rs =
-    if nat_lt max_znodes (length rs) then Some (record { number = 3; path = codes "/brokers/topics" })
-    else (if nat_lt max_bodies (sum_by (λ (r : Rendered). length r.body) rs) then Some (record { number = 6; path = codes "/brokers/topics" })
+    if nat_lt MAX_ZNODES (length rs) then Some (record { number = number_of_limit limits.MigratedZnodes; path = codes "/brokers/topics" })
+    else (if nat_lt MAX_BODIES_BYTES (sum_by (λ (r : Rendered). length r.body) rs) then Some (record { number = number_of_limit limits.BodiesBytes; path = codes "/brokers/topics" })
     else None)
 
 -- The first limit that these znodes pass: the bytes of one znode's data, the number of znodes, the bytes of all data.

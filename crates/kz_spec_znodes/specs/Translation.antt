@@ -5,6 +5,9 @@ use Rattle.std.specs.Int.{w64, to_be_bytes}
 use Rattle.std.specs.List.{list_any, sum_by}
 use Rattle.std.specs.Result.{result_ok}
 use Rattle.std.specs.Fmt.{signed_decimal}
+use Rattle.kz_types.specs.declared.limits.Limit.TheVariants as limits
+use Rattle.kz_types.specs.Limits.{number_of_limit}
+use Rattle.kz_types.specs.declared.limits.TheConstants.{MAX_EPOCH, MAX_RECORDS}
 use Rattle.kz_types.specs.declared.id.Id.{Id}
 use Rattle.kz_types.specs.declared.tree.Row.{Row}
 use Rattle.kz_types.specs.declared.row.AclRow.{AclRow}
@@ -31,7 +34,6 @@ use Rattle.kz_spec_values.specs.Bodies.{read_body, is_in, are_some_of}
 use Rattle.kz_ordered.specs.Ordered.{find}
 use Rattle.kz_spec_stores.specs.Tree.{row_at}
 use Rattle.kz_spec_stores.specs.Image.{empty_image, all_applied, same_id}
-use Rattle.kz_spec_stores.specs.Log.{max_records, max_epoch}
 use Rattle.kz_spec_znodes.specs.Rendering.{Excess, excess}
 
 -- A path that can't be translated, and why.
@@ -123,7 +125,7 @@ assigned topic number rows = find int_cmp number_of_assignment number (assignmen
 abbrev pub may_lead : List ℤ → ℤ → Bool
 may_lead replicas leader = int_eq leader (negsuc 0) || is_in replicas leader
 
--- A state gives no record of its own: its partition stands behind its topic.
+-- A state gives no record of its own: its partition stands after its topic.
 abbrev pub records_of_state : List ℤ → Result Body BodyFault → RowRecords
 records_of_state replicas (Err e) = Err (why.Body e)
 records_of_state replicas (Ok (body.State leader leader_epoch controller_epoch isr recovery)) =
@@ -219,7 +221,7 @@ records_of_acls earlier (Ok b) = Ok []
 
 -- ---- producer ids
 
--- the greatest end of a block: behind it begins the last block that there is
+-- the greatest end of a block: after it begins the last block that there is
 abbrev pub max_block_end : ℤ
 max_block_end = pos 9223372036854774807
 
@@ -232,7 +234,7 @@ records_of_producer (Ok b) = Ok []
 
 -- ---- a znode
 
--- the records of an entity by its body, among these znodes and behind the earlier ones
+-- the records of an entity by its body, among these znodes and after the earlier ones
 abbrev pub records_of : List Row → List Row → EntityKey → Result Body BodyFault → RowRecords
 records_of rows earlier (key.Topic name) read = records_of_topic rows earlier name read
 records_of rows earlier (key.Partition topic number) read = records_if_assigned (assigned topic number rows) read
@@ -252,7 +254,7 @@ records_by_kind rows earlier kind.Entity r = entity_records rows earlier (key_of
 records_by_kind rows earlier kind.Stray r = Err why.Stray
 records_by_kind rows earlier k r = Ok []
 
--- the records of one of these znodes, behind the earlier ones
+-- the records of one of these znodes, after the earlier ones
 abbrev pub row_records : List Row → List Row → Row → RowRecords
 row_records rows earlier r = records_by_kind rows earlier (kind_of r.path) r
 
@@ -263,14 +265,14 @@ joined path (Err w) rest = Err (record { path = path; why = w })
 joined path (Ok rs) (Ok more) = Ok (rs ++ more)
 joined path (Ok rs) (Err e) = Err e
 
--- the records of the znodes behind the earlier ones, or the first that can't be translated
-abbrev pub records_behind : List Row → List Row → List Row → Translated
-records_behind rows earlier [] = Ok []
-records_behind rows earlier (r ∷ rest) = joined r.path (row_records rows earlier r) (records_behind rows (earlier ++ r ∷ []) rest)
+-- the records of the znodes after the earlier ones, or the first that can't be translated
+abbrev pub records_after : List Row → List Row → List Row → Translated
+records_after rows earlier [] = Ok []
+records_after rows earlier (r ∷ rest) = joined r.path (row_records rows earlier r) (records_after rows (earlier ++ r ∷ []) rest)
 
 -- the records of these znodes, or the first that can't be translated
 abbrev pub all_records : List Row → Translated
-all_records rows = records_behind rows [] rows
+all_records rows = records_after rows [] rows
 
 -- how many records beside the translated ones the limit leaves room for
 abbrev pub further_records : ℕ
@@ -278,11 +280,11 @@ further_records = 4
 
 abbrev pub bounded : Option Excess → List MetaRecord → Translated
 bounded (Some e) rs = Err (record { path = e.path; why = why.Over e.number })
-bounded None rs = if nat_lt max_records (length rs + further_records) then Err (record { path = codes "/brokers/topics"; why = why.Over 7 }) else Ok rs
+bounded None rs = if nat_lt MAX_RECORDS (length rs + further_records) then Err (record { path = codes "/brokers/topics"; why = why.Over (number_of_limit limits.Records) }) else Ok rs
 
 abbrev pub within_limits : Translated → Translated
 within_limits (Err e) = Err e
-within_limits (Ok rs) = bounded (excess (all_applied max_epoch rs empty_image)) rs
+within_limits (Ok rs) = bounded (excess (all_applied MAX_EPOCH rs empty_image)) rs
 
 -- The records of the znodes of the migrated area, which are given in path order, or the first path in path order that can't
 -- be translated, and why; the limits are tested last.

@@ -79,7 +79,7 @@ pub fn epochs_of_states()
         ≡ Some (codes "{\"controller_epoch\":1,\"isr\":[1,2],\"leader\":1,\"leader_epoch\":4,\"leader_recovery_state\":0,\"version\":1}") }
 {}
 
-/// Paths rise by their bytes, so that what is below a topic stands behind other topics whose names go on with `-` or `.`.
+/// Paths rise by their bytes, so that what is below a topic stands after other topics whose names go on with `-` or `.`.
 pub fn order_of_paths()
     ensures { map path_of_rendered (take 8 (render (made (topic (codes "a.b") 3 ∷ topic (codes "a") 1 ∷ partition 1 (pos 0) ∷ topic (codes "a-b") 2 ∷ []))))
         ≡ codes "/brokers/topics" ∷ codes "/brokers/topics/a" ∷ codes "/brokers/topics/a-b" ∷ codes "/brokers/topics/a-b/partitions" ∷ codes "/brokers/topics/a.b" ∷ codes "/brokers/topics/a.b/partitions"

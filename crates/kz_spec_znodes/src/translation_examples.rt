@@ -90,7 +90,7 @@ pub fn first_faults()
         ≡ Err (record { path = codes "/brokers/topics/a-b"; why = SameId }) }
     ensures no_id { translate (row (codes "/brokers/topics/t") (codes "{\"version\":2,\"partitions\":{}}") ∷ []) ≡ Err (record { path = codes "/brokers/topics/t"; why = Body NoTopicId }) }
     ensures stray_of_none { translate (row (codes "/brokers/topics/t/partitions/0/x") [] ∷ []) ≡ Err (record { path = codes "/brokers/topics/t/partitions/0/x"; why = Stray }) }
-    ensures stray_behind { translate (row (codes "/config/topics/t") (codes "x") ∷ row (codes "/config/topics/t/x") [] ∷ []) ≡ Err (record { path = codes "/config/topics/t/x"; why = Stray }) }
+    ensures stray_after { translate (row (codes "/config/topics/t") (codes "x") ∷ row (codes "/config/topics/t/x") [] ∷ []) ≡ Err (record { path = codes "/config/topics/t/x"; why = Stray }) }
 {}
 
 /// What a state's own form is at fault in comes before what its topic says of it.
@@ -112,7 +112,7 @@ pub fn reassignments()
 {}
 
 /// Entries are numbered over all resources, prefixed ones first, since their paths come first; a default user has no
-/// credentials; and a block may begin behind its end.
+/// credentials; and a block may begin after its end.
 pub fn further_znodes()
     ensures entries { translate (row (codes "/kafka-acl-extended/prefixed/Topic/b") (entry_data (codes "\"Read\"")) ∷ row (codes "/kafka-acl/Group/g") [] ∷ row (codes "/kafka-acl/Topic/a") (entry_data (codes "\"Write\"")) ∷ [])
         ≡ Ok (meta.AccessControlEntry (record { id = record { bytes = 75 ∷ 82 ∷ 65 ∷ 70 ∷ 84 ∷ 77 ∷ 73 ∷ 71 ∷ 0 ∷ 0 ∷ 0 ∷ 0 ∷ 0 ∷ 0 ∷ 0 ∷ 0 ∷ [] }; resource_type = pos 2; resource_name = codes "b"; pattern_type = pos 4; principal = codes "User:alice"; host = codes "*"; operation = pos 3; permission = pos 3 })

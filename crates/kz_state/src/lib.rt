@@ -1,7 +1,6 @@
 //! The bodies of the control znodes: `/controller_epoch`, `/controller` and `/migration` (KIP-866).
 #![tactic(auto)]
 
-mod members;
 mod reading;
 mod writing;
 

@@ -1,11 +1,12 @@
 //! The bodies that are read.
-ghost use Rattle.std.specs.Prelude.{◌≡◌, IfOk, IfErr, Ok, Some, option_map};
+ghost use Rattle.std.specs.Prelude.{◌≡◌, ◌≢◌, IfOk, IfErr, Ok, Err, Some, option_map};
+ghost use Rattle.kz_types.specs.declared.fault.BodyFault.{BodyFault};
 ghost use Rattle.serde_json.specs.View.{view};
 ghost use Rattle.kz_spec_values.specs.Control.{read_epoch, shown_epoch, read_recorded, recorded_in, recorded_or_fault};
 ghost use Rattle.kz_state.specs.Faults.{IsFaultOf};
 
-use crate::members::{bad_field, field_int, field_long, read_json, whole_int};
-use kz_types::{BodyFault, NoMemory, Recorded, number_in};
+use kz_members::{bad_field, number, number_field, read_json, whole_field};
+use kz_types::{BodyFault, MAX_LONG, NoMemory, Recorded, number_in};
 use serde_json::Value;
 use std::alloc::Global;
 
@@ -33,36 +34,29 @@ pub fn read_control(alloc: Global, body: &[u8]) -> Result<Option<i32>, NoMemory>
     let Some(epoch) = value.get("kraftControllerEpoch") else {
         return Ok(None);
     };
-    Ok(whole_int(epoch, 0, 2_147_483_647))
+    Ok(number(epoch, 0))
 }
 
 fn recorded_in(alloc: Global, value: &Value) -> Result<Recorded, BodyFault>
-    ensures ok { IfOk result (λ recorded. recorded_in (view value.now) ≡ Ok recorded) }
-    ensures err { IfErr result (IsFaultOf (recorded_in (view value.now))) }
+    ensures { result ≢ Err BodyFault.NoMemory → result ≡ recorded_in (view value.now) }
 {
-    let _version = match field_int(alloc, value, "version", 0, 0) {
-        Ok(version) => version,
+    match whole_field(alloc, value, "version", 0, 0) {
+        Ok(_) => (),
         Err(fault) => return Err(fault),
-    };
-    let controller_epoch = match field_int(
-        alloc,
-        value,
-        "kraft_controller_epoch",
-        0,
-        2_147_483_647,
-    ) {
+    }
+    let controller_epoch = match number_field(alloc, value, "kraft_controller_epoch", 0) {
         Ok(epoch) => epoch,
         Err(fault) => return Err(fault),
     };
-    let id = match field_int(alloc, value, "kraft_controller_id", 0, 2_147_483_647) {
+    let id = match number_field(alloc, value, "kraft_controller_id", 0) {
         Ok(id) => id,
         Err(fault) => return Err(fault),
     };
-    let epoch = match field_int(alloc, value, "kraft_metadata_epoch", -1, 2_147_483_647) {
+    let epoch = match number_field(alloc, value, "kraft_metadata_epoch", -1) {
         Ok(epoch) => epoch,
         Err(fault) => return Err(fault),
     };
-    let offset = match field_long(alloc, value, "kraft_metadata_offset", -1) {
+    let offset = match whole_field(alloc, value, "kraft_metadata_offset", -1, MAX_LONG) {
         Ok(offset) => offset,
         Err(fault) => return Err(fault),
     };

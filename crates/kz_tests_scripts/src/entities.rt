@@ -26,7 +26,7 @@ static SCRIPTS: [(&str, Status, &str); 3] = [
 {"event":"check"}
 # From now on clients can't change what is migrated.
 {"event":"zk","ops":[{"op":"set","path":"/brokers/topics/orders","version":-1,"text":"{}"}]}
-# Broker 2 falls behind in partition 0, and then leads it: its leader epoch rises with each stated leader.
+# Broker 2 falls out of sync in partition 0, and then leads it: its leader epoch rises with each stated leader.
 {"event":"change","controller":3000,"records":[{"kind":"PartitionChange","partitionId":0,"topicId":"AAECAwQFBgcICQoLDA0ODw","isr":[1]}]}
 {"event":"turn","controller":3000}
 {"event":"change","controller":3000,"records":[{"kind":"PartitionChange","partitionId":0,"topicId":"AAECAwQFBgcICQoLDA0ODw","isr":[2],"leader":2}]}

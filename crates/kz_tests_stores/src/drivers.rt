@@ -262,7 +262,7 @@ fn a_driver_migrates_an_empty_tree(rt: HostRuntime) {
     let alloc = rt.alloc();
     let (mut stores, mut driver) = migrated(&rt, alloc);
     tells(&rt, alloc, &mut driver, &mut stores, "1 idle\n");
-    assert!(rt; matches!(driver.stage(), Stage::Rest));
+    assert!(rt; matches!(driver.stage(), Stage::DualWrite));
     assert!(rt; driver.id() == 3000);
     assert!(rt; driver.epoch() == Some(1));
     assert!(rt; stores.log.end() == 4);

@@ -42,7 +42,7 @@ static CONFIGS: [(&str, &str, &str); 4] = [
     ("1", "a", "\u{fc}"),
 ];
 
-// The znodes of the configurations, behind the root of topics.
+// The znodes of the configurations, after the root of topics.
 static CONFIGURED: [(&str, &str); 5] = [
     ("/brokers/topics", ""),
     ("/config/brokers", ""),

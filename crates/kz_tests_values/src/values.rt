@@ -52,7 +52,7 @@ fn paths_are_made_of_bytes_of_the_rule(rt: HostRuntime) {
     }
 }
 
-// Letters behind a slash, so many bytes in all.
+// Letters after a slash, so many bytes in all.
 fn long_path(rt: &impl Abort, alloc: Global, length: usize) -> Vec<u8> {
     let mut bytes = made(rt, vec![in alloc; b'y'; length]);
     if let Some(first) = bytes.first_mut() {

@@ -67,8 +67,8 @@ pub record BeginsAt (path : List ℕ) (i start : ℕ) : Type 0 where
   pub name : name_of (take i path) ≡ drop start (take i path)
   pub within : start ≤ i
 
-pub begins_behind : (path : List ℕ) (i : ℕ) → i < length path → get_or path i 0 ≡ 47 → BeginsAt path (i + 1) (i + 1)
-begins_behind path i h e = record {
+pub begins_after : (path : List ℕ) (i : ℕ) → i < length path → get_or path i 0 ≡ 47 → BeginsAt path (i + 1) (i + 1)
+begins_after path i h e = record {
   name = rw (take_more path i 0 h, e) (name_slash (take i path)) ∙ sym (drop_all (i + 1) (take (i + 1) path) (omega (arith, length-take (i + 1) path)));
   within = omega arith;
 }

@@ -2,23 +2,26 @@
 use Rattle.std.proofs.Common.{◌≡◌, ℤ, pos, true, false, List, Ok, Err, refl, sym, ap, ◌∙◌, arith}
 use Rattle.std.specs.Prelude.{◌+ℤ◌, ◌<ℤ◌, ◌≤ℤ◌, int_le}
 use Rattle.std.proofs.lemmas.Int.{ints}
+use Rattle.kz_types.specs.declared.limits.TheConstants.{MAX_LONG}
+use Rattle.kz_types.specs.declared.limits.Limit.TheVariants as limits
+use Rattle.kz_types.specs.Limits.{number_of_limit}
 use Rattle.kz_types.specs.declared.tree.Row.{Row}
 use Rattle.kz_types.specs.declared.tree.Op.{Op}
 use Rattle.kz_types.specs.declared.fault.TreeFault.{TreeFault}
 use Rattle.kz_types.specs.declared.fault.TreeFault.TheVariants as fault
-use Rattle.kz_spec_stores.specs.Tree.{Tree, after_ops, multi, with_zxid, max_long}
+use Rattle.kz_spec_stores.specs.Tree.{Tree, after_ops, multi, with_zxid}
 use Rattle.kz_tree.specs.Refusals.{IsMultiFaultOf}
 use Rattle.kz_tree.specs.declared.faults.MultiFault.{MultiFault}
 use Rattle.kz_tree.specs.declared.faults.MultiFault.TheVariants as multi_fault
 use Rattle.kz_tree.proofs.Zxids.{refused_whatever, accepted_whatever}
 
-not_full : (z : ℤ) → z <ℤ max_long → int_le max_long z ≡ false
+not_full : (z : ℤ) → z <ℤ MAX_LONG → int_le MAX_LONG z ≡ false
 not_full z h = grind (arith, ints)
 
-full : (z : ℤ) → max_long ≤ℤ z → int_le max_long z ≡ true
+full : (z : ℤ) → MAX_LONG ≤ℤ z → int_le MAX_LONG z ≡ true
 full z h = grind (arith, ints)
 
-pub multi_done : (t : Tree) (ops : List Op) (rows : List Row) (z : ℤ) → t.zxid <ℤ max_long → z ≡ t.zxid +ℤ pos 1 → after_ops t.sessions z 0 ops t.rows ≡ Ok rows
+pub multi_done : (t : Tree) (ops : List Op) (rows : List Row) (z : ℤ) → t.zxid <ℤ MAX_LONG → z ≡ t.zxid +ℤ pos 1 → after_ops t.sessions z 0 ops t.rows ≡ Ok rows
     → multi t ops ≡ Ok (record { zxid = z; sessions = t.sessions; rows = rows })
 unfolding multi
 multi_done t ops rows z small e is =
@@ -33,7 +36,7 @@ multi_fault_of t ops z (multi_fault.Refused index c) h = multi_refused t ops z (
 multi_fault_of t ops z (multi_fault.Limit index n) h = multi_refused t ops z (fault.Limit index n) h
 multi_fault_of t ops z multi_fault.NoMemory h = h
 
-pub multi_full : (t : Tree) (ops : List Op) (rows : List Row) (z : ℤ) → max_long ≤ℤ t.zxid → after_ops t.sessions z 0 ops t.rows ≡ Ok rows → multi t ops ≡ Err (fault.Limit 0 17)
+pub multi_full : (t : Tree) (ops : List Op) (rows : List Row) (z : ℤ) → MAX_LONG ≤ℤ t.zxid → after_ops t.sessions z 0 ops t.rows ≡ Ok rows → multi t ops ≡ Err (fault.Limit 0 (number_of_limit limits.Long))
 unfolding multi
 multi_full t ops rows z large is =
     let other = accepted_whatever t.sessions z (t.zxid +ℤ pos 1) ops rows t.rows is in

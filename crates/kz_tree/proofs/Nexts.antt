@@ -1,4 +1,4 @@
--- The znodes behind a path, by the place of the path.
+-- The znodes after a path, by the place of the path.
 use Rattle.std.proofs.Common.{◌≡◌, ℕ, zero, suc, ◌+◌, ◌<◌, ◌≤◌, Bool, true, false, List, [], ◌∷◌, length, get_or, drop, Option, Some, None, Ok, Err, MatchOption, HoldsAt, Bor, option_map, Less, inl, inr, eq-or-lt_of_le, refl, sym, ap, ◌∙◌, subst, arith, drop-cons}
 use Rattle.std.specs.List.{filter, AllWithin}
 use Rattle.std.proofs.lemmas.List.{drop_all}
@@ -25,7 +25,7 @@ first_from rows at (Some x) h = ap (λ (r : Row). Some r) (h.1 x.now) ∙ ap fir
 pub from_start : (rows : List Row) → filter (is_after None) rows ≡ drop 0 rows
 from_start rows = filter_from (is_after None) rows 0 (λ k d a b. absurd (omega arith)) (λ k d a b. refl)
 
--- a path that is below another isn't behind it
+-- a path that is below another isn't after it
 not_below : (path : List ℕ) (r : Row) → bytes_cmp r.path path ≡ Less → is_after (Some path) r ≡ false
 not_below path r h = rw (cmp_greater bytes_order path r.path h) refl
 

@@ -17,7 +17,7 @@ abbrev pub meaning : Refusal → tree.Refusal
 meaning (Code c) = tree.code c
 meaning (Limit n) = tree.limit n
 
--- A fault is what the definition says, or want of memory. Nothing else is one.
+-- A fault is what the definition says, or out of memory. Nothing else is one.
 abbrev pub IsFaultOf : {A : Type 0} → Result A TreeFault → TreeFault → Type 0
 IsFaultOf said (fault.Refused index c) = said ≡ Err (fault.Refused index c)
 IsFaultOf said (fault.Limit index n) = said ≡ Err (fault.Limit index n)
@@ -26,20 +26,20 @@ IsFaultOf said fault.Device = ⊥
 IsFaultOf said fault.Down = ⊥
 IsFaultOf said (fault.Full length) = ⊥
 
--- Why nothing was prepared: what the definition says, or want of memory.
+-- Why nothing was prepared: what the definition says, or out of memory.
 abbrev pub IsMultiFaultOf : {A : Type 0} → Result A TreeFault → MultiFault → Type 0
 IsMultiFaultOf said (multi_fault.Refused index c) = said ≡ Err (fault.Refused index c)
 IsMultiFaultOf said (multi_fault.Limit index n) = said ≡ Err (fault.Limit index n)
 IsMultiFaultOf said multi_fault.NoMemory = ⊤
 
--- Why no session began or ended: what the definition says, or want of memory.
+-- Why no session began or ended: what the definition says, or out of memory.
 abbrev pub IsMoveFaultOf : {A : Type 0} → Result A MoveFault → MoveFault → Type 0
 IsMoveFaultOf said move_fault.Known = said ≡ Err move_fault.Known
 IsMoveFaultOf said move_fault.Unknown = said ≡ Err move_fault.Unknown
 IsMoveFaultOf said (move_fault.Limit n) = said ≡ Err (move_fault.Limit n)
 IsMoveFaultOf said move_fault.NoMemory = ⊤
 
--- Why a tree isn't closed: the path that the definition says, or want of memory.
+-- Why a tree isn't closed: the path that the definition says, or out of memory.
 abbrev pub IsClosedFaultOf : Option (List ℕ) → ClosedFault → Type 0
 IsClosedFaultOf said (closed_fault.Unclosed path) = said ≡ Some path
 IsClosedFaultOf said closed_fault.NoMemory = ⊤

@@ -1,6 +1,7 @@
 //! What operations make of znodes.
 ghost use Rattle.std.specs.Prelude.{◌≡◌, ◌<ℤ◌, IfOk, OnOk, IfErr, Ok, Some, None, []};
-ghost use Rattle.kz_spec_stores.specs.Tree.{row_at, touched, set_row, created_row, after_set, after_op, after_ops, op_refusal, refused, max_version};
+ghost use Rattle.kz_types.specs.declared.limits.TheConstants.{MAX_VERSION};
+ghost use Rattle.kz_spec_stores.specs.Tree.{row_at, touched, set_row, created_row, after_set, after_op, after_ops, op_refusal, refused};
 ghost use Rattle.kz_tree.specs.Kept.{AreRows};
 ghost use Rattle.kz_tree.specs.Refusals.{IsMultiFaultOf, meaning};
 
@@ -43,7 +44,7 @@ fn created_row(
 }
 
 fn set_row(alloc: Global, row: &Row, body: &Sequence<u8>, zxid: i64) -> Result<Row, NoMemory>
-    requires { row.now.version <ℤ max_version }
+    requires { row.now.version <ℤ MAX_VERSION }
     ensures { IfOk result (λ made. made ≡ set_row zxid body.now row.now) }
 {
     Ok(Row {

@@ -15,7 +15,7 @@ pub fn parent_of(path: &[u8]) -> &[u8]
     &path[..end]
 }
 
-/// The last part of a path: what stands behind the last `/`.
+/// The last part of a path: what stands after the last `/`.
 pub fn name_of(path: &[u8]) -> &[u8]
     ensures { result.now ≡ name_of path.now }
 {

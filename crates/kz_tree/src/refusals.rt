@@ -1,19 +1,17 @@
 //! Why an operation is refused.
 ghost use Rattle.std.specs.Prelude.{◌≡◌, option_map, nat_le, length};
-ghost use Rattle.kz_spec_stores.specs.Tree.{may_own, is_root, has_parent, has_children, is_ephemeral, fits_version, count_beside, limit_beside, max_znodes, create_refusal, set_refusal, delete_refusal, check_refusal, op_refusal};
+ghost use Rattle.kz_types.specs.declared.limits.TheConstants.{MAX_ZNODES};
+ghost use Rattle.kz_spec_stores.specs.Tree.{may_own, is_root, has_parent, has_children, is_ephemeral, fits_version, count_beside, limit_beside, create_refusal, set_refusal, delete_refusal, check_refusal, op_refusal};
 ghost use Rattle.kz_tree.specs.Kept.{AreRows};
 ghost use Rattle.kz_tree.specs.Refusals.{meaning};
 
 use crate::migrated::is_migrated;
 use crate::names::parent_of;
 use crate::rows::row_at;
-use kz_types::{Op, Row};
-
-/// The most bytes of a znode's data.
-pub const MAX_BODY: usize = 1_048_575;
-
-/// The most znodes of the migrated area, and the most of all others but the root.
-pub const MAX_ZNODES: usize = 200_000;
+use kz_types::{
+    BAD_VERSION, Limit, MAX_BODY_BYTES, MAX_VERSION, MAX_ZNODES, NO_CHILDREN_FOR_EPHEMERALS,
+    NO_NODE, NODE_EXISTS, NOT_EMPTY, Op, Row, SESSION_EXPIRED,
+};
 
 /// Why an operation is refused: ZooKeeper's code, or the number of a limit.
 #[derive(Clone, Copy, Debug, PartialEq, Eq)]
@@ -86,7 +84,7 @@ fn count_beside(path: &[u8], rows: &[Row]) -> usize
 
 // Whether there are as many znodes beside a path as there may be.
 fn is_full_beside(path: &[u8], rows: &[Row]) -> bool
-    ensures { result ≡ nat_le max_znodes (count_beside path.now rows.now) }
+    ensures { result ≡ nat_le MAX_ZNODES (count_beside path.now rows.now) }
 {
     rows.len() >= MAX_ZNODES && count_beside(path, rows) >= MAX_ZNODES
 }
@@ -94,7 +92,11 @@ fn is_full_beside(path: &[u8], rows: &[Row]) -> bool
 fn limit_beside(path: &[u8]) -> u8
     ensures { result ≡ limit_beside path.now }
 {
-    if is_migrated(path) { 3 } else { 4 }
+    if is_migrated(path) {
+        Limit::MigratedZnodes.number()
+    } else {
+        Limit::OtherZnodes.number()
+    }
 }
 
 fn create_refusal(
@@ -108,19 +110,19 @@ fn create_refusal(
     ensures { option_map meaning result ≡ create_refusal sessions.now path.now body.now owner rows.now }
 {
     if !may_own(owner, sessions) {
-        return Some(Refusal::Code(-112));
+        return Some(Refusal::Code(SESSION_EXPIRED));
     }
     if !has_parent(path, rows) {
-        return Some(Refusal::Code(-101));
+        return Some(Refusal::Code(NO_NODE));
     }
     if row_at(rows, path).is_some() {
-        return Some(Refusal::Code(-110));
+        return Some(Refusal::Code(NODE_EXISTS));
     }
     if is_ephemeral(row_at(rows, parent_of(path))) {
-        return Some(Refusal::Code(-108));
+        return Some(Refusal::Code(NO_CHILDREN_FOR_EPHEMERALS));
     }
-    if body.len() > MAX_BODY {
-        return Some(Refusal::Limit(2));
+    if body.len() > MAX_BODY_BYTES {
+        return Some(Refusal::Limit(Limit::BodyBytes.number()));
     }
     if is_full_beside(path, rows) {
         return Some(Refusal::Limit(limit_beside(path)));
@@ -132,16 +134,16 @@ fn set_refusal(body: &[u8], version: i32, row: Option<&Row>) -> Option<Refusal>
     ensures { option_map meaning result ≡ set_refusal body.now version (option_map (λ r. r.now) row.entry) }
 {
     let Some(row) = row else {
-        return Some(Refusal::Code(-101));
+        return Some(Refusal::Code(NO_NODE));
     };
     if !fits_version(version, row) {
-        return Some(Refusal::Code(-103));
+        return Some(Refusal::Code(BAD_VERSION));
     }
-    if body.len() > MAX_BODY {
-        return Some(Refusal::Limit(2));
+    if body.len() > MAX_BODY_BYTES {
+        return Some(Refusal::Limit(Limit::BodyBytes.number()));
     }
-    if row.version == i32::MAX {
-        return Some(Refusal::Limit(5));
+    if row.version == MAX_VERSION {
+        return Some(Refusal::Limit(Limit::Version.number()));
     }
     None
 }
@@ -150,13 +152,13 @@ fn delete_refusal(path: &[u8], version: i32, rows: &[Row], row: Option<&Row>) ->
     ensures { option_map meaning result ≡ delete_refusal path.now version rows.now (option_map (λ r. r.now) row.entry) }
 {
     let Some(row) = row else {
-        return Some(Refusal::Code(-101));
+        return Some(Refusal::Code(NO_NODE));
     };
     if !fits_version(version, row) {
-        return Some(Refusal::Code(-103));
+        return Some(Refusal::Code(BAD_VERSION));
     }
     if has_children(path, rows) {
-        return Some(Refusal::Code(-111));
+        return Some(Refusal::Code(NOT_EMPTY));
     }
     None
 }
@@ -165,10 +167,10 @@ fn check_refusal(version: i32, row: Option<&Row>) -> Option<Refusal>
     ensures { option_map meaning result ≡ check_refusal version (option_map (λ r. r.now) row.entry) }
 {
     let Some(row) = row else {
-        return Some(Refusal::Code(-101));
+        return Some(Refusal::Code(NO_NODE));
     };
     if !fits_version(version, row) {
-        return Some(Refusal::Code(-103));
+        return Some(Refusal::Code(BAD_VERSION));
     }
     None
 }

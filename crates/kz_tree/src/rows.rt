@@ -65,7 +65,7 @@ pub fn take_out(rows: &mut Vec<Row>, path: &[u8])
     }
 }
 
-/// The first znode behind a path, or the first of all.
+/// The first znode after a path, or the first of all.
 pub fn next_row<'a>(rows: &'a [Row], after: Option<&ZPath>) -> Option<&'a Row>
     requires { Rises bytes_cmp path_of_row rows.now }
     ensures { option_map (λ row. row.now) result ≡ first_row (filter (is_after (option_map (λ path. path.now) after.entry)) rows.entry.now) }

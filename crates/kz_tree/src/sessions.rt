@@ -73,7 +73,7 @@ fn is_owned(session: i64, row: &Row) -> bool
     }
 }
 
-// Whether a path is the last of these. Siblings mostly stand one behind another.
+// Whether a path is the last of these. Siblings mostly stand one after another.
 fn is_last(paths: &[&[u8]], path: &[u8]) -> bool
     ensures { result ≡ true → list_any (λ other. bytes_eq other.now path.now) paths.now ≡ true }
 {

@@ -320,7 +320,7 @@ fn is_page(page: Vec<Row>, count: usize, path: &str) -> bool {
 }
 
 #[test]
-fn pages_begin_behind_a_path(rt: HostRuntime) {
+fn pages_begin_after_a_path(rt: HostRuntime) {
     let alloc = rt.alloc();
     let tree = filled(&rt, alloc);
     assert!(rt; is_page(made(&rt, tree.scan(None, 2)), 2, "/brokers/topics"));
@@ -330,7 +330,7 @@ fn pages_begin_behind_a_path(rt: HostRuntime) {
     drop(tree);
 }
 
-// Whether the znodes behind a path begin with this one.
+// Whether the znodes after a path begin with this one.
 fn is_next(tree: &Tree, after: Option<&ZPath>, path: &str) -> bool {
     match tree.next_row(after) {
         Some(row) => row.path.as_str() == path,

@@ -1,9 +1,11 @@
 //! The tree.
 ghost use Rattle.std.specs.Prelude.{◌≡◌, ◌+ℤ◌, ◌<ℤ◌, ◌≤ℤ◌, pos, length, option_map, map, None, Ok, IfOk, IfErr, OnOk, OnErr};
+ghost use Rattle.kz_types.specs.declared.limits.TheConstants.{MAX_LONG};
 ghost use Rattle.kz_spec_stores.specs.Tree as tree;
-ghost use Rattle.kz_spec_stores.specs.Tree.{max_long, path_of_row, path_of_rendered};
+ghost use Rattle.kz_spec_stores.specs.Tree.{path_of_row, path_of_rendered};
 ghost use Rattle.kz_ordered.specs.Order.{bytes_cmp};
 ghost use Rattle.kz_ordered.specs.Ordered.{Rises};
+ghost use Rattle.kz_tree.specs.Changes.{IsMadeFrom};
 ghost use Rattle.kz_tree.specs.Kept.{IsKept};
 ghost use Rattle.kz_tree.specs.Refusals.{IsFaultOf, IsMultiFaultOf, IsMoveFaultOf, IsClosedFaultOf};
 
@@ -13,7 +15,9 @@ use crate::prepared::Prepared;
 use crate::reads;
 use crate::rows::{next_row, row_at};
 use crate::sessions::{is_live, with_session, without_owned, without_session};
-use kz_types::{MoveFault, NoMemory, Op, Recorded, Rendered, Row, TreeFault, ZPath, copy_all};
+use kz_types::{
+    Limit, MAX_LONG, MoveFault, NoMemory, Op, Recorded, Rendered, Row, TreeFault, ZPath, copy_all,
+};
 use std::alloc::Global;
 use std::marker::Model;
 
@@ -54,9 +58,9 @@ impl Tree {
 
     // The next zxid, where there is one.
     fn next_zxid(&self) -> i64
-        ensures { self.now.zxid <ℤ max_long → result ≡ self.now.zxid +ℤ pos 1 }
+        ensures { self.now.zxid <ℤ MAX_LONG → result ≡ self.now.zxid +ℤ pos 1 }
     {
-        if self.zxid < i64::MAX {
+        if self.zxid < MAX_LONG {
             self.zxid + 1
         } else {
             self.zxid
@@ -65,11 +69,11 @@ impl Tree {
 
     /// Prepares all operations, with one new zxid. Nothing changes until `commit`.
     ///
-    /// `Refused` and `Limit` name the first operation that is refused, each judged after those before it. Limit 17 is
-    /// that there is no further zxid.
+    /// `Refused` and `Limit` name the first operation that is refused, each judged after those before it. The limit
+    /// [`MAX_LONG`] is refused at index 0.
     pub fn prepare(&mut self, ops: &[Op]) -> Result<Prepared, MultiFault>
         ensures ok { IfOk result (λ prepared. tree.multi self.old ops.now ≡ Ok prepared) }
-        ensures next { IfOk result (λ prepared. prepared.zxid ≡ self.old.zxid +ℤ pos 1) }
+        ensures made { IfOk result (IsMadeFrom self.old) }
         ensures err { IfErr result (IsMultiFaultOf (tree.multi self.old ops.now)) }
         ensures same { self.new ≡ self.old }
     {
@@ -84,10 +88,10 @@ impl Tree {
             Ok(rows) => rows,
             Err(fault) => return Err(fault),
         };
-        if self.zxid == i64::MAX {
+        if self.zxid == MAX_LONG {
             return Err(MultiFault::Limit {
                 index: 0,
-                number: 17,
+                number: Limit::Long.number(),
             });
         }
         Ok(Prepared::new(zxid, sessions, rows))
@@ -98,15 +102,17 @@ impl Tree {
     pub fn prepare_begin(&mut self, session: i64) -> Result<Prepared, MoveFault>
         requires { pos 1 ≤ℤ session }
         ensures ok { IfOk result (λ prepared. tree.begin_session self.old session ≡ Ok prepared) }
-        ensures next { IfOk result (λ prepared. prepared.zxid ≡ self.old.zxid +ℤ pos 1) }
+        ensures made { IfOk result (IsMadeFrom self.old) }
         ensures err { IfErr result (IsMoveFaultOf (tree.begin_session self.old session)) }
         ensures same { self.new ≡ self.old }
     {
         if is_live(&self.sessions, session) {
             return Err(MoveFault::Known);
         }
-        if self.zxid == i64::MAX {
-            return Err(MoveFault::Limit { number: 17 });
+        if self.zxid == MAX_LONG {
+            return Err(MoveFault::Limit {
+                number: Limit::Long.number(),
+            });
         }
         let Ok(sessions) = with_session(self.alloc, &self.sessions, session) else {
             return Err(MoveFault::NoMemory);
@@ -121,15 +127,17 @@ impl Tree {
     /// until `commit`.
     pub fn prepare_end(&mut self, session: i64) -> Result<Prepared, MoveFault>
         ensures ok { IfOk result (λ prepared. tree.end_session self.old session ≡ Ok prepared) }
-        ensures next { IfOk result (λ prepared. prepared.zxid ≡ self.old.zxid +ℤ pos 1) }
+        ensures made { IfOk result (IsMadeFrom self.old) }
         ensures err { IfErr result (IsMoveFaultOf (tree.end_session self.old session)) }
         ensures same { self.new ≡ self.old }
     {
         if !is_live(&self.sessions, session) {
             return Err(MoveFault::Unknown);
         }
-        if self.zxid == i64::MAX {
-            return Err(MoveFault::Limit { number: 17 });
+        if self.zxid == MAX_LONG {
+            return Err(MoveFault::Limit {
+                number: Limit::Long.number(),
+            });
         }
         let Ok(sessions) = without_session(self.alloc, &self.sessions, session) else {
             return Err(MoveFault::NoMemory);
@@ -141,10 +149,9 @@ impl Tree {
         Ok(Prepared::new(zxid, sessions, rows))
     }
 
-    /// Makes a prepared change, and answers its zxid. The tree is to stand as it stood when the change was prepared: the
-    /// change has the next zxid.
+    /// Makes a prepared change, and answers its zxid. The tree is to stand as it stood when the change was prepared.
     pub fn commit(&mut self, prepared: Prepared) -> i64
-        requires { prepared.zxid ≡ self.old.zxid +ℤ pos 1 }
+        requires made { IsMadeFrom self.old prepared }
         ensures tree { self.new ≡ prepared }
         ensures zxid { result ≡ self.new.zxid }
     {
@@ -210,7 +217,7 @@ impl Tree {
         self.sessions.as_slice()
     }
 
-    /// Copies of the first `limit` znodes of the migrated area behind a path, or of its first ones.
+    /// Copies of the first `limit` znodes of the migrated area after a path, or of its first ones.
     pub fn scan(&self, after: Option<&ZPath>, limit: usize) -> Result<Vec<Row>, NoMemory>
         ensures znodes { IfOk result (λ made. made.items ≡ tree.scan self.now (option_map (λ path. path.now) after.entry) limit) }
         ensures rising { IfOk result (λ made. Rises bytes_cmp path_of_row made.items) }
@@ -226,7 +233,7 @@ impl Tree {
     }
 
     /// The ids of the brokers that are there, rising: the children of `/brokers/ids` whose names are canonical decimals of
-    /// 0 to 2,147,483,647.
+    /// 0 to [`kz_types::MAX_NUMBER`].
     pub fn broker_ids(&self) -> Result<Vec<i32>, NoMemory>
         ensures { IfOk result (λ ids. ids.items ≡ tree.broker_ids self.now) }
     {

@@ -1,10 +1,9 @@
 pub mod OnLiterals
 pub mod PathRules
+pub mod Leads
+pub mod TextPlaces
+pub mod FormPlaces
 pub mod IdLemmas
 pub mod NumberLemmas
 pub mod NameLemmas
 pub mod KeyLemmas
-pub mod QuotaNumerals
-pub mod QuotaScales
-pub mod QuotaTexts
-pub mod PathBuffers

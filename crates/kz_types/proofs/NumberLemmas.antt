@@ -10,7 +10,8 @@ use Rattle.std.proofs.lemmas.Str.Parse.{numerals_by_value, IsDigitsTest}
 use Rattle.std.proofs.lemmas.Str.{digit_value_digit}
 use Rattle.std.proofs.lemmas.List.{drop_more, drop_all}
 use Rattle.std.proofs.lemmas.Slice.Eq.{bytes_eq-Decides}
-use Rattle.kz_types.specs.Numbers.{canonical, digits_up_to, is_digit, number_of, greatest}
+use Rattle.kz_types.specs.Numbers.{canonical, digits_up_to, is_digit, number_of}
+use Rattle.kz_types.specs.declared.limits.TheConstants.{MAX_NUMBER}
 use Rattle.kz_types.proofs.PathRules.{both_hold}
 
 -- the test of digits is one
@@ -36,17 +37,17 @@ some_if false m n h = cc h
 pub canonical_sound : (bs : List ℕ) (n : ℕ) → canonical bs ≡ Some n → (bs ≡ decimal n) × (n ≤ 2147483647) × (number_of bs ≡ n)
 unfolding canonical
 canonical_sound bs n h =
-    let k = some_if (bytes_eq (decimal (number_of bs)) bs && nat_le (number_of bs) greatest) (number_of bs) n h in
-    let m = both_hold (bytes_eq (decimal (number_of bs)) bs) (nat_le (number_of bs) greatest) k.0 in
-    (sym (bytes_eq-true (decimal (number_of bs)) bs m.0) ∙ ap decimal k.1, omega (arith, leb-true (number_of bs) greatest m.1, k.1), k.1)
+    let k = some_if (bytes_eq (decimal (number_of bs)) bs && nat_le (number_of bs) MAX_NUMBER) (number_of bs) n h in
+    let m = both_hold (bytes_eq (decimal (number_of bs)) bs) (nat_le (number_of bs) MAX_NUMBER) k.0 in
+    (sym (bytes_eq-true (decimal (number_of bs)) bs m.0) ∙ ap decimal k.1, omega (arith, leb-true (number_of bs) MAX_NUMBER m.1, k.1), k.1)
 
 -- and each number of its range has one
 pub canonical_complete : (n : ℕ) → n ≤ 2147483647 → canonical (decimal n) ≡ Some n
 unfolding canonical
 canonical_complete n le =
     let value : number_of (decimal n) ≡ n = (decimal_is_IsNumeral n (omega arith)).1 in
-    (λ i. if bytes_eq (decimal (value i)) (decimal n) && nat_le (value i) greatest then Some (value i) else None)
-    ∙ (λ i. if bytes_eq-same (decimal n) (decimal n) refl i && le-leb n greatest le i then Some n else None)
+    (λ i. if bytes_eq (decimal (value i)) (decimal n) && nat_le (value i) MAX_NUMBER then Some (value i) else None)
+    ∙ (λ i. if bytes_eq-same (decimal n) (decimal n) refl i && le-leb n MAX_NUMBER le i then Some n else None)
 
 -- its bytes are digits
 pub canonical_digits : (bs : List ℕ) (n : ℕ) → canonical bs ≡ Some n → (list_all is_digit bs ≡ true) × (0 < length bs) × (1 < length bs → get_or bs 0 0 ≡ 48 → ⊥)

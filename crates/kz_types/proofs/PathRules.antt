@@ -106,15 +106,15 @@ pub parts_are_legal : (bs : List ℕ) → is_path bs ≡ true → list_all is_pa
 unfolding is_path has_path_form
 parts_are_legal bs path = (both_hold (is_utf8 bs && (slice_index bs 0 == 47)) (list_all is_part (parts bs)) (both_hold (has_path_form bs) (nat_le (length bs) 1024) path).0).1
 
--- and its parts are those of what stands behind it
-pub parts_behind : (bs : List ℕ) → is_path bs ≡ true → (1 ≤ length bs) × (parts bs ≡ slice_split (λ b. b == 47) (drop 1 bs))
-parts_behind bs path = by bs (begins_with_slash bs path)
+-- and its parts are those of what stands after it
+pub parts_after : (bs : List ℕ) → is_path bs ≡ true → (1 ≤ length bs) × (parts bs ≡ slice_split (λ b. b == 47) (drop 1 bs))
+parts_after bs path = by bs (begins_with_slash bs path)
   where
     by : (cs : List ℕ) → (slice_index cs 0 == 47) ≡ true → (1 ≤ length cs) × (parts cs ≡ slice_split (λ b. b == 47) (drop 1 cs))
     by [] h = absurd (false≢true h)
     by (c ∷ cs) h = (omega arith, ap (drop 1) (slice_split-cons_yes (λ b. b == 47) c cs h))
 
--- its parts behind the nothing before its first slash
+-- its parts after the nothing before its first slash
 pub split_of_path : (bs : List ℕ) → is_path bs ≡ true → slice_split (λ b. b == 47) bs ≡ [] ∷ parts bs
 split_of_path bs path = by bs (begins_with_slash bs path)
   where

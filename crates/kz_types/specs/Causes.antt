@@ -1,9 +1,9 @@
 -- When a call to the outside may answer a fault.
 use Rattle.std.specs.Prelude.{◌≡◌, ◌⊎◌, ℕ, ◌+◌, ◌-◌, ◌^◌, ◌<◌, ◌≤◌, min, List, length, Result, OnErr, OnOk, MatchResult}
 
--- the count has risen, or stands at its greatest value
+-- the count has risen, or stands at its greatest value; it has never fallen
 abbrev pub Rose : ℕ → ℕ → Type 0
-Rose before now = min (before + 1) (2 ^ 64 - 1) ≤ now
+Rose before now = (before ≤ now) × (min (before + 1) (2 ^ 64 - 1) ≤ now)
 
 -- A fault is answered only where the count rose in this call, and a call that succeeds leaves the count.
 pub record HasCause {T E : Type 0} (before now : ℕ) (result : Result T E) : Type 0 where

@@ -1,7 +1,10 @@
 pub mod Causes
 pub mod QuotaEntities
+pub mod Faults
+pub mod Limits
 pub mod Numbers
 pub mod PathRule
 pub mod Paths
+pub mod Places
 pub mod Quotas
 pub mod Ids

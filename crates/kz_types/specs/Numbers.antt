@@ -2,6 +2,7 @@
 use Rattle.std.specs.Prelude.{ℕ, Bool, ◌&&◌, nat_le, ℤ, pos, List, Option, Some, None, option_map, if◌then◌else◌, bytes_eq, decimal}
 use Rattle.std.specs.List.{list_all}
 use Rattle.std.specs.Str.Parse.{digits_value}
+use Rattle.kz_types.specs.declared.limits.TheConstants.{MAX_NUMBER}
 
 abbrev pub is_digit : ℕ → Bool
 is_digit b = nat_le 48 b && nat_le b 57
@@ -14,13 +15,9 @@ number_of digits = digits_value 10 digits
 abbrev pub digits_up_to : ℕ → List ℕ → Option ℕ
 digits_up_to most bytes = if list_all is_digit bytes && nat_le (number_of bytes) most then Some (number_of bytes) else None
 
--- the greatest number of a canonical decimal
-abbrev pub greatest : ℕ
-greatest = 2147483647
-
 -- the number whose canonical decimal these bytes are
 unfoldable pub canonical : List ℕ → Option ℕ
-canonical bytes = if bytes_eq (decimal (number_of bytes)) bytes && nat_le (number_of bytes) greatest then Some (number_of bytes) else None
+canonical bytes = if bytes_eq (decimal (number_of bytes)) bytes && nat_le (number_of bytes) MAX_NUMBER then Some (number_of bytes) else None
 
 -- the same, as a signed number
 abbrev pub number_in : List ℕ → Option ℤ

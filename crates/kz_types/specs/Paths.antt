@@ -1,5 +1,5 @@
 -- What each path of ZooKeeper's tree is to the migration, and which entity it holds.
-pub use Rattle.kz_types.specs.PathRule.{is_path, fault_place, parts, is_part}
+pub use Rattle.kz_types.specs.PathRule.{is_path, parts, is_part}
 use Rattle.std.specs.Prelude.{ℕ, ◌+◌, ◌-◌, ◌*◌, ◌/◌, ◌%◌, Bool, true, false, not, ◌&&◌, ◌||◌, ◌==◌, nat_lt, nat_le, ℤ, pos, int_le, List, [], ◌∷◌, ◌++◌, length, Option, Some, None, option_map, option_and_then, is_some, if◌then◌else◌, codes, bytes_eq}
 use Rattle.std.specs.Str.{is_utf8}
 use Rattle.std.specs.List.{list_any, list_all, starts_with, flat_map}

@@ -22,47 +22,47 @@ pub enum Stage {
     /// INACTIVE
     Inactive,
     /// WAIT_FOR_CONTROLLER_QUORUM
-    WaitForQuorum,
+    WaitForControllerQuorum,
     /// WAIT_FOR_BROKERS, before the log is read
     WaitForBrokers,
     /// WAIT_FOR_BROKERS, before the brokers are listed
-    CompareBrokers,
+    ListBrokers,
     /// BECOME_CONTROLLER, before the look
-    Look,
+    ReadControlZnodes,
     /// BECOME_CONTROLLER, before the claim
-    Claim {
+    ClaimLeadership {
         seen: ClaimSeen,
     },
     /// ZK_MIGRATION, reading: the znodes read so far
-    ReadSource {
+    ScanForMigration {
         rows: Sequence<Row>,
     },
     /// ZK_MIGRATION, beginning: all znodes
-    Begin {
+    BeginMigration {
         rows: Sequence<Row>,
     },
     /// ZK_MIGRATION, filling and, where there are none, ending: the records that are still to be appended
-    Fill {
+    AppendRecords {
         records: Sequence<MetaRecord>,
     },
     /// SYNC_KRAFT_TO_ZK, before the log is read
-    ReadLog,
+    ReadLogForResync,
     /// SYNC_KRAFT_TO_ZK, reading: what will be recorded, and the znodes read so far
-    ReadArea {
+    ScanForResync {
         target: Recorded,
         rows: Sequence<Row>,
     },
     /// SYNC_KRAFT_TO_ZK, writing: what will be recorded, and the operations that are still to be written
-    WriteAll {
+    WriteResync {
         target: Recorded,
         ops: Sequence<Op>,
     },
     /// KRAFT_CONTROLLER_TO_BROKER_COMM
-    InformBrokers,
+    KraftControllerToBrokerComm,
     /// DUAL_WRITE, no write under way
-    Rest,
+    DualWrite,
     /// DUAL_WRITE, writing: what will be recorded, and the operations that are still to be written
-    WriteChange {
+    WriteDelta {
         target: Recorded,
         ops: Sequence<Op>,
     },

@@ -6,7 +6,7 @@ use std::alloc::Global;
 
 /// What can be copied where there is memory.
 pub trait Duplicate: Sized {
-    /// An equal value, or want of memory.
+    /// An equal value, or out of memory.
     fn copy(&self, alloc: Global) -> Result<Self, NoMemory>
         ensures { IfOk result (λ made. made ≡ self.now) };
 }

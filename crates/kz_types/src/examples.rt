@@ -3,11 +3,10 @@
 
 ghost use Rattle.std.specs.Prelude.{◌≡◌, ◌∷◌, ◌++◌, [], codes, true, false, pos, ℕ, List, None};
 ghost use Rattle.kz_types.specs.Numbers.{canonical};
-ghost use Rattle.kz_types.specs.Paths.{is_path, fault_place, kind_of, key_of, path_of, is_legal, is_migrated};
-ghost use Rattle.kz_types.specs.Quotas.{quota_of, quota_text};
+ghost use Rattle.kz_types.specs.Paths.{is_path, kind_of, key_of, path_of, is_legal, is_migrated};
 ghost use Rattle.kz_types.specs.Ids.{id_of, id_text, zero_id};
 
-use crate::{EntityKey, Kind, QuotaFault, QuotaValue};
+use crate::{EntityKey, Kind};
 
 /// A user's name and its path.
 pub fn user_path()
@@ -72,37 +71,8 @@ pub fn rule()
     ensures path { is_path (codes "/a/...") ≡ true }
     ensures text { is_path (codes "/" ++ 195 ∷ 188 ∷ []) ≡ true }
     ensures slash { is_path (codes "/") ≡ false }
-    ensures slash_place { fault_place (codes "/") ≡ 1 }
     ensures end { is_path (codes "/a/") ≡ false }
-    ensures end_place { fault_place (codes "/a/") ≡ 3 }
-    ensures empty_part_place { fault_place (codes "/a//b") ≡ 3 }
     ensures dots { is_path (codes "/a/../b") ≡ false }
-    ensures dots_place { fault_place (codes "/a/../b") ≡ 5 }
-    ensures dot_place { fault_place (codes "/a/./b") ≡ 4 }
-    ensures first_place { fault_place (codes "a") ≡ 0 }
-    ensures control_place { fault_place (codes "/a" ++ 31 ∷ []) ≡ 2 }
-    ensures character_place { fault_place (codes "/" ++ 240 ∷ 128 ∷ []) ≡ 2 }
-{}
-
-/// Quotas and their texts.
-pub fn quotas()
-    ensures whole { quota_of (codes "1024") ≡ Ok (record { whole = pos 1024; micros = pos 0 }) }
-    ensures decimal { quota_of (codes "1024.0") ≡ Ok (record { whole = pos 1024; micros = pos 0 }) }
-    ensures exponent { quota_of (codes "1.024E3") ≡ Ok (record { whole = pos 1024; micros = pos 0 }) }
-    ensures half { quota_of (codes "12.5") ≡ Ok (record { whole = pos 12; micros = pos 500000 }) }
-    ensures small { quota_of (codes "1.0E-4") ≡ Ok (record { whole = pos 0; micros = pos 100 }) }
-    ensures fine { quota_of (codes "0.0000001") ≡ Err QuotaFault.TooFine }
-    ensures fine_exponent { quota_of (codes "1e-7") ≡ Err QuotaFault.TooFine }
-    ensures greatest { quota_of (codes "9223372036854775807.999999") ≡ Ok (record { whole = pos 9223372036854775807; micros = pos 999999 }) }
-    ensures large { quota_of (codes "9223372036854775808") ≡ Err QuotaFault.TooLarge }
-    ensures fine_first { quota_of (codes "9223372036854775808.0000001") ≡ Err QuotaFault.TooFine }
-    ensures no_decimals { quota_of (codes "1.") ≡ Err (QuotaFault.NotNumber 2) }
-    ensures empty { quota_of [] ≡ Err (QuotaFault.NotNumber 0) }
-    ensures no_exponent { quota_of (codes "1E+") ≡ Err (QuotaFault.NotNumber 3) }
-    ensures letter { quota_of (codes "1x") ≡ Err (QuotaFault.NotNumber 1) }
-    ensures written { quota_text (record { whole = pos 1024; micros = pos 0 }) ≡ codes "1024" }
-    ensures written_decimals { quota_text (record { whole = pos 12; micros = pos 500000 }) ≡ codes "12.5" }
-    ensures written_small { quota_text (record { whole = pos 0; micros = pos 100 }) ≡ codes "0.0001" }
 {}
 
 /// Ids and their texts.

@@ -7,7 +7,9 @@ use std::alloc::Global;
 /// The configuration of a resource: its name, and its members by rising name, of which there is at least one.
 #[derive(Drop)]
 pub struct Configuration {
+    /// The resource's name: a broker's id in decimal, or empty for all brokers.
     pub name: Text,
+    /// The members and their values.
     pub pairs: Sequence<Pair>,
 }
 
@@ -23,7 +25,9 @@ impl Duplicate for Configuration {
 /// A partition of a topic, and its number.
 #[derive(Drop)]
 pub struct PartitionEntry {
+    /// The number, from 0 on.
     pub number: i32,
+    /// The partition.
     pub row: PartitionRow,
 }
 
@@ -39,9 +43,13 @@ impl Duplicate for PartitionEntry {
 /// A topic: its name and its id, its partitions by rising number, and its configuration by rising name.
 #[derive(Drop)]
 pub struct TopicEntry {
+    /// The topic's name.
     pub name: Text,
+    /// The topic's id, never zero.
     pub id: Id,
+    /// The partitions.
     pub partitions: Sequence<PartitionEntry>,
+    /// The members of the configuration and their values; none where it has none.
     pub pairs: Sequence<Pair>,
 }
 
@@ -59,7 +67,9 @@ impl Duplicate for TopicEntry {
 /// The quotas of an entity: the path of its znode, and its quotas by rising key, of which there is at least one.
 #[derive(Drop)]
 pub struct QuotaEntry {
+    /// Such as `/config/users/alice`.
     pub path: ZPath,
+    /// The quotas.
     pub quotas: Sequence<QuotaRow>,
 }
 
@@ -75,7 +85,9 @@ impl Duplicate for QuotaEntry {
 /// The credentials of a user, by rising mechanism, of which there is at least one.
 #[derive(Drop)]
 pub struct ScramEntry {
+    /// The user's name.
     pub name: Text,
+    /// The credentials.
     pub scrams: Sequence<ScramPair>,
 }
 
@@ -91,7 +103,9 @@ impl Duplicate for ScramEntry {
 /// An access control entry, and its id.
 #[derive(Drop)]
 pub struct AclEntry {
+    /// The id, never zero.
     pub id: Id,
+    /// The entry.
     pub row: AclRow,
 }
 

@@ -2,16 +2,27 @@
 use crate::{LogFault, MetaRecord, Op, ReadWhy, Sequence, TreeFault, ZPath};
 
 /// The states of a migration driver.
+/// The names are those of KIP-866.
 #[derive(Clone, Copy, Debug, PartialEq, Eq)]
 pub enum DriverState {
+    /// It has just been started. Its first step makes it inactive.
     Uninitialized,
+    /// Its controller isn't elected, or has resigned. It does nothing.
     Inactive,
+    /// It is elected. It waits until each declared controller runs, unless the log shows a committed migration.
     WaitForControllerQuorum,
+    /// It waits until each broker below `/brokers/ids` is registered in the log as ready to migrate.
     WaitForBrokers,
+    /// It looks at the control znodes, and claims ZooKeeper.
     BecomeController,
+    /// It reads the migrated area, and appends what it translates to as one transaction of the log.
     ZkMigration,
+    /// It reads the log, and makes the migrated area the rendering of the metadata at the log's end.
     SyncKraftToZk,
+    /// ZooKeeper is as the metadata was. In Kafka the brokers are told now. Here nothing is sent, and the next step
+    /// goes on.
     KraftControllerToBrokerComm,
+    /// It writes each change of the metadata to ZooKeeper, too.
     DualWrite,
 }
 
@@ -76,7 +87,9 @@ pub enum Reply {
 /// A path at which the tree is ahead of its recorded offset, and the first later batch end at which it agrees.
 #[derive(Drop)]
 pub struct AheadPath {
+    /// The path.
     pub path: ZPath,
+    /// The batch end.
     pub offset: i64,
 }
 
@@ -103,6 +116,8 @@ pub enum Verdict {
 }
 
 /// What a line of a script asks for. Ids are at least 0, and `now` is a time of at least 0.
+/// `now` counts milliseconds since the beginning of 1970 in UTC, as Kafka's timestamps do. It is the time of the batch
+/// that an event appends, and of `/controller` where a turn claims ZooKeeper. Nothing else depends on it.
 #[derive(Drop)]
 pub enum Event {
     /// Declares the controllers.

@@ -1,4 +1,4 @@
-//! Want of memory.
+//! Running out of memory.
 use std::alloc::{AllocError, AllocFailed};
 
 /// Memory ran out. Every call that allocates may answer it; nothing else does.

@@ -1,9 +1,9 @@
 //! Decimals.
 ghost use Rattle.std.specs.Prelude.{◌≡◌, ◌≤◌, IfSome};
+ghost use Rattle.kz_types.specs.declared.limits.TheConstants.{MAX_NUMBER};
 ghost use Rattle.kz_types.specs.Numbers.{canonical, digits_up_to, number_in};
 
-/// The greatest number of a canonical decimal.
-const GREATEST: u64 = 2147483647;
+use crate::limits::MAX_NUMBER;
 
 /// The number that digits write, with or without zeros in front. `None` where a byte is no digit and where the number is
 /// above `most`.
@@ -26,10 +26,10 @@ pub fn digits_up_to(text: &[u8], most: u64) -> Option<u64>
     Some(number)
 }
 
-/// The number of 0 to 2147483647 whose decimal text this is: without a sign and without leading zeros.
+/// The number of 0 to [`MAX_NUMBER`] whose decimal text this is: without a sign and without leading zeros.
 pub fn canonical(text: &[u8]) -> Option<u64>
     ensures value { result ≡ canonical text.now }
-    ensures bound { IfSome result (λ n. n ≤ 2147483647) }
+    ensures bound { IfSome result (λ n. n ≤ MAX_NUMBER) }
 {
     if text.len() < 1 {
         return None;
@@ -37,7 +37,7 @@ pub fn canonical(text: &[u8]) -> Option<u64>
     if 1 < text.len() && text[0] == b'0' {
         return None;
     }
-    digits_up_to(text, GREATEST)
+    digits_up_to(text, MAX_NUMBER)
 }
 
 /// The same, as a signed number.

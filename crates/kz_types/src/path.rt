@@ -1,6 +1,6 @@
 //! A path of a znode.
 ghost use Rattle.std.specs.Prelude.{◌≡◌, List, ℕ, true, false, MatchResult};
-ghost use Rattle.kz_types.specs.PathRule.{is_path, fault_place, IsPathFault};
+ghost use Rattle.kz_types.specs.PathRule.{is_path, IsPathFault};
 
 use crate::path_rule::{fault_place, keeps_rule};
 use crate::{Duplicate, NoMemory, PathFault, Text};
@@ -9,7 +9,7 @@ use std::marker::Model;
 
 /// The path of a znode, which contracts see as the list of its bytes. Paths are ordered by bytes.
 ///
-/// A path is UTF-8 of 2 to 1,024 bytes. It begins with `/`, one `/` stands between its parts, and it doesn't end with
+/// A path is UTF-8 of 2 to [`MAX_PATH_BYTES`](crate::MAX_PATH_BYTES) bytes. It begins with `/`, one `/` stands between its parts, and it doesn't end with
 /// one. No part is empty, `.` or `..`, and no character is below U+0020 or is U+007F.
 #[derive(Drop)]
 pub struct ZPath {

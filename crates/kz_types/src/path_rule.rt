@@ -2,28 +2,25 @@
 ghost use Rattle.std.specs.Prelude.{◌≡◌, ◌&&◌, ◌==◌, slice_index};
 ghost use Rattle.std.specs.List.{list_all};
 ghost use Rattle.std.specs.Str.{is_utf8};
-ghost use Rattle.kz_types.specs.PathRule.{parts, is_shown, is_part, is_path, after_first_byte, after_later_byte, after_byte, fault_place};
+ghost use Rattle.std.specs.Int.{is_in_range};
+ghost use Rattle.kz_types.specs.PathRule.{parts, is_shown, is_part, is_path, BeginsPath};
+ghost use Rattle.kz_types.specs.Faults.{IsFaultPlace};
+ghost use Rattle.kz_types.specs.Places.{IsTextPlace, IsFormPlace};
 
-/// The most bytes of a path.
-pub const MAX_PATH: usize = 1024;
+use crate::limits::MAX_PATH_BYTES;
 
-/// Where a path stands after its first bytes.
-#[derive(Clone, Copy)]
-pub enum Place {
-    Start,
-    BehindSlash,
-    BehindDot,
-    BehindDots,
-    Inside,
-    /// Within a character: its next byte is from `low` to `high`, and so many follow that one.
-    Within { low: u8, high: u8, later: u8 },
+/// Whether a byte is no control character and no slash.
+fn is_shown(byte: u8) -> bool
+    ensures { result ≡ is_shown byte }
+{
+    32 <= byte && byte != 127 && byte != b'/'
 }
 
 /// Whether no byte is a control character or a slash.
 fn are_shown(part: &[u8]) -> bool
     ensures { result ≡ list_all is_shown part.now }
 {
-    part.iter().all(|b| 32 <= *b && *b != 127 && *b != b'/')
+    part.iter().all(|b| is_shown(*b))
 }
 
 /// Whether bytes may stand between two slashes.
@@ -70,124 +67,61 @@ pub fn is_text(bytes: &[u8]) -> bool
 pub fn keeps_rule(bytes: &[u8]) -> bool
     ensures { result ≡ is_path bytes.now }
 {
-    is_text(bytes) && has_parts(bytes) && bytes.len() <= MAX_PATH
+    is_text(bytes) && has_parts(bytes) && bytes.len() <= MAX_PATH_BYTES
 }
 
-/// The place after the first byte of a character.
-fn after_first_byte(byte: u8) -> Option<Place>
-    ensures { result ≡ after_first_byte byte }
+/// Whether a character of several bytes begins with a byte.
+fn begins_character(byte: u8) -> bool
+    ensures { result ≡ is_in_range 0xC2 0xF4 byte }
 {
-    match byte {
-        0..=31 | 127 => None,
-        32..=126 => Some(Place::Inside),
-        128..=193 => None,
-        194..=223 => Some(Place::Within {
-            low: 128,
-            high: 191,
-            later: 0,
-        }),
-        224 => Some(Place::Within {
-            low: 160,
-            high: 191,
-            later: 1,
-        }),
-        237 => Some(Place::Within {
-            low: 128,
-            high: 159,
-            later: 1,
-        }),
-        225..=239 => Some(Place::Within {
-            low: 128,
-            high: 191,
-            later: 1,
-        }),
-        240 => Some(Place::Within {
-            low: 144,
-            high: 191,
-            later: 2,
-        }),
-        241..=243 => Some(Place::Within {
-            low: 128,
-            high: 191,
-            later: 2,
-        }),
-        244 => Some(Place::Within {
-            low: 128,
-            high: 143,
-            later: 2,
-        }),
-        245..=255 => None,
-    }
+    0xC2 <= byte && byte <= 0xF4
 }
 
-/// The place after a further byte of a character.
-fn after_later_byte(later: u8) -> Place
-    ensures { result ≡ after_later_byte later }
+/// How many bytes a text begins with.
+fn text_place(bytes: &[u8]) -> usize
+    ensures { IsTextPlace bytes.now result }
 {
-    if later == 0 {
-        Place::Inside
-    } else {
-        Place::Within {
-            low: 128,
-            high: 191,
-            later: later - 1,
+    match str::from_utf8(bytes) {
+        Ok(_) => bytes.len(),
+        Err(error) => {
+            let valid = error.valid_up_to();
+            match error.error_len() {
+                None => bytes.len(),
+                Some(count) => if begins_character(bytes[valid]) {
+                    valid + count
+                } else {
+                    valid
+                },
+            }
         }
     }
 }
 
-/// The place after one more byte. `None`: no path goes on with it.
-fn after_byte(place: Place, byte: u8) -> Option<Place>
-    ensures { result ≡ after_byte place byte }
+/// How many bytes the form of a path begins with, whether or not they are UTF-8.
+fn form_place(bytes: &[u8]) -> usize
+    ensures { IsFormPlace bytes.now result }
 {
-    match place {
-        Place::Start => if byte == b'/' {
-            Some(Place::BehindSlash)
-        } else {
-            None
-        },
-        Place::BehindSlash => if byte == b'/' {
-            None
-        } else if byte == b'.' {
-            Some(Place::BehindDot)
-        } else {
-            after_first_byte(byte)
-        },
-        Place::BehindDot => if byte == b'/' {
-            None
-        } else if byte == b'.' {
-            Some(Place::BehindDots)
-        } else {
-            after_first_byte(byte)
-        },
-        Place::BehindDots => if byte == b'/' {
-            None
-        } else {
-            after_first_byte(byte)
-        },
-        Place::Inside => if byte == b'/' {
-            Some(Place::BehindSlash)
-        } else {
-            after_first_byte(byte)
-        },
-        Place::Within { low, high, later } => if low <= byte && byte <= high {
-            Some(after_later_byte(later))
-        } else {
-            None
-        },
+    if bytes.is_empty() || bytes[0] != b'/' {
+        return 0;
     }
-}
-
-/// Where bytes that are no path are at fault.
-#[tactic(auto, unfolding(crate::specs::PathRule::fault_place))]
-pub fn fault_place(bytes: &[u8]) -> usize
-    ensures { result ≡ fault_place bytes.now }
-{
-    let mut place = Place::Start;
-    for at in 0..bytes.len() {
-        match after_byte(place, bytes[at]) {
-            Some(next) => place = next,
-            None => return at,
+    let mut start = 1;
+    for at in 1..bytes.len() {
+        let byte = bytes[at];
+        if byte == b'/' {
+            if !may_be_part(&bytes[start..at]) {
+                return at;
+            }
+            start = at + 1;
+        } else if !is_shown(byte) {
+            return at;
         }
     }
     bytes.len()
+}
+
+/// Where bytes that are no path are at fault.
+pub fn fault_place(bytes: &[u8]) -> usize
+    ensures { IsFaultPlace BeginsPath bytes.now result }
+{
+    form_place(&bytes[..text_place(bytes)])
 }

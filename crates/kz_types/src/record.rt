@@ -6,9 +6,13 @@ use std::marker::Model;
 /// An address that a broker listens at.
 #[derive(Drop)]
 pub struct Endpoint {
+    /// The listener's name.
     pub name: Text,
+    /// The host name or address that clients connect to.
     pub host: Text,
+    /// The port that clients connect to.
     pub port: u16,
+    /// The security protocol: 0 PLAINTEXT, 1 SSL, 2 SASL_PLAINTEXT, 3 SASL_SSL. Any number is taken.
     pub protocol: i16,
 }
 
@@ -26,8 +30,11 @@ impl Duplicate for Endpoint {
 /// A feature of a broker, and the versions that it knows.
 #[derive(Drop)]
 pub struct Feature {
+    /// The feature's name.
     pub name: Text,
+    /// The least version that the broker supports.
     pub min: i16,
+    /// The greatest version that the broker supports.
     pub max: i16,
 }
 
@@ -42,17 +49,26 @@ impl Duplicate for Feature {
 }
 
 /// A broker registers.
+/// Kafka's RegisterBrokerRecord at version 2. A later registration of the same broker takes the place of an earlier one.
 #[derive(Drop)]
 pub struct RegisterBrokerRecord {
+    /// The broker's id, at least 0 where the metadata takes the record.
     pub broker_id: i32,
     /// Whether it is a ZooKeeper-mode broker that is ready to migrate.
     pub migrating: bool,
+    /// An id that a broker process makes anew at each start.
     pub incarnation: Id,
+    /// The epoch that the controller gave to this registration. The metadata takes 0 to 2,147,483,647.
     pub broker_epoch: i64,
+    /// The addresses that the broker listens at.
     pub endpoints: Sequence<Endpoint>,
+    /// The features that the broker supports.
     pub features: Sequence<Feature>,
+    /// The broker's rack, or none.
     pub rack: Option<Text>,
+    /// Whether the broker is fenced, so that it leads no partition.
     pub fenced: bool,
+    /// Whether the broker is in a controlled shutdown.
     pub in_shutdown: bool,
 }
 
@@ -73,9 +89,12 @@ impl Duplicate for RegisterBrokerRecord {
 }
 
 /// A topic is made.
+/// Kafka's TopicRecord at version 0. The topic has no partition yet.
 #[derive(Drop)]
 pub struct TopicRecord {
+    /// The topic's name.
     pub name: Text,
+    /// The topic's id, which no other topic has. Zero is no id.
     pub topic_id: Id,
 }
 
@@ -89,19 +108,28 @@ impl Duplicate for TopicRecord {
 }
 
 /// A partition of a topic is made.
+/// Kafka's PartitionRecord at version 0.
 #[derive(Drop)]
 pub struct PartitionRecord {
+    /// The partition's number, from 0 on.
     pub partition_id: i32,
+    /// The id of its topic.
     pub topic_id: Id,
+    /// The brokers that hold the partition, the preferred leader first.
     pub replicas: Sequence<i32>,
+    /// The replicas that are in sync.
     pub isr: Sequence<i32>,
+    /// The replicas that a reassignment is removing.
     pub removing: Sequence<i32>,
+    /// The replicas that a reassignment is adding.
     pub adding: Sequence<i32>,
     /// The leader, or -1 for none.
     pub leader: i32,
     /// 0 where the leader is recovered, 1 where it is recovering. By default 0.
     pub recovery: i8,
+    /// The leader's epoch, which rises with each leader.
     pub leader_epoch: i32,
+    /// The partition's epoch, which rises with each change of the partition.
     pub partition_epoch: i32,
 }
 
@@ -123,13 +151,16 @@ impl Duplicate for PartitionRecord {
 }
 
 /// A member of a configuration is set, or removed where it has no value.
+/// Kafka's ConfigRecord at version 0.
 #[derive(Drop)]
 pub struct ConfigRecord {
     /// 2 for a topic, 4 for a broker.
     pub resource_type: i8,
     /// A topic's name, or a broker's id in decimal; empty for all brokers.
     pub resource_name: Text,
+    /// The member's name, such as `retention.ms`.
     pub name: Text,
+    /// The member's value, or none to remove it.
     pub value: Option<Text>,
 }
 
@@ -145,15 +176,23 @@ impl Duplicate for ConfigRecord {
 }
 
 /// Parts of a partition change: those that are stated.
+/// Kafka's PartitionChangeRecord at version 0. What isn't stated stays as it was. The change raises the partition epoch
+/// by one, and a stated leader raises the leader epoch by one.
 #[derive(Drop)]
 pub struct PartitionChangeRecord {
+    /// The partition's number.
     pub partition_id: i32,
+    /// The id of its topic.
     pub topic_id: Id,
+    /// The replicas that are in sync from now on.
     pub isr: Option<Sequence<i32>>,
     /// The leader, -1 for none, or -2 where none is stated.
     pub leader: i32,
+    /// The brokers that hold the partition from now on.
     pub replicas: Option<Sequence<i32>>,
+    /// The replicas that a reassignment is removing from now on.
     pub removing: Option<Sequence<i32>>,
+    /// The replicas that a reassignment is adding from now on.
     pub adding: Option<Sequence<i32>>,
     /// 0 or 1 as in a partition, or -1 where it isn't stated.
     pub recovery: i8,
@@ -175,14 +214,20 @@ impl Duplicate for PartitionChangeRecord {
 }
 
 /// A credential of a user is set.
+/// Kafka's UserScramCredentialRecord at version 0. It takes the place of the user's credential of the same mechanism.
 #[derive(Drop)]
 pub struct UserScramCredentialRecord {
+    /// The user's name.
     pub name: Text,
     /// 1 for SCRAM-SHA-256, 2 for SCRAM-SHA-512.
     pub mechanism: i8,
+    /// The salt of RFC 5802.
     pub salt: Sequence<u8>,
+    /// The stored key of RFC 5802.
     pub stored_key: Sequence<u8>,
+    /// The server key of RFC 5802.
     pub server_key: Sequence<u8>,
+    /// How often the password was hashed, at least 1 where the metadata takes the record.
     pub iterations: i32,
 }
 
@@ -296,11 +341,17 @@ impl Duplicate for QuotaEntities {
 }
 
 /// A quota is set, or removed.
+/// Kafka's ClientQuotaRecord, whose value is a whole number and millionths in place of a 64-bit float.
 #[derive(Drop)]
 pub struct ClientQuotaRecord {
+    /// Whom the quota speaks of: a user, a client id, both, or an address.
     pub entity: QuotaEntities,
+    /// Which quota it is: `producer_byte_rate`, `consumer_byte_rate`, `request_percentage`, `controller_mutation_rate`,
+    /// or of an address `connection_creation_rate`.
     pub key: Text,
+    /// The quota: bytes a second, percent of a thread's time, or mutations or connections a second, as the key says.
     pub value: QuotaValue,
+    /// Whether the quota is removed. Its value counts for nothing then, but is judged like any other.
     pub remove: bool,
 }
 
@@ -316,24 +367,37 @@ impl Duplicate for ClientQuotaRecord {
 }
 
 /// A broker takes a block of producer ids.
+/// Kafka's ProducerIdsRecord at version 0. A block has 1,000 ids.
 #[derive(Clone, Copy, Debug, PartialEq, Eq)]
 pub struct ProducerIdsRecord {
+    /// The broker, or -1 for none, as a migration writes it.
     pub broker_id: i32,
+    /// The broker's epoch when it took the block, or -1 for none.
     pub broker_epoch: i64,
-    /// The first id behind the block.
+    /// The first id after the block.
     pub next: i64,
 }
 
 /// An access control entry is made.
+/// Kafka's AccessControlEntryRecord at version 0.
 #[derive(Drop)]
 pub struct AccessControlEntryRecord {
+    /// The entry's id, which no other entry has. Zero is no id.
     pub id: Id,
+    /// The resource's type: 2 Topic, 3 Group, 4 Cluster, 5 TransactionalId, 6 DelegationToken.
     pub resource_type: i8,
+    /// The resource's name, or the prefix of names.
     pub resource_name: Text,
+    /// How the name is matched: 3 literally, 4 as a prefix.
     pub pattern_type: i8,
+    /// Whom the entry speaks of, such as `User:alice`.
     pub principal: Text,
+    /// The host that they connect from, or `*` for any.
     pub host: Text,
+    /// The operation: 2 All, 3 Read, 4 Write, 5 Create, 6 Delete, 7 Alter, 8 Describe, 9 ClusterAction,
+    /// 10 DescribeConfigs, 11 AlterConfigs, 12 IdempotentWrite.
     pub operation: i8,
+    /// Whether it is allowed: 2 denied, 3 allowed.
     pub permission: i8,
 }
 
@@ -352,33 +416,46 @@ impl Duplicate for AccessControlEntryRecord {
     }
 }
 
-/// A record of the metadata log.
+/// A record of the metadata log. Its keys, versions and fields stand in docs/formats-records.md.
 #[derive(Drop)]
 pub enum MetaRecord {
+    /// A broker registers.
     RegisterBroker(RegisterBrokerRecord),
+    /// A topic is made.
     Topic(TopicRecord),
+    /// A partition is made.
     Partition(PartitionRecord),
+    /// A member of a configuration is set or removed.
     Config(ConfigRecord),
+    /// Parts of a partition change.
     PartitionChange(PartitionChangeRecord),
     /// A topic is removed, with its partitions and configuration.
+    /// `topic_id` is the topic's id.
     RemoveTopic { topic_id: Id },
+    /// A credential of a user is set.
     UserScramCredential(UserScramCredentialRecord),
+    /// A quota is set or removed.
     ClientQuota(ClientQuotaRecord),
+    /// A block of producer ids is taken.
     ProducerIds(ProducerIdsRecord),
+    /// An access control entry is made.
     AccessControlEntry(AccessControlEntryRecord),
     /// An access control entry is removed.
+    /// `id` is the entry's id.
     RemoveAccessControlEntry { id: Id },
-    /// Nothing.
+    /// Nothing. An election writes one, so that its epoch has a record.
     NoOp,
     /// The state of the migration: 0 none, 1 pre-migration, 2 migration, 3 post-migration.
+    /// Another number changes nothing.
     ZkMigrationState { state: i8 },
     /// A credential of a user is removed.
+    /// `name` is the user's, and `mechanism` is 1 for SCRAM-SHA-256, 2 for SCRAM-SHA-512.
     RemoveUserScramCredential { name: Text, mechanism: i8 },
-    /// A transaction begins.
+    /// A transaction begins (KIP-868): the records after it count once it has ended. `name` says what it is for.
     BeginTransaction { name: Option<Text> },
     /// A transaction ends, and its records count.
     EndTransaction,
-    /// A transaction ends, and its records never count.
+    /// A transaction ends, and its records never count. `reason` says why.
     AbortTransaction { reason: Option<Text> },
 }
 

@@ -3,6 +3,7 @@ use crate::{Duplicate, NoMemory, Sequence, Text};
 use std::alloc::Global;
 
 /// A quota: a whole number and millionths.
+/// Bytes a second, percent of a thread's time, or mutations or connections a second, by the quota's key.
 #[derive(Clone, Copy, Debug, PartialEq, Eq)]
 pub struct QuotaValue {
     /// The whole part.
@@ -60,6 +61,7 @@ impl Duplicate for PartitionRow {
 #[derive(Drop)]
 pub struct AclRow {
     /// The resource's type.
+    /// 2 Topic, 3 Group, 4 Cluster, 5 TransactionalId, 6 DelegationToken.
     pub kind: i8,
     /// How the resource's name is matched: 3 literally, 4 as a prefix.
     pub pattern: i8,
@@ -70,6 +72,8 @@ pub struct AclRow {
     /// The host that they come from.
     pub host: Text,
     /// The operation.
+    /// 2 All, 3 Read, 4 Write, 5 Create, 6 Delete, 7 Alter, 8 Describe, 9 ClusterAction, 10 DescribeConfigs,
+    /// 11 AlterConfigs, 12 IdempotentWrite.
     pub operation: i8,
     /// Whether it is allowed: 2 denied, 3 allowed.
     pub permission: i8,
@@ -92,10 +96,14 @@ impl Duplicate for AclRow {
 /// A credential of a user, after RFC 5802.
 #[derive(Drop)]
 pub struct ScramRow {
+    /// The salt that the password is hashed with.
     pub salt: Sequence<u8>,
+    /// The hash of the client's key, by which the server knows the client.
     pub stored_key: Sequence<u8>,
+    /// The key by which the server shows that it knows the password.
     pub server_key: Sequence<u8>,
     /// At least 1.
+    /// It is how often the password was hashed.
     pub iterations: i32,
 }
 

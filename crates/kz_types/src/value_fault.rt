@@ -16,6 +16,6 @@ pub enum QuotaFault {
     NotNumber { at: usize },
     /// It has more than six decimals.
     TooFine,
-    /// Its whole part is above 9,223,372,036,854,775,807.
+    /// Its whole part is above [`MAX_LONG`](crate::MAX_LONG).
     TooLarge,
 }

@@ -86,7 +86,7 @@ later_by : (x y : ℤ) (p : ℤ → Bool) (b : Bool) → p x ≡ false → p y �
 later_by x y p true none here = ap (λ a. a && true) (apart x y (λ e. false≢true (sym none ∙ ap p e ∙ here)))
 later_by x y p false none here = and_false (int_lt x y) ∙ sym (and_false (int_le x y))
 
--- where the offset itself doesn't agree, the first end from it on is the first behind it
+-- where the offset itself doesn't agree, the first end from it on is the first after it
 first_is_later : (t : Tree) (l : Log) (offset : ℤ) (path : List ℕ) (ends : List ℤ) → agrees_at t l path offset ≡ false
     → find (λ e. int_lt offset e && agrees_at t l path e) ends ≡ first_among (area t) l offset ends path
 first_is_later t l offset path [] none = refl

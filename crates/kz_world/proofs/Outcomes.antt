@@ -1,21 +1,35 @@
 -- What events make of a world.
-use Rattle.std.proofs.Common.{◌≡◌, ℕ, zero, suc, ◌<◌, ◌≤◌, Bool, true, false, cond, ℤ, List, [], ◌∷◌, length, set, not, Option, Some, None, option_map, Result, Ok, Err, refl, sym, ap, ◌∙◌, subst, arith}
-use Rattle.std.specs.Prelude.{slice_get, int_lt, nat_le, IfOk}
+use Rattle.std.proofs.Common.{◌≡◌, ℕ, zero, suc, ◌<◌, inl, inr, Bool, true, false, cond, ℤ, List, [], ◌∷◌, length, set, not, Option, Some, None, option_map, Result, Ok, Err, refl, sym, ap, ◌∙◌, subst, arith}
+use Rattle.std.specs.Prelude.{slice_get, int_lt, nat_le, IfOk, OnErr}
+use Rattle.std.specs.List.{list_any}
+use Rattle.kz_types.specs.declared.limits.TheConstants.{MAX_CHANGE_RECORDS, MAX_EPOCH}
+use Rattle.kz_types.specs.declared.limits.Limit.TheVariants as limits
+use Rattle.kz_types.specs.Limits.{number_of_limit}
 use Rattle.kz_types.specs.declared.fault.LogFault.{LogFault}
 use Rattle.kz_types.specs.declared.fault.LogFault.TheVariants as fault
 use Rattle.kz_types.specs.declared.machine.Answer.{Answer}
 use Rattle.kz_types.specs.declared.machine.Answer.TheVariants as answer
+use Rattle.kz_types.specs.declared.machine.Event.{Event}
 use Rattle.kz_types.specs.declared.machine.Event.TheVariants as event
 use Rattle.kz_types.specs.declared.machine.Reply.{Reply}
 use Rattle.kz_types.specs.declared.record.MetaRecord.{MetaRecord}
 use Rattle.kz_spec_stores.specs.Image.{all_applied, first_bad}
-use Rattle.kz_spec_stores.specs.Log.{Log, elect, end_of, full_log, added, max_epoch, image_of, begun_of, is_migrated_log}
+use Rattle.kz_spec_stores.specs.Log.{Log, append, elect, end_of, full_log, added, with_batch, image_of, begun_of, is_migrated_log}
 use Rattle.kz_spec_znodes.specs.Rendering.{excess}
 use Rattle.kz_spec_machine.specs.Driver.{Shared, Driver}
-use Rattle.kz_spec_machine.specs.Machine.{World, next, running_ids, is_running, start_refusal, turn, work, turned_world, decided, unless_refused, first_of, unless, over, full, running_refusal, leader_refusal, change_refusal, over_excess, election_refusal, election_records, elected_log, elected_world, election_answer, next_epoch, changed_log, changed_world, turn_result, driver_of, register_refusal, registration, bad_record, max_changes}
-use Rattle.kz_world.specs.Worlds.{AreDistinct, IsPartlyTurned, elected_drivers, records_refusal, appended}
-use Rattle.kz_world.proofs.StepWise.{turned}
-use Rattle.kz_world.proofs.Listings.{one_place}
+use Rattle.kz_spec_machine.specs.Machine.{World, next, running_ids, is_running, start_refusal, turn, work, turned_world, decided, unless_refused, first_of, unless, over, full, running_refusal, leader_refusal, change_refusal, over_excess, election_refusal, election_records, elected_log, elected_world, election_answer, next_epoch, changed_log, changed_world, turn_result, driver_of, register_refusal, registration, bad_record}
+use Rattle.kz_spec_machine.specs.Failures.{is_failed_step, is_failure, IsCutOff, IsLeft}
+use Rattle.kz_driver.specs.declared.fault.StepFault.{StepFault}
+use Rattle.kz_driver.specs.Disks.{Disks, Files}
+use Rattle.kz_log.specs.Requests.{IsRefusal}
+use Rattle.kz_world.specs.Disks.{UnlessRefused, DriverTurnDisks, TurnEventDisks, ResultDisks, EventDisks}
+use Rattle.kz_world.specs.Faults.{after_log_fault, answered, result_of_answer}
+use Rattle.kz_world.specs.Refusals.{records_refusal}
+use Rattle.kz_world.specs.Turns.{StepsEnd, IsTurned}
+use Rattle.kz_world.specs.Worlds.{AreDistinct, elected_drivers, appended, IsDone, IsOutcome}
+use Rattle.kz_world.proofs.Told.{told_answer, log_refuses, event_told, left_by}
+use Rattle.kz_world.proofs.Listings.{itself, one_place}
+use Rattle.kz_world.proofs.StepWise.{turned, cut_off_fails}
 
 -- ---- choices
 
@@ -26,10 +40,32 @@ first_none (Some x) b h = absurd (cc)
 by_refusal : (w : World) (refusal : Option Answer) (r : Answer) (new : World) (a : Answer) → refusal ≡ Some r → decided w refusal new a ≡ (w, r)
 by_refusal w refusal r new a h = ap (λ x. decided w x new a) h
 
+-- what holds where there is no refusal
+pub unless_none : (o : Option Answer) (asked refused : Type 0) → o ≡ None → asked → UnlessRefused o asked refused
+unless_none None asked refused is h = h
+unless_none (Some a) asked refused is h = absurd (cc)
+
+-- and where there is one
+pub unless_some : (o : Option Answer) (a : Answer) (asked refused : Type 0) → o ≡ Some a → refused → UnlessRefused o asked refused
+unless_some None a asked refused is h = absurd (cc)
+unless_some (Some r) a asked refused is h = h
+
 -- what an answer is told of is another way to say the same
-pub told_by : {E : Type 0} (r : Result Answer E) (x y : World × Answer) (new : World) → x ≡ y → IfOk r (λ a. y ≡ (new, a)) → IfOk r (λ a. x ≡ (new, a))
-told_by (Ok a) x y new h k = h ∙ k
+pub told_by : {E : Type 0} (r : Result Answer E) (x y : World × Answer) (new : World) → x ≡ y → IfOk r (λ a. (y ≡ (new, a)) × (is_failure a ≡ false)) → IfOk r (λ a. (x ≡ (new, a)) × (is_failure a ≡ false))
+told_by (Ok a) x y new h k = (h ∙ k.0, k.1)
 told_by (Err e) x y new h k = tt
+
+true_or_false : {A : Type 0} (b : Bool) → b ≡ true → b ≡ false → A
+true_or_false true h k = absurd (cc)
+true_or_false false h k = absurd (cc)
+
+-- an answer that tells of no failure
+done_is_outcome : (w : World) (e : Event) (new : World) (a : Answer) → IsDone w e new a → IsOutcome w e new a
+done_is_outcome w e new a h = record { done = λ none. h.0; failed = λ fails. true_or_false (is_failure a) fails h.1; told = told_answer a h.1 }
+
+pub outcomes : {E : Type 0} (r : Result Answer E) (w : World) (e : Event) (new : World) → IfOk r (IsDone w e new) → IfOk r (IsOutcome w e new)
+outcomes (Ok a) w e new h = done_is_outcome w e new a h
+outcomes (Err f) w e new h = tt
 
 -- ---- the log's answers
 
@@ -49,13 +85,13 @@ added_over : (f : Option ℕ) (new : Log) (n : ℕ) → added f new ≡ Err (fau
 added_over None new n h = absurd (cc)
 added_over (Some m) new n h = ap (λ r. Some (number_or m r)) h
 
-elect_ok : (b : Bool) (f : Option ℕ) (new l : Log) → cond b (added f new) (Err (fault.Limit 15)) ≡ Ok l → (b ≡ true) × (f ≡ None) × (new ≡ l)
+elect_ok : (b : Bool) (f : Option ℕ) (new l : Log) → cond b (added f new) (Err (fault.Limit (number_of_limit limits.Epoch))) ≡ Ok l → (b ≡ true) × (f ≡ None) × (new ≡ l)
 elect_ok true f new l h = (refl, (added_ok f new l h).0, (added_ok f new l h).1)
 elect_ok false f new l h = absurd (cc)
 
-elect_over : (b : Bool) (f : Option ℕ) (new : Log) (n : ℕ) → cond b (added f new) (Err (fault.Limit 15)) ≡ Err (fault.Limit n) → first_of (unless b (over 15)) (option_map over f) ≡ Some (over n)
+elect_over : (b : Bool) (f : Option ℕ) (new : Log) (n : ℕ) → cond b (added f new) (Err (fault.Limit (number_of_limit limits.Epoch))) ≡ Err (fault.Limit n) → first_of (unless b (over (number_of_limit limits.Epoch))) (option_map over f) ≡ Some (over n)
 elect_over true f new n h = ap (option_map over) (added_over f new n h)
-elect_over false f new n h = ap (λ r. Some (over (number_or 15 r))) h
+elect_over false f new n h = ap (λ r. Some (over (number_or (number_of_limit limits.Epoch) r))) h
 
 -- ---- elections
 
@@ -65,7 +101,7 @@ pub elected_done : (w : World) (id now : ℤ) (items : List MetaRecord) (l : Log
 unfolding next
 elected_done w id now items l ds epoch end runs items_are ok epoch_is end_is marked =
     let old = w.shared.log in
-    let done = elect_ok (int_lt old.epoch max_epoch) (full_log old (election_records old)) (elected_log old now) l (ap (elect old now) (sym items_are) ∙ ok) in
+    let done = elect_ok (int_lt old.epoch MAX_EPOCH) (full_log old (election_records old)) (elected_log old now) l (ap (elect old now) (sym items_are) ∙ ok) in
     let up : epoch ≡ next_epoch old = epoch_is ∙ ap (λ (x : Log). x.epoch) (sym done.2) in
     let target : Log → List Driver → ℤ → ℤ → World × Answer = λ x es e o. (record { shared = record { tree = w.shared.tree; log = x; declared = w.shared.declared }; drivers = es }, answer.Elected e o) in
     rw (runs, done.0, done.1) (
@@ -80,8 +116,60 @@ unfolding next
 election_over w id now items n runs items_are refused =
     let old = w.shared.log in
     by_refusal w (election_refusal w id) (over n) (elected_world w id now) (election_answer w now)
-    (ap (λ a. first_of a (first_of (unless (int_lt old.epoch max_epoch) (over 15)) (full old (election_records old)))) runs
-    ∙ elect_over (int_lt old.epoch max_epoch) (full_log old (election_records old)) (elected_log old now) n (ap (elect old now) (sym items_are) ∙ refused))
+    (ap (λ a. first_of a (first_of (unless (int_lt old.epoch MAX_EPOCH) (over (number_of_limit limits.Epoch))) (full old (election_records old)))) runs
+    ∙ elect_over (int_lt old.epoch MAX_EPOCH) (full_log old (election_records old)) (elected_log old now) n (ap (elect old now) (sym items_are) ∙ refused))
+
+elect_not_stale : (b : Bool) (f : Option ℕ) (new : Log) (epoch : ℤ) → cond b (added f new) (Err (fault.Limit (number_of_limit limits.Epoch))) ≡ Err (fault.Stale epoch) → ⊥
+elect_not_stale true None new epoch h = absurd (cc)
+elect_not_stale true (Some n) new epoch h = absurd (cc)
+elect_not_stale false f new epoch h = absurd (cc)
+
+-- the log refuses an election
+pub election_refused : (w : World) (id now : ℤ) (items : List MetaRecord) (f : LogFault) (new : World) → running_refusal w id ≡ None → items ≡ election_records w.shared.log → IsRefusal (elect w.shared.log now items) f → new ≡ w
+    → IfOk (after_log_fault f) (IsDone w (event.Elect id now) new)
+election_refused w id now items f new runs items_are is same =
+    let l = w.shared.log in
+    log_refuses (elect l now items) f (IsDone w (event.Elect id now) new) is
+    (λ epoch stale. absurd (elect_not_stale (int_lt l.epoch MAX_EPOCH) (full_log l items) _ epoch stale))
+    (λ n limit. (election_over w id now items n runs items_are limit ∙ ap (λ (x : World). (x, answer.Over n)) (sym same), refl))
+
+-- ---- appends
+
+-- an append of the log's own epoch
+append_is : (l : Log) (epoch now : ℤ) (items : List MetaRecord) → epoch ≡ l.epoch → append l epoch now items ≡ added (full_log l items) (with_batch l l.epoch now items)
+append_is l epoch now items is =
+    ap (λ e. append l e now items) is ∙ ap (λ b. cond b (added (full_log l items) (with_batch l l.epoch now items)) (Err (fault.Stale l.epoch))) (itself l.epoch)
+
+not_stale : (f : Option ℕ) (new : Log) (epoch : ℤ) → added f new ≡ Err (fault.Stale epoch) → ⊥
+not_stale None new epoch h = absurd (cc)
+not_stale (Some n) new epoch h = absurd (cc)
+
+append_over : (w : World) (records : List MetaRecord) (now epoch : ℤ) (n : ℕ) (new : World) → epoch ≡ w.shared.log.epoch → append w.shared.log epoch now records ≡ Err (fault.Limit n) → new ≡ w
+    → appended w records now ≡ (new, answer.Over n)
+append_over w records now epoch n new is limit same =
+    let l = w.shared.log in
+    by_refusal w (full l records) (over n) (changed_world w records now) (answer.Appended (end_of (changed_log l records now)))
+    (ap (option_map over) (added_over (full_log l records) (with_batch l l.epoch now records) n (sym (append_is l epoch now records is) ∙ limit)))
+    ∙ ap (λ (x : World). (x, answer.Over n)) (sym same)
+
+-- the log refuses an append of its own epoch
+pub append_refused : (w : World) (records : List MetaRecord) (now epoch : ℤ) (f : LogFault) (new : World) → epoch ≡ w.shared.log.epoch → IsRefusal (append w.shared.log epoch now records) f → new ≡ w
+    → IfOk (after_log_fault f) (λ a. (appended w records now ≡ (new, a)) × (is_failure a ≡ false))
+append_refused w records now epoch f new is refused same =
+    let l = w.shared.log in
+    log_refuses (append l epoch now records) f (λ a. (appended w records now ≡ (new, a)) × (is_failure a ≡ false)) refused
+    (λ e stale. absurd (not_stale (full_log l records) (with_batch l l.epoch now records) e (sym (append_is l epoch now records is) ∙ stale)))
+    (λ n limit. (append_over w records now epoch n new is limit same, refl))
+
+-- it is taken
+pub append_done : (w : World) (records : List MetaRecord) (now epoch end : ℤ) (m : Log) → epoch ≡ w.shared.log.epoch → append w.shared.log epoch now records ≡ Ok m → end ≡ end_of m
+    → appended w records now ≡ (record { shared = record { tree = w.shared.tree; log = m; declared = w.shared.declared }; drivers = w.drivers }, answer.Appended end)
+append_done w records now epoch end m is made end_is =
+    let l = w.shared.log in
+    let target : Log → ℤ → World × Answer = λ x e. (record { shared = record { tree = w.shared.tree; log = x; declared = w.shared.declared }; drivers = w.drivers }, answer.Appended e) in
+    let taken = added_ok (full_log l records) (with_batch l l.epoch now records) m (sym (append_is l epoch now records is) ∙ made) in
+    ap (λ f. decided w (option_map over f) (changed_world w records now) (answer.Appended (end_of (changed_log l records now)))) taken.0
+    ∙ ap (λ x. target x (end_of x)) taken.1 ∙ ap (target m) (sym end_is)
 
 -- ---- changes
 
@@ -97,7 +185,7 @@ by_records w id records r leads is =
     let l = w.shared.log in
     let i = image_of l in
     let unmigrated = unless (is_migrated_log l) answer.NotMigrated in
-    let many = unless (nat_le (length records) max_changes) (over 8) in
+    let many = unless (nat_le (length records) MAX_CHANGE_RECORDS) (over (number_of_limit limits.ChangeRecords)) in
     let bad = bad_record (first_bad 0 records i) in
     let much = over_excess (excess (all_applied l.epoch records i)) in
     ap (λ a. first_of a (first_of unmigrated (first_of many (first_of bad (first_of much (full l records)))))) leads ∙ sym (joined unmigrated many bad much (full l records)) ∙ ap (λ a. first_of a (full l records)) is
@@ -155,30 +243,87 @@ turned_by w now d at k running s e rs distinct at_is running_is ok same =
     ap (turned_world w) (ap (λ is. turn k w.shared is now d) (sym running_is) ∙ ok)
     ∙ ap (λ ds. (record { shared = s; drivers = ds }, answer.Turn rs)) (one_place w.drivers at d e distinct at_is same)
 
-pub turned_done : (w : World) (now : ℤ) (d : Driver) (at most : ℕ) (running : List ℤ) (s : Shared) (e : Driver) (rs : List Reply) → AreDistinct (running_ids w.drivers) → slice_get w.drivers at ≡ Some d
-    → most ≡ work w.shared d → running ≡ running_ids w.drivers → turn most w.shared running now d ≡ turned s e rs → e.id ≡ d.id
-    → turned_world w (turn (work w.shared d) w.shared (running_ids w.drivers) now d) ≡ (record { shared = s; drivers = set w.drivers at e }, answer.Turn rs)
-turned_done w now d at most running s e rs distinct at_is most_is running_is ok same =
-    ap (λ n. turned_world w (turn n w.shared (running_ids w.drivers) now d)) (sym most_is) ∙ turned_by w now d at most running s e rs distinct at_is running_is ok same
-
-pub turned_partly : (w : World) (now : ℤ) (d : Driver) (at most k : ℕ) (running : List ℤ) (s : Shared) (e : Driver) (rs : List Reply) → AreDistinct (running_ids w.drivers) → slice_get w.drivers at ≡ Some d
-    → most ≡ work w.shared d → running ≡ running_ids w.drivers → k ≤ most → turn k w.shared running now d ≡ turned s e rs → e.id ≡ d.id
-    → IsPartlyTurned w now (slice_get w.drivers at) (record { shared = s; drivers = set w.drivers at e })
-turned_partly w now d at most k running s e rs distinct at_is most_is running_is few ok same =
-    subst (λ o. IsPartlyTurned w now o (record { shared = s; drivers = set w.drivers at e })) (sym at_is)
-    (k, subst (λ n. k ≤ n) most_is few, ap (λ (r : World × Answer). r.0) (turned_by w now d at k running s e rs distinct at_is running_is ok same))
+-- a turn of the driver at a place
+pub turn_told : (w : World) (now : ℤ) (d : Driver) (at most : ℕ) (running : List ℤ) (s : Shared) (e : Driver) (rs : List Reply) → AreDistinct (running_ids w.drivers) → slice_get w.drivers at ≡ Some d
+    → most ≡ work w.shared d → running ≡ running_ids w.drivers → e.id ≡ d.id → StepsEnd most w.shared running now d rs s e → IsTurned w now d (record { shared = s; drivers = set w.drivers at e }) (answer.Turn rs)
+turn_told w now d at most running s e rs distinct at_is most_is running_is same (inl whole) =
+    inl (ap (λ n. turned_world w (turn n w.shared (running_ids w.drivers) now d)) (sym most_is) ∙ turned_by w now d at most running s e rs distinct at_is running_is whole.0 same, whole.1)
+turn_told w now d at most running s e rs distinct at_is most_is running_is same (inr cut) =
+    inr (record {
+      after = e;
+      cut_off = subst (λ n. IsCutOff n w.shared (running_ids w.drivers) now d rs s e) most_is (subst (λ is. IsCutOff most w.shared is now d rs s e) running_is cut);
+      drivers = sym (one_place w.drivers at d e distinct at_is same);
+    })
 
 none_past : (ds : List Driver) (at : ℕ) → at < length ds → slice_get ds at ≡ None → ⊥
 none_past [] at h none = omega (arith, h)
 none_past (d ∷ ds) zero h none = absurd (cc)
 none_past (d ∷ ds) (suc at) h none = none_past ds at (omega (arith, h)) none
 
-by_driver : (w : World) (now : ℤ) (r : World × Answer) (ds : List Driver) (at : ℕ) (o : Option Driver) → at < length ds → slice_get ds at ≡ o → ((d : Driver) → slice_get ds at ≡ Some d → turn_result w now (Some d) ≡ r) → turn_result w now o ≡ r
-by_driver w now r ds at None h is each = absurd (none_past ds at h is)
-by_driver w now r ds at (Some d) h is each = each d is
+-- what holds of the driver at a place within the list
+by_driver : (holds : Option Driver → Type 0) (ds : List Driver) (at : ℕ) (o : Option Driver) → at < length ds → slice_get ds at ≡ o → ((d : Driver) → slice_get ds at ≡ Some d → holds (Some d)) → holds o
+by_driver holds ds at None h is each = absurd (none_past ds at h is)
+by_driver holds ds at (Some d) h is each = each d is
 
-pub turn_found : (w : World) (id now : ℤ) (at : ℕ) (r : World × Answer) → running_refusal w id ≡ None → at < length w.drivers → driver_of id w.drivers ≡ slice_get w.drivers at
-    → ((d : Driver) → slice_get w.drivers at ≡ Some d → turn_result w now (Some d) ≡ r) → next w (event.Turn id now) ≡ r
+turn_whole : (w : World) (id now : ℤ) (d : Driver) (r : World × Answer) → running_refusal w id ≡ None → driver_of id w.drivers ≡ Some d → turn_result w now (Some d) ≡ r → next w (event.Turn id now) ≡ r
 unfolding next
-turn_found w id now at r runs h found each =
-    ap (λ a. unless_refused w a (turn_result w now (driver_of id w.drivers))) runs ∙ ap (turn_result w now) found ∙ by_driver w now r w.drivers at (slice_get w.drivers at) h refl each
+turn_whole w id now d r runs found is = ap (λ a. unless_refused w a (turn_result w now (driver_of id w.drivers))) runs ∙ ap (turn_result w now) found ∙ is
+
+turn_is_outcome : (w : World) (id now : ℤ) (d : Driver) (new : World) (a : Answer) → running_refusal w id ≡ None → driver_of id w.drivers ≡ Some d → IsTurned w now d new a → IsOutcome w (event.Turn id now) new a
+turn_is_outcome w id now d new (answer.Turn rs) runs found (inl whole) = record {
+  done = λ none. turn_whole w id now d (new, answer.Turn rs) runs found whole.0;
+  failed = λ fails. true_or_false (list_any is_failed_step rs) fails whole.1;
+  told = refl;
+}
+turn_is_outcome w id now d new (answer.Turn rs) runs found (inr cut) = record {
+  done = λ none. true_or_false (list_any is_failed_step rs) (cut_off_fails _ _ _ _ _ rs _ _ cut.cut_off) none;
+  failed = λ fails. record { before = d; after = cut.after; runs = (runs, found); cut_off = cut.cut_off; drivers = cut.drivers };
+  told = refl;
+}
+turn_is_outcome w id now d new a runs found h = absurd h
+
+turn_outcome_at : {E : Type 0} (r : Result Answer E) (w : World) (id now : ℤ) (d : Driver) (new : World) → running_refusal w id ≡ None → driver_of id w.drivers ≡ Some d → IfOk r (IsTurned w now d new) → IfOk r (IsOutcome w (event.Turn id now) new)
+turn_outcome_at (Ok a) w id now d new runs found h = turn_is_outcome w id now d new a runs found h
+turn_outcome_at (Err f) w id now d new runs found h = tt
+
+-- the turn of a controller whose driver is at this place
+pub turn_outcome : {E : Type 0} (r : Result Answer E) (w : World) (id now : ℤ) (at : ℕ) (new : World) → running_refusal w id ≡ None → at < length w.drivers → driver_of id w.drivers ≡ slice_get w.drivers at
+    → ((d : Driver) → slice_get w.drivers at ≡ Some d → IfOk r (IsTurned w now d new)) → IfOk r (IsOutcome w (event.Turn id now) new)
+turn_outcome r w id now at new runs h found each =
+    by_driver (λ o. driver_of id w.drivers ≡ o → IfOk r (IsOutcome w (event.Turn id now) new)) w.drivers at (slice_get w.drivers at) h refl (λ d is same. turn_outcome_at r w id now d new runs same (each d is)) found
+
+-- what it does to the disks
+pub turn_disks : (r : Result Answer StepFault) (w : World) (id now : ℤ) (at : ℕ) (files : Files) (old new : Disks) → running_refusal w id ≡ None → at < length w.drivers → driver_of id w.drivers ≡ slice_get w.drivers at
+    → ((d : Driver) → slice_get w.drivers at ≡ Some d → DriverTurnDisks w now d r old new) → ResultDisks w (event.Turn id now) files r old new
+turn_disks r w id now at files old new runs h found each =
+    unless_none (running_refusal w id) _ _ runs
+    (subst (λ o. TurnEventDisks w now o r old new) (sym found) (by_driver (λ o. TurnEventDisks w now o r old new) w.drivers at (slice_get w.drivers at) h refl each))
+
+-- a turn that is refused
+pub turn_refused : (w : World) (id now : ℤ) (r : Answer) → running_refusal w id ≡ Some r → is_failure r ≡ false → IsOutcome w (event.Turn id now) w r
+unfolding next
+turn_refused w id now r refused told =
+    done_is_outcome w (event.Turn id now) w r (ap (λ a. unless_refused w a (turn_result w now (driver_of id w.drivers))) refused, told)
+
+-- a controller that runs has a driver
+pub turn_of_none : (w : World) (id now : ℤ) (new : World) → running_refusal w id ≡ None → driver_of id w.drivers ≡ None → new ≡ w → IsOutcome w (event.Turn id now) new answer.NotRunning
+unfolding next
+turn_of_none w id now new runs none same = done_is_outcome w (event.Turn id now) new answer.NotRunning
+    (ap (λ a. unless_refused w a (turn_result w now (driver_of id w.drivers))) runs ∙ ap (turn_result w now) none ∙ ap (λ (x : World). (x, answer.NotRunning)) (sym same), refl)
+
+-- ---- answers of events
+
+-- an answer that tells of no failure
+pub event_done : (w new : World) (e : Event) (files : Files) (r : Result Answer StepFault) (a : Answer) (old later : Disks) → a ≡ answered r → IfOk r (IsOutcome w e new) → ResultDisks w e files r old later → is_failure a ≡ false → next w e ≡ (new, a)
+event_done w new e files (Ok b) a old later is outcome disks none = outcome.done (sym (ap is_failure is) ∙ none) ∙ ap (λ x. (new, x)) (sym is)
+event_done w new e files (Err f) a old later is outcome disks none = true_or_false (is_failure a) (ap is_failure is ∙ (event_told w e files f old later disks).failure) none
+
+-- one that tells of a failure
+pub event_failed : (w new : World) (e : Event) (r : Result Answer StepFault) (a : Answer) → a ≡ answered r → IfOk r (IsOutcome w e new) → OnErr r (new ≡ w) → is_failure a ≡ true → IsLeft w e a new
+event_failed w new e (Ok b) a is outcome same fails = subst (λ x. IsLeft w e x new) (sym is) (outcome.failed (sym (ap is_failure is) ∙ fails))
+event_failed w new e (Err f) a is outcome same fails = subst (λ x. IsLeft w e x new) (sym is) (left_by w e f new same)
+
+-- what it says of the disks
+pub event_disks : (w new : World) (e : Event) (files : Files) (r : Result Answer StepFault) (a : Answer) (old later : Disks) → a ≡ answered r → IfOk r (IsOutcome w e new) → ResultDisks w e files r old later → EventDisks w e files a old later
+event_disks w new e files (Ok b) a old later is outcome disks = subst (λ x. ResultDisks w e files x old later) (sym (ap result_of_answer is ∙ outcome.told)) disks
+event_disks w new e files (Err f) a old later is outcome disks = subst (λ x. ResultDisks w e files x old later) (sym (ap result_of_answer is ∙ (event_told w e files f old later disks).answer)) disks

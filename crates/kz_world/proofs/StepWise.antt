@@ -1,6 +1,8 @@
 -- A turn as it goes on, and that a step keeps the driver's id.
-use Rattle.std.proofs.Common.{◌≡◌, ℕ, suc, ◌+◌, ◌-◌, ◌<◌, ◌≤◌, ◌⊎◌, inl, inr, Bool, true, false, cond, ℤ, pos, List, [], ◌∷◌, ◌++◌, Option, Some, None, Result, Ok, Err, OnErr, refl, sym, ap, ◌∙◌, arith, append_assoc, append-nil}
+use Rattle.std.proofs.Common.{◌≡◌, ℕ, zero, suc, ◌<◌, inl, inr, Bool, true, false, cond, ℤ, List, [], ◌∷◌, ◌++◌, length, Option, Some, None, Result, Ok, Err, refl, sym, ap, subst, ◌∙◌, arith, append-nil}
+use Rattle.std.specs.List.{list_any}
 use Rattle.std.specs.Ordering.{int_eq}
+use Rattle.kz_types.specs.declared.codes.TheConstants.{MIGRATION, POST_MIGRATION}
 use Rattle.kz_types.specs.declared.driver.Stage.{Stage}
 use Rattle.kz_types.specs.declared.driver.Stage.TheVariants as stage
 use Rattle.kz_types.specs.declared.driver.ClaimSeen.{ClaimSeen}
@@ -11,6 +13,7 @@ use Rattle.kz_types.specs.declared.fault.LogFault.TheVariants as log_fault
 use Rattle.kz_types.specs.declared.fault.BodyFault.{BodyFault}
 use Rattle.kz_types.specs.declared.machine.Recorded.{Recorded}
 use Rattle.kz_types.specs.declared.machine.Reply.{Reply}
+use Rattle.kz_types.specs.declared.machine.Reply.TheVariants as reply
 use Rattle.kz_types.specs.declared.record.MetaRecord.{MetaRecord}
 use Rattle.kz_types.specs.declared.tree.Row.{Row}
 use Rattle.kz_types.specs.declared.tree.Op.{Op}
@@ -19,9 +22,16 @@ use Rattle.kz_spec_stores.specs.Tree.{Tree, multi, broker_ids}
 use Rattle.kz_spec_stores.specs.Log.{Log, View, IsViewOf, append}
 use Rattle.kz_spec_stores.specs.Image.{Image}
 use Rattle.kz_spec_znodes.specs.Translation.{Unreadable, translate}
-use Rattle.kz_spec_machine.specs.Driver.{Shared, Driver, Stepped, step, answered, unless_finalised, wait_or_move, after_quorum, after_brokers, missing_controller, missing_broker, having_read, seen_in, looked, shown_by, unless_fenced, unless_full_epoch, unless_bad_epoch, unless_full_record, epoch_or_zero, claim_ops, after_claim, after_translation, after_append, begin_record, next_records, after_records, after_rest, is_recorded_at, writes, after_write, written_driver, is_last_write, is_claim_refused, write_ops, remaining_at}
+use Rattle.kz_spec_machine.specs.Driver.{Shared, Driver, Stepped, step, asked, answered, Request, nothing, read_log, list_brokers, look_up, read_page, write, add, unless_finalised, wait_or_move, after_quorum, after_brokers, missing_controller, missing_broker, having_read, seen_in, looked, shown_by, unless_fenced, unless_full_epoch, unless_bad_epoch, unless_full_record, epoch_or_zero, claim_ops, after_claim, after_translation, after_append, begin_record, next_records, after_records, after_rest, is_recorded_at, writes, after_write, written_driver, is_last_write, is_claim_refused, write_ops, remaining_at}
 use Rattle.kz_spec_machine.specs.Machine.{Turned, ends, turn, with_reply}
-use Rattle.kz_driver.specs.Drivers.{shared_of}
+use Rattle.kz_spec_machine.specs.Failures.{is_failed_step, IsCutOff}
+use Rattle.kz_driver.specs.declared.fault.StepFault.{StepFault}
+use Rattle.kz_driver.specs.declared.fault.StepFault.TheVariants as step_fault
+use Rattle.kz_driver.specs.Disks.{Disks, Files, files_of, RequestDisks, StepDisks}
+use Rattle.kz_world.specs.Disks.{StepRequestDisks, TurnDisks}
+use Rattle.kz_world.specs.Faults.{reply_of_fault, result_of_reply}
+use Rattle.kz_world.specs.Turns.{StepsEnd}
+use Rattle.kz_world.proofs.Told.{goes_on_told, told_reply, request_told}
 
 -- ---- the driver's id
 
@@ -33,7 +43,7 @@ chosen true id x y h k = h
 chosen false id x y h k = k
 
 finalised : (id : ℤ) (d : Driver) (rest : Driver × Reply) → d.id ≡ id → HasId id rest → HasId id (unless_finalised d rest)
-finalised id d rest h k = chosen (int_eq d.view.image.state (pos 3)) id _ rest h k
+finalised id d rest h k = chosen (int_eq d.view.image.state POST_MIGRATION) id _ rest h k
 
 waits : (m : Option ℤ) (d : Driver) → HasId d.id (wait_or_move m d)
 waits (Some i) d = refl
@@ -44,7 +54,7 @@ brokers (Some i) d = refl
 brokers None d = refl
 
 quorum : (declared running : List ℤ) (d : Driver) → HasId d.id (after_quorum declared running d)
-quorum declared running d = finalised d.id d _ refl (chosen (int_eq d.view.image.state (pos 2)) d.id _ _ refl (waits (missing_controller declared running) d))
+quorum declared running d = finalised d.id d _ refl (chosen (int_eq d.view.image.state MIGRATION) d.id _ _ refl (waits (missing_controller declared running) d))
 
 fenced : (e : Option ℤ) (d : Driver) (rest : Driver × Reply) → HasId d.id rest → HasId d.id (unless_fenced e d rest)
 fenced None d rest h = h
@@ -85,7 +95,7 @@ appends next d (Err (log_fault.Full n)) = refl
 
 translates : (s : Shared) (now : ℤ) (d : Driver) (r : Result (List MetaRecord) Unreadable) → HasId d.id (after_translation s now d r)
 translates s now d (Err e) = refl
-translates s now d (Ok records) = appends (stage.Fill records) d (append s.log (epoch_or_zero d.epoch) now (begin_record ∷ []))
+translates s now d (Ok records) = appends (stage.AppendRecords records) d (append s.log (epoch_or_zero d.epoch) now (begin_record ∷ []))
 
 written : (ops : List Op) (target : Recorded) (more : List Op → Stage) (last : Stage) (d : Driver) → HasId d.id (written_driver ops target more last d)
 written ops target more last d = chosen (is_last_write ops) d.id _ _ refl refl
@@ -109,20 +119,20 @@ rests before d = finalised d.id d _ refl (chosen (is_recorded_at d.recorded d.vi
 has_id : (s : Shared) (running : List ℤ) (now : ℤ) (d : Driver) (st : Stage) → HasId d.id (answered s running now d st)
 has_id s running now d stage.Uninitialized = refl
 has_id s running now d stage.Inactive = refl
-has_id s running now d stage.WaitForQuorum = quorum s.declared running (having_read s.log d)
+has_id s running now d stage.WaitForControllerQuorum = quorum s.declared running (having_read s.log d)
 has_id s running now d stage.WaitForBrokers = finalised d.id (having_read s.log d) _ refl refl
-has_id s running now d stage.CompareBrokers = brokers (missing_broker (broker_ids s.tree) d.view.image) d
-has_id s running now d stage.Look = looks (seen_in s.tree) d
-has_id s running now d (stage.Claim seen) = claims seen d (claim_ops seen d now) (multi s.tree (claim_ops seen d now))
-has_id s running now d (stage.ReadSource rows) = refl
-has_id s running now d (stage.Begin rows) = translates s now d (translate rows)
-has_id s running now d (stage.Fill records) = appends (after_records records) d (append s.log (epoch_or_zero d.epoch) now (next_records records))
-has_id s running now d stage.ReadLog = finalised d.id (having_read s.log d) _ refl refl
-has_id s running now d (stage.ReadArea target rows) = refl
-has_id s running now d (stage.WriteAll target ops) = under s.tree d.claim (remaining_at s.tree s.log target.offset) target (λ rest. stage.WriteAll target rest) stage.InformBrokers d
-has_id s running now d stage.InformBrokers = refl
-has_id s running now d stage.Rest = rests d.view.image (having_read s.log d)
-has_id s running now d (stage.WriteChange target ops) = under s.tree d.claim (remaining_at s.tree s.log target.offset) target (λ rest. stage.WriteChange target rest) stage.Rest d
+has_id s running now d stage.ListBrokers = brokers (missing_broker (broker_ids s.tree) d.view.image) d
+has_id s running now d stage.ReadControlZnodes = looks (seen_in s.tree) d
+has_id s running now d (stage.ClaimLeadership seen) = claims seen d (claim_ops seen d now) (multi s.tree (claim_ops seen d now))
+has_id s running now d (stage.ScanForMigration rows) = refl
+has_id s running now d (stage.BeginMigration rows) = translates s now d (translate rows)
+has_id s running now d (stage.AppendRecords records) = appends (after_records records) d (append s.log (epoch_or_zero d.epoch) now (next_records records))
+has_id s running now d stage.ReadLogForResync = finalised d.id (having_read s.log d) _ refl refl
+has_id s running now d (stage.ScanForResync target rows) = refl
+has_id s running now d (stage.WriteResync target ops) = under s.tree d.claim (remaining_at s.tree s.log target.offset) target (λ rest. stage.WriteResync target rest) stage.KraftControllerToBrokerComm d
+has_id s running now d stage.KraftControllerToBrokerComm = refl
+has_id s running now d stage.DualWrite = rests d.view.image (having_read s.log d)
+has_id s running now d (stage.WriteDelta target ops) = under s.tree d.claim (remaining_at s.tree s.log target.offset) target (λ rest. stage.WriteDelta target rest) stage.DualWrite d
 
 step_id : (s : Shared) (running : List ℤ) (now : ℤ) (d : Driver) → (step s running now d).driver.id ≡ d.id
 unfolding step
@@ -133,15 +143,6 @@ pub same_id : (s : Shared) (running : List ℤ) (now : ℤ) (d : Driver) (t : Sh
 same_id s running now d t e r is = sym (ap (λ (x : Stepped). x.driver.id) is) ∙ step_id s running now d
 
 -- ---- the turn
-
--- what stands at an error
-pub at_err : {T E P : Type 0} (r : Result T E) → P → OnErr r P
-at_err (Ok x) h = tt
-at_err (Err e) h = h
-
--- the replies before, with a turn that goes on
-abbrev pub with_replies : List Reply → Turned → Turned
-with_replies rs t = record t { replies = rs ++ t.replies }
 
 abbrev pub stepped : Shared → Driver → Reply → Stepped
 stepped s d r = record { shared = s; driver = d; reply = r }
@@ -163,71 +164,163 @@ ends_at n s running now d t e r is last = first_step n s running now d ∙ ap (b
 goes_on_at : (n : ℕ) (s : Shared) (running : List ℤ) (now : ℤ) (d : Driver) (t : Shared) (e : Driver) (r : Reply) → step s running now d ≡ stepped t e r → ends r ≡ false → turn (suc n) s running now d ≡ with_reply r (turn n t running now e)
 goes_on_at n s running now d t e r is more = first_step n s running now d ∙ ap (by_step n running now) is ∙ ap (λ b. cond b (turned t e (r ∷ [])) (with_reply r (turn n t running now e))) more
 
--- one step alone, whether the turn ends with it or not
-alone_by : (b : Bool) (t : Shared) (running : List ℤ) (now : ℤ) (e : Driver) (r : Reply) → cond b (turned t e (r ∷ [])) (with_reply r (turn 0 t running now e)) ≡ turned t e (r ∷ [])
+-- What is shared, the driver, and the disks, at a moment of a turn.
+pub record Moment : Type 0 where
+  pub shared : Shared
+  pub driver : Driver
+  pub disks : Disks
+
+abbrev pub moment : Shared → Driver → Disks → Moment
+moment s d disks = record { shared = s; driver = d; disks = disks }
+
+-- what a step with this reply does to the disks
+abbrev pub StepMoves : ℤ → Moment → Reply → Moment → Type 0
+StepMoves now m r n = (files : Files) × StepRequestDisks m.shared now m.driver files (result_of_reply r) m.disks n.disks
+
+-- one step, which didn't end the turn
+pub record IsStep (running : List ℤ) (now : ℤ) (m : Moment) (r : Reply) (n : Moment) : Type 0 where
+  pub made : step m.shared running now m.driver ≡ stepped n.shared n.driver r
+  pub on : ends r ≡ false
+  pub disks : StepMoves now m r n
+
+-- such steps with these replies, one after another
+abbrev pub AreSteps : List ℤ → ℤ → Moment → List Reply → Moment → Type 0
+AreSteps running now m [] n = m ≡ n
+AreSteps running now m (r ∷ rs) n = (mid : Moment) × IsStep running now m r mid × AreSteps running now mid rs n
+
+-- a further one
+pub steps_more : (running : List ℤ) (now : ℤ) (m : Moment) (rs : List Reply) (n : Moment) (r : Reply) (o : Moment) → AreSteps running now m rs n → IsStep running now n r o → AreSteps running now m (rs ++ r ∷ []) o
+steps_more running now m [] n r o same is = (o, subst (λ x. IsStep running now x r o) (sym same) is, refl)
+steps_more running now m (q ∷ qs) n r o h is = (h.0, h.1, steps_more running now h.0 qs n r o h.2 is)
+
+-- as many steps as the turn may have
+pub all_steps : (running : List ℤ) (now : ℤ) (m : Moment) (rs : List Reply) (n : Moment) → AreSteps running now m rs n → turn (length rs) m.shared running now m.driver ≡ turned n.shared n.driver rs
 unfolding turn
-alone_by true t running now e r = refl
-alone_by false t running now e r = refl
+all_steps running now m [] n same = ap (λ (x : Moment). turned x.shared x.driver []) same
+all_steps running now m (q ∷ qs) n h =
+    goes_on_at (length qs) m.shared running now m.driver h.0.shared h.0.driver q h.1.made h.1.on ∙ ap (with_reply q) (all_steps running now h.0 qs n h.2)
 
-alone : (s : Shared) (running : List ℤ) (now : ℤ) (d : Driver) (t : Shared) (e : Driver) (r : Reply) → step s running now d ≡ stepped t e r → turn 1 s running now d ≡ turned t e (r ∷ [])
-alone s running now d t e r is = first_step 0 s running now d ∙ ap (by_step 0 running now) is ∙ alone_by (ends r) t running now e r
+-- the last step ends the turn
+last_step : (running : List ℤ) (now : ℤ) (most : ℕ) (m : Moment) (rs : List Reply) (n : Moment) (r : Reply) (t : Shared) (e : Driver) → length rs < most → AreSteps running now m rs n → step n.shared running now n.driver ≡ stepped t e r → ends r ≡ true
+    → turn most m.shared running now m.driver ≡ turned t e (rs ++ r ∷ [])
+last_step running now zero m rs n r t e few h is last = absurd (omega (arith, few))
+last_step running now (suc k) m [] n r t e few same is last =
+    ends_at k m.shared running now m.driver t e r (ap (λ (x : Moment). step x.shared running now x.driver) same ∙ is) last
+last_step running now (suc k) m (q ∷ qs) n r t e few h is last =
+    goes_on_at k m.shared running now m.driver h.0.shared h.0.driver q h.1.made h.1.on ∙ ap (with_reply q) (last_step running now k h.0 qs n r t e (omega (arith, few)) h.2 is last)
 
-joined : (rs : List Reply) (r : Reply) (t : Turned) → with_replies (rs ++ r ∷ []) t ≡ with_replies rs (with_reply r t)
-joined rs r t = ap (turned t.shared t.driver) (append_assoc rs (r ∷ []) t.replies)
+-- a step that went on, before a turn that was cut off
+cut_after : (k : ℕ) (s : Shared) (running : List ℤ) (now : ℤ) (d : Driver) (q : Reply) (mid : Shared) (next : Driver) (rest : List Reply) (t : Shared) (e : Driver) → step s running now d ≡ stepped mid next q → ends q ≡ false
+    → IsCutOff k mid running now next rest t e → IsCutOff (suc k) s running now d (q ∷ rest) t e
+unfolding IsCutOff
+cut_after zero s running now d q mid next [] t e is on h = absurd h
+cut_after (suc k) s running now d q mid next [] t e is on h = absurd h
+cut_after k s running now d q mid next (p ∷ ps) t e is on h =
+    (sym (ap (λ (x : Stepped). x.reply) is), on, subst (λ (x : Stepped). IsCutOff k x.shared running now x.driver (p ∷ ps) t e) (sym is) h)
 
--- So many steps of a turn are made, with these replies: any number of further steps makes the turn of so many steps more.
-abbrev pub GoesOn : ℕ → List Reply → (ℕ → Turned) → Shared → List ℤ → ℤ → Driver → Type 0
-GoesOn i rs whole s running now d = (k : ℕ) → with_replies rs (turn k s running now d) ≡ whole (i + k)
+-- a step fails
+fails_here : (k : ℕ) (s : Shared) (running : List ℤ) (now : ℤ) (d : Driver) (r : Reply) (t : Shared) (e : Driver) → is_failed_step r ≡ true → t ≡ s → e ≡ d → IsCutOff (suc k) s running now d (r ∷ []) t e
+unfolding IsCutOff
+fails_here k s running now d r t e failed shared driver = (failed, shared, driver)
 
--- So many steps of a turn are made, and the turn goes on from here: the driver has its id, what it and others know is a view
--- of the log, and neither disk has failed.
-pub record IsTurning (i : ℕ) (rs : List Reply) (whole : ℕ → Turned) (s : Shared) (running : List ℤ) (now : ℤ) (d first : Driver) (l : Log) (tree_faults tree_faults_now : ℕ) (tree_down tree_down_now : Bool)
-    (log_faults log_faults_now : ℕ) (log_down log_down_now : Bool) : Type 0 where
-  pub goes_on : GoesOn i rs whole s running now d
-  pub id : d.id ≡ first.id
-  pub view : IsViewOf s.log d.view
-  pub views : (v : View) → IsViewOf l v → IsViewOf s.log v
-  pub tree_calm : tree_faults_now ≡ tree_faults
-  pub tree_up : tree_down_now ≡ tree_down
-  pub log_calm : log_faults_now ≡ log_faults
-  pub log_up : log_down_now ≡ log_down
+cut_step : (running : List ℤ) (now : ℤ) (most : ℕ) (m : Moment) (rs : List Reply) (n : Moment) (r : Reply) (t : Shared) (e : Driver) → length rs < most → AreSteps running now m rs n → is_failed_step r ≡ true → e ≡ n.driver → t ≡ n.shared
+    → IsCutOff most m.shared running now m.driver (rs ++ r ∷ []) t e
+cut_step running now zero m rs n r t e few h failed driver shared = absurd (omega (arith, few))
+cut_step running now (suc k) m [] n r t e few same failed driver shared =
+    fails_here k m.shared running now m.driver r t e failed (shared ∙ sym (ap (λ (x : Moment). x.shared) same)) (driver ∙ sym (ap (λ (x : Moment). x.driver) same))
+cut_step running now (suc k) m (q ∷ qs) n r t e few h failed driver shared =
+    cut_after k m.shared running now m.driver q h.0.shared h.0.driver (qs ++ r ∷ []) t e h.1.made h.1.on (cut_step running now k h.0 qs n r t e (omega (arith, few)) h.2 failed driver shared)
 
--- the whole turn, where it ends with this step
-pub whole_ends : (most i : ℕ) (whole : ℕ → Turned) (rs qs : List Reply) (s : Shared) (running : List ℤ) (now : ℤ) (d : Driver) (t : Shared) (e : Driver) (r : Reply) → i < most
-    → GoesOn i rs whole s running now d → step s running now d ≡ stepped t e r → qs ≡ rs ++ r ∷ [] → ends r ≡ true → whole most ≡ turned t e qs
-whole_ends most i whole rs qs s running now d t e r h before is more last =
-    let rest : most ≡ i + suc (most - (i + 1)) = omega arith in
-    ap whole rest ∙ sym (before (suc (most - (i + 1)))) ∙ ap (with_replies rs) (ends_at (most - (i + 1)) s running now d t e r is last) ∙ ap (turned t e) (sym more)
+-- the replies of these steps tell of no failure
+no_failure : (running : List ℤ) (now : ℤ) (m : Moment) (rs : List Reply) (n : Moment) (rest : List Reply) → AreSteps running now m rs n → list_any is_failed_step rest ≡ false → list_any is_failed_step (rs ++ rest) ≡ false
+no_failure running now m [] n rest same h = h
+no_failure running now m (q ∷ qs) n rest steps h = rw (goes_on_told q steps.1.on) (no_failure running now steps.0 qs n rest steps.2 h)
 
--- where it goes on
-pub whole_goes_on : (i : ℕ) (whole : ℕ → Turned) (rs qs : List Reply) (s : Shared) (running : List ℤ) (now : ℤ) (d : Driver) (t : Shared) (e : Driver) (r : Reply)
-    → GoesOn i rs whole s running now d → step s running now d ≡ stepped t e r → qs ≡ rs ++ r ∷ [] → ends r ≡ false → GoesOn (i + 1) qs whole t running now e
-whole_goes_on i whole rs qs s running now d t e r before is more on k =
-    let next : i + suc k ≡ i + 1 + k = omega arith in
-    ap (λ x. with_replies x (turn k t running now e)) more ∙ joined rs r (turn k t running now e) ∙ ap (with_replies rs) (sym (goes_on_at k s running now d t e r is on)) ∙ before (suc k) ∙ ap whole next
-
--- the steps that are made, without a further one
-pub so_far : (i : ℕ) (whole : ℕ → Turned) (rs : List Reply) (s : Shared) (running : List ℤ) (now : ℤ) (d : Driver) → GoesOn i rs whole s running now d → whole i ≡ turned s d rs
-unfolding turn
-so_far i whole rs s running now d before =
-    let here : i ≡ i + 0 = omega arith in
-    ap whole here ∙ sym (before 0) ∙ ap (turned s d) (append-nil rs)
-
--- the steps that are made, with one more whose reply isn't kept
-one_more : (i : ℕ) (whole : ℕ → Turned) (rs : List Reply) (s : Shared) (running : List ℤ) (now : ℤ) (d : Driver) (t : Shared) (e : Driver) (r : Reply) → GoesOn i rs whole s running now d → step s running now d ≡ stepped t e r
-    → whole (i + 1) ≡ turned t e (rs ++ r ∷ [])
-one_more i whole rs s running now d t e r before is = sym (before 1) ∙ ap (with_replies rs) (alone s running now d t e r is)
-
--- where memory runs out, in the next step or behind it
-pub stopped : (most i : ℕ) (whole : ℕ → Turned) (rs : List Reply) (ids running : List ℤ) (now : ℤ) (d e : Driver) (t u : Tree) (l m : Log) → i < most → GoesOn i rs whole (shared_of t l ids) running now d
-    → ((e ≡ d) × (u ≡ t) × (m ≡ l)) ⊎ ((r : Reply) × (step (shared_of t l ids) running now d ≡ stepped (shared_of u m ids) e r))
-    → (k : ℕ) × (qs : List Reply) × (k ≤ most) × (whole k ≡ turned (shared_of u m ids) e qs)
-stopped most i whole rs ids running now d e t u l m h before (inl same) = (
-  i,
-  rs,
-  omega (arith, h),
-  so_far i whole rs (shared_of t l ids) running now d before ∙ ap (λ x. turned (shared_of t l ids) x rs) (sym same.0)
-      ∙ ap (λ x. turned (shared_of x l ids) e rs) (sym same.1) ∙ ap (λ x. turned (shared_of u x ids) e rs) (sym same.2),
+-- what all steps do to the disks
+pub all_disks : (running : List ℤ) (now : ℤ) (m : Moment) (rs : List Reply) (n : Moment) (rest : List Reply) (new : Disks) → AreSteps running now m rs n → TurnDisks n.shared running now n.driver rest n.disks new
+    → TurnDisks m.shared running now m.driver (rs ++ rest) m.disks new
+all_disks running now m [] n rest new same h = subst (λ (x : Moment). TurnDisks x.shared running now x.driver rest x.disks new) (sym same) h
+all_disks running now m (q ∷ qs) n rest new steps h = (
+  steps.1.disks.0,
+  steps.0.disks,
+  steps.1.disks.1,
+  subst (λ (x : Stepped). TurnDisks x.shared running now x.driver (qs ++ rest) steps.0.disks new) (sym steps.1.made) (all_disks running now steps.0 qs n rest new steps.2 h),
 )
-stopped most i whole rs ids running now d e t u l m h before (inr made) =
-    (i + 1, rs ++ made.0 ∷ [], omega (arith, h), one_more i whole rs (shared_of t l ids) running now d (shared_of u m ids) e made.0 before made.1)
+
+-- and a last one
+pub last_disks : (running : List ℤ) (now : ℤ) (m : Moment) (rs : List Reply) (n : Moment) (r : Reply) (o : Moment) → AreSteps running now m rs n → StepMoves now n r o → TurnDisks m.shared running now m.driver (rs ++ r ∷ []) m.disks o.disks
+last_disks running now m rs n r o steps moves = all_disks running now m rs n (r ∷ []) o.disks steps (moves.0, o.disks, moves.1, refl)
+
+-- The last step: where it doesn't fail, it ends the turn.
+ends_by : (b : Bool) (running : List ℤ) (now : ℤ) (most : ℕ) (m : Moment) (rs : List Reply) (n : Moment) (r : Reply) (t : Shared) (e : Driver) → is_failed_step r ≡ b → length rs < most → AreSteps running now m rs n → ends r ≡ true
+    → (is_failed_step r ≡ false → step n.shared running now n.driver ≡ stepped t e r) → (is_failed_step r ≡ true → (e ≡ n.driver) × (t ≡ n.shared))
+    → StepsEnd most m.shared running now m.driver (rs ++ r ∷ []) t e
+ends_by true running now most m rs n r t e is few steps last made failed = inr (cut_step running now most m rs n r t e few steps is (failed is).0 (failed is).1)
+ends_by false running now most m rs n r t e is few steps last made failed =
+    inl (last_step running now most m rs n r t e few steps (made is) last, no_failure running now m rs n (r ∷ []) steps (rw is refl))
+
+pub turn_ends : (running : List ℤ) (now : ℤ) (most : ℕ) (m : Moment) (rs : List Reply) (n : Moment) (r : Reply) (t : Shared) (e : Driver) → length rs < most → AreSteps running now m rs n → ends r ≡ true
+    → (is_failed_step r ≡ false → step n.shared running now n.driver ≡ stepped t e r) → (is_failed_step r ≡ true → (e ≡ n.driver) × (t ≡ n.shared))
+    → StepsEnd most m.shared running now m.driver (rs ++ r ∷ []) t e
+turn_ends running now most m rs n r t e few steps last made failed = ends_by (is_failed_step r) running now most m rs n r t e refl few steps last made failed
+
+-- All steps that the turn may have are made.
+pub turn_is_whole : (running : List ℤ) (now : ℤ) (most : ℕ) (m : Moment) (rs qs : List Reply) (n : Moment) → most ≡ length rs → qs ≡ rs → AreSteps running now m rs n → StepsEnd most m.shared running now m.driver qs n.shared n.driver
+turn_is_whole running now most m rs qs n count same steps =
+    let made = ap (λ k. turn k m.shared running now m.driver) count ∙ all_steps running now m rs n steps ∙ ap (turned n.shared n.driver) (sym same) in
+    let none = ap (list_any is_failed_step) (same ∙ sym (append-nil rs)) ∙ no_failure running now m rs n [] steps refl in
+    inl (made, none)
+
+-- There is no memory for the reply of the next step.
+out_of_memory : (s : Shared) (epoch now position : ℤ) (files : Files) (request : Request) (disks : Disks) → RequestDisks {A = Reply} s epoch now position files request (Err step_fault.NoMemory) disks disks
+out_of_memory s epoch now position files nothing disks = refl
+out_of_memory s epoch now position files read_log disks = (refl, refl)
+out_of_memory s epoch now position files list_brokers disks = (refl, refl)
+out_of_memory s epoch now position files look_up disks = (refl, refl)
+out_of_memory s epoch now position files (read_page after) disks = (refl, refl)
+out_of_memory s epoch now position files (write ops) disks = inl (refl, refl)
+out_of_memory s epoch now position files (add records) disks = (refl, refl)
+
+pub memory_ends : (running : List ℤ) (now : ℤ) (most : ℕ) (m : Moment) (rs : List Reply) (n : Moment) → length rs < most → AreSteps running now m rs n → StepsEnd most m.shared running now m.driver (rs ++ reply.NoMemory ∷ []) n.shared n.driver
+memory_ends running now most m rs n few steps = inr (cut_step running now most m rs n reply.NoMemory n.shared n.driver few steps refl refl refl)
+
+pub memory_disks : (running : List ℤ) (now : ℤ) (m : Moment) (rs : List Reply) (n : Moment) → AreSteps running now m rs n → TurnDisks m.shared running now m.driver (rs ++ reply.NoMemory ∷ []) m.disks n.disks
+memory_disks running now m rs n steps =
+    let none : Files = files_of (λ change. None) (λ change. None) in
+    last_disks running now m rs n reply.NoMemory n steps (none, out_of_memory n.shared _ now _ none (asked n.shared now n.driver n.driver.stage) n.disks)
+
+-- So many steps of a turn are made, and it goes on from here: the last place of the replies is kept, the driver has its id,
+-- and what it and others know is a view of the log.
+pub record IsTurning (i : ℕ) (replies : List Reply) (running : List ℤ) (now : ℤ) (first here : Moment) : Type 0 where
+  pub made : List Reply
+  pub kept : replies ≡ made ++ reply.NoMemory ∷ []
+  pub count : length made ≡ i
+  pub steps : AreSteps running now first made here
+  pub id : here.driver.id ≡ first.driver.id
+  pub view : IsViewOf here.shared.log here.driver.view
+  pub views : (v : View) → IsViewOf first.shared.log v → IsViewOf here.shared.log v
+
+-- a turn that a failure cut off tells of one
+pub cut_off_fails : (n : ℕ) (s : Shared) (running : List ℤ) (now : ℤ) (d : Driver) (rs : List Reply) (t : Shared) (e : Driver) → IsCutOff n s running now d rs t e → list_any is_failed_step rs ≡ true
+unfolding IsCutOff
+cut_off_fails zero s running now d rs t e h = absurd h
+cut_off_fails (suc n) s running now d [] t e h = absurd h
+cut_off_fails (suc n) s running now d (r ∷ []) t e h = rw h.0 refl
+cut_off_fails (suc n) s running now d (r ∷ q ∷ rs) t e h =
+    let on = goes_on_told r h.1 in
+    rw on (cut_off_fails n (step s running now d).shared running now (step s running now d).driver (q ∷ rs) t e h.2)
+
+-- ---- one step
+
+-- what a step that didn't fail does to the disks
+pub step_moves : (s : Shared) (now : ℤ) (d : Driver) (files : Files) (r : Reply) (old new : Disks) → is_failed_step r ≡ false → StepDisks s now d files (Ok r) old new → StepRequestDisks s now d files (result_of_reply r) old new
+step_moves s now d files r old new told h = subst (λ (x : Result Reply StepFault). StepRequestDisks s now d files x old new) (sym (told_reply r told)) h.request
+
+-- what one does that failed
+pub fault_moves : (s : Shared) (now : ℤ) (d : Driver) (files : Files) (f : StepFault) (r : Reply) (old new : Disks) → r ≡ reply_of_fault f → StepDisks s now d files (Err f) old new → StepRequestDisks s now d files (result_of_reply r) old new
+fault_moves s now d files f r old new is h =
+    let told = request_told Reply s (epoch_or_zero d.epoch) now d.view.position files (asked s now d d.stage) f old new h.request in
+    subst (λ (x : Result Reply StepFault). StepRequestDisks s now d files x old new) (sym (ap result_of_reply is ∙ told.reply)) h.request
+
+pub fault_fails : (s : Shared) (now : ℤ) (d : Driver) (files : Files) (f : StepFault) (r : Reply) (old new : Disks) → r ≡ reply_of_fault f → StepDisks s now d files (Err f) old new → is_failed_step r ≡ true
+fault_fails s now d files f r old new is h = ap is_failed_step is ∙ (request_told Reply s (epoch_or_zero d.epoch) now d.view.position files (asked s now d d.stage) f old new h.request).failed_step

@@ -1,10 +1,12 @@
 -- What the world and its drivers know of the log.
-use Rattle.std.proofs.Common.{◌≡◌, ℕ, zero, suc, Bool, true, false, cond, ℤ, List, [], ◌∷◌, ◌++◌, set, Option, Some, sym, ap, subst}
+use Rattle.std.proofs.Common.{◌≡◌, ℕ, zero, suc, Bool, true, false, cond, ℤ, List, [], ◌∷◌, ◌++◌, set, Option, Some, sym, ap, ◌∙◌, subst}
 use Rattle.std.specs.Prelude.{slice_get, unwrap_or}
 use Rattle.std.specs.Ordering.{int_eq}
 use Rattle.kz_spec_stores.specs.Log.{Log, View, IsViewOf}
 use Rattle.kz_spec_machine.specs.Driver.{Driver, elected_driver}
 use Rattle.kz_spec_machine.specs.Machine.{is_running}
+use Rattle.kz_spec_stores.specs.Requests.{Disk}
+use Rattle.kz_driver.specs.Disks.{Disks, disks_of}
 use Rattle.kz_world.specs.Worlds.{AreDistinct, AreViews, IsKept, elected_drivers}
 use Rattle.kz_world.proofs.Listings.{started_distinct, elected_ids, same_ids}
 
@@ -50,3 +52,7 @@ kept_elected l own id epoch ds h = record { distinct = subst AreDistinct (sym (e
 pub kept_turned : (l m : Log) (own : View) (ds : List Driver) (at : ℕ) (d e : Driver) → slice_get ds at ≡ Some d → e.id ≡ d.id → ((v : View) → IsViewOf l v → IsViewOf m v) → IsViewOf m e.view → IsKept l own ds → IsKept m own (set ds at e)
 kept_turned l m own ds at d e is same still view h =
     record { distinct = subst AreDistinct (sym (same_ids ds at d e is same)) h.distinct; own = still own h.own; each = each_set m ds at e (each_still l m ds still h.each) view }
+
+-- a log that is only read leaves both disks as they were
+pub read_keeps : (old new : Disks) → new.log ≡ old.log → new.tree ≡ old.tree → new ≡ old
+read_keeps old new log tree = ap (λ (x : Disk). disks_of x new.log) tree ∙ ap (disks_of old.tree) log

@@ -1,21 +1,22 @@
 //! Multis of ZooKeeper clients.
-ghost use Rattle.std.specs.Prelude.{◌≡◌, ◌&&◌, ◌||◌, is_some, None, true, IfOk, IfErr, OnErr, IsErrOf};
+ghost use Rattle.std.specs.Prelude.{◌≡◌, ◌&&◌, ◌||◌, is_some, false, None, IfOk, IfSome, OnErr};
 ghost use Rattle.std.specs.List.{list_any};
 ghost use Rattle.std.specs.Str.{bytes_eq};
-ghost use Rattle.kz_types.specs.Causes.{Rose};
 ghost use Rattle.kz_types.specs.Paths.{base_paths, control_paths, is_among, is_below, is_migrated};
 ghost use Rattle.kz_types.specs.declared.machine.Event.TheVariants as event;
 ghost use Rattle.kz_spec_values.specs.Control.{control_path, epoch_path, shown_epoch};
-ghost use Rattle.kz_spec_machine.specs.Driver.{path_of_op};
-ghost use Rattle.kz_spec_machine.specs.Machine.{is_reserved, is_held, is_held_path, is_held_tree, first_told, client_refusal, next};
-ghost use Rattle.kz_world.specs.Worlds.{world_of, IsKept, IsEventFault};
+ghost use Rattle.kz_spec_machine.specs.Machine.{is_reserved, is_held, is_held_path, is_held_tree, first_told, client_refusal};
+ghost use Rattle.kz_spec_machine.specs.Failures.{is_failure};
+ghost use Rattle.kz_world.specs.Disks.{disks_in, files_in, ResultDisks};
+ghost use Rattle.kz_world.specs.Worlds.{world_of, held, IsDone, IsKept};
 
+use crate::faults::after_tree_fault;
 use crate::parts::Parts;
-use kz_driver::StepFault;
+use kz_driver::{StepFault, path_of_op};
 use kz_log::MetaLog;
 use kz_state::read_control;
 use kz_tree::{Tree, ZTree, is_migrated};
-use kz_types::{Answer, Duplicate, LogFault, NoMemory, Op, TreeFault, ZPath};
+use kz_types::{Answer, Duplicate, NoMemory, Op, ZPath};
 use std::alloc::Global;
 
 // Whether this is the path of a base znode.
@@ -113,24 +114,13 @@ fn is_held(op: &Op) -> bool
     }
 }
 
-fn path_of(op: &Op) -> &ZPath
-    ensures { result.now ≡ path_of_op op.entry.now }
-{
-    match op {
-        Op::Create { path, .. } => path,
-        Op::Set { path, .. } => path,
-        Op::Delete { path, .. } => path,
-        Op::Check { path, .. } => path,
-    }
-}
-
 // The path of the first operation that no client may do.
 fn first_reserved(alloc: Global, ops: &[Op]) -> Result<Option<ZPath>, NoMemory>
     ensures { IfOk result (λ path. path ≡ first_told is_reserved ops.now) }
 {
     for op in ops {
         if is_reserved(alloc, op)? {
-            return Ok(Some(path_of(op).copy(alloc)?));
+            return Ok(Some(path_of_op(op).copy(alloc)?));
         }
     }
     Ok(None)
@@ -142,7 +132,7 @@ fn first_held(alloc: Global, ops: &[Op]) -> Result<Option<ZPath>, NoMemory>
 {
     for op in ops {
         if is_held(op) {
-            return Ok(Some(path_of(op).copy(alloc)?));
+            return Ok(Some(path_of_op(op).copy(alloc)?));
         }
     }
     Ok(None)
@@ -160,7 +150,8 @@ fn is_held_tree(alloc: Global, tree: &Tree) -> Result<bool, NoMemory>
 
 // An operation is reserved, or held while a KRaft controller holds the tree.
 fn client_refusal(alloc: Global, tree: &Tree, ops: &[Op]) -> Result<Option<Answer>, NoMemory>
-    ensures { IfOk result (λ refusal. refusal ≡ client_refusal tree.now ops.now) }
+    ensures refusal { IfOk result (λ refusal. refusal ≡ client_refusal tree.now ops.now) }
+    ensures no_failure { IfOk result (λ refusal. IfSome refusal (λ answer. is_failure answer ≡ false)) }
 {
     if let Some(path) = first_reserved(alloc, ops)? {
         return Ok(Some(Answer::Reserved { path }));
@@ -179,25 +170,14 @@ fn client_refusal(alloc: Global, tree: &Tree, ops: &[Op]) -> Result<Option<Answe
 fn ask_tree<T: ZTree, L: MetaLog>(parts: &mut Parts<T, L>, ops: &[Op]) -> Result<Answer, StepFault>
     requires kept { IsKept (L.log parts.old.log) parts.old.view parts.old.drivers.items }
     requires taken { client_refusal (T.tree parts.old.tree) ops.now ≡ None }
-    ensures ok { IfOk result (λ answer. next (world_of T.tree L.log parts.old) (event.Zk ops.now) ≡ (world_of T.tree L.log parts.new, answer)) }
+    ensures ok { IfOk result (IsDone (world_of T.tree L.log parts.old) (event.Zk ops.now) (world_of T.tree L.log parts.new)) }
     ensures kept { IsKept (L.log parts.new.log) parts.new.view parts.new.drivers.items }
-    ensures log { parts.new.log ≡ parts.old.log }
     ensures err { OnErr result (world_of T.tree L.log parts.new ≡ world_of T.tree L.log parts.old) }
-    ensures cause { IfErr result (IsEventFault T.tree T.length (T.tree parts.new.tree) (T.down parts.old.tree) L.log L.length (L.log parts.new.log) (L.down parts.old.log)) }
-    ensures quiet { IsErrOf result (StepFault.Log LogFault.Failed) → ⊥ }
-    ensures device { IsErrOf result (StepFault.Tree TreeFault.Device) → Rose (T.faults parts.old.tree) (T.faults parts.new.tree) }
-    ensures falls { IsErrOf result (StepFault.Tree TreeFault.Device) → T.down parts.new.tree ≡ true }
-    ensures calm { (IsErrOf result (StepFault.Tree TreeFault.Device) → ⊥) → T.faults parts.new.tree ≡ T.faults parts.old.tree }
-    ensures up { (IsErrOf result (StepFault.Tree TreeFault.Device) → ⊥) → T.down parts.new.tree ≡ T.down parts.old.tree }
+    ensures disks { ResultDisks (world_of T.tree L.log parts.old) (event.Zk ops.now) (files_in T.length_with L.length_with (held parts.old)) result (disks_in T.disk L.disk (held parts.old)) (disks_in T.disk L.disk (held parts.new)) }
 {
     match parts.tree.multi(ops) {
         Ok(zxid) => Ok(Answer::DoneAt { zxid }),
-        Err(TreeFault::Refused { index, code }) => Ok(Answer::Refused { index, code }),
-        Err(TreeFault::Limit { index, number }) => Ok(Answer::OverOp { index, number }),
-        Err(TreeFault::NoMemory) => Err(StepFault::NoMemory),
-        Err(TreeFault::Device) => Err(StepFault::Tree(TreeFault::Device)),
-        Err(TreeFault::Down) => Err(StepFault::Tree(TreeFault::Down)),
-        Err(TreeFault::Full { length }) => Err(StepFault::Tree(TreeFault::Full { length })),
+        Err(fault) => after_tree_fault(fault),
     }
 }
 
@@ -210,16 +190,10 @@ pub fn ask<T: ZTree, L: MetaLog>(
     ops: &[Op],
 ) -> Result<Answer, StepFault>
     requires { IsKept (L.log parts.old.log) parts.old.view parts.old.drivers.items }
-    ensures ok { IfOk result (λ answer. next (world_of T.tree L.log parts.old) (event.Zk ops.now) ≡ (world_of T.tree L.log parts.new, answer)) }
+    ensures ok { IfOk result (IsDone (world_of T.tree L.log parts.old) (event.Zk ops.now) (world_of T.tree L.log parts.new)) }
     ensures kept { IsKept (L.log parts.new.log) parts.new.view parts.new.drivers.items }
-    ensures log { parts.new.log ≡ parts.old.log }
     ensures err { OnErr result (world_of T.tree L.log parts.new ≡ world_of T.tree L.log parts.old) }
-    ensures cause { IfErr result (IsEventFault T.tree T.length (T.tree parts.new.tree) (T.down parts.old.tree) L.log L.length (L.log parts.new.log) (L.down parts.old.log)) }
-    ensures quiet { IsErrOf result (StepFault.Log LogFault.Failed) → ⊥ }
-    ensures device { IsErrOf result (StepFault.Tree TreeFault.Device) → Rose (T.faults parts.old.tree) (T.faults parts.new.tree) }
-    ensures falls { IsErrOf result (StepFault.Tree TreeFault.Device) → T.down parts.new.tree ≡ true }
-    ensures calm { (IsErrOf result (StepFault.Tree TreeFault.Device) → ⊥) → T.faults parts.new.tree ≡ T.faults parts.old.tree }
-    ensures up { (IsErrOf result (StepFault.Tree TreeFault.Device) → ⊥) → T.down parts.new.tree ≡ T.down parts.old.tree }
+    ensures disks { ResultDisks (world_of T.tree L.log parts.old) (event.Zk ops.now) (files_in T.length_with L.length_with (held parts.old)) result (disks_in T.disk L.disk (held parts.old)) (disks_in T.disk L.disk (held parts.new)) }
 {
     match client_refusal(alloc, parts.tree.tree(), ops) {
         Ok(Some(refusal)) => Ok(refusal),

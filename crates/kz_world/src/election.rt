@@ -1,18 +1,20 @@
 //! An election.
-ghost use Rattle.std.specs.Prelude.{◌≡◌, ◌<◌, ◌∷◌, [], ◌++◌, length, None, IfOk, OnOk, OnErr, IfErr, IsErrOf, true, if◌then◌else◌};
-ghost use Rattle.kz_types.specs.Causes.{Rose};
+ghost use Rattle.std.specs.Prelude.{◌≡◌, ◌<◌, ◌∷◌, [], ◌++◌, length, None, IfOk, OnOk, OnErr, if◌then◌else◌};
 ghost use Rattle.kz_types.specs.declared.machine.Event.TheVariants as event;
-ghost use Rattle.kz_spec_machine.specs.Machine.{election_records, running_refusal, next};
-ghost use Rattle.kz_world.specs.Worlds.{world_of, records_on_election, IsKept, IsEventFault};
+ghost use Rattle.kz_spec_stores.specs.Log.{elect};
+ghost use Rattle.kz_spec_machine.specs.Machine.{election_records, running_refusal};
+ghost use Rattle.kz_world.specs.Disks.{disks_in, files_in, ReadsAndChangesLog, ResultDisks};
+ghost use Rattle.kz_world.specs.Worlds.{world_of, held, records_on_election, IsDone, IsKept};
 
 use crate::drivers::elect_driver;
+use crate::faults::after_log_fault;
 use crate::parts::Parts;
-use crate::reading::{Unread, read};
+use crate::reading::read;
 use crate::refusals::running_refusal;
 use kz_driver::StepFault;
 use kz_log::{MetaLog, View};
 use kz_tree::ZTree;
-use kz_types::{Answer, LogFault, MetaRecord, NoMemory, TreeFault};
+use kz_types::{Answer, MetaRecord, NO_MIGRATION, NoMemory, PRE_MIGRATION};
 use std::alloc::Global;
 
 // Adds a record where it is wanted.
@@ -37,16 +39,19 @@ fn election_records(alloc: Global, view: &View) -> Result<Vec<MetaRecord>, NoMem
         view.begun().is_some(),
         MetaRecord::AbortTransaction { reason: None },
     )?;
-    let is_unset = view.image().state() == 0;
+    let is_unset = view.image().state() == NO_MIGRATION;
     push_if(
         &mut items,
         is_unset,
-        MetaRecord::ZkMigrationState { state: 1 },
+        MetaRecord::ZkMigrationState {
+            state: PRE_MIGRATION,
+        },
     )?;
     Ok(items)
 }
 
 // A controller that runs is elected, where the log has room for these records.
+#[tactic(auto, unfolding(kz_spec_machine::specs::Machine::next))]
 fn elect_running<T: ZTree, L: MetaLog>(
     parts: &mut Parts<T, L>,
     id: i32,
@@ -57,18 +62,11 @@ fn elect_running<T: ZTree, L: MetaLog>(
     requires running { running_refusal (world_of T.tree L.log parts.old) id ≡ None }
     requires items { items.now ≡ election_records (L.log parts.old.log) }
     requires some { 0 < length items.now }
-    ensures ok { IfOk result (λ answer. next (world_of T.tree L.log parts.old) (event.Elect id now) ≡ (world_of T.tree L.log parts.new, answer)) }
+    ensures ok { IfOk result (IsDone (world_of T.tree L.log parts.old) (event.Elect id now) (world_of T.tree L.log parts.new)) }
     ensures kept { IsKept (L.log parts.new.log) parts.new.view parts.new.drivers.items }
-    ensures store { parts.new.tree ≡ parts.old.tree }
     ensures err { OnErr result (world_of T.tree L.log parts.new ≡ world_of T.tree L.log parts.old) }
-    ensures cause { IfErr result (IsEventFault T.tree T.length (T.tree parts.new.tree) (T.down parts.old.tree) L.log L.length (L.log parts.new.log) (L.down parts.old.log)) }
-    ensures quiet { IsErrOf result (StepFault.Tree TreeFault.Device) → ⊥ }
-    ensures device { IsErrOf result (StepFault.Log LogFault.Failed) → Rose (L.faults parts.old.log) (L.faults parts.new.log) }
-    ensures falls { IsErrOf result (StepFault.Log LogFault.Failed) → L.down parts.new.log ≡ true }
-    ensures calm { (IsErrOf result (StepFault.Log LogFault.Failed) → ⊥) → L.faults parts.new.log ≡ L.faults parts.old.log }
-    ensures up { (IsErrOf result (StepFault.Log LogFault.Failed) → ⊥) → L.down parts.new.log ≡ L.down parts.old.log }
+    ensures disks { ReadsAndChangesLog (elect (L.log parts.old.log) now items.now) result (disks_in T.disk L.disk (held parts.old)) (disks_in T.disk L.disk (held parts.new)) }
 {
-    let _epoch = parts.log.epoch();
     match parts.log.elect(now, items) {
         Ok(elected) => {
             elect_driver(&mut parts.drivers, id, elected.epoch);
@@ -77,12 +75,7 @@ fn elect_running<T: ZTree, L: MetaLog>(
                 offset: elected.end,
             })
         }
-        Err(LogFault::Limit { number }) => Ok(Answer::Over { number }),
-        Err(LogFault::NoMemory) => Err(StepFault::NoMemory),
-        Err(LogFault::Failed) => Err(StepFault::Log(LogFault::Failed)),
-        Err(LogFault::Down) => Err(StepFault::Log(LogFault::Down)),
-        Err(LogFault::Full { length }) => Err(StepFault::Log(LogFault::Full { length })),
-        Err(LogFault::Stale { .. }) => unreachable!(),
+        Err(fault) => after_log_fault(fault),
     }
 }
 
@@ -96,26 +89,18 @@ pub fn elect<T: ZTree, L: MetaLog>(
     now: i64,
 ) -> Result<Answer, StepFault>
     requires { IsKept (L.log parts.old.log) parts.old.view parts.old.drivers.items }
-    ensures ok { IfOk result (λ answer. next (world_of T.tree L.log parts.old) (event.Elect id now) ≡ (world_of T.tree L.log parts.new, answer)) }
+    ensures ok { IfOk result (IsDone (world_of T.tree L.log parts.old) (event.Elect id now) (world_of T.tree L.log parts.new)) }
     ensures kept { IsKept (L.log parts.new.log) parts.new.view parts.new.drivers.items }
-    ensures store { parts.new.tree ≡ parts.old.tree }
     ensures err { OnErr result (world_of T.tree L.log parts.new ≡ world_of T.tree L.log parts.old) }
-    ensures cause { IfErr result (IsEventFault T.tree T.length (T.tree parts.new.tree) (T.down parts.old.tree) L.log L.length (L.log parts.new.log) (L.down parts.old.log)) }
-    ensures quiet { IsErrOf result (StepFault.Tree TreeFault.Device) → ⊥ }
-    ensures device { IsErrOf result (StepFault.Log LogFault.Failed) → Rose (L.faults parts.old.log) (L.faults parts.new.log) }
-    ensures falls { IsErrOf result (StepFault.Log LogFault.Failed) → L.down parts.new.log ≡ true }
-    ensures calm { (IsErrOf result (StepFault.Log LogFault.Failed) → ⊥) → L.faults parts.new.log ≡ L.faults parts.old.log }
-    ensures up { (IsErrOf result (StepFault.Log LogFault.Failed) → ⊥) → L.down parts.new.log ≡ L.down parts.old.log }
+    ensures disks { ResultDisks (world_of T.tree L.log parts.old) (event.Elect id now) (files_in T.length_with L.length_with (held parts.old)) result (disks_in T.disk L.disk (held parts.old)) (disks_in T.disk L.disk (held parts.new)) }
 {
     if let Some(refusal) = running_refusal(parts, id) {
         return Ok(refusal);
     }
     match read(parts) {
         Ok(()) => {}
-        Err(Unread::NoMemory) => return Err(StepFault::NoMemory),
-        Err(Unread::Down) => return Err(StepFault::Log(LogFault::Down)),
+        Err(fault) => return Err(fault),
     }
-    let _end = parts.log.end();
     let Ok(items) = election_records(alloc, &parts.view) else {
         return Err(StepFault::NoMemory);
     };

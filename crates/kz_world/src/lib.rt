@@ -8,6 +8,7 @@ mod client;
 mod comparison;
 mod drivers;
 mod election;
+mod faults;
 mod machine;
 mod members;
 mod parts;

@@ -1,15 +1,17 @@
 //! The machine.
-ghost use Rattle.std.specs.Prelude.{◌≡◌, [], true, IfOk, IfErr, OnErr, IsErrOf};
-ghost use Rattle.kz_types.specs.Causes.{Rose};
+ghost use Rattle.std.specs.Prelude.{◌≡◌, [], true, false, IfOk, OnErr};
 ghost use Rattle.kz_spec_stores.specs.Tree.{recorded};
 ghost use Rattle.kz_spec_stores.specs.Log.{end_of};
 ghost use Rattle.kz_spec_machine.specs.Machine.{next};
-ghost use Rattle.kz_world.specs.Worlds.{WorldOver, seen, held, IsKept, IsAsked, IsLeft, IsEventFault};
+ghost use Rattle.kz_spec_machine.specs.Failures.{is_failure, IsLeft};
+ghost use Rattle.kz_world.specs.Disks.{disks_in, files_in, ResultDisks, EventDisks};
+ghost use Rattle.kz_world.specs.Worlds.{WorldOver, world_of, seen, held, IsKept, IsAsked, IsOutcome};
 
 use crate::change::change;
 use crate::checks::compare;
 use crate::client::ask;
 use crate::election::elect;
+use crate::faults::answered;
 use crate::members::{declare, start};
 use crate::parts::Parts;
 use crate::registration::register;
@@ -18,7 +20,7 @@ use crate::turns::turn_of;
 use kz_driver::StepFault;
 use kz_log::{MetaLog, View};
 use kz_session::ZSessions;
-use kz_types::{Answer, Event, LogFault, NoMemory, Recorded, Sequence, TreeFault};
+use kz_types::{Answer, Event, NoMemory, Recorded, Sequence};
 use std::alloc::Global;
 use std::marker::Model;
 
@@ -37,12 +39,48 @@ impl<T: ZSessions, L: MetaLog> Model for World<T, L> {
     ghost invariant = { λ w. IsKept (L.log w.parts.log) w.parts.view w.parts.drivers.items };
 }
 
+// What an event does to these parts. A step that fails, or is out of memory, is told by the last reply of its turn. At `Err`
+// nothing has changed but the disks.
+fn happen<T: ZSessions, L: MetaLog>(
+    alloc: Global,
+    parts: &mut Parts<T, L>,
+    event: &Event,
+) -> Result<Answer, StepFault>
+    requires kept { IsKept (L.log parts.old.log) parts.old.view parts.old.drivers.items }
+    requires asked { IsAsked event.now }
+    ensures ok { IfOk result (IsOutcome (world_of T.tree L.log parts.old) event.now (world_of T.tree L.log parts.new)) }
+    ensures kept { IsKept (L.log parts.new.log) parts.new.view parts.new.drivers.items }
+    ensures err { OnErr result (world_of T.tree L.log parts.new ≡ world_of T.tree L.log parts.old) }
+    ensures disks { ResultDisks (world_of T.tree L.log parts.old) event.now (files_in T.length_with L.length_with (held parts.old)) result (disks_in T.disk L.disk (held parts.old)) (disks_in T.disk L.disk (held parts.new)) }
+{
+    match event {
+        Event::Quorum { ids } => Ok(declare(alloc, parts, ids)?),
+        Event::Start { controller } => Ok(start(alloc, parts, *controller)?),
+        Event::Elect { controller, now } => elect(alloc, parts, *controller, *now),
+        Event::Turn { controller, now } => turn_of(alloc, parts, *controller, *now),
+        Event::Change {
+            controller,
+            records,
+            now,
+        } => change(alloc, parts, *controller, records.as_slice(), *now),
+        Event::Register {
+            controller,
+            broker,
+            migrating,
+            now,
+        } => register(alloc, parts, *controller, *broker, *migrating, *now),
+        Event::Check => compare(alloc, parts),
+        Event::ZkOpen { session } => open(parts, *session),
+        Event::ZkExpire { session } => expire(parts, *session),
+        Event::Zk { ops } => ask(alloc, parts, ops.as_slice()),
+    }
+}
+
 impl<T: ZSessions, L: MetaLog> World<T, L> {
     /// A world over these stores, with no controller declared and none running. It takes no memory.
     pub fn new(alloc: Global, tree: T, log: L) -> World<T, L>
         ensures { result ≡ record { tree = tree; log = log; declared = []; drivers = [] } }
     {
-        let _end = log.end();
         World {
             alloc,
             parts: Parts {
@@ -55,70 +93,20 @@ impl<T: ZSessions, L: MetaLog> World<T, L> {
         }
     }
 
-    /// Lets an event happen, and answers it. A refused event leaves the world as it was. Where memory runs out or the
-    /// store fails, the world is as it was, or, in a turn, as some of the turn's steps left it. A change has a record, since
-    /// the log takes no batch without one, and a session that begins is at least 1.
+    /// Lets an event happen, and answers it. A refused event leaves the world as it was. A change has a record, since the log
+    /// takes no batch without one, and a session that begins is at least 1.
     ///
-    /// `Tree`, `Log`: the disk below that store failed in this call or in an earlier one, or the store's file would pass
-    /// its limit. A request that the tree or the log refuses is an answer.
-    #[tactic(auto, unfolding(kz_spec_machine::specs::Machine::next))]
-    pub fn event(&mut self, event: Event) -> Result<Answer, StepFault>
-        requires { IsAsked event }
-        ensures ok { IfOk result (λ answer. next (seen T.tree L.log self.old) event ≡ (seen T.tree L.log self.new, answer)) }
-        ensures err { OnErr result (IsLeft (seen T.tree L.log self.old) event (seen T.tree L.log self.new)) }
-        ensures cause { IfErr result (IsEventFault T.tree T.length (T.tree self.new.tree) (T.down self.old.tree) L.log L.length (L.log self.new.log) (L.down self.old.log)) }
-        ensures tree_device { IsErrOf result (StepFault.Tree TreeFault.Device) → Rose (T.faults self.old.tree) (T.faults self.new.tree) }
-        ensures tree_falls { IsErrOf result (StepFault.Tree TreeFault.Device) → T.down self.new.tree ≡ true }
-        ensures tree_calm { (IsErrOf result (StepFault.Tree TreeFault.Device) → ⊥) → T.faults self.new.tree ≡ T.faults self.old.tree }
-        ensures tree_up { (IsErrOf result (StepFault.Tree TreeFault.Device) → ⊥) → T.down self.new.tree ≡ T.down self.old.tree }
-        ensures log_device { IsErrOf result (StepFault.Log LogFault.Failed) → Rose (L.faults self.old.log) (L.faults self.new.log) }
-        ensures log_falls { IsErrOf result (StepFault.Log LogFault.Failed) → L.down self.new.log ≡ true }
-        ensures log_calm { (IsErrOf result (StepFault.Log LogFault.Failed) → ⊥) → L.faults self.new.log ≡ L.faults self.old.log }
-        ensures log_up { (IsErrOf result (StepFault.Log LogFault.Failed) → ⊥) → L.down self.new.log ≡ L.down self.old.log }
+    /// An event fails with `TreeFailed` or `LogFailed` where the disk below that store failed in this request or in an earlier
+    /// one, or the store's file would pass its limit, and with `NoMemory`. It then leaves the world as it was, but for a turn
+    /// whose step fails: the last reply of `Turn` tells the failure after the replies of the steps before it, and the world is
+    /// as these left it. A request that the tree or the log refuses is an answer.
+    pub fn event(&mut self, event: &Event) -> Answer
+        requires { IsAsked event.now }
+        ensures next { is_failure result ≡ false → next (seen T.tree L.log self.old) event.now ≡ (seen T.tree L.log self.new, result) }
+        ensures failed { is_failure result ≡ true → IsLeft (seen T.tree L.log self.old) event.now result (seen T.tree L.log self.new) }
+        ensures disks { EventDisks (seen T.tree L.log self.old) event.now (files_in T.length_with L.length_with self.old) result (disks_in T.disk L.disk self.old) (disks_in T.disk L.disk self.new) }
     {
-        match event {
-            Event::Quorum { ids } => Ok(declare(&mut self.parts, ids)),
-            Event::Start { controller } => {
-                match start(self.alloc, &mut self.parts, controller) {
-                    Ok(answer) => Ok(answer),
-                    Err(NoMemory) => Err(StepFault::NoMemory),
-                }
-            }
-            Event::Elect { controller, now } => {
-                elect(self.alloc, &mut self.parts, controller, now)
-            }
-            Event::Turn { controller, now } => {
-                turn_of(self.alloc, &mut self.parts, controller, now)
-            }
-            Event::Change {
-                controller,
-                records,
-                now,
-            } => change(
-                self.alloc,
-                &mut self.parts,
-                controller,
-                records.as_slice(),
-                now,
-            ),
-            Event::Register {
-                controller,
-                broker,
-                migrating,
-                now,
-            } => register(
-                self.alloc,
-                &mut self.parts,
-                controller,
-                broker,
-                migrating,
-                now,
-            ),
-            Event::Check => compare(self.alloc, &mut self.parts),
-            Event::ZkOpen { session } => open(&mut self.parts, session),
-            Event::ZkExpire { session } => expire(&mut self.parts, session),
-            Event::Zk { ops } => ask(self.alloc, &mut self.parts, ops.as_slice()),
-        }
+        answered(happen(self.alloc, &mut self.parts, event))
     }
 
     /// The last transaction of the tree, 0 before the first.

@@ -1,31 +1,35 @@
 //! Which controllers are declared, and which run.
 ghost use Rattle.std.specs.Prelude.{◌≡◌, IfOk, OnErr};
 ghost use Rattle.kz_types.specs.declared.machine.Event.TheVariants as event;
-ghost use Rattle.kz_spec_machine.specs.Machine.{next};
-ghost use Rattle.kz_world.specs.Worlds.{world_of, IsKept};
+ghost use Rattle.kz_world.specs.Disks.{disks_in};
+ghost use Rattle.kz_world.specs.Worlds.{world_of, held, IsDone, IsKept};
 
 use crate::parts::Parts;
 use crate::refusals::{quorum_refusal, start_refusal};
 use kz_driver::Driver;
 use kz_log::MetaLog;
 use kz_tree::ZTree;
-use kz_types::{Answer, NoMemory, Sequence};
+use kz_types::{Answer, Duplicate, NoMemory, Sequence};
 use std::alloc::Global;
 
-/// Declares the controllers. Refused, it changes nothing.
+/// Declares the controllers. Refused, and where memory runs out, it changes nothing.
 #[tactic(auto, unfolding(kz_spec_machine::specs::Machine::next))]
-pub fn declare<T: ZTree, L: MetaLog>(parts: &mut Parts<T, L>, ids: Sequence<i32>) -> Answer
+pub fn declare<T: ZTree, L: MetaLog>(
+    alloc: Global,
+    parts: &mut Parts<T, L>,
+    ids: &Sequence<i32>,
+) -> Result<Answer, NoMemory>
     requires { IsKept (L.log parts.old.log) parts.old.view parts.old.drivers.items }
-    ensures next { next (world_of T.tree L.log parts.old) (event.Quorum ids) ≡ (world_of T.tree L.log parts.new, result) }
+    ensures ok { IfOk result (IsDone (world_of T.tree L.log parts.old) (event.Quorum ids.now) (world_of T.tree L.log parts.new)) }
     ensures kept { IsKept (L.log parts.new.log) parts.new.view parts.new.drivers.items }
-    ensures store { parts.new.tree ≡ parts.old.tree }
-    ensures log { parts.new.log ≡ parts.old.log }
+    ensures err { OnErr result (world_of T.tree L.log parts.new ≡ world_of T.tree L.log parts.old) }
+    ensures disks { disks_in T.disk L.disk (held parts.new) ≡ disks_in T.disk L.disk (held parts.old) }
 {
     if let Some(refusal) = quorum_refusal(parts) {
-        return refusal;
+        return Ok(refusal);
     }
-    parts.declared = ids;
-    Answer::Done
+    parts.declared = ids.copy(alloc)?;
+    Ok(Answer::Done)
 }
 
 /// Starts a controller. Refused, and where memory runs out, it changes nothing.
@@ -36,16 +40,14 @@ pub fn start<T: ZTree, L: MetaLog>(
     id: i32,
 ) -> Result<Answer, NoMemory>
     requires { IsKept (L.log parts.old.log) parts.old.view parts.old.drivers.items }
-    ensures ok { IfOk result (λ answer. next (world_of T.tree L.log parts.old) (event.Start id) ≡ (world_of T.tree L.log parts.new, answer)) }
+    ensures ok { IfOk result (IsDone (world_of T.tree L.log parts.old) (event.Start id) (world_of T.tree L.log parts.new)) }
     ensures kept { IsKept (L.log parts.new.log) parts.new.view parts.new.drivers.items }
-    ensures store { parts.new.tree ≡ parts.old.tree }
-    ensures log { parts.new.log ≡ parts.old.log }
     ensures err { OnErr result (world_of T.tree L.log parts.new ≡ world_of T.tree L.log parts.old) }
+    ensures disks { disks_in T.disk L.disk (held parts.new) ≡ disks_in T.disk L.disk (held parts.old) }
 {
     match start_refusal(parts, id) {
         Some(refusal) => Ok(refusal),
         None => {
-            let _end = parts.log.end();
             parts.drivers.push(Driver::new(alloc, id))?;
             Ok(Answer::Done)
         }

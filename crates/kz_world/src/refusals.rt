@@ -1,9 +1,11 @@
-//! Why an event is refused. A refusal takes no memory, unless the metadata has to be read.
-ghost use Rattle.std.specs.Prelude.{◌≡◌, pos, ◌≤ℤ◌, IfNone, IfSome, IfOk};
+//! Why an event is refused. A refusal tells of no failure, and takes no memory, unless the metadata has to be read.
+ghost use Rattle.std.specs.Prelude.{◌≡◌, pos, false, ◌≤ℤ◌, IfNone, IfSome, IfOk};
 ghost use Rattle.kz_spec_stores.specs.Image.{all_applied, first_bad, rule_number};
 ghost use Rattle.kz_spec_znodes.specs.Rendering.{excess};
 ghost use Rattle.kz_spec_machine.specs.Machine.{quorum_refusal, start_refusal, running_refusal, epoch_refusal, driver_refusal, driver_of, leader_refusal, over_excess, bad_record};
-ghost use Rattle.kz_world.specs.Worlds.{world_of, records_refusal};
+ghost use Rattle.kz_spec_machine.specs.Failures.{is_failure};
+ghost use Rattle.kz_world.specs.Refusals.{records_refusal};
+ghost use Rattle.kz_world.specs.Worlds.{world_of};
 
 use crate::drivers::{is_one_of, is_running, least_running, place_of};
 use crate::parts::Parts;
@@ -11,15 +13,16 @@ use kz_image::{Image, valid};
 use kz_log::MetaLog;
 use kz_render::{FitFault, fits};
 use kz_tree::ZTree;
-use kz_types::{Answer, Duplicate, ImageFault, ImageRule, MetaRecord, NoMemory};
+use kz_types::{
+    Answer, Duplicate, ImageFault, ImageRule, Limit, MAX_CHANGE_RECORDS, MIGRATION, MetaRecord,
+    NoMemory,
+};
 use std::alloc::Global;
-
-// The most records of a change.
-const MAX_CHANGES: usize = 1000;
 
 /// A controller runs.
 pub fn quorum_refusal<T: ZTree, L: MetaLog>(parts: &Parts<T, L>) -> Option<Answer>
-    ensures { result ≡ quorum_refusal (world_of T.tree L.log parts.now) }
+    ensures refusal { result ≡ quorum_refusal (world_of T.tree L.log parts.now) }
+    ensures no_failure { IfSome result (λ answer. is_failure answer ≡ false) }
 {
     match least_running(&parts.drivers) {
         Some(id) => Some(Answer::Running { id }),
@@ -29,7 +32,8 @@ pub fn quorum_refusal<T: ZTree, L: MetaLog>(parts: &Parts<T, L>) -> Option<Answe
 
 /// The controller isn't declared, or runs already.
 pub fn start_refusal<T: ZTree, L: MetaLog>(parts: &Parts<T, L>, id: i32) -> Option<Answer>
-    ensures { result ≡ start_refusal (world_of T.tree L.log parts.now) id }
+    ensures refusal { result ≡ start_refusal (world_of T.tree L.log parts.now) id }
+    ensures no_failure { IfSome result (λ answer. is_failure answer ≡ false) }
 {
     if !is_one_of(parts.declared.as_slice(), id) {
         Some(Answer::UnknownController)
@@ -42,7 +46,8 @@ pub fn start_refusal<T: ZTree, L: MetaLog>(parts: &Parts<T, L>, id: i32) -> Opti
 
 /// The controller isn't declared, or doesn't run.
 pub fn running_refusal<T: ZTree, L: MetaLog>(parts: &Parts<T, L>, id: i32) -> Option<Answer>
-    ensures { result ≡ running_refusal (world_of T.tree L.log parts.now) id }
+    ensures refusal { result ≡ running_refusal (world_of T.tree L.log parts.now) id }
+    ensures no_failure { IfSome result (λ answer. is_failure answer ≡ false) }
 {
     if !is_one_of(parts.declared.as_slice(), id) {
         Some(Answer::UnknownController)
@@ -57,6 +62,7 @@ pub fn running_refusal<T: ZTree, L: MetaLog>(parts: &Parts<T, L>, id: i32) -> Op
 fn epoch_refusal(epoch: i32, driver: Option<i32>) -> Option<Answer>
     requires { IfSome driver (λ e. pos 1 ≤ℤ e) }
     ensures refusal { result ≡ epoch_refusal epoch driver }
+    ensures no_failure { IfSome result (λ answer. is_failure answer ≡ false) }
     ensures elected { IfNone result (pos 1 ≤ℤ epoch) }
 {
     match driver {
@@ -69,6 +75,7 @@ fn epoch_refusal(epoch: i32, driver: Option<i32>) -> Option<Answer>
 // The driver of a controller doesn't lead the log.
 fn driver_refusal<T: ZTree, L: MetaLog>(parts: &Parts<T, L>, id: i32) -> Option<Answer>
     ensures refusal { result ≡ driver_refusal (L.log parts.now.log).epoch (driver_of id parts.now.drivers.items) }
+    ensures no_failure { IfSome result (λ answer. is_failure answer ≡ false) }
     ensures elected { IfNone result (pos 1 ≤ℤ (L.log parts.now.log).epoch) }
 {
     match place_of(&parts.drivers, id) {
@@ -80,6 +87,7 @@ fn driver_refusal<T: ZTree, L: MetaLog>(parts: &Parts<T, L>, id: i32) -> Option<
 /// The controller isn't declared, doesn't run, or doesn't lead the log.
 pub fn leader_refusal<T: ZTree, L: MetaLog>(parts: &Parts<T, L>, id: i32) -> Option<Answer>
     ensures refusal { result ≡ leader_refusal (world_of T.tree L.log parts.now) id }
+    ensures no_failure { IfSome result (λ answer. is_failure answer ≡ false) }
     ensures elected { IfNone result (pos 1 ≤ℤ (L.log parts.now.log).epoch) }
 {
     match running_refusal(parts, id) {
@@ -107,7 +115,8 @@ fn bad_record(
     image: &Image,
     records: &[MetaRecord],
 ) -> Result<Option<Answer>, NoMemory>
-    ensures { IfOk result (λ refusal. refusal ≡ bad_record (first_bad 0 records.now image.now)) }
+    ensures refusal { IfOk result (λ refusal. refusal ≡ bad_record (first_bad 0 records.now image.now)) }
+    ensures no_failure { IfOk result (λ refusal. IfSome refusal (λ answer. is_failure answer ≡ false)) }
 {
     match valid(alloc, image, records) {
         Ok(()) => Ok(None),
@@ -126,7 +135,8 @@ fn excess_refusal(
     image: &Image,
     records: &[MetaRecord],
 ) -> Result<Option<Answer>, NoMemory>
-    ensures { IfOk result (λ refusal. refusal ≡ over_excess (excess (all_applied epoch records.now image.now))) }
+    ensures refusal { IfOk result (λ refusal. refusal ≡ over_excess (excess (all_applied epoch records.now image.now))) }
+    ensures no_failure { IfOk result (λ refusal. IfSome refusal (λ answer. is_failure answer ≡ false)) }
 {
     let mut after = image.copy(alloc)?;
     after.apply_all(epoch, records)?;
@@ -145,13 +155,16 @@ pub fn records_refusal(
     image: &Image,
     records: &[MetaRecord],
 ) -> Result<Option<Answer>, NoMemory>
-    ensures { IfOk result (λ refusal. refusal ≡ records_refusal epoch image.now records.now) }
+    ensures refusal { IfOk result (λ refusal. refusal ≡ records_refusal epoch image.now records.now) }
+    ensures no_failure { IfOk result (λ refusal. IfSome refusal (λ answer. is_failure answer ≡ false)) }
 {
-    if image.state() < 2 {
+    if image.state() < MIGRATION {
         return Ok(Some(Answer::NotMigrated));
     }
-    if records.len() > MAX_CHANGES {
-        return Ok(Some(Answer::Over { number: 8 }));
+    if records.len() > MAX_CHANGE_RECORDS {
+        return Ok(Some(Answer::Over {
+            number: Limit::ChangeRecords.number(),
+        }));
     }
     match bad_record(alloc, image, records)? {
         Some(refusal) => Ok(Some(refusal)),

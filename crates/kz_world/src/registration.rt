@@ -1,18 +1,18 @@
 //! The registration of a broker.
-ghost use Rattle.std.specs.Prelude.{◌≡◌, ◌∷◌, [], IfOk, IfErr, OnErr, IsErrOf, true};
-ghost use Rattle.kz_types.specs.Causes.{Rose};
+ghost use Rattle.std.specs.Prelude.{◌≡◌, ◌∷◌, [], IfOk, OnErr};
 ghost use Rattle.kz_types.specs.declared.machine.Event.TheVariants as event;
-ghost use Rattle.kz_spec_machine.specs.Machine.{next, registration};
-ghost use Rattle.kz_world.specs.Worlds.{world_of, IsKept, IsEventFault};
+ghost use Rattle.kz_spec_machine.specs.Machine.{registration};
+ghost use Rattle.kz_world.specs.Disks.{disks_in, files_in, ResultDisks};
+ghost use Rattle.kz_world.specs.Worlds.{world_of, held, IsDone, IsKept};
 
 use crate::appending::append;
 use crate::parts::Parts;
-use crate::reading::{Unread, read};
+use crate::reading::read;
 use crate::refusals::leader_refusal;
 use kz_driver::StepFault;
 use kz_log::MetaLog;
 use kz_tree::ZTree;
-use kz_types::{Answer, Id, LogFault, MetaRecord, RegisterBrokerRecord, Sequence, TreeFault};
+use kz_types::{Answer, Id, MetaRecord, RegisterBrokerRecord, Sequence};
 use std::alloc::Global;
 
 // The record that registers a broker.
@@ -43,24 +43,17 @@ pub fn register<T: ZTree, L: MetaLog>(
     now: i64,
 ) -> Result<Answer, StepFault>
     requires { IsKept (L.log parts.old.log) parts.old.view parts.old.drivers.items }
-    ensures ok { IfOk result (λ answer. next (world_of T.tree L.log parts.old) (event.Register id broker migrating now) ≡ (world_of T.tree L.log parts.new, answer)) }
+    ensures ok { IfOk result (IsDone (world_of T.tree L.log parts.old) (event.Register id broker migrating now) (world_of T.tree L.log parts.new)) }
     ensures kept { IsKept (L.log parts.new.log) parts.new.view parts.new.drivers.items }
-    ensures store { parts.new.tree ≡ parts.old.tree }
     ensures err { OnErr result (world_of T.tree L.log parts.new ≡ world_of T.tree L.log parts.old) }
-    ensures cause { IfErr result (IsEventFault T.tree T.length (T.tree parts.new.tree) (T.down parts.old.tree) L.log L.length (L.log parts.new.log) (L.down parts.old.log)) }
-    ensures quiet { IsErrOf result (StepFault.Tree TreeFault.Device) → ⊥ }
-    ensures device { IsErrOf result (StepFault.Log LogFault.Failed) → Rose (L.faults parts.old.log) (L.faults parts.new.log) }
-    ensures falls { IsErrOf result (StepFault.Log LogFault.Failed) → L.down parts.new.log ≡ true }
-    ensures calm { (IsErrOf result (StepFault.Log LogFault.Failed) → ⊥) → L.faults parts.new.log ≡ L.faults parts.old.log }
-    ensures up { (IsErrOf result (StepFault.Log LogFault.Failed) → ⊥) → L.down parts.new.log ≡ L.down parts.old.log }
+    ensures disks { ResultDisks (world_of T.tree L.log parts.old) (event.Register id broker migrating now) (files_in T.length_with L.length_with (held parts.old)) result (disks_in T.disk L.disk (held parts.old)) (disks_in T.disk L.disk (held parts.new)) }
 {
     if let Some(refusal) = leader_refusal(parts, id) {
         return Ok(refusal);
     }
     match read(parts) {
         Ok(()) => {}
-        Err(Unread::NoMemory) => return Err(StepFault::NoMemory),
-        Err(Unread::Down) => return Err(StepFault::Log(LogFault::Down)),
+        Err(fault) => return Err(fault),
     }
     match parts.view.begun() {
         Some(offset) => Ok(Answer::InTransaction { offset }),

@@ -1,17 +1,21 @@
 //! The steps of a turn.
-ghost use Rattle.std.specs.Prelude.{◌≡◌, ◌⊎◌, ◌++◌, ◌∷◌, [], ℕ, List, ◌<◌, ◌≤◌, true, IfOk, IfErr, OnErr, IsErrOf};
+ghost use Rattle.std.specs.Prelude.{◌≡◌, ◌++◌, ◌∷◌, [], List, ◌≤◌, true, false, length, IfOk, OnErr};
 ghost use Rattle.kz_types.specs.declared.machine.Reply.{Reply as ReplyValue};
 ghost use Rattle.kz_spec_stores.specs.Log.{View as ViewValue, IsViewOf};
 ghost use Rattle.kz_spec_machine.specs.Driver.{step};
-ghost use Rattle.kz_spec_machine.specs.Machine.{ends, turn};
+ghost use Rattle.kz_spec_machine.specs.Machine.{ends};
+ghost use Rattle.kz_spec_machine.specs.Failures.{is_failed_step};
+ghost use Rattle.kz_driver.specs.Disks.{disks_of, files_of};
 ghost use Rattle.kz_driver.specs.Drivers.{shared_of};
-ghost use Rattle.kz_types.specs.Causes.{Rose};
-ghost use Rattle.kz_world.specs.Worlds.{IsEventFault};
+ghost use Rattle.kz_world.specs.Disks.{StepRequestDisks, TurnDisks};
+ghost use Rattle.kz_world.specs.Faults.{result_of_reply};
+ghost use Rattle.kz_world.specs.Turns.{StepsEnd};
 
-use kz_driver::{Driver, Peers, StepFault};
+use crate::faults::reply_of_fault;
+use kz_driver::{Driver, Peers};
 use kz_log::MetaLog;
 use kz_tree::ZTree;
-use kz_types::{LogFault, Reply, TreeFault};
+use kz_types::{NoMemory, Reply};
 use std::alloc::Global;
 
 // Whether a turn ends with this reply.
@@ -42,49 +46,51 @@ fn ends(reply: &Reply) -> bool
     }
 }
 
-// One step, and whether the turn ends with it. At `Err` the step changed nothing, or it was made and its reply found no
-// room.
-fn add_step<T: ZTree, L: MetaLog>(
-    replies: &mut Vec<Reply>,
+// One step. Where it fails, nothing has changed but the disks, and the reply tells the fault.
+fn one_step<T: ZTree, L: MetaLog>(
     tree: &mut T,
     log: &mut L,
     driver: &mut Driver,
     peers: &Peers,
     now: i64,
-) -> Result<bool, StepFault>
+) -> Reply
     requires { IsViewOf (L.log log.old) driver.old.view }
-    ensures ok { IfOk result (λ last. (reply : ReplyValue)
-        × (step (shared_of (T.tree tree.old) (L.log log.old) peers.now.declared) peers.now.running now driver.old ≡ record { shared = shared_of (T.tree tree.new) (L.log log.new) peers.now.declared; driver = driver.new; reply = reply })
-        × (replies.new.items ≡ replies.old.items ++ reply ∷ [])
-        × (last ≡ ends reply)) }
+    ensures made { is_failed_step result ≡ false → step (shared_of (T.tree tree.old) (L.log log.old) peers.now.declared) peers.now.running now driver.old
+        ≡ record { shared = shared_of (T.tree tree.new) (L.log log.new) peers.now.declared; driver = driver.new; reply = result } }
+    ensures failed { is_failed_step result ≡ true → (driver.new ≡ driver.old) × (shared_of (T.tree tree.new) (L.log log.new) peers.now.declared ≡ shared_of (T.tree tree.old) (L.log log.old) peers.now.declared) }
     ensures view { IsViewOf (L.log log.new) driver.new.view }
     ensures views { (v : ViewValue) → IsViewOf (L.log log.old) v → IsViewOf (L.log log.new) v }
     ensures id { driver.new.id ≡ driver.old.id }
-    ensures err { OnErr result (((driver.new ≡ driver.old) × (T.tree tree.new ≡ T.tree tree.old) × (L.log log.new ≡ L.log log.old))
-        ⊎ ((reply : ReplyValue) × (step (shared_of (T.tree tree.old) (L.log log.old) peers.now.declared) peers.now.running now driver.old ≡ record { shared = shared_of (T.tree tree.new) (L.log log.new) peers.now.declared; driver = driver.new; reply = reply }))) }
-    ensures cause { IfErr result (IsEventFault T.tree T.length (T.tree tree.new) (T.down tree.old) L.log L.length (L.log log.new) (L.down log.old)) }
-    ensures tree_device { IsErrOf result (StepFault.Tree TreeFault.Device) → Rose (T.faults tree.old) (T.faults tree.new) }
-    ensures tree_falls { IsErrOf result (StepFault.Tree TreeFault.Device) → T.down tree.new ≡ true }
-    ensures tree_calm { (IsErrOf result (StepFault.Tree TreeFault.Device) → ⊥) → T.faults tree.new ≡ T.faults tree.old }
-    ensures tree_up { (IsErrOf result (StepFault.Tree TreeFault.Device) → ⊥) → T.down tree.new ≡ T.down tree.old }
-    ensures log_device { IsErrOf result (StepFault.Log LogFault.Failed) → Rose (L.faults log.old) (L.faults log.new) }
-    ensures log_falls { IsErrOf result (StepFault.Log LogFault.Failed) → L.down log.new ≡ true }
-    ensures log_calm { (IsErrOf result (StepFault.Log LogFault.Failed) → ⊥) → L.faults log.new ≡ L.faults log.old }
-    ensures log_up { (IsErrOf result (StepFault.Log LogFault.Failed) → ⊥) → L.down log.new ≡ L.down log.old }
+    ensures disks { StepRequestDisks (shared_of (T.tree tree.old) (L.log log.old) peers.now.declared) now driver.old (files_of (T.length_with tree.old) (L.length_with log.old)) (result_of_reply result)
+        (disks_of (T.disk tree.old) (L.disk log.old)) (disks_of (T.disk tree.new) (L.disk log.new)) }
 {
-    let reply = match driver.step(tree, log, peers, now) {
+    match driver.step(tree, log, peers, now) {
         Ok(reply) => reply,
-        Err(fault) => return Err(fault),
-    };
-    let last = ends(&reply);
-    let Ok(()) = replies.push(reply) else {
-        return Err(StepFault::NoMemory);
-    };
-    Ok(last)
+        Err(fault) => reply_of_fault(fault),
+    }
 }
 
-/// At most so many steps of a driver, up to and with the first whose reply ends the turn. Where memory runs out or a
-/// store fails, some of them may have been made.
+// Puts a reply in the last place but one.
+fn put(replies: &mut Vec<Reply>, reply: Reply)
+    requires { 2 ≤ length replies.old.items }
+    ensures { (made : List ReplyValue) (kept next : ReplyValue) → replies.old.items ≡ made ++ kept ∷ next ∷ [] → replies.new.items ≡ made ++ reply ∷ next ∷ [] }
+{
+    let at = replies.len() - 2;
+    replies[at] = reply;
+}
+
+// The replies without the last.
+fn without_last(replies: Vec<Reply>) -> Vec<Reply>
+    ensures { (made : List ReplyValue) (last : ReplyValue) → replies.items ≡ made ++ last ∷ [] → result.items ≡ made }
+{
+    let mut replies = replies;
+    replies.pop();
+    replies
+}
+
+/// At most so many steps of a driver, up to and with the first whose reply ends the turn. Where a step fails or is out of
+/// memory, its reply tells so after those of the steps before. At `Err` there is no memory for a reply, and nothing has
+/// changed.
 pub fn turn<T: ZTree, L: MetaLog>(
     alloc: Global,
     tree: &mut T,
@@ -93,34 +99,29 @@ pub fn turn<T: ZTree, L: MetaLog>(
     peers: &Peers,
     now: i64,
     most: u128,
-) -> Result<Vec<Reply>, StepFault>
+) -> Result<Vec<Reply>, NoMemory>
     requires { IsViewOf (L.log log.old) driver.old.view }
-    ensures ok { IfOk result (λ replies. turn most (shared_of (T.tree tree.old) (L.log log.old) peers.now.declared) peers.now.running now driver.old
-        ≡ record { shared = shared_of (T.tree tree.new) (L.log log.new) peers.now.declared; driver = driver.new; replies = replies.items }) }
+    ensures ok { IfOk result (λ replies. StepsEnd most (shared_of (T.tree tree.old) (L.log log.old) peers.now.declared) peers.now.running now driver.old replies.items (shared_of (T.tree tree.new) (L.log log.new) peers.now.declared) driver.new) }
     ensures view { IsViewOf (L.log log.new) driver.new.view }
     ensures views { (v : ViewValue) → IsViewOf (L.log log.old) v → IsViewOf (L.log log.new) v }
     ensures id { driver.new.id ≡ driver.old.id }
-    ensures err { OnErr result ((k : ℕ) × (replies : List ReplyValue) × (k ≤ most)
-        × (turn k (shared_of (T.tree tree.old) (L.log log.old) peers.now.declared) peers.now.running now driver.old ≡ record { shared = shared_of (T.tree tree.new) (L.log log.new) peers.now.declared; driver = driver.new; replies = replies })) }
-    ensures cause { IfErr result (IsEventFault T.tree T.length (T.tree tree.new) (T.down tree.old) L.log L.length (L.log log.new) (L.down log.old)) }
-    ensures tree_device { IsErrOf result (StepFault.Tree TreeFault.Device) → Rose (T.faults tree.old) (T.faults tree.new) }
-    ensures tree_falls { IsErrOf result (StepFault.Tree TreeFault.Device) → T.down tree.new ≡ true }
-    ensures tree_calm { (IsErrOf result (StepFault.Tree TreeFault.Device) → ⊥) → T.faults tree.new ≡ T.faults tree.old }
-    ensures tree_up { (IsErrOf result (StepFault.Tree TreeFault.Device) → ⊥) → T.down tree.new ≡ T.down tree.old }
-    ensures log_device { IsErrOf result (StepFault.Log LogFault.Failed) → Rose (L.faults log.old) (L.faults log.new) }
-    ensures log_falls { IsErrOf result (StepFault.Log LogFault.Failed) → L.down log.new ≡ true }
-    ensures log_calm { (IsErrOf result (StepFault.Log LogFault.Failed) → ⊥) → L.faults log.new ≡ L.faults log.old }
-    ensures log_up { (IsErrOf result (StepFault.Log LogFault.Failed) → ⊥) → L.down log.new ≡ L.down log.old }
+    ensures disks { IfOk result (λ replies. TurnDisks (shared_of (T.tree tree.old) (L.log log.old) peers.now.declared) peers.now.running now driver.old replies.items
+        (disks_of (T.disk tree.old) (L.disk log.old)) (disks_of (T.disk tree.new) (L.disk log.new))) }
+    ensures err { OnErr result ((driver.new ≡ driver.old) × (tree.new ≡ tree.old) × (log.new ≡ log.old)) }
 {
     let mut replies = Vec::new(alloc);
+    // the last place is kept for a step that is out of memory
+    replies.push(Reply::NoMemory)?;
     for _done in 0..most {
-        let last = match add_step(&mut replies, tree, log, driver, peers, now) {
-            Ok(last) => last,
-            Err(fault) => return Err(fault),
-        };
-        if last {
+        let Ok(()) = replies.push(Reply::NoMemory) else {
             return Ok(replies);
+        };
+        let reply = one_step(tree, log, driver, peers, now);
+        let last = ends(&reply);
+        put(&mut replies, reply);
+        if last {
+            return Ok(without_last(replies));
         }
     }
-    Ok(replies)
+    Ok(without_last(replies))
 }

@@ -44,11 +44,19 @@ fn one<T: Drop>(rt: &impl Abort, alloc: Global, item: T) -> Sequence<T>
     }
 }
 
+// Declares the controller 1.
+fn declare(rt: &impl Abort, alloc: Global, world: &mut World<MemoryTree, MemoryLog>) {
+    let quorum = Event::Quorum {
+        ids: one(rt, alloc, 1),
+    };
+    drop(world.event(&quorum));
+    drop(quorum);
+}
+
 // A world over this log in which the controller 1 is declared.
 fn declared_over(rt: &impl Abort, alloc: Global, log: MemoryLog) -> World<MemoryTree, MemoryLog> {
     let mut world = World::new(alloc, MemoryTree::new(alloc), log);
-    let ids = one(rt, alloc, 1);
-    drop(made(rt, world.event(Event::Quorum { ids })));
+    declare(rt, alloc, &mut world);
     world
 }
 
@@ -62,16 +70,16 @@ const START: Event = Event::Start { controller: 1 };
 // A world in which it runs.
 fn started(rt: &impl Abort, alloc: Global) -> World<MemoryTree, MemoryLog> {
     let mut world = declared(rt, alloc);
-    drop(made(rt, world.event(START)));
+    drop(world.event(&START));
     world
 }
 
 #[test]
 fn a_controller_starts_once(rt: HostRuntime) {
     let mut world = declared(&rt, rt.alloc());
-    let first = made(&rt, world.event(START));
+    let first = world.event(&START);
     assert!(rt; matches!(first, Answer::Done));
-    let second = made(&rt, world.event(START));
+    let second = world.event(&START);
     assert!(rt; matches!(second, Answer::AlreadyRunning));
     drop([first, second]);
     drop(world);
@@ -85,7 +93,7 @@ const ELECT: Event = Event::Elect {
 #[test]
 fn an_election_has_an_epoch(rt: HostRuntime) {
     let mut world = started(&rt, rt.alloc());
-    let told = made(&rt, world.event(ELECT));
+    let told = world.event(&ELECT);
     assert!(rt;
         matches!(
             told,
@@ -104,15 +112,7 @@ fn an_election_has_an_epoch(rt: HostRuntime) {
 fn a_change_needs_a_leader(rt: HostRuntime) {
     let alloc = rt.alloc();
     let mut world = started(&rt, alloc);
-    let records = one(&rt, alloc, config(&rt, alloc));
-    let told = made(
-        &rt,
-        world.event(Event::Change {
-            controller: 1,
-            records,
-            now: 7,
-        }),
-    );
+    let told = answer_to_change(&mut world, one(&rt, alloc, config(&rt, alloc)));
     assert!(rt; matches!(told, Answer::NotLeader));
     drop(told);
     drop(world);
@@ -223,15 +223,15 @@ fn a_root_that_is_missing_disagrees(rt: HostRuntime) {
 // A world over a migrated log, which ends at offset 2, whose controller leads it.
 fn leading(rt: &impl Abort, alloc: Global) -> World<MemoryTree, MemoryLog> {
     let mut world = declared_over(rt, alloc, migrated(rt, alloc));
-    drop(made(rt, world.event(START)));
-    drop(made(rt, world.event(ELECT)));
+    drop(world.event(&START));
+    drop(world.event(&ELECT));
     world
 }
 
 #[test]
 fn a_log_that_is_not_migrated_is_not_compared(rt: HostRuntime) {
     let mut world = started(&rt, rt.alloc());
-    let told = made(&rt, world.event(Event::Check));
+    let told = world.event(&Event::Check);
     assert!(rt; matches!(told, Answer::Check(Verdict::Unmigrated)));
     drop(told);
     drop(world);
@@ -248,20 +248,19 @@ const REGISTER: Event = Event::Register {
 fn a_broker_is_registered_by_the_leader(rt: HostRuntime) {
     let alloc = rt.alloc();
     let mut world = World::new(alloc, MemoryTree::new(alloc), MemoryLog::new(alloc));
-    let unknown = made(&rt, world.event(REGISTER));
+    let unknown = world.event(&REGISTER);
     assert!(rt; matches!(unknown, Answer::UnknownController));
-    let ids = one(&rt, alloc, 1);
-    drop(made(&rt, world.event(Event::Quorum { ids })));
-    let at_rest = made(&rt, world.event(REGISTER));
+    declare(&rt, alloc, &mut world);
+    let at_rest = world.event(&REGISTER);
     assert!(rt; matches!(at_rest, Answer::NotRunning));
-    drop(made(&rt, world.event(START)));
-    let follower = made(&rt, world.event(REGISTER));
+    drop(world.event(&START));
+    let follower = world.event(&REGISTER);
     assert!(rt; matches!(follower, Answer::NotLeader));
     assert!(rt; world.end() == -1);
-    drop(made(&rt, world.event(ELECT)));
-    let told = made(&rt, world.event(REGISTER));
+    drop(world.event(&ELECT));
+    let told = world.event(&REGISTER);
     assert!(rt; matches!(told, Answer::Appended { offset: 2 }));
-    let again = made(&rt, world.event(REGISTER));
+    let again = world.event(&REGISTER);
     assert!(rt; matches!(again, Answer::Appended { offset: 3 }));
     drop([unknown, at_rest, follower, told, again]);
     drop(world);
@@ -269,7 +268,6 @@ fn a_broker_is_registered_by_the_leader(rt: HostRuntime) {
 
 // The answer of the controller to these records.
 fn answer_to_change(
-    rt: &impl Abort,
     world: &mut World<MemoryTree, MemoryLog>,
     records: Sequence<MetaRecord>,
 ) -> Answer
@@ -280,7 +278,9 @@ fn answer_to_change(
         records,
         now: 9,
     };
-    made(rt, world.event(change))
+    let told = world.event(&change);
+    drop(change);
+    told
 }
 
 // The configuration's record, and a second one.
@@ -299,7 +299,7 @@ fn a_change_of_two_records_is_one_batch(rt: HostRuntime) {
     let alloc = rt.alloc();
     let mut world = leading(&rt, alloc);
     let records = config_and(&rt, alloc, config(&rt, alloc));
-    let told = answer_to_change(&rt, &mut world, records);
+    let told = answer_to_change(&mut world, records);
     assert!(rt; matches!(told, Answer::Appended { offset: 4 }));
     assert!(rt; world.end() == 4);
     drop(told);
@@ -310,8 +310,8 @@ fn a_change_of_two_records_is_one_batch(rt: HostRuntime) {
 fn a_change_wants_a_migrated_log(rt: HostRuntime) {
     let alloc = rt.alloc();
     let mut world = started(&rt, alloc);
-    drop(made(&rt, world.event(ELECT)));
-    let told = answer_to_change(&rt, &mut world, one(&rt, alloc, config(&rt, alloc)));
+    drop(world.event(&ELECT));
+    let told = answer_to_change(&mut world, one(&rt, alloc, config(&rt, alloc)));
     assert!(rt; matches!(told, Answer::NotMigrated));
     drop(told);
     drop(world);
@@ -322,7 +322,7 @@ fn a_bad_record_is_told_with_its_index(rt: HostRuntime) {
     let alloc = rt.alloc();
     let mut world = leading(&rt, alloc);
     let records = config_and(&rt, alloc, MetaRecord::ZkMigrationState { state: 3 });
-    let told = answer_to_change(&rt, &mut world, records);
+    let told = answer_to_change(&mut world, records);
     assert!(rt; matches!(told, Answer::BadRecord { index: 1, why: 1 }));
     assert!(rt; world.end() == 2);
     drop(told);
@@ -347,10 +347,10 @@ fn configs(rt: &impl Abort, alloc: Global, more: u32) -> Sequence<MetaRecord>
 fn a_change_has_at_most_a_thousand_records(rt: HostRuntime) {
     let alloc = rt.alloc();
     let mut world = leading(&rt, alloc);
-    let over = answer_to_change(&rt, &mut world, configs(&rt, alloc, 1000));
+    let over = answer_to_change(&mut world, configs(&rt, alloc, 1000));
     assert!(rt; matches!(over, Answer::Over { number: 8 }));
     assert!(rt; world.end() == 2);
-    let most = answer_to_change(&rt, &mut world, configs(&rt, alloc, 999));
+    let most = answer_to_change(&mut world, configs(&rt, alloc, 999));
     assert!(rt; matches!(most, Answer::Appended { offset: 1002 }));
     drop([over, most]);
     drop(world);
@@ -360,13 +360,13 @@ fn a_change_has_at_most_a_thousand_records(rt: HostRuntime) {
 fn a_session_begins_once_and_ends_once(rt: HostRuntime) {
     let alloc = rt.alloc();
     let mut world = World::new(alloc, MemoryTree::new(alloc), MemoryLog::new(alloc));
-    let begun = made(&rt, world.event(Event::ZkOpen { session: 5 }));
+    let begun = world.event(&Event::ZkOpen { session: 5 });
     assert!(rt; matches!(begun, Answer::DoneAt { zxid: 1 }));
-    let known = made(&rt, world.event(Event::ZkOpen { session: 5 }));
+    let known = world.event(&Event::ZkOpen { session: 5 });
     assert!(rt; matches!(known, Answer::Known));
-    let ended = made(&rt, world.event(Event::ZkExpire { session: 5 }));
+    let ended = world.event(&Event::ZkExpire { session: 5 });
     assert!(rt; matches!(ended, Answer::DoneAt { zxid: 2 }));
-    let unknown = made(&rt, world.event(Event::ZkExpire { session: 5 }));
+    let unknown = world.event(&Event::ZkExpire { session: 5 });
     assert!(rt; matches!(unknown, Answer::Unknown));
     drop([begun, known, ended, unknown]);
     drop(world);
@@ -381,7 +381,10 @@ fn answer_to(
 ) -> Answer {
     let mut ops = Sequence::new(alloc);
     put_create(rt, alloc, &mut ops, path, Sequence::new(alloc));
-    made(rt, world.event(Event::Zk { ops }))
+    let client = Event::Zk { ops };
+    let told = world.event(&client);
+    drop(client);
+    told
 }
 
 // A world whose `/controller` is of this body.

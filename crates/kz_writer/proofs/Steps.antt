@@ -40,7 +40,7 @@ next_put have want i x first before now h e old new =
     ap (λ ops. ops ++ puts have (drop (i + 1) want)) new ∙ append_assoc before (put_of have x) (puts have (drop (i + 1) want))
     ∙ ap (λ ops. before ++ ops) (sym (puts-cons have x (drop (i + 1) want)) ∙ ap (λ rs. puts have rs) (sym (cut want i x h e))) ∙ old
 
--- both parts, one behind the other
+-- both parts, one after the other
 pub both_parts : (have want : List Rendered) (none first all : List Op) → none ≡ [] → first ≡ none ++ deletes have want → all ≡ first ++ puts have want → all ≡ diff have want
 unfolding diff
 both_parts have want none first all start deleted put =

@@ -8,11 +8,8 @@ ghost use Rattle.kz_writer.specs.Parts.{deletes, puts, delete_of, put_of};
 
 use crate::znode::Znode;
 use kz_sorted::find;
-use kz_types::{Duplicate, NoMemory, Op, Rendered, Row};
+use kz_types::{Duplicate, MAX_CHUNK, NoMemory, Op, Rendered, Row};
 use std::alloc::Global;
-
-/// The most operations of one write.
-pub const MAX_CHUNK: usize = 64;
 
 /// The first operations, as many as one write has.
 pub fn chunk(ops: &[Op]) -> &[Op]

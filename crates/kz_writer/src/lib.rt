@@ -4,4 +4,4 @@
 mod diff;
 mod znode;
 
-pub use diff::{MAX_CHUNK, chunk, diff_ops, diff_renderings};
+pub use diff::{chunk, diff_ops, diff_renderings};

@@ -2,7 +2,7 @@ use Rattle.std.proofs.Common.{◌≡◌, Some, true, ap, sym, ◌∙◌}
 use Rattle.std.proofs.lemmas.Bool.{false≢true}
 use Rattle.kz_types.specs.PathRule.{is_path}
 use Rattle.kz_spec_stores.specs.ImageRules.{quota_key, has_quota}
-use Rattle.kz_image.specs.QuotaKeys.{entity_of}
+use Rattle.kz_image_rules.specs.QuotaKeys.{entity_of}
 use Rattle.kz_laws_images.proofs.QuotaLists.{quota_path}
 use Rattle.kz_image.proofs.quotas.change_quota.Goals as goal
 

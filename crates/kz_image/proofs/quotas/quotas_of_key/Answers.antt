@@ -1,7 +1,7 @@
 use Rattle.std.proofs.Common.{ap, sym}
 use Rattle.std.specs.Prelude.{option_map}
 use Rattle.kz_types.specs.Paths.{path_of}
-use Rattle.kz_image.specs.QuotaKeys.{entity_of}
+use Rattle.kz_image_rules.specs.QuotaKeys.{entity_of}
 use Rattle.kz_laws_images.proofs.QuotaLists.{rows_of}
 use Rattle.kz_image.proofs.QuotaLists.{long_path_not_found}
 use Rattle.kz_image.proofs.quotas.quotas_of_key.Goals as goal

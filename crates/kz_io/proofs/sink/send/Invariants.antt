@@ -1,4 +1,4 @@
-use Rattle.std.proofs.Common.{◌≡◌, List, ℕ, ◌++◌, length}
+use Rattle.std.proofs.Common.{◌≡◌, List, ℕ, ◌++◌, length, true}
 use Rattle.std.specs.Io.KnownBytes.{Appends}
 use Rattle.kz_io.specs.Told.{StaysTold}
 use Rattle.kz_io.proofs.sink.send.Given as goal
@@ -9,6 +9,7 @@ invariant-loop-rest g l =
     × Appends (g.K.Sink.taken l.fn.sink) (g.K.Sink.taken l.sink) front
     × (g.K.Sink.faults l.sink ≡ g.K.Sink.faults l.fn.sink)
     × StaysTold (g.K.Sink.taken l.fn.sink) (g.K.Sink.taken l.sink)
+    × (g.K.Sink.last_failed l.sink ≡ true → g.K.Sink.last_failed l.fn.sink ≡ true)
 
 abbrev pub decreases-loop-rest : goal.decreases-loop-rest
 decreases-loop-rest g l = length l.rest

@@ -11,11 +11,11 @@ loop-batch-preserved c =
     let last = last_at c.args.base c.args.batches.now c.loop-batch.batch-index b c.requires.follow c.loop-batch-test.true c.batch-item.is in
     let count = c.loop-batch.invariant.count in
     let base = to_z-of_z w64 c.args.base c.ranges.base in
-    let same : c.offset_behind.result ≡ last_of b = omega (arith, ints, last, count, base, c.len-count.ensures, c.offset_behind.ensures) in
-    let fits : SFits w64 c.offset_behind.result = search rules in
+    let same : c.offset_after.result ≡ last_of b = omega (arith, ints, last, count, base, c.len-count.ensures, c.offset_after.ensures) in
+    let fits : SFits w64 c.offset_after.result = search rules in
     let more = count_more c.args.batches.now c.loop-batch.batch-index b c.loop-batch-test.true c.batch-item.is in record {
       ends =
-          c.in_ok-push-2.ensures.items ∙ ap (λ x. c.loop-batch.ends.items ++ x ∷ []) (to_z-of_z w64 c.offset_behind.result fits ∙ same)
+          c.in_ok-push-2.ensures.items ∙ ap (λ x. c.loop-batch.ends.items ++ x ∷ []) (to_z-of_z w64 c.offset_after.result fits ∙ same)
           ∙ ap (λ es. es ++ last_of b ∷ []) c.loop-batch.invariant.ends
           ∙ ap (λ es. to_z w64 (of_z w64 c.args.base) ∷ es) (sym (ends_more c.args.batches.now c.loop-batch.batch-index b c.loop-batch-test.true c.batch-item.is));
       count = omega (arith, more, count, c.len-count.ensures);

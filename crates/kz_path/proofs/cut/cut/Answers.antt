@@ -1,6 +1,6 @@
 use Rattle.std.proofs.Common.{◌∙◌, ◌==◌, length, drop, ap, sym, subst, arith}
 use Rattle.std.proofs.lemmas.List.Splits.{length-slice_split}
-use Rattle.kz_types.proofs.PathRules.{parts_behind}
+use Rattle.kz_types.proofs.PathRules.{parts_after}
 use Rattle.kz_path.specs.Cut.{IsCut}
 use Rattle.kz_path.proofs.Lengths.{cut_within, path_length}
 use Rattle.kz_path.proofs.cut.cut.Goals as goal
@@ -14,5 +14,5 @@ returns-clause-within c = cut_within c.args.path.now c.cut_rest.result (path_len
 
 pub unreachable-requires : goal.unreachable-requires
 unreachable-requires c = let e = rw c.in-None.is at c.first_part.ensures in
-    let k = parts_behind c.args.path.now c.requires in
+    let k = parts_after c.args.path.now c.requires in
     omega (arith, ap length (sym k.1 ∙ ap (drop 1) e), length-slice_split (λ b. b == 47) (drop 1 c.args.path.now))

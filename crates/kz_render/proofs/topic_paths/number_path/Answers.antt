@@ -4,8 +4,8 @@ use Rattle.kz_types.specs.PathRule.{is_path}
 use Rattle.kz_render.proofs.TopicPaths.{number_rule}
 use Rattle.kz_render.proofs.topic_paths.number_path.Goals as goal
 
-pub path_behind-requires : goal.path_behind-requires
-path_behind-requires c =
+pub path_after-requires : goal.path_after-requires
+path_after-requires c =
     let part : c.deref.result.now ≡ codes "/" ++ signed_decimal c.args.number = search rules in
     subst (λ r. is_path (c.args.partitions.now ++ r) ≡ true) (sym part)
     (subst (λ t. is_path (t ++ (codes "/" ++ signed_decimal c.args.number)) ≡ true) (sym c.requires.partitions) (number_rule c.args.name.now c.args.number c.requires.rule))

@@ -1,6 +1,6 @@
-use Rattle.std.proofs.Common.{◌≡◌, ℕ, ◌≤◌, List, length}
+use Rattle.std.proofs.Common.{◌≡◌, ℕ, ◌≤◌, true, List, length}
 use Rattle.std.specs.Io.KnownBytes.{Appends, Consumes}
-use Rattle.kz_spec_lines.specs.Lines.{max_input}
+use Rattle.kz_types.specs.declared.limits.TheConstants.{MAX_INPUT_BYTES}
 use Rattle.kz_replay.specs.Pending.{GoesOn}
 use Rattle.kz_replay.proofs.program.pump.Given as goal
 
@@ -8,7 +8,9 @@ abbrev pub invariant-loop-turn : goal.invariant-loop-turn
 invariant-loop-turn g l =
     ((read sent : List ℕ) × Consumes (g.S.Source.left l.fn.input) (g.S.Source.left l.input) read
     × Appends (g.K.Sink.taken l.fn.out) (g.K.Sink.taken l.out) sent × GoesOn l.fn.stream l.stream read sent)
-    × (l.turn ≤ l.stream.taken) × (l.stream.taken ≤ max_input)
+    × (l.turn ≤ l.stream.taken) × (l.stream.taken ≤ MAX_INPUT_BYTES)
     × (g.S.Source.faults l.input ≡ g.S.Source.faults l.fn.input)
+    × (g.S.Source.last_failed l.input ≡ true → g.S.Source.last_failed l.fn.input ≡ true)
     × (g.K.Sink.faults l.out ≡ g.K.Sink.faults l.fn.out)
+    × (g.K.Sink.last_failed l.out ≡ true → g.K.Sink.last_failed l.fn.out ≡ true)
     × (length l.piece ≡ 4096)

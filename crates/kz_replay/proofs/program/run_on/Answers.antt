@@ -1,11 +1,29 @@
-use Rattle.kz_spec_runs.specs.InStep.{StaysInStep, script_events}
-use Rattle.kz_laws_machine.proofs.Lawful.{script_lawful}
-use Rattle.kz_laws_machine.proofs.Steady.{stays_in_step}
+use Rattle.std.proofs.Common.{[], refl}
+use Rattle.std.proofs.KnownBytes.{Consumes-nil, Appends-nil}
+use Rattle.kz_types.specs.declared.outside.Status.TheVariants as status
+use Rattle.kz_spec_runs.specs.Output.{opening, replayed}
+use Rattle.kz_replay.specs.Runs.{side}
+use Rattle.kz_replay.proofs.Cut.{state}
+use Rattle.kz_replay.proofs.Failures.{no_failure}
 use Rattle.kz_replay.proofs.Runs.{always}
+use Rattle.kz_replay.proofs.TopCall.{Told, replays}
 use Rattle.kz_replay.proofs.program.run_on.Goals as goal
 
-pub returns-in-Err-clause-in_step : goal.returns-in-Err-clause-in_step
-returns-in-Err-clause-in_step g c = λ replay. always (g.S.Source.left c.args.input.now) (λ script. StaysInStep (script_events script)) (λ script. stays_in_step (script_events script) (script_lawful script))
+pub returns-in-Err : goal.returns-in-Err
+returns-in-Err g c =
+    let input = side g.S.Source.left g.S.Source.faults g.S.Source.last_failed c.args.input.now in
+    let out = side g.K.Sink.taken g.K.Sink.faults g.K.Sink.last_failed c.args.out.now in
+    let start = state opening [] 0 in
+    replays c.args.words.now start input input out out status.NoMemory (c.is_replay.ensures.0 c.if-not-is_replay.false) refl (λ e. cc)
+    (always input.bytes (Told start input input out out status.NoMemory) (λ script. ([], [], Consumes-nil input.bytes, Appends-nil out.bytes, ((replayed script).text, refl))))
+    (λ e. absurd (cc))
+    (no_failure status.ReadFault status.NoMemory input.faults input.faults input.last_failed input.last_failed (λ e. cc) refl (λ failed. failed))
+    (no_failure status.WriteFault status.NoMemory out.faults out.faults out.last_failed out.last_failed (λ e. cc) refl (λ failed. failed))
 
-pub returns-clause-in_step : goal.returns-clause-in_step
-returns-clause-in_step g c = λ replay. always (g.S.Source.left c.args.input.now) (λ script. StaysInStep (script_events script)) (λ script. stays_in_step (script_events script) (script_lawful script))
+pub returns : goal.returns
+returns g c =
+    let before = side g.S.Source.left g.S.Source.faults g.S.Source.last_failed in
+    let out = side g.K.Sink.taken g.K.Sink.faults g.K.Sink.last_failed in
+    let made = c.pump.ensures in
+    replays c.args.words.now c.new-2.result (before c.args.input.now) (before c.pump.new.input) (out c.args.out.now) (out c.pump.new.out) c.pump.result
+    (c.is_replay.ensures.0 c.if-not-is_replay.false) (c.new-2.ensures c.in-Ok.ensures) made.ran made.output made.whole made.source made.sink

@@ -1,22 +1,10 @@
-use Rattle.std.proofs.Common.{rules, Some, [], ◌∷◌, ◌∙◌, sym, ap, w32, w64, to_z, of_z}
+use Rattle.std.proofs.Common.{[], ◌∷◌, ◌∙◌, sym, ap, w32, w64, to_z, of_z}
 use Rattle.std.proofs.lemmas.Int.{to_z-of_z}
-use mir.Val.{SFits}
-use Rattle.kz_types.specs.declared.machine.Answer.TheVariants as answer
 use Rattle.kz_types.specs.declared.machine.Event.TheVariants as event
 use Rattle.kz_spec_machine.specs.Machine.{World, leader_refusal, registration, next}
 use Rattle.kz_world.specs.Worlds.{world_of, appended}
-use Rattle.kz_world.proofs.Outcomes.{told_by, register_refused, register_appends}
+use Rattle.kz_world.proofs.Outcomes.{told_by, register_appends}
 use Rattle.kz_world.proofs.registration.register.Goals as goal
-
-pub returns-in-Some-begun-clause-ok : goal.returns-in-Some-begun-clause-ok
-returns-in-Some-begun-clause-ok g c =
-    let w = world_of g.T.ZTree.tree g.L.MetaLog.log c.args.parts.now in
-    let id = c.args.id in
-    let offset = to_z w64 (of_z w64 c.in-Some-begun.offset) in
-    let fits : SFits w64 c.in-Some-begun.offset = search rules in
-    let leads = ap (leader_refusal w) (sym (to_z-of_z w32 id c.ranges.id)) ∙ sym c.leader_refusal.ensures.refusal ∙ c.in_default.is in
-    let begun = sym c.in-Ok.ensures.begun ∙ sym c.begun.ensures ∙ c.in-Some-begun.is ∙ ap Some (sym (to_z-of_z w64 c.in-Some-begun.offset fits)) in
-    register_refused w id c.args.broker c.args.migrating c.args.now offset leads begun ∙ ap (λ (x : World). (x, answer.InTransaction offset)) (sym c.read.ensures.world)
 
 pub returns-in-None-clause-ok : goal.returns-in-None-clause-ok
 returns-in-None-clause-ok g c =

@@ -1,22 +1,91 @@
-use Rattle.std.proofs.Common.{◌∙◌, sym, ap, arith, ◌≡◌, w64, to_z, of_z}
+use Rattle.std.proofs.Common.{◌≡◌, ◌<◌, List, [], ◌∷◌, ◌++◌, length, refl, sym, ap, subst, ◌∙◌, arith, append_assoc, append-nil, length-append, w64, to_z, of_z}
 use Rattle.std.proofs.lemmas.Int.{to_z-of_z}
-use Rattle.kz_spec_machine.specs.Machine.{turn}
+use Rattle.kz_types.specs.declared.machine.Reply.{Reply}
+use Rattle.kz_types.specs.declared.machine.Reply.TheVariants as reply
+use Rattle.kz_driver.specs.Disks.{disks_of, files_of}
 use Rattle.kz_driver.specs.Drivers.{shared_of}
-use Rattle.kz_world.proofs.StepWise.{whole_ends, whole_goes_on, so_far, stopped}
+use Rattle.kz_world.specs.Disks.{TurnDisks}
+use Rattle.kz_world.specs.Turns.{StepsEnd}
+use Rattle.kz_world.proofs.Told.{goes_on_told}
+use Rattle.kz_world.proofs.StepWise.{moment, IsStep, steps_more, turn_ends, turn_is_whole, memory_ends, memory_disks, all_disks, last_disks}
 use Rattle.kz_world.proofs.steps.turn.Goals as goal
 
-pub returns-in-Err-clause-err : goal.returns-in-Err-clause-err
-returns-in-Err-clause-err g c =
+-- a place more
+two_kept : (items made : List Reply) (more : List Reply) → items ≡ made ++ reply.NoMemory ∷ [] → more ≡ items ++ reply.NoMemory ∷ [] → more ≡ made ++ reply.NoMemory ∷ reply.NoMemory ∷ []
+two_kept items made more kept pushed = pushed ∙ ap (λ xs. xs ++ reply.NoMemory ∷ []) kept ∙ append_assoc made (reply.NoMemory ∷ []) (reply.NoMemory ∷ [])
+
+pub loop-done-init : goal.loop-done-init
+loop-done-init g c = record { made = []; kept = c.in_ok-push.ensures.items ∙ ap (λ (xs : List Reply). xs ++ reply.NoMemory ∷ []) c.new-replies.ensures.items; count = refl; steps = refl; id = refl; view = c.requires; views = λ v h. h }
+
+pub put-requires : goal.put-requires
+put-requires g c =
+    let before = c.loop-done.invariant in
+    let two = ap length (two_kept c.loop-done.replies.items before.made c.push-in-loop-done.new.self.items before.kept c.in-Ok.ensures.items) in
+    omega (arith, two, length-append before.made (reply.NoMemory ∷ reply.NoMemory ∷ []))
+
+pub loop-done-preserved : goal.loop-done-preserved
+loop-done-preserved g c =
+    let n = to_z w64 (of_z w64 c.args.now) in
+    let tree = g.T.ZTree.tree in
+    let log = g.L.MetaLog.log in
+    let tree_disk = g.T.ZTree.disk in
+    let log_disk = g.L.MetaLog.disk in
+    let running = c.args.peers.now.running in
+    let declared = c.args.peers.now.declared in
+    let first = moment (shared_of (tree c.args.tree.now) (log c.args.log.now) declared) c.args.driver.now (disks_of (tree_disk c.args.tree.now) (log_disk c.args.log.now)) in
+    let here = moment (shared_of (tree c.loop-done.tree) (log c.loop-done.log) declared) c.loop-done.driver (disks_of (tree_disk c.loop-done.tree) (log_disk c.loop-done.log)) in
+    let next = moment (shared_of (tree c.one_step-reply.new.tree) (log c.one_step-reply.new.log) declared) c.one_step-reply.new.driver (disks_of (tree_disk c.one_step-reply.new.tree) (log_disk c.one_step-reply.new.log)) in
+    let before = c.loop-done.invariant in
+    let told = c.one_step-reply.result in
+    let kept = two_kept c.loop-done.replies.items before.made c.push-in-loop-done.new.self.items before.kept c.in-Ok.ensures.items in
+    let on = sym c.ends-last.ensures ∙ c.if-last.false in
+    let is : IsStep running n here told next = record {
+      made = c.one_step-reply.ensures.made (goes_on_told told on);
+      on = on;
+      disks = (files_of (g.T.ZTree.length_with c.loop-done.tree) (g.L.MetaLog.length_with c.loop-done.log), c.one_step-reply.ensures.disks);
+    } in
+    let len = length-append before.made (told ∷ []) in
+    record {
+      made = before.made ++ told ∷ [];
+      kept = c.put.ensures before.made reply.NoMemory reply.NoMemory kept ∙ sym (append_assoc before.made (told ∷ []) (reply.NoMemory ∷ []));
+      count = omega (arith, len, before.count);
+      steps = steps_more running n first before.made here told next before.steps is;
+      id = c.one_step-reply.ensures.id ∙ before.id;
+      view = c.one_step-reply.ensures.view;
+      views = λ v h. c.one_step-reply.ensures.views v (before.views v h);
+    }
+
+-- there is no memory for a reply
+pub returns-in_default-clause-ok : goal.returns-in_default-clause-ok
+returns-in_default-clause-ok g c =
     let n = to_z w64 (of_z w64 c.args.now) in
     let tree = g.T.ZTree.tree in
     let log = g.L.MetaLog.log in
     let running = c.args.peers.now.running in
     let declared = c.args.peers.now.declared in
-    let s = shared_of (tree c.args.tree.now) (log c.args.log.now) declared in
-    let left = stopped c.args.most c.loop-done._done (λ k. turn k s running n c.args.driver.now) c.loop-done.replies.items declared running n c.loop-done.driver c.add_step.new.driver (tree c.loop-done.tree) (tree c.add_step.new.tree) (log c.loop-done.log) (log c.add_step.new.log)
-    c.loop-done-test.true c.loop-done.invariant.goes_on c.in-Err.ensures.err in
-    (left.0, left.1, left.2, ap (λ x. turn left.0 s running x c.args.driver.now) (sym (to_z-of_z w64 c.args.now c.ranges.now)) ∙ left.3)
+    let first = moment (shared_of (tree c.args.tree.now) (log c.args.log.now) declared) c.args.driver.now (disks_of (g.T.ZTree.disk c.args.tree.now) (g.L.MetaLog.disk c.args.log.now)) in
+    let here = moment (shared_of (tree c.loop-done.tree) (log c.loop-done.log) declared) c.loop-done.driver (disks_of (g.T.ZTree.disk c.loop-done.tree) (g.L.MetaLog.disk c.loop-done.log)) in
+    let before = c.loop-done.invariant in
+    let few : length before.made < c.args.most = omega (arith, before.count, c.loop-done-test.true) in
+    subst (λ x. StepsEnd c.args.most first.shared running x first.driver c.push-in-loop-done.new.self.items here.shared here.driver) (to_z-of_z w64 c.args.now c.ranges.now)
+    (subst (λ (rs : List Reply). StepsEnd c.args.most first.shared running n first.driver rs here.shared here.driver) (sym (c.in_default.ensures.items ∙ before.kept))
+    (memory_ends running n c.args.most first before.made here few before.steps))
 
+pub returns-in_default-clause-disks : goal.returns-in_default-clause-disks
+returns-in_default-clause-disks g c =
+    let n = to_z w64 (of_z w64 c.args.now) in
+    let tree = g.T.ZTree.tree in
+    let log = g.L.MetaLog.log in
+    let running = c.args.peers.now.running in
+    let declared = c.args.peers.now.declared in
+    let first = moment (shared_of (tree c.args.tree.now) (log c.args.log.now) declared) c.args.driver.now (disks_of (g.T.ZTree.disk c.args.tree.now) (g.L.MetaLog.disk c.args.log.now)) in
+    let here = moment (shared_of (tree c.loop-done.tree) (log c.loop-done.log) declared) c.loop-done.driver (disks_of (g.T.ZTree.disk c.loop-done.tree) (g.L.MetaLog.disk c.loop-done.log)) in
+    let before = c.loop-done.invariant in
+    subst (λ x. TurnDisks first.shared running x first.driver c.push-in-loop-done.new.self.items first.disks here.disks) (to_z-of_z w64 c.args.now c.ranges.now)
+    (subst (λ (rs : List Reply). TurnDisks first.shared running n first.driver rs first.disks here.disks) (sym (c.in_default.ensures.items ∙ before.kept))
+    (memory_disks running n first before.made here before.steps))
+
+-- the turn ends with this step
 pub returns-then-last-clause-ok : goal.returns-then-last-clause-ok
 returns-then-last-clause-ok g c =
     let n = to_z w64 (of_z w64 c.args.now) in
@@ -24,33 +93,37 @@ returns-then-last-clause-ok g c =
     let log = g.L.MetaLog.log in
     let running = c.args.peers.now.running in
     let declared = c.args.peers.now.declared in
-    let s = shared_of (tree c.args.tree.now) (log c.args.log.now) declared in
-    let got = c.in-Ok.ensures.ok in
-    ap (λ x. turn c.args.most s running x c.args.driver.now) (sym (to_z-of_z w64 c.args.now c.ranges.now))
-    ∙ whole_ends c.args.most c.loop-done._done (λ k. turn k s running n c.args.driver.now) c.loop-done.replies.items c.add_step.new.replies.items (shared_of (tree c.loop-done.tree) (log c.loop-done.log) declared) running n c.loop-done.driver
-    (shared_of (tree c.add_step.new.tree) (log c.add_step.new.log) declared) c.add_step.new.driver got.0 c.loop-done-test.true c.loop-done.invariant.goes_on got.1 got.2 (sym got.3 ∙ c.if-last.true)
+    let first = moment (shared_of (tree c.args.tree.now) (log c.args.log.now) declared) c.args.driver.now (disks_of (g.T.ZTree.disk c.args.tree.now) (g.L.MetaLog.disk c.args.log.now)) in
+    let here = moment (shared_of (tree c.loop-done.tree) (log c.loop-done.log) declared) c.loop-done.driver (disks_of (g.T.ZTree.disk c.loop-done.tree) (g.L.MetaLog.disk c.loop-done.log)) in
+    let before = c.loop-done.invariant in
+    let told = c.one_step-reply.result in
+    let kept = two_kept c.loop-done.replies.items before.made c.push-in-loop-done.new.self.items before.kept c.in-Ok.ensures.items in
+    let replies = c.without_last.ensures (before.made ++ told ∷ []) reply.NoMemory (c.put.ensures before.made reply.NoMemory reply.NoMemory kept ∙ sym (append_assoc before.made (told ∷ []) (reply.NoMemory ∷ []))) in
+    let few : length before.made < c.args.most = omega (arith, before.count, c.loop-done-test.true) in
+    let t = shared_of (tree c.one_step-reply.new.tree) (log c.one_step-reply.new.log) declared in
+    subst (λ x. StepsEnd c.args.most first.shared running x first.driver c.without_last.result.items t c.one_step-reply.new.driver) (to_z-of_z w64 c.args.now c.ranges.now)
+    (subst (λ (rs : List Reply). StepsEnd c.args.most first.shared running n first.driver rs t c.one_step-reply.new.driver) (sym replies)
+    (turn_ends running n c.args.most first before.made here told t c.one_step-reply.new.driver few before.steps (sym c.ends-last.ensures ∙ c.if-last.true) c.one_step-reply.ensures.made c.one_step-reply.ensures.failed))
 
-pub loop-done-preserved : goal.loop-done-preserved
-loop-done-preserved g c =
+pub returns-then-last-clause-disks : goal.returns-then-last-clause-disks
+returns-then-last-clause-disks g c =
     let n = to_z w64 (of_z w64 c.args.now) in
     let tree = g.T.ZTree.tree in
     let log = g.L.MetaLog.log in
     let running = c.args.peers.now.running in
     let declared = c.args.peers.now.declared in
-    let s = shared_of (tree c.args.tree.now) (log c.args.log.now) declared in
-    let got = c.in-Ok.ensures.ok in
-    record {
-      goes_on = whole_goes_on c.loop-done._done (λ k. turn k s running n c.args.driver.now) c.loop-done.replies.items c.add_step.new.replies.items (shared_of (tree c.loop-done.tree) (log c.loop-done.log) declared) running n c.loop-done.driver
-          (shared_of (tree c.add_step.new.tree) (log c.add_step.new.log) declared) c.add_step.new.driver got.0 c.loop-done.invariant.goes_on got.1 got.2 (sym got.3 ∙ c.if-last.false);
-      id = c.add_step.ensures.id ∙ c.loop-done.invariant.id;
-      view = c.add_step.ensures.view;
-      views = λ v h. c.add_step.ensures.views v (c.loop-done.invariant.views v h);
-      tree_calm = c.in-Ok.ensures.tree_calm (λ none. absurd (cc)) ∙ c.loop-done.invariant.tree_calm;
-      tree_up = c.in-Ok.ensures.tree_up (λ none. absurd (cc)) ∙ c.loop-done.invariant.tree_up;
-      log_calm = c.in-Ok.ensures.log_calm (λ none. absurd (cc)) ∙ c.loop-done.invariant.log_calm;
-      log_up = c.in-Ok.ensures.log_up (λ none. absurd (cc)) ∙ c.loop-done.invariant.log_up;
-    }
+    let first = moment (shared_of (tree c.args.tree.now) (log c.args.log.now) declared) c.args.driver.now (disks_of (g.T.ZTree.disk c.args.tree.now) (g.L.MetaLog.disk c.args.log.now)) in
+    let here = moment (shared_of (tree c.loop-done.tree) (log c.loop-done.log) declared) c.loop-done.driver (disks_of (g.T.ZTree.disk c.loop-done.tree) (g.L.MetaLog.disk c.loop-done.log)) in
+    let next = moment (shared_of (tree c.one_step-reply.new.tree) (log c.one_step-reply.new.log) declared) c.one_step-reply.new.driver (disks_of (g.T.ZTree.disk c.one_step-reply.new.tree) (g.L.MetaLog.disk c.one_step-reply.new.log)) in
+    let before = c.loop-done.invariant in
+    let told = c.one_step-reply.result in
+    let kept = two_kept c.loop-done.replies.items before.made c.push-in-loop-done.new.self.items before.kept c.in-Ok.ensures.items in
+    let replies = c.without_last.ensures (before.made ++ told ∷ []) reply.NoMemory (c.put.ensures before.made reply.NoMemory reply.NoMemory kept ∙ sym (append_assoc before.made (told ∷ []) (reply.NoMemory ∷ []))) in
+    subst (λ x. TurnDisks first.shared running x first.driver c.without_last.result.items first.disks next.disks) (to_z-of_z w64 c.args.now c.ranges.now)
+    (subst (λ (rs : List Reply). TurnDisks first.shared running n first.driver rs first.disks next.disks) (sym replies)
+    (last_disks running n first before.made here told next before.steps (files_of (g.T.ZTree.length_with c.loop-done.tree) (g.L.MetaLog.length_with c.loop-done.log), c.one_step-reply.ensures.disks)))
 
+-- all steps that the turn may have are made
 pub returns-clause-ok : goal.returns-clause-ok
 returns-clause-ok g c =
     let n = to_z w64 (of_z w64 c.args.now) in
@@ -58,26 +131,26 @@ returns-clause-ok g c =
     let log = g.L.MetaLog.log in
     let running = c.args.peers.now.running in
     let declared = c.args.peers.now.declared in
-    let s = shared_of (tree c.args.tree.now) (log c.args.log.now) declared in
-    let all : c.args.most ≡ c.loop-done._done = omega (arith, c.loop-done-test.false, c.loop-done.auto._done-end) in
-    ap (λ x. turn c.args.most s running x c.args.driver.now) (sym (to_z-of_z w64 c.args.now c.ranges.now))
-    ∙ ap (λ k. turn k s running n c.args.driver.now) all
-    ∙ so_far c.loop-done._done (λ k. turn k s running n c.args.driver.now) c.loop-done.replies.items (shared_of (tree c.loop-done.tree) (log c.loop-done.log) declared) running n c.loop-done.driver c.loop-done.invariant.goes_on
+    let first = moment (shared_of (tree c.args.tree.now) (log c.args.log.now) declared) c.args.driver.now (disks_of (g.T.ZTree.disk c.args.tree.now) (g.L.MetaLog.disk c.args.log.now)) in
+    let here = moment (shared_of (tree c.loop-done.tree) (log c.loop-done.log) declared) c.loop-done.driver (disks_of (g.T.ZTree.disk c.loop-done.tree) (g.L.MetaLog.disk c.loop-done.log)) in
+    let before = c.loop-done.invariant in
+    let all : c.args.most ≡ length before.made = omega (arith, before.count, c.loop-done-test.false, c.loop-done.auto._done-end) in
+    subst (λ x. StepsEnd c.args.most first.shared running x first.driver c.without_last-2.result.items here.shared here.driver) (to_z-of_z w64 c.args.now c.ranges.now)
+    (turn_is_whole running n c.args.most first before.made c.without_last-2.result.items here all (c.without_last-2.ensures before.made reply.NoMemory before.kept) before.steps)
 
-pub returns-in-Err-clause-views : goal.returns-in-Err-clause-views
-returns-in-Err-clause-views g c = λ v h. c.add_step.ensures.views v (c.loop-done.invariant.views v h)
+pub returns-clause-disks : goal.returns-clause-disks
+returns-clause-disks g c =
+    let n = to_z w64 (of_z w64 c.args.now) in
+    let tree = g.T.ZTree.tree in
+    let log = g.L.MetaLog.log in
+    let running = c.args.peers.now.running in
+    let declared = c.args.peers.now.declared in
+    let first = moment (shared_of (tree c.args.tree.now) (log c.args.log.now) declared) c.args.driver.now (disks_of (g.T.ZTree.disk c.args.tree.now) (g.L.MetaLog.disk c.args.log.now)) in
+    let here = moment (shared_of (tree c.loop-done.tree) (log c.loop-done.log) declared) c.loop-done.driver (disks_of (g.T.ZTree.disk c.loop-done.tree) (g.L.MetaLog.disk c.loop-done.log)) in
+    let before = c.loop-done.invariant in
+    subst (λ x. TurnDisks first.shared running x first.driver c.without_last-2.result.items first.disks here.disks) (to_z-of_z w64 c.args.now c.ranges.now)
+    (subst (λ (rs : List Reply). TurnDisks first.shared running n first.driver rs first.disks here.disks) (append-nil before.made ∙ sym (c.without_last-2.ensures before.made reply.NoMemory before.kept))
+    (all_disks running n first before.made here [] here.disks before.steps refl))
 
 pub returns-then-last-clause-views : goal.returns-then-last-clause-views
-returns-then-last-clause-views g c = λ v h. c.add_step.ensures.views v (c.loop-done.invariant.views v h)
-
-pub returns-in-Err-clause-tree_calm : goal.returns-in-Err-clause-tree_calm
-returns-in-Err-clause-tree_calm g c = λ none. c.in-Err.ensures.tree_calm (λ is. none (cc)) ∙ c.loop-done.invariant.tree_calm
-
-pub returns-in-Err-clause-tree_up : goal.returns-in-Err-clause-tree_up
-returns-in-Err-clause-tree_up g c = λ none. c.in-Err.ensures.tree_up (λ is. none (cc)) ∙ c.loop-done.invariant.tree_up
-
-pub returns-in-Err-clause-log_calm : goal.returns-in-Err-clause-log_calm
-returns-in-Err-clause-log_calm g c = λ none. c.in-Err.ensures.log_calm (λ is. none (cc)) ∙ c.loop-done.invariant.log_calm
-
-pub returns-in-Err-clause-log_up : goal.returns-in-Err-clause-log_up
-returns-in-Err-clause-log_up g c = λ none. c.in-Err.ensures.log_up (λ is. none (cc)) ∙ c.loop-done.invariant.log_up
+returns-then-last-clause-views g c = λ v h. c.one_step-reply.ensures.views v (c.loop-done.invariant.views v h)

@@ -1,10 +1,8 @@
 use Rattle.std.proofs.Common.{subst, sym}
-use Rattle.std.specs.List.{All}
 use Rattle.kz_spec_stores.specs.InOrder.{IsTopicInOrder}
 use Rattle.kz_laws_images.proofs.Entries.{HasIfFound, found_by_has}
 use Rattle.kz_image.proofs.image.Image.partition.Goals as goal
 
 pub partition_at-requires : goal.partition_at-requires
 partition_at-requires c =
-    let within : All IsTopicInOrder c.deref.result.now = subst (All IsTopicInOrder) (sym c.deref.ensures.value) c.self.invariant.topics.within in
-    rw c.as_slice.ensures (subst (HasIfFound IsTopicInOrder) (sym c.in-Some.ensures) (found_by_has IsTopicInOrder _ c.deref.result.now within)).0
+    rw c.as_slice.ensures (subst (HasIfFound IsTopicInOrder) (sym c.in-Some.ensures) (found_by_has IsTopicInOrder _ c.self.inside.topics c.self.invariant.topics.within)).0

@@ -1,6 +1,6 @@
 use Rattle.std.proofs.Common.{◌≡◌, ◌∷◌, ◌++◌, [], length, sym, ap, ◌∙◌, append_assoc, arith}
 use Rattle.std.specs.Vec.Iter.{into_iter_items}
-use Rattle.kz_spec_stores.specs.Tree.{max_long}
+use Rattle.kz_types.specs.declared.limits.TheConstants.{MAX_LONG}
 use Rattle.kz_log.proofs.Building.{all_more, all_first, all_room}
 use Rattle.kz_log.proofs.builder.Builder.take_all.Goals as goal
 
@@ -14,7 +14,7 @@ pub take_batch-requires-clause-fits : goal.take_batch-requires-clause-fits
 take_batch-requires-clause-fits c =
     let at = c.loop-batch in
     let rest = into_iter_items c.next.new.self in
-    all_room c.args.self.now.position max_long at.yielded rest c.args.batches.items c.in-Some.batch c.requires.follow c.requires.fits (ap (λ r. at.yielded ++ r) (sym c.in-Some.ensures.steps.0) ∙ at.invariant.0)
+    all_room c.args.self.now.position MAX_LONG at.yielded rest c.args.batches.items c.in-Some.batch c.requires.follow c.requires.fits (ap (λ r. at.yielded ++ r) (sym c.in-Some.ensures.steps.0) ∙ at.invariant.0)
 
 pub loop-batch-preserved : goal.loop-batch-preserved
 loop-batch-preserved c =

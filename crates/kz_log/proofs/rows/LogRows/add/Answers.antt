@@ -42,3 +42,8 @@ invariant_of-self-2 c =
 
 pub returns-clause-ok : goal.returns-clause-ok
 returns-clause-ok c = made c
+
+pub returns-clause-is_log : goal.returns-clause-is_log
+returns-clause-is_log c =
+    subst IsLog (sym (made c))
+    (is_log_added c.args.self.now c.args.epoch c.args.now c.args.items.now (subst IsLog c.self.view_is c.self.invariant.0) c.requires.elected c.requires.climbs c.requires.some c.requires.room)

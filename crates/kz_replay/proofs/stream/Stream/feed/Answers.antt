@@ -1,4 +1,4 @@
-use Rattle.std.proofs.Common.{ℕ, ◌+◌, List, [], ◌∷◌, ◌++◌, take, drop, get_or, sym, ◌∙◌, subst, arith}
+use Rattle.std.proofs.Common.{ℕ, ◌+◌, List, [], ◌∷◌, ◌++◌, take, drop, get_or, sym, ◌∙◌, subst}
 use Rattle.std.proofs.KnownBytes.{Appends-trans}
 use Rattle.std.proofs.lemmas.List.{take_more}
 use Rattle.kz_replay.specs.Endings.{Stops}
@@ -31,6 +31,6 @@ loop-byte-preserved g c =
         subst (λ (t : List ℕ). GoesOn c.args.self.now c.take.new.self t (inv.0 ++ h.0)) (sym (take_more piece i 0 c.loop-byte-test.true))
             (goes_on c.args.self.now c.loop-byte.self c.take.new.self (take i piece) (get_or piece i 0 ∷ []) inv.0 h.0 inv.2 h.2),
       ),
-      omega (arith, c.in-Ok.ensures.count),
-      c.in-Ok.ensures.calm (λ e. cc) ∙ c.loop-byte.invariant.2,
+      c.in-Ok.ensures.sink.calm (λ e. cc) ∙ c.loop-byte.invariant.1,
+      λ failed. c.loop-byte.invariant.2 (c.in-Ok.ensures.sink.none (λ e. cc) failed),
     )

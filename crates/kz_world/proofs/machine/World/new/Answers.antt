@@ -11,6 +11,6 @@ invariant_of-result g c =
     let l = g.L.MetaLog.log c.args.log in
     record {
       distinct = subst (λ (ds : List Driver). AreDistinct (running_ids ds)) (sym c.new-3.ensures.items) tt;
-      own = subst (IsViewOf l) (sym c.new-2.ensures) (new_is_view l c.end-end.ensures.kept);
+      own = subst (IsViewOf l) (sym c.new-2.ensures) (new_is_view l (g.met.L.MetaLog.is_log c.args.log));
       each = subst (AreViews l) (sym c.new-3.ensures.items) tt;
     }

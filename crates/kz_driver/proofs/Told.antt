@@ -1,0 +1,179 @@
+-- The reply of a step tells of no failure: what the definitions of the tree and the log answer is done or refused.
+use Rattle.std.proofs.Common.{◌≡◌, ℕ, ◌+◌, ℤ, Bool, true, false, List, [], ◌∷◌, length, Option, Some, None, Result, Ok, Err, refl, subst}
+use Rattle.std.specs.Prelude.{◌+ℤ◌, pos, int_le, int_lt, not, ◌&&◌, ◌||◌, if◌then◌else◌, drop, IfErr, IfOk}
+use Rattle.std.specs.Ordering.{int_eq}
+use Rattle.kz_types.specs.declared.codes.TheConstants.{MIGRATION, POST_MIGRATION}
+use Rattle.kz_types.specs.declared.limits.TheConstants.{MAX_CHUNK, MAX_LONG, MAX_VERSION}
+use Rattle.kz_types.specs.declared.tree.Row.{Row}
+use Rattle.kz_types.specs.declared.tree.Op.{Op}
+use Rattle.kz_types.specs.declared.driver.ClaimSeen.{ClaimSeen}
+use Rattle.kz_types.specs.declared.driver.Stage.{Stage}
+use Rattle.kz_types.specs.declared.driver.Stage.TheVariants as stage
+use Rattle.kz_types.specs.declared.machine.DriverState.TheVariants as state
+use Rattle.kz_types.specs.declared.machine.Recorded.{Recorded}
+use Rattle.kz_types.specs.declared.machine.Reply.{Reply}
+use Rattle.kz_types.specs.declared.machine.Reply.TheVariants as reply
+use Rattle.kz_types.specs.declared.fault.TreeFault.{TreeFault}
+use Rattle.kz_types.specs.declared.fault.TreeFault.TheVariants as tree_fault
+use Rattle.kz_types.specs.declared.fault.LogFault.{LogFault}
+use Rattle.kz_types.specs.declared.fault.LogFault.TheVariants as log_fault
+use Rattle.kz_types.specs.declared.fault.BodyFault.{BodyFault}
+use Rattle.kz_types.specs.declared.record.MetaRecord.{MetaRecord}
+use Rattle.kz_spec_values.specs.Control.{epoch_path, migration_path, read_epoch}
+use Rattle.kz_spec_stores.specs.Tree.{Tree, Refusal, code, limit, op_refusal, refused, after_op, after_ops, multi, with_zxid}
+use Rattle.kz_spec_stores.specs.Image.{Image}
+use Rattle.kz_spec_stores.specs.Log.{Log, append, added, full_log, with_batch}
+use Rattle.kz_spec_znodes.specs.Difference.{diff, chunk}
+use Rattle.kz_spec_znodes.specs.Rendering.{render}
+use Rattle.kz_spec_znodes.specs.Translation.{Unreadable, translate}
+use Rattle.kz_spec_machine.specs.Driver.{Shared, Driver, Stepped, epoch_or_zero, at_stage, resigned, begins_again, having_read, unless_finalised, wait_or_move, after_quorum, after_brokers, unless_fenced, unless_full_epoch, unless_bad_epoch, unless_full_record, looked, after_claim, claim_ops, after_append, after_records, next_records, after_translation, after_rest, after_write, writes, write_ops, is_last_write, is_claim_refused, is_recorded_at, target_of, remaining_at, views_migrated, shown_by, seen_in, missing_controller, begin_record, answered, step}
+use Rattle.kz_spec_machine.specs.Failures.{is_tree_failure, is_log_failure, is_failed_step}
+use Rattle.kz_driver.proofs.Keeping.{chosen}
+
+-- ---- the tree and the log
+
+abbrev IsTreeAnswer : {A : Type 0} → Result A TreeFault → Type 0
+IsTreeAnswer r = IfErr r (λ f. is_tree_failure f ≡ false)
+
+abbrev IsLogAnswer : {A : Type 0} → Result A LogFault → Type 0
+IsLogAnswer r = IfErr r (λ f. is_log_failure f ≡ false)
+
+refused_answers : (index : ℕ) (r : Option Refusal) (rest : Result (List Row) TreeFault) → IsTreeAnswer rest → IsTreeAnswer (refused index r rest)
+refused_answers index None rest h = h
+refused_answers index (Some (code c)) rest h = refl
+refused_answers index (Some (limit n)) rest h = refl
+
+ops_answer : (sessions : List ℤ) (zxid : ℤ) (index : ℕ) (ops : List Op) (rows : List Row) → IsTreeAnswer (after_ops sessions zxid index ops rows)
+ops_answer sessions zxid index [] rows = tt
+ops_answer sessions zxid index (o ∷ os) rows = refused_answers index (op_refusal sessions o rows) (after_ops sessions zxid (index + 1) os (after_op zxid o rows)) (ops_answer sessions zxid (index + 1) os (after_op zxid o rows))
+
+chosen_answer : {A : Type 0} (b : Bool) (x y : Result A TreeFault) → IsTreeAnswer x → IsTreeAnswer y → IsTreeAnswer (if b then x else y)
+chosen_answer true x y h k = h
+chosen_answer false x y h k = k
+
+zxid_answers : (t : Tree) (r : Result (List Row) TreeFault) → IsTreeAnswer r → IsTreeAnswer (with_zxid t r)
+zxid_answers t (Err e) h = h
+zxid_answers t (Ok rows) h = chosen_answer (int_le MAX_LONG t.zxid) _ _ refl tt
+
+multi_answers : (t : Tree) (ops : List Op) → IsTreeAnswer (multi t ops)
+unfolding multi
+multi_answers t ops = zxid_answers t (after_ops t.sessions (t.zxid +ℤ pos 1) 0 ops t.rows) (ops_answer t.sessions (t.zxid +ℤ pos 1) 0 ops t.rows)
+
+added_answers : (o : Option ℕ) (l : Log) → IsLogAnswer (added o l)
+added_answers None l = tt
+added_answers (Some n) l = refl
+
+chosen_log_answer : (b : Bool) (x y : Result Log LogFault) → IsLogAnswer x → IsLogAnswer y → IsLogAnswer (if b then x else y)
+chosen_log_answer true x y h k = h
+chosen_log_answer false x y h k = k
+
+append_answers : (l : Log) (epoch now : ℤ) (items : List MetaRecord) → IsLogAnswer (append l epoch now items)
+append_answers l epoch now items = chosen_log_answer (int_eq epoch l.epoch) (added (full_log l items) (with_batch l epoch now items)) (Err (log_fault.Stale l.epoch)) (added_answers (full_log l items) (with_batch l epoch now items)) refl
+
+-- ---- what follows an answer
+
+abbrev IsTold : Driver × Reply → Type 0
+IsTold x = is_failed_step x.1 ≡ false
+
+finalised_told : (d : Driver) (rest : Driver × Reply) → IsTold rest → IsTold (unless_finalised d rest)
+finalised_told d rest h = chosen IsTold (int_eq d.view.image.state POST_MIGRATION) (resigned d, reply.Moved state.Inactive) rest refl h
+
+wait_told : (o : Option ℤ) (d : Driver) → IsTold (wait_or_move o d)
+wait_told (Some id) d = refl
+wait_told None d = refl
+
+quorum_told : (declared running : List ℤ) (d : Driver) → IsTold (after_quorum declared running d)
+quorum_told declared running d =
+    let later = wait_or_move (missing_controller declared running) d in
+    let move : Driver × Reply = (at_stage stage.ReadControlZnodes d, reply.Moved state.BecomeController) in
+    finalised_told d (if int_eq d.view.image.state MIGRATION then move else later)
+    (chosen IsTold (int_eq d.view.image.state MIGRATION) move later refl (wait_told (missing_controller declared running) d))
+
+brokers_told : (o : Option ℤ) (d : Driver) → IsTold (after_brokers o d)
+brokers_told (Some id) d = refl
+brokers_told None d = refl
+
+fenced_told : (o : Option ℤ) (d : Driver) (rest : Driver × Reply) → IsTold rest → IsTold (unless_fenced o d rest)
+fenced_told None d rest h = h
+fenced_told (Some e) d rest h = chosen IsTold (int_lt (epoch_or_zero d.epoch) e) (resigned d, reply.FencedEpoch e) rest refl h
+
+full_epoch_told : (r : Result ℤ BodyFault) (version : ℤ) (d : Driver) (rest : Driver × Reply) → IsTold rest → IsTold (unless_full_epoch r version d rest)
+full_epoch_told (Err e) version d rest h = refl
+full_epoch_told (Ok number) version d rest h = chosen IsTold (int_eq number MAX_VERSION || int_eq version MAX_VERSION) (d, reply.Limit epoch_path) rest refl h
+
+bad_epoch_told : (o : Option Row) (d : Driver) (rest : Driver × Reply) → IsTold rest → IsTold (unless_bad_epoch o d rest)
+bad_epoch_told None d rest h = h
+bad_epoch_told (Some r) d rest h = full_epoch_told (read_epoch r.body) r.version d rest h
+
+full_record_told : (o : Option Row) (d : Driver) (rest : Driver × Reply) → IsTold rest → IsTold (unless_full_record o d rest)
+full_record_told None d rest h = h
+full_record_told (Some r) d rest h = chosen IsTold (not (views_migrated d) && int_eq r.version MAX_VERSION) (d, reply.Limit migration_path) rest refl h
+
+look_told : (seen : ClaimSeen) (d : Driver) → IsTold (looked seen d)
+look_told seen d =
+    let end : Driver × Reply = (at_stage (stage.ClaimLeadership seen) d, reply.Looked) in
+    let record_checked = unless_full_record seen.migration d end in
+    fenced_told (shown_by seen.control) d (unless_bad_epoch seen.epoch d record_checked) (bad_epoch_told seen.epoch d record_checked (full_record_told seen.migration d end refl))
+
+claim_told : (seen : ClaimSeen) (d : Driver) (ops : List Op) (r : Result Tree TreeFault) → IsTreeAnswer r → IsTold (after_claim seen d ops r)
+claim_told seen d ops (Ok t) h = refl
+claim_told seen d ops (Err (tree_fault.Refused index c)) h = refl
+claim_told seen d ops (Err (tree_fault.Limit index number)) h = refl
+claim_told seen d ops (Err f) h = h
+
+append_told : (next : Stage) (d : Driver) (r : Result Log LogFault) → IsLogAnswer r → IsTold (after_append next d r)
+append_told next d (Ok l) h = refl
+append_told next d (Err (log_fault.Stale epoch)) h = refl
+append_told next d (Err f) h = h
+
+translation_told : (s : Shared) (now : ℤ) (d : Driver) (r : Result (List MetaRecord) Unreadable) → IsTold (after_translation s now d r)
+translation_told s now d (Err e) = refl
+translation_told s now d (Ok records) = append_told (stage.AppendRecords records) d (append s.log (epoch_or_zero d.epoch) now (begin_record ∷ [])) (append_answers s.log (epoch_or_zero d.epoch) now (begin_record ∷ []))
+
+write_told : (claim : ℤ) (ops : List Op) (target : Recorded) (more : List Op → Stage) (last : Stage) (d : Driver) (r : Result Tree TreeFault) → IsTreeAnswer r → IsTold (after_write claim ops target more last d r)
+write_told claim ops target more last d (Ok t) h =
+    chosen IsTold (is_last_write ops) (record d { stage = last; recorded = Some target.offset }, reply.Recorded target.offset) (at_stage (more (drop MAX_CHUNK ops)) d, reply.Wrote (length (chunk ops))) refl refl
+write_told claim ops target more last d (Err (tree_fault.Refused index c)) h =
+    chosen IsTold (is_claim_refused index c) (resigned d, reply.FencedWrite claim) (begins_again d, reply.Moved state.BecomeController) refl refl
+write_told claim ops target more last d (Err (tree_fault.Limit index number)) h = refl
+write_told claim ops target more last d (Err f) h = h
+
+writes_told : (t : Tree) (held : Option ℤ) (ops : List Op) (target : Recorded) (more : List Op → Stage) (last : Stage) (d : Driver) → IsTold (writes t held ops target more last d)
+writes_told t None ops target more last d = refl
+writes_told t (Some claim) ops target more last d = write_told claim ops target more last d (multi t (write_ops claim ops target)) (multi_answers t (write_ops claim ops target))
+
+dual_write_told : (before : Image) (d : Driver) → IsTold (after_rest before d)
+dual_write_told before d =
+    let idle : Driver × Reply = (d, reply.Idle) in
+    let begins : Driver × Reply = (at_stage (stage.WriteDelta (target_of d) (diff (render before) (render d.view.image))) d, reply.Looked) in
+    finalised_told d (if is_recorded_at d.recorded d.view.position then idle else begins) (chosen IsTold (is_recorded_at d.recorded d.view.position) idle begins refl refl)
+
+-- ---- a step
+
+answer_told : (s : Shared) (running : List ℤ) (now : ℤ) (d : Driver) (at : Stage) → IsTold (answered s running now d at)
+answer_told s running now d stage.Uninitialized = refl
+answer_told s running now d stage.Inactive = refl
+answer_told s running now d stage.WaitForControllerQuorum = quorum_told s.declared running (having_read s.log d)
+answer_told s running now d stage.WaitForBrokers = finalised_told (having_read s.log d) (at_stage stage.ListBrokers (having_read s.log d), reply.Looked) refl
+answer_told s running now d stage.ListBrokers = brokers_told _ d
+answer_told s running now d stage.ReadControlZnodes = look_told (seen_in s.tree) d
+answer_told s running now d (stage.ClaimLeadership seen) = claim_told seen d (claim_ops seen d now) (multi s.tree (claim_ops seen d now)) (multi_answers s.tree (claim_ops seen d now))
+answer_told s running now d (stage.ScanForMigration rows) = refl
+answer_told s running now d (stage.BeginMigration rows) = translation_told s now d (translate rows)
+answer_told s running now d (stage.AppendRecords records) = append_told (after_records records) d (append s.log (epoch_or_zero d.epoch) now (next_records records)) (append_answers s.log (epoch_or_zero d.epoch) now (next_records records))
+answer_told s running now d stage.ReadLogForResync = finalised_told (having_read s.log d) (at_stage (stage.ScanForResync (target_of (having_read s.log d)) []) (having_read s.log d), reply.Looked) refl
+answer_told s running now d (stage.ScanForResync target rows) = refl
+answer_told s running now d (stage.WriteResync target ops) = writes_told s.tree d.claim (remaining_at s.tree s.log target.offset) target (λ rest. stage.WriteResync target rest) stage.KraftControllerToBrokerComm d
+answer_told s running now d stage.KraftControllerToBrokerComm = refl
+answer_told s running now d stage.DualWrite = dual_write_told d.view.image (having_read s.log d)
+answer_told s running now d (stage.WriteDelta target ops) = writes_told s.tree d.claim (remaining_at s.tree s.log target.offset) target (λ rest. stage.WriteDelta target rest) stage.DualWrite d
+
+step_told : (s : Shared) (running : List ℤ) (now : ℤ) (d : Driver) → is_failed_step (step s running now d).reply ≡ false
+unfolding step
+step_told s running now d = answer_told s running now d d.stage
+
+-- where there is a reply, it is the step's
+pub told_of_step : {E : Type 0} (r : Result Reply E) (s : Shared) (running : List ℤ) (now : ℤ) (d : Driver) (shared : Shared) (e : Driver)
+    → IfOk r (λ told. step s running now d ≡ record { shared = shared; driver = e; reply = told }) → IfOk r (λ told. is_failed_step told ≡ false)
+told_of_step (Ok told) s running now d shared e is = subst (λ (x : Stepped). is_failed_step x.reply ≡ false) is (step_told s running now d)
+told_of_step (Err f) s running now d shared e is = tt

@@ -1,4 +1,0 @@
-use Rattle.kz_driver.proofs.asking.page.Goals as goal
-
-pub returns-in-Err-clause-failed : goal.returns-in-Err-clause-failed
-returns-in-Err-clause-failed g c = c.read_fault.ensures (g.T.ZTree.down c.args.tree.now) c.in-Err.ensures.err

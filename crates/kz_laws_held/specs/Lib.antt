@@ -1,0 +1,2 @@
+pub mod HeldMetadata
+pub mod Worked

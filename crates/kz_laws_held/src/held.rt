@@ -1,0 +1,271 @@
+//! Metadata that a program holds is in order and can be written. But for `are_quotas_read`, the functions here are never run:
+//! what they go over is what their contracts say.
+ghost use Rattle.std.specs.Prelude.{◌≡◌, ℤ, true, length, All, IsTrue, ◌↔◌};
+ghost use Rattle.base64.specs.GeneralPurpose.{IsBytes};
+ghost use Rattle.kz_spec_stores.specs.InOrder.{IsInOrder};
+ghost use Rattle.kz_spec_znodes.specs.Rendering.{render};
+ghost use Rattle.kz_laws_znodes.specs.RoundTrip.{IsSameBut, IsText, FitsInt, IsPartitionWritable, IsMemberWritable, IsTopicWritable, IsConfigWritable, IsQuotaWritable, AreQuotasWritable, IsScramWritable, IsUserWritable, IsAclWritable, IsWritable, MayReturn, Returns};
+ghost use Rattle.kz_laws_held.specs.HeldMetadata.{IsEntityRead, AreQuotasRead};
+
+use kz_image::Image;
+use kz_path::kind;
+use kz_types::{
+    AclEntry, Configuration, Kind, Pair, PartitionEntry, QuotaEntry, QuotaRow, ScramEntry,
+    ScramPair, Text, TopicEntry,
+};
+
+// ---- fields
+
+fn int(_number: i32)
+    ensures { FitsInt _number }
+{}
+
+fn bytes(list: &[u8])
+    ensures { IsBytes list.now }
+{
+    let _ = list.len();
+}
+
+fn sixteen(_bytes: &[u8; 16])
+    ensures { length _bytes.now ≡ 16 }
+{}
+
+fn text(text: &Text)
+    ensures { IsText text.now }
+{
+    let _ = text.as_str();
+}
+
+fn ints(numbers: &[i32])
+    ensures { All FitsInt numbers.now }
+{
+    if let [first, rest @ ..] = numbers {
+        int(*first);
+        ints(rest);
+    }
+}
+
+// ---- entries
+
+fn partition(p: &PartitionEntry)
+    ensures { IsPartitionWritable p.now }
+{
+    int(p.number);
+    ints(p.row.replicas.as_slice());
+    int(p.row.controller_epoch);
+}
+
+fn partitions(items: &[PartitionEntry])
+    ensures { All IsPartitionWritable items.now }
+{
+    if let [first, rest @ ..] = items {
+        partition(first);
+        partitions(rest);
+    }
+}
+
+fn member(p: &Pair)
+    ensures { IsMemberWritable p.now }
+{
+    text(&p.name);
+    text(&p.value);
+}
+
+fn members(items: &[Pair])
+    ensures { All IsMemberWritable items.now }
+{
+    if let [first, rest @ ..] = items {
+        member(first);
+        members(rest);
+    }
+}
+
+fn topic(t: &TopicEntry)
+    ensures { IsTopicWritable t.now }
+{
+    text(&t.name);
+    sixteen(&t.id.bytes);
+    bytes(&t.id.bytes);
+    partitions(t.partitions.as_slice());
+    members(t.pairs.as_slice());
+}
+
+fn topics(items: &[TopicEntry])
+    ensures { All IsTopicWritable items.now }
+{
+    if let [first, rest @ ..] = items {
+        topic(first);
+        topics(rest);
+    }
+}
+
+fn config(c: &Configuration)
+    ensures { IsConfigWritable c.now }
+{
+    members(c.pairs.as_slice());
+}
+
+fn configs(items: &[Configuration])
+    ensures { All IsConfigWritable items.now }
+{
+    if let [first, rest @ ..] = items {
+        config(first);
+        configs(rest);
+    }
+}
+
+fn whole(_number: i64, q: &QuotaRow)
+    requires { q.now.value.whole ≡ _number }
+    ensures { IsQuotaWritable q.now }
+{}
+
+fn quota(q: &QuotaRow)
+    ensures { IsQuotaWritable q.now }
+{
+    whole(q.value.whole, q);
+}
+
+fn quotas_of_entity(items: &[QuotaRow])
+    ensures { All IsQuotaWritable items.now }
+{
+    if let [first, rest @ ..] = items {
+        quota(first);
+        quotas_of_entity(rest);
+    }
+}
+
+fn entity(q: &QuotaEntry)
+    requires { IsEntityRead q.now }
+    ensures { AreQuotasWritable q.now }
+{
+    quotas_of_entity(q.quotas.as_slice());
+}
+
+fn entities(items: &[QuotaEntry])
+    requires { All IsEntityRead items.now }
+    ensures { All AreQuotasWritable items.now }
+{
+    if let [first, rest @ ..] = items {
+        entity(first);
+        entities(rest);
+    }
+}
+
+fn scram(s: &ScramPair)
+    ensures { IsScramWritable s.now }
+{
+    bytes(s.value.salt.as_slice());
+    bytes(s.value.stored_key.as_slice());
+    bytes(s.value.server_key.as_slice());
+    int(s.value.iterations);
+}
+
+fn scrams(items: &[ScramPair])
+    ensures { All IsScramWritable items.now }
+{
+    if let [first, rest @ ..] = items {
+        scram(first);
+        scrams(rest);
+    }
+}
+
+fn user(u: &ScramEntry)
+    ensures { IsUserWritable u.now }
+{
+    text(&u.name);
+    scrams(u.scrams.as_slice());
+}
+
+fn users(items: &[ScramEntry])
+    ensures { All IsUserWritable items.now }
+{
+    if let [first, rest @ ..] = items {
+        user(first);
+        users(rest);
+    }
+}
+
+fn acl(a: &AclEntry)
+    ensures { IsAclWritable a.now }
+{
+    text(&a.row.name);
+    text(&a.row.principal);
+    text(&a.row.host);
+}
+
+fn acls(items: &[AclEntry])
+    ensures { All IsAclWritable items.now }
+{
+    if let [first, rest @ ..] = items {
+        acl(first);
+        acls(rest);
+    }
+}
+
+// ---- the metadata
+
+// Every metadata is in order.
+fn in_order(i: &Image)
+    ensures { IsInOrder i.now }
+{
+    let _ = i.topics();
+    let _ = i.broker_configs();
+    let _ = i.quota_entries();
+    let _ = i.users();
+    let _ = i.acls();
+    let _ = i.brokers();
+    let _ = i.next_producer();
+    let _ = i.state();
+}
+
+// Every metadata whose quotas are read can be written.
+fn writable(i: &Image)
+    requires { AreQuotasRead i.now }
+    ensures { IsWritable i.now }
+{
+    topics(i.topics());
+    configs(i.broker_configs());
+    entities(i.quota_entries());
+    users(i.users());
+    acls(i.acls());
+}
+
+// Whether the path is read as that of an entity.
+#[tactic(auto, unfolding(kz_types::specs::Paths::kind_of))]
+fn is_entity_read(q: &QuotaEntry) -> bool
+    ensures { IsTrue result ↔ IsEntityRead q.now }
+{
+    matches!(kind(&q.path), Kind::Entity)
+}
+
+/// Whether the path of each entity that has quotas is read as that of an entity. It takes no memory.
+pub fn are_quotas_read(i: &Image) -> bool
+    ensures { IsTrue result ↔ AreQuotasRead i.now }
+{
+    i.quota_entries().iter().all(|q| is_entity_read(q))
+}
+
+/// Metadata that a program holds, rendered, translated to records and made again, is the same metadata: the same topics,
+/// partitions, configurations, quotas, credentials and access control entries. No controller epoch is negative, a further block
+/// of producer ids fits, and neither the znodes nor the records pass a limit (`MayReturn`); and the paths of quotas are read.
+pub fn round_trip(i: &Image)
+    requires may_return { MayReturn i.now }
+    requires quotas { AreQuotasRead i.now }
+    ensures { Returns i.now }
+{
+    in_order(i);
+    writable(i);
+}
+
+/// Metadata that a program holds is told by its rendering, but for what doesn't return: two with one rendering are the same.
+pub fn one_rendering(one: &Image, other: &Image)
+    requires one_may_return { MayReturn one.now }
+    requires one_is_read { AreQuotasRead one.now }
+    requires other_may_return { MayReturn other.now }
+    requires other_is_read { AreQuotasRead other.now }
+    requires rendering { render one.now ≡ render other.now }
+    ensures { IsSameBut one.now other.now }
+{
+    round_trip(one);
+    round_trip(other);
+}

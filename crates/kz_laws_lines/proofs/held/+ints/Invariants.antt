@@ -1,0 +1,5 @@
+use Rattle.std.proofs.Common.{length}
+use Rattle.kz_laws_lines.proofs.held.+ints.Given as goal
+
+abbrev pub decreases-ints : goal.decreases-ints
+decreases-ints l = length l.numbers.now

@@ -1,0 +1,39 @@
+-- The metadata at every offset of a log is in order.
+use Rattle.std.proofs.Common.{ℤ, List, [], ◌∷◌, refl, sym, subst, arith}
+use Rattle.std.proofs.lemmas.List.Elements.{All-nil}
+use Rattle.kz_types.specs.declared.log.Entry.{Entry}
+use Rattle.kz_spec_stores.specs.Metadata.{Image, empty_image}
+use Rattle.kz_spec_stores.specs.Image.{applied}
+use Rattle.kz_spec_stores.specs.InOrder.{IsInOrder}
+use Rattle.kz_spec_stores.specs.Settlement.{counted}
+use Rattle.kz_spec_stores.specs.Log.{Log, entries, all_entries_applied, image_at}
+use Rattle.kz_spec_machine.specs.Sound.{LogShape}
+use Rattle.kz_laws_images.proofs.Steps.{applied_keeps}
+
+empty_in_order : IsInOrder empty_image
+empty_in_order = record {
+  topics = record { rising = tt; within = All-nil _ };
+  configs = record { rising = tt; filled = All-nil _ };
+  quotas = record { rising = tt; filled = All-nil _ };
+  users = record { rising = tt; filled = All-nil _ };
+  acls = tt;
+  brokers = tt;
+  legal = record {
+    topics = record { each = All-nil _; apart = λ m n d less within. absurd (omega (arith, less, within)) };
+    configs = All-nil _;
+    quotas = All-nil _;
+    users = All-nil _;
+    acls = All-nil _;
+    brokers = All-nil _;
+    next = tt;
+    state = refl;
+  };
+}
+
+entries_keep : (es : List Entry) (i : Image) → IsInOrder i → IsInOrder (all_entries_applied es i)
+entries_keep [] i order = order
+entries_keep (e ∷ es) i order = entries_keep es (applied e.epoch e.item i) (applied_keeps e.epoch e.item i order)
+
+pub log_in_order : (l : Log) (at : ℤ) → LogShape l → IsInOrder (image_at l at)
+unfolding image_at
+log_in_order l at shape = entries_keep (counted (entries l.batches) at) l.base_image (subst IsInOrder (sym shape.empty) empty_in_order)

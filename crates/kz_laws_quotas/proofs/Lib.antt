@@ -1,0 +1,4 @@
+pub mod QuotaNumerals
+pub mod QuotaScales
+pub mod QuotaTexts
+pub mod Grammar

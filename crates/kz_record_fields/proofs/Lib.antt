@@ -1,0 +1,3 @@
+mod Base64
+mod Json
+pub mod Floats

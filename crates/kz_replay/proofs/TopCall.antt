@@ -1,0 +1,44 @@
+-- What the top call does with the word `replay`.
+use Rattle.std.proofs.Common.{◌≡◌, ◌≢◌, List, [], ℕ, IfSome, Option, Some, None, String, Global, sym, subst}
+use Rattle.std.specs.Io.KnownBytes.{Appends, Consumes, IsAtEnd}
+use Rattle.kz_types.specs.declared.outside.Status.{Status}
+use Rattle.kz_types.specs.declared.outside.Status.TheVariants as status
+use Rattle.kz_spec_runs.specs.Endings.{Agrees, EndsAs, EndsAtFailure, IsReplay}
+use Rattle.kz_spec_runs.specs.InStep.{StaysInStep, script_events}
+use Rattle.kz_spec_runs.specs.Output.{opening, replayed}
+use Rattle.kz_laws_machine.proofs.Lawful.{script_lawful}
+use Rattle.kz_laws_machine.proofs.Steady.{stays_in_step}
+use Rattle.kz_replay.specs.Pending.{State, pending, pending_lines}
+use Rattle.kz_replay.specs.Runs.{Side, Runs}
+use Rattle.kz_replay.proofs.Cut.{state, lines_at_start}
+use Rattle.kz_replay.proofs.Runs.{always}
+
+-- a run that began at the first byte
+agrees : (s : State) → s ≡ state opening [] 0 → (script taken sent : List ℕ) (result : Status) → EndsAs (pending s script) (pending_lines s taken) sent result → Agrees script taken sent result
+agrees s is script taken sent result h =
+    subst (λ (t : List ℕ). EndsAs (replayed script) t sent result) (sym (lines_at_start opening 0 taken)) (subst (λ (x : State). EndsAs (pending x script) (pending_lines x taken) sent result) is h)
+
+-- what is told of a run from this state on
+abbrev pub Told : State → Side → Side → Side → Side → Status → List ℕ → Type 0
+Told s input input_now out out_now result script =
+    (taken : List ℕ) × (sent : List ℕ) × Consumes input.bytes input_now.bytes taken × Appends out.bytes out_now.bytes sent × EndsAs (pending s script) (pending_lines s taken) sent result
+
+told_agrees : (o : Option (List ℕ)) (s : State) (input input_now out out_now : Side) (result : Status) → s ≡ state opening [] 0 → IfSome o (Told s input input_now out out_now result)
+    → IfSome o (λ script. (taken : List ℕ) × (sent : List ℕ) × Consumes input.bytes input_now.bytes taken × Appends out.bytes out_now.bytes sent × Agrees script taken sent result)
+told_agrees None s input input_now out out_now result is h = tt
+told_agrees (Some script) s input input_now out out_now result is h = (h.0, h.1, h.2, h.3, agrees s is script h.0 h.1 result h.4)
+
+pub replays : (words : List (String Global)) (s : State) (input input_now out out_now : Side) (result : Status) → IsReplay words → s ≡ state opening [] 0 → result ≢ status.Usage
+    → IfSome input.bytes (Told s input input_now out out_now result) → (result ≡ status.Done → IsAtEnd input_now.bytes)
+    → EndsAtFailure status.ReadFault result input.faults input_now.faults input.last_failed input_now.last_failed
+    → EndsAtFailure status.WriteFault result out.faults out_now.faults out.last_failed out_now.last_failed
+    → Runs words input input_now out out_now result
+replays words s input input_now out out_now result replay is ran output whole source sink = record {
+  usage = (λ used. absurd (ran used), λ no. absurd (no replay));
+  untouched = λ used. absurd (ran used);
+  output = λ _. told_agrees input.bytes s input input_now out out_now result is output;
+  whole = whole;
+  source = source;
+  sink = sink;
+  in_step = λ _. always input.bytes (λ script. StaysInStep (script_events script)) (λ script. stays_in_step (script_events script) (script_lawful script));
+}

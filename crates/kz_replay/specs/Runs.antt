@@ -1,0 +1,36 @@
+-- What a run of the program does.
+use Rattle.std.specs.Prelude.{◌≡◌, ◌↔◌, ℕ, Bool, List, Option, String, IfSome}
+use Rattle.std.specs.Io.KnownBytes.{Appends, Consumes, IsAtEnd, Keeps}
+use Rattle.std.specs.declared.alloc.Global.{Global}
+use Rattle.kz_types.specs.declared.outside.Status.{Status}
+use Rattle.kz_types.specs.declared.outside.Status.TheVariants as status
+use Rattle.kz_spec_runs.specs.Endings.{Agrees, EndsAtFailure, IsReplay}
+use Rattle.kz_spec_runs.specs.InStep.{StaysInStep, script_events}
+
+-- What a source or a sink tells: the bytes that are left, or taken so far, where they are told; how often a call has failed; and
+-- whether the last call did.
+pub record Side : Type 0 where
+  pub bytes : Option (List ℕ)
+  pub faults : ℕ
+  pub last_failed : Bool
+
+abbrev pub side : {A : Type 0} → (A → Option (List ℕ)) → (A → ℕ) → (A → Bool) → A → Side
+side bytes faults last_failed a = record { bytes = bytes a; faults = faults a; last_failed = last_failed a }
+
+-- The program runs with these words, on a source and a sink that tell this before and this after, and ends with this status.
+pub record Runs (words : List (String Global)) (input input_now out out_now : Side) (result : Status) : Type 0 where
+  -- The words are refused exactly where they aren't the one word `replay`.
+  pub usage : (result ≡ status.Usage) ↔ (IsReplay words → ⊥)
+  -- Words that are refused leave the bytes of both sides as they were.
+  pub untouched : result ≡ status.Usage → Keeps input.bytes input_now.bytes × Keeps out.bytes out_now.bytes
+  -- The bytes that were taken of the script, the text that was written, and the status are those that the script asks for.
+  pub output : IsReplay words → IfSome input.bytes (λ script. (taken sent : List ℕ)
+      × Consumes input.bytes input_now.bytes taken × Appends out.bytes out_now.bytes sent × Agrees script taken sent result)
+  -- A run that is done has read its input to the end.
+  pub whole : result ≡ status.Done → IsAtEnd input_now.bytes
+  -- The run ends with `ReadFault` exactly where a read failed, and that was the last read.
+  pub source : EndsAtFailure status.ReadFault result input.faults input_now.faults input.last_failed input_now.last_failed
+  -- The run ends with `WriteFault` exactly where a write failed, or took nothing, and that was the last write.
+  pub sink : EndsAtFailure status.WriteFault result out.faults out_now.faults out.last_failed out_now.last_failed
+  -- After each turn of the script that comes to rest in dual write, the tree is in step with the log.
+  pub in_step : IsReplay words → IfSome input.bytes (λ script. StaysInStep (script_events script))

@@ -1,7 +1,0 @@
-use Rattle.std.proofs.Common.{◌≡◌, map, take}
-use Rattle.serde_json.specs.View.{view}
-use Rattle.kz_spec_lines.specs.WrittenRecords.{entity_data}
-use Rattle.kz_script.proofs.users.entity_values.Given as goal
-
-abbrev pub invariant-loop-part : goal.invariant-loop-part
-invariant-loop-part l = map view l.values.items ≡ map entity_data (take l.part-index l.parts)

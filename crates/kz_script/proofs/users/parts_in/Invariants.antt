@@ -1,9 +1,0 @@
-use Rattle.std.proofs.Common.{◌≡◌, ◌++◌, drop}
-use Rattle.std.specs.Prelude.{option_map}
-use Rattle.serde_json.specs.View.{items_view}
-use Rattle.kz_spec_lines.specs.Fields.{all_of}
-use Rattle.kz_spec_lines.specs.UserRecords.{entity_of}
-use Rattle.kz_script.proofs.users.parts_in.Given as goal
-
-abbrev pub invariant-loop-value : goal.invariant-loop-value
-invariant-loop-value l = all_of entity_of (items_view l.values) ≡ option_map (λ more. l.parts.items ++ more) (all_of entity_of (items_view (drop l.value-index l.values)))

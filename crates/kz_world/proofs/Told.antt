@@ -1,0 +1,285 @@
+-- A fault that is told is one: of a disk that failed or was down, of a full file, or of memory.
+use Rattle.std.proofs.Common.{◌≡◌, ℕ, ℤ, Bool, true, false, Option, Some, None, Result, Ok, Err, refl, sym, ap, inl, inr, cond, subst}
+use Rattle.std.specs.Prelude.{IfOk, option_map}
+use Rattle.kz_types.specs.declared.fault.TreeFault.{TreeFault}
+use Rattle.kz_types.specs.declared.fault.TreeFault.TheVariants as tree_fault
+use Rattle.kz_types.specs.declared.fault.LogFault.{LogFault}
+use Rattle.kz_types.specs.declared.fault.LogFault.TheVariants as log_fault
+use Rattle.kz_types.specs.declared.machine.Reply.{Reply}
+use Rattle.kz_types.specs.declared.machine.Reply.TheVariants as reply
+use Rattle.kz_types.specs.declared.machine.Event.{Event}
+use Rattle.kz_types.specs.declared.machine.Event.TheVariants as event
+use Rattle.kz_types.specs.declared.machine.Answer.{Answer}
+use Rattle.kz_types.specs.declared.machine.Answer.TheVariants as answer
+use Rattle.kz_types.specs.declared.move_fault.MoveFault.{MoveFault}
+use Rattle.kz_spec_stores.specs.Tree.{Tree, multi, begin_session, end_session}
+use Rattle.kz_spec_stores.specs.Log.{Log, append, elect, begun_of, image_of}
+use Rattle.kz_spec_stores.specs.Requests.{Disk, StoreAnswer, Done, Multi, BeginSession, EndSession, Append, IsTaken, ChangesDisk, ReadsDisk, answer_of_tree_fault, answer_of_log_fault}
+use Rattle.kz_spec_machine.specs.Driver.{Shared, Driver, Request, nothing, read_log, list_brokers, look_up, read_page, write, add}
+use Rattle.kz_spec_machine.specs.Machine.{World, running_refusal, leader_refusal, client_refusal, driver_of, election_records, registration, ends}
+use Rattle.kz_spec_machine.specs.Failures.{is_tree_failure, is_log_failure, is_failed_step, is_failure, IsLeft}
+use Rattle.kz_driver.specs.declared.fault.StepFault.{StepFault}
+use Rattle.kz_driver.specs.declared.fault.StepFault.TheVariants as step_fault
+use Rattle.kz_driver.specs.Disks.{Disks, Files, OnTreeFault, OnLogFault, IsTreeChange, IsLogChange, answer_of_made, AsksNothing, RequestDisks}
+use Rattle.kz_log.specs.Requests.{IsRefusal as IsLogRefusal}
+use Rattle.kz_tree.specs.Requests.{IsRefusal as IsTreeRefusal}
+use Rattle.kz_session.specs.declared.sessions.SessionFault.{SessionFault}
+use Rattle.kz_session.specs.declared.sessions.SessionFault.TheVariants as session_fault
+use Rattle.kz_session.specs.Sessions.{answer_of_session_fault, IsRefusal as IsSessionRefusal}
+use Rattle.kz_world.specs.Faults.{result_of_reply, result_of_answer, reply_of_fault, answer_of_fault, after_log_fault, after_tree_fault, after_session_fault}
+use Rattle.kz_world.specs.Disks.{UnlessRefused, TurnEventDisks, ReadsAndChangesLog, ResultDisks}
+use Rattle.kz_world.specs.Refusals.{records_refusal}
+
+-- ---- replies and answers that tell a fault
+
+-- a fault that is told as one, by a reply and by an answer
+pub record IsTold (f : StepFault) : Type 0 where
+  pub reply : result_of_reply (reply_of_fault f) ≡ Err f
+  pub failed_step : is_failed_step (reply_of_fault f) ≡ true
+  pub answer : result_of_answer (answer_of_fault f) ≡ Err f
+  pub failure : is_failure (answer_of_fault f) ≡ true
+
+no_memory_told : IsTold step_fault.NoMemory
+no_memory_told = record { reply = refl; failed_step = refl; answer = refl; failure = refl }
+
+tree_told : (holds : StoreAnswer → Type 0) (f : StepFault) → OnTreeFault holds f → IsTold f
+tree_told holds (step_fault.Tree tree_fault.Device) h = record { reply = refl; failed_step = refl; answer = refl; failure = refl }
+tree_told holds (step_fault.Tree tree_fault.Down) h = record { reply = refl; failed_step = refl; answer = refl; failure = refl }
+tree_told holds (step_fault.Tree (tree_fault.Full n)) h = record { reply = refl; failed_step = refl; answer = refl; failure = refl }
+tree_told holds (step_fault.Tree (tree_fault.Refused index code)) h = absurd h.0
+tree_told holds (step_fault.Tree (tree_fault.Limit index number)) h = absurd h.0
+tree_told holds (step_fault.Tree tree_fault.NoMemory) h = absurd h.0
+tree_told holds (step_fault.Log f) h = absurd h
+tree_told holds step_fault.NoMemory h = no_memory_told
+
+log_told : (holds : StoreAnswer → Type 0) (f : StepFault) → OnLogFault holds f → IsTold f
+log_told holds (step_fault.Log log_fault.Failed) h = record { reply = refl; failed_step = refl; answer = refl; failure = refl }
+log_told holds (step_fault.Log log_fault.Down) h = record { reply = refl; failed_step = refl; answer = refl; failure = refl }
+log_told holds (step_fault.Log (log_fault.Full n)) h = record { reply = refl; failed_step = refl; answer = refl; failure = refl }
+log_told holds (step_fault.Log (log_fault.Stale epoch)) h = absurd h.0
+log_told holds (step_fault.Log (log_fault.Limit number)) h = absurd h.0
+log_told holds (step_fault.Log log_fault.NoMemory) h = absurd h.0
+log_told holds (step_fault.Tree f) h = absurd h
+log_told holds step_fault.NoMemory h = no_memory_told
+
+nothing_told : (A : Type 0) (f : StepFault) (old new : Disks) → AsksNothing {A = A} (Err f) old new → IsTold f
+nothing_told A (step_fault.Tree f) old new h = absurd h
+nothing_told A (step_fault.Log f) old new h = absurd h
+nothing_told A step_fault.NoMemory old new h = no_memory_told
+
+tree_read_told : (f : StepFault) (old new : Disk) → OnTreeFault (λ a. ReadsDisk a old new) f → IsTold f
+tree_read_told f old new h = tree_told (λ a. ReadsDisk a old new) f h
+
+log_read_told : (f : StepFault) (old new : Disk) → OnLogFault (λ a. ReadsDisk a old new) f → IsTold f
+log_read_told f old new h = log_told (λ a. ReadsDisk a old new) f h
+
+tree_change_told : {B E : Type 0} (made : Result B E) (file : Option ℕ) (f : StepFault) (old new : Disk) → OnTreeFault (λ a. ChangesDisk (IsTaken made) file a old new) f → IsTold f
+tree_change_told made file f old new h = tree_told (λ a. ChangesDisk (IsTaken made) file a old new) f h
+
+log_change_told : {B E : Type 0} (made : Result B E) (file : Option ℕ) (f : StepFault) (old new : Disk) → OnLogFault (λ a. ChangesDisk (IsTaken made) file a old new) f → IsTold f
+log_change_told made file f old new h = log_told (λ a. ChangesDisk (IsTaken made) file a old new) f h
+
+err_or : {A : Type 0} → StepFault → Result A StepFault → StepFault
+err_or f (Ok a) = f
+err_or f (Err g) = g
+
+-- the fault of a request of a driver
+pub request_told : (A : Type 0) (s : Shared) (epoch now position : ℤ) (files : Files) (r : Request) (f : StepFault) (old new : Disks) → RequestDisks {A = A} s epoch now position files r (Err f) old new → IsTold f
+unfolding err_or
+request_told A s epoch now position files nothing f old new h = nothing_told A f old new h
+request_told A s epoch now position files read_log f old new h = log_read_told f old.log new.log h.0
+request_told A s epoch now position files list_brokers f old new h = tree_read_told f old.tree new.tree h.0
+request_told A s epoch now position files look_up f old new h = tree_read_told f old.tree new.tree h.0
+request_told A s epoch now position files (read_page after) f old new h = tree_read_told f old.tree new.tree h.0
+request_told A s epoch now position files (write ops) f old new (inl h) = tree_change_told (multi s.tree ops) (files.tree (Multi ops)) f old.tree new.tree h.0
+request_told A s epoch now position files (write ops) f old new (inr h) =
+    subst IsTold (sym (ap (err_or f) h.told)) (record { reply = refl; failed_step = refl; answer = refl; failure = refl })
+request_told A s epoch now position files (add records) f old new h = log_change_told (append s.log epoch now records) (files.log (Append epoch now records)) f old.log new.log h.0
+
+unless_told : (o : Option Answer) (asked refused : Type 0) (f : StepFault) → (asked → IsTold f) → (refused → IsTold f) → UnlessRefused o asked refused → IsTold f
+unless_told None asked refused f a b h = a h
+unless_told (Some r) asked refused f a b h = b h
+
+turn_told : (w : World) (now : ℤ) (o : Option Driver) (f : StepFault) (old new : Disks) → TurnEventDisks w now o (Err f) old new → IsTold f
+turn_told w now None f old new h = nothing_told Answer f old new h
+turn_told w now (Some d) f old new h = log_read_told f old.log new.log h.0
+
+-- the fault of an event that changes the log
+log_changed_told : {B E : Type 0} (made : Result B E) (f : StepFault) (old new : Disks) → ReadsAndChangesLog made (Err f) old new → IsTold f
+log_changed_told made f old new h = log_change_told made h.0 f old.log new.log h.1.0
+
+-- the fault of an event
+pub event_told : (w : World) (e : Event) (files : Files) (f : StepFault) (old new : Disks) → ResultDisks w e files (Err f) old new → IsTold f
+event_told w (event.Quorum ids) files f old new h = nothing_told Answer f old new h
+event_told w (event.Start id) files f old new h = nothing_told Answer f old new h
+event_told w (event.Elect id now) files f old new h =
+    unless_told (running_refusal w id) _ _ f (log_changed_told (elect w.shared.log now (election_records w.shared.log)) f old new) (nothing_told Answer f old new) h
+event_told w (event.Turn id now) files f old new h = unless_told (running_refusal w id) _ _ f (turn_told w now (driver_of id w.drivers) f old new) (nothing_told Answer f old new) h
+event_told w (event.Change id records now) files f old new h =
+    unless_told (leader_refusal w id) _ _ f (unless_told (records_refusal w.shared.log.epoch (image_of w.shared.log) records) _ _ f (log_changed_told (append w.shared.log w.shared.log.epoch now records) f old new) (λ k. log_read_told f old.log new.log k.0)) (nothing_told Answer f old new) h
+event_told w (event.Register id broker migrating now) files f old new h =
+    unless_told (leader_refusal w id) _ _ f (unless_told (option_map (λ offset. answer.InTransaction offset) (begun_of w.shared.log)) _ _ f (log_changed_told (append w.shared.log w.shared.log.epoch now (registration broker migrating)) f old new) (λ k. log_read_told f old.log new.log k.0))
+    (nothing_told Answer f old new) h
+event_told w event.Check files f old new h = log_read_told f old.log new.log h.0
+event_told w (event.ZkOpen session) files f old new h = tree_change_told (begin_session w.shared.tree session) (files.tree (BeginSession session)) f old.tree new.tree h.0
+event_told w (event.ZkExpire session) files f old new h = tree_change_told (end_session w.shared.tree session) (files.tree (EndSession session)) f old.tree new.tree h.0
+event_told w (event.Zk ops) files f old new h =
+    unless_told (client_refusal w.shared.tree ops) _ _ f (λ k. tree_change_told (multi w.shared.tree ops) (files.tree (Multi ops)) f old.tree new.tree k.0) (nothing_told Answer f old new) h
+
+-- an event that answers a fault leaves the world as it was
+pub left_by : (w : World) (e : Event) (f : StepFault) (new : World) → new ≡ w → IsLeft w e (answer_of_fault f) new
+left_by w (event.Quorum ids) f new h = h
+left_by w (event.Start id) f new h = h
+left_by w (event.Elect id now) f new h = h
+left_by w (event.Turn id now) (step_fault.Tree f) new h = h
+left_by w (event.Turn id now) (step_fault.Log f) new h = h
+left_by w (event.Turn id now) step_fault.NoMemory new h = h
+left_by w (event.Change id records now) f new h = h
+left_by w (event.Register id broker migrating now) f new h = h
+left_by w event.Check f new h = h
+left_by w (event.ZkOpen session) f new h = h
+left_by w (event.ZkExpire session) f new h = h
+left_by w (event.Zk ops) f new h = h
+
+-- ---- answers that tell of no failure
+
+tree_by : (b : Bool) (f : TreeFault) → b ≡ false → cond b (Err (step_fault.Tree f)) (Ok (reply.TreeFailed f)) ≡ Ok (reply.TreeFailed f)
+tree_by true f h = absurd (cc)
+tree_by false f h = refl
+
+log_by : (b : Bool) (f : LogFault) → b ≡ false → cond b (Err (step_fault.Log f)) (Ok (reply.LogFailed f)) ≡ Ok (reply.LogFailed f)
+log_by true f h = absurd (cc)
+log_by false f h = refl
+
+-- a reply that tells of no failure is a result
+pub told_reply : (r : Reply) → is_failed_step r ≡ false → result_of_reply r ≡ Ok r
+told_reply reply.Idle h = refl
+told_reply (reply.WaitQuorum id) h = refl
+told_reply (reply.WaitBroker id) h = refl
+told_reply (reply.Moved s) h = refl
+told_reply reply.Looked h = refl
+told_reply (reply.Claimed number) h = refl
+told_reply (reply.Read rows) h = refl
+told_reply (reply.Appended offset) h = refl
+told_reply (reply.Wrote ops) h = refl
+told_reply (reply.Recorded offset) h = refl
+told_reply (reply.FencedEpoch epoch) h = refl
+told_reply (reply.FencedWrite claim) h = refl
+told_reply (reply.Stale epoch) h = refl
+told_reply (reply.Untranslatable path why) h = refl
+told_reply (reply.Limit path) h = refl
+told_reply reply.Lost h = refl
+told_reply reply.Expired h = refl
+told_reply (reply.TreeFailed f) h = tree_by (is_tree_failure f) f h
+told_reply (reply.LogFailed f) h = log_by (is_log_failure f) f h
+told_reply reply.NoMemory h = absurd (cc)
+
+-- a failure ends a turn
+pub goes_on_told : (r : Reply) → ends r ≡ false → is_failed_step r ≡ false
+goes_on_told reply.Idle h = refl
+goes_on_told (reply.WaitQuorum id) h = refl
+goes_on_told (reply.WaitBroker id) h = refl
+goes_on_told (reply.Moved s) h = refl
+goes_on_told reply.Looked h = refl
+goes_on_told (reply.Claimed number) h = refl
+goes_on_told (reply.Read rows) h = refl
+goes_on_told (reply.Appended offset) h = refl
+goes_on_told (reply.Wrote ops) h = refl
+goes_on_told (reply.Recorded offset) h = refl
+goes_on_told (reply.FencedEpoch epoch) h = refl
+goes_on_told (reply.FencedWrite claim) h = refl
+goes_on_told (reply.Stale epoch) h = refl
+goes_on_told (reply.Untranslatable path why) h = refl
+goes_on_told (reply.Limit path) h = refl
+goes_on_told reply.Lost h = refl
+goes_on_told reply.Expired h = refl
+goes_on_told (reply.TreeFailed f) h = absurd (cc)
+goes_on_told (reply.LogFailed f) h = absurd (cc)
+goes_on_told reply.NoMemory h = absurd (cc)
+
+answer_tree_by : (b : Bool) (f : TreeFault) → b ≡ false → cond b (Err (step_fault.Tree f)) (Ok (answer.TreeFailed f)) ≡ Ok (answer.TreeFailed f)
+answer_tree_by true f h = absurd (cc)
+answer_tree_by false f h = refl
+
+answer_log_by : (b : Bool) (f : LogFault) → b ≡ false → cond b (Err (step_fault.Log f)) (Ok (answer.LogFailed f)) ≡ Ok (answer.LogFailed f)
+answer_log_by true f h = absurd (cc)
+answer_log_by false f h = refl
+
+-- an answer that tells of no failure is a result
+pub told_answer : (a : Answer) → is_failure a ≡ false → result_of_answer a ≡ Ok a
+told_answer answer.Done h = refl
+told_answer (answer.DoneAt zxid) h = refl
+told_answer (answer.Elected epoch offset) h = refl
+told_answer (answer.Step r) h = refl
+told_answer (answer.Turn rs) h = refl
+told_answer (answer.Appended offset) h = refl
+told_answer answer.RolledBack h = refl
+told_answer (answer.Check v) h = refl
+told_answer (answer.Running id) h = refl
+told_answer answer.UnknownController h = refl
+told_answer answer.AlreadyRunning h = refl
+told_answer answer.NotRunning h = refl
+told_answer answer.NotLeader h = refl
+told_answer (answer.Stale epoch) h = refl
+told_answer (answer.InTransaction offset) h = refl
+told_answer answer.NotMigrated h = refl
+told_answer answer.Finalised h = refl
+told_answer (answer.NotDualWrite s) h = refl
+told_answer (answer.Unclosed path) h = refl
+told_answer (answer.Behind recorded end) h = refl
+told_answer answer.TooEarly h = refl
+told_answer (answer.BadRecord index why) h = refl
+told_answer (answer.Over number) h = refl
+told_answer answer.Known h = refl
+told_answer answer.Unknown h = refl
+told_answer (answer.Reserved path) h = refl
+told_answer (answer.KraftHolds path) h = refl
+told_answer (answer.Refused index code) h = refl
+told_answer (answer.OverOp index number) h = refl
+told_answer (answer.TreeFailed f) h = answer_tree_by (is_tree_failure f) f h
+told_answer (answer.LogFailed f) h = answer_log_by (is_log_failure f) f h
+told_answer answer.NoMemory h = absurd (cc)
+
+-- ---- where a store doesn't do what is asked of it
+
+-- what the log's answer says of its disk
+pub log_disk : (made : Result Log LogFault) (f : LogFault) (file : Option ℕ) (old new : Disk) → IsLogRefusal made f → ChangesDisk (IsTaken made) file (answer_of_log_fault f) old new → IsLogChange made file (after_log_fault f) old new
+log_disk made (log_fault.Stale epoch) file old new is h = subst (λ (x : Result Log LogFault). ChangesDisk (IsTaken made) file (answer_of_made x) old new) (sym is) h
+log_disk made (log_fault.Limit number) file old new is h = subst (λ (x : Result Log LogFault). ChangesDisk (IsTaken made) file (answer_of_made x) old new) (sym is) h
+log_disk made log_fault.Failed file old new is h = (tt, h)
+log_disk made log_fault.NoMemory file old new is h = h
+log_disk made log_fault.Down file old new is h = (tt, h)
+log_disk made (log_fault.Full n) file old new is h = (tt, h)
+
+-- what the tree's answer says of its disk
+pub tree_disk : (made : Result Tree TreeFault) (f : TreeFault) (file : Option ℕ) (old new : Disk) → IsTreeRefusal made f → ChangesDisk (IsTaken made) file (answer_of_tree_fault f) old new → IsTreeChange made file (after_tree_fault f) old new
+tree_disk made (tree_fault.Refused index code) file old new is h = subst (λ (x : Result Tree TreeFault). ChangesDisk (IsTaken made) file (answer_of_made x) old new) (sym is) h
+tree_disk made (tree_fault.Limit index number) file old new is h = subst (λ (x : Result Tree TreeFault). ChangesDisk (IsTaken made) file (answer_of_made x) old new) (sym is) h
+tree_disk made tree_fault.Device file old new is h = (tt, h)
+tree_disk made tree_fault.NoMemory file old new is h = h
+tree_disk made tree_fault.Down file old new is h = (tt, h)
+tree_disk made (tree_fault.Full n) file old new is h = (tt, h)
+
+-- the same of a session
+pub session_disk : (made : Result Tree MoveFault) (f : SessionFault) (file : Option ℕ) (old new : Disk) → IsSessionRefusal made f → ChangesDisk (IsTaken made) file (answer_of_session_fault f) old new → IsTreeChange made file (after_session_fault f) old new
+session_disk made session_fault.Known file old new is h = subst (λ (x : Result Tree MoveFault). ChangesDisk (IsTaken made) file (answer_of_made x) old new) (sym is) h
+session_disk made session_fault.Unknown file old new is h = subst (λ (x : Result Tree MoveFault). ChangesDisk (IsTaken made) file (answer_of_made x) old new) (sym is) h
+session_disk made session_fault.NoMemory file old new is h = h
+session_disk made session_fault.Device file old new is h = (tt, h)
+session_disk made session_fault.Down file old new is h = (tt, h)
+session_disk made (session_fault.Full n) file old new is h = (tt, h)
+session_disk made (session_fault.Limit number) file old new is h = subst (λ (x : Result Tree MoveFault). ChangesDisk (IsTaken made) file (answer_of_made x) old new) (sym is) h
+
+-- a request that is done
+pub changed : {B E : Type 0} (made : Result B E) (new : B) (file : Option ℕ) (old later : Disk) → made ≡ Ok new → ChangesDisk (IsTaken made) file Done old later → ChangesDisk (IsTaken made) file (answer_of_made made) old later
+changed {B = B} {E = E} made new file old later is h = subst (λ (x : Result B E). ChangesDisk (IsTaken made) file (answer_of_made x) old later) (sym is) h
+
+-- what the log refuses
+pub log_refuses : (made : Result Log LogFault) (f : LogFault) (holds : Answer → Type 0) → IsLogRefusal made f → ((epoch : ℤ) → made ≡ Err (log_fault.Stale epoch) → holds (answer.Stale epoch)) → ((number : ℕ) → made ≡ Err (log_fault.Limit number) → holds (answer.Over number))
+    → IfOk (after_log_fault f) holds
+log_refuses made (log_fault.Stale epoch) holds is stale over = stale epoch is
+log_refuses made (log_fault.Limit number) holds is stale over = over number is
+log_refuses made log_fault.Failed holds is stale over = tt
+log_refuses made log_fault.NoMemory holds is stale over = tt
+log_refuses made log_fault.Down holds is stale over = tt
+log_refuses made (log_fault.Full n) holds is stale over = tt

@@ -1,0 +1,18 @@
+-- What the metadata refuses of a change.
+use Rattle.std.specs.Prelude.{nat_le, ℤ, List, length, Option}
+use Rattle.kz_types.specs.declared.limits.TheConstants.{MAX_CHANGE_RECORDS}
+use Rattle.kz_types.specs.declared.limits.Limit.TheVariants as limits
+use Rattle.kz_types.specs.Limits.{number_of_limit}
+use Rattle.kz_types.specs.declared.machine.Answer.{Answer}
+use Rattle.kz_types.specs.declared.machine.Answer.TheVariants as answer
+use Rattle.kz_types.specs.declared.record.MetaRecord.{MetaRecord}
+use Rattle.kz_spec_stores.specs.Image.{Image, all_applied, first_bad, is_migrated_state}
+use Rattle.kz_spec_znodes.specs.Rendering.{excess}
+use Rattle.kz_spec_machine.specs.Machine.{first_of, unless, over, over_excess, bad_record}
+
+-- why a leader's change of a log of this epoch, with this metadata, is refused, before the log's room is asked for
+abbrev pub records_refusal : ℤ → Image → List MetaRecord → Option Answer
+records_refusal epoch image records = first_of (unless (is_migrated_state image.state) answer.NotMigrated) (
+    first_of (unless (nat_le (length records) MAX_CHANGE_RECORDS) (over (number_of_limit limits.ChangeRecords))) (
+    first_of (bad_record (first_bad 0 records image)) (
+    over_excess (excess (all_applied epoch records image)))))
