@@ -3,7 +3,7 @@ ghost use Rattle.std.specs.Prelude.{◌≡◌, ◌+◌, ◌<◌, ◌≤◌, ◌+
 ghost use Rattle.std.specs.Bool.{OnFalse};
 ghost use Rattle.std.specs.Ordering.{int_eq};
 ghost use Rattle.std.specs.Int.{w8, w16, w32, w64};
-ghost use Rattle.kz_spec_values.specs.Batches.{number_at, signed_at, base_offset, stated_length, leader_epoch, magic, stated_sum, attributes, compression, is_control, last_delta, base_time, stated_count, sized, summed, summed_rest, is_short, values_of, batch_of, entry};
+ghost use Rattle.kz_spec_values.specs.Batches.{number_at, signed_at, base_offset, stated_length, leader_epoch, magic, stated_sum, attributes, compression, is_control, last_delta, base_time, stated_count, holds_whole_batch, bytes_under_sum, summed_rest, is_short, values_of, batch_of, entry};
 ghost use Rattle.kz_spec_values.specs.Forms.{items_at};
 ghost use Rattle.kz_batch.specs.Answers.{values_in, HasValues};
 
@@ -61,7 +61,7 @@ fn signed64(bytes: &[u8], at: usize) -> i64
 
 // Whether a stated length counts at least the header's rest and no more bytes than there are.
 fn is_sized(stated: i32, size: usize) -> bool
-    ensures { result ≡ sized stated size }
+    ensures { result ≡ holds_whole_batch stated size }
 {
     if stated < 0 {
         false
@@ -84,7 +84,7 @@ fn is_short(bytes: &[u8]) -> bool
 // The bytes that the sum is of.
 fn summed(bytes: &[u8]) -> &[u8]
     requires { 61 ≤ length bytes.now }
-    ensures { result.now ≡ summed bytes.now }
+    ensures { result.now ≡ bytes_under_sum bytes.now }
 {
     let (_, rest) = bytes.split_at(21);
     summed_part(rest, signed32(bytes, 8))

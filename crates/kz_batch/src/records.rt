@@ -3,7 +3,7 @@ ghost use Rattle.std.specs.Prelude.{◌≡◌, ◌==◌, ◌&&◌, length, optio
 ghost use Rattle.std.specs.Ordering.{int_eq};
 ghost use Rattle.kz_spec_values.specs.Forms.{items_at};
 ghost use Rattle.kz_spec_values.specs.Fields.{varint, varlong};
-ghost use Rattle.kz_spec_values.specs.Batches.{countable, no_attributes, measured_at, measured_or_null, measured, header, headers, content, entry, delta_of, value_of, is_numbered};
+ghost use Rattle.kz_spec_values.specs.Batches.{countable, no_attributes, measured_at, measured_or_null, bytes_with_length, header, headers, content, entry, delta_of, value_of, is_numbered};
 ghost use Rattle.kz_batch.specs.Answers.{Says, Finds};
 
 use kz_bytes::Reader;
@@ -68,7 +68,7 @@ fn read_measured_or_null<'a>(reader: &mut Reader<'a>) -> Result<Option<&'a [u8]>
 }
 
 fn read_measured<'a>(reader: &mut Reader<'a>) -> Result<&'a [u8], BatchFault>
-    ensures { Says (λ x. x.now) result reader.new (measured.read reader.old) }
+    ensures { Says (λ x. x.now) result reader.new (bytes_with_length.read reader.old) }
 {
     match read_measured_or_null(reader)? {
         Some(bytes) => Ok(bytes),

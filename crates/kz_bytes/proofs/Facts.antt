@@ -3,7 +3,7 @@ use Rattle.std.proofs.Common.{◌≡◌, ℕ, zero, suc, ◌+◌, ◌-◌, ◌*�
 use Rattle.std.proofs.lemmas.Bool.{le-ltb}
 use Rattle.std.specs.Int.{w32, to_be_bytes, cast_unsigned}
 use Rattle.std.specs.Prelude.{Some}
-use Rattle.kz_spec_values.specs.Fields.{groups_of, int_bytes, counted}
+use Rattle.kz_spec_values.specs.Fields.{groups_of, int_bytes, items_with_count}
 use Rattle.std.specs.Str.{is_utf8, IsUtf8}
 use Rattle.std.proofs.lemmas.Str.{IsUtf8-from_is_utf8}
 use Rattle.kz_bytes.specs.Groups.{limit}
@@ -44,5 +44,5 @@ pub int_bytes_length : (xs : List ℤ) → length (int_bytes xs) ≡ 4 * length 
 int_bytes_length [] = refl
 int_bytes_length (x ∷ xs) = let h = int_bytes_length xs in omega arith
 
-pub ints_written : (xs : List ℤ) → (counted 4).written (Some (int_bytes xs)) ≡ groups_of 9 (length xs + 1) ++ int_bytes xs
+pub ints_written : (xs : List ℤ) → (items_with_count 4).written (Some (int_bytes xs)) ≡ groups_of 9 (length xs + 1) ++ int_bytes xs
 ints_written xs = let n : length (int_bytes xs) / 4 + 1 ≡ length xs + 1 = omega (arith, int_bytes_length xs) in ap (λ (k : ℕ). groups_of 9 k ++ int_bytes xs) n

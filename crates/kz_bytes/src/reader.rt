@@ -2,7 +2,7 @@
 ghost use Rattle.std.specs.Prelude.{◌≡◌, ◌+◌, ◌*◌, ◌<◌, ◌≤◌, length, false, Some, option_map, IfOk, IfSome};
 ghost use Rattle.std.specs.Str.{IsUtf8};
 ghost use Rattle.std.specs.Int.{w8, w16, w32, w64};
-ghost use Rattle.kz_spec_values.specs.Fields.{start, Reads, front, uvarint, varint, varlong, signed, unsigned, id, counted, nullable_bytes, nullable_text, is_null, unzigzag};
+ghost use Rattle.kz_spec_values.specs.Fields.{start, Reads, front, uvarint, varint, varlong, signed_number, unsigned_number, id, items_with_count, nullable_bytes, nullable_text, is_null, unzigzag};
 
 use crate::groups::read_groups;
 use crate::text::text_fault;
@@ -109,7 +109,7 @@ impl<'a> Reader<'a> {
 
     /// A signed number of 8 bits.
     pub fn i8(&mut self) -> Result<i8, ByteFault>
-        ensures { Reads (λ x. x) self.old result self.new ((signed w8).read self.old) }
+        ensures { Reads (λ x. x) self.old result self.new ((signed_number w8).read self.old) }
     {
         let bytes = self.part(1)?;
         Ok(i8::from_be_bytes([bytes[0]]))
@@ -117,7 +117,7 @@ impl<'a> Reader<'a> {
 
     /// A signed number of 16 bits.
     pub fn i16(&mut self) -> Result<i16, ByteFault>
-        ensures { Reads (λ x. x) self.old result self.new ((signed w16).read self.old) }
+        ensures { Reads (λ x. x) self.old result self.new ((signed_number w16).read self.old) }
     {
         let bytes = self.part(2)?;
         Ok(i16::from_be_bytes([bytes[0], bytes[1]]))
@@ -125,7 +125,7 @@ impl<'a> Reader<'a> {
 
     /// An unsigned number of 16 bits.
     pub fn u16(&mut self) -> Result<u16, ByteFault>
-        ensures { Reads (λ x. x) self.old result self.new ((unsigned w16).read self.old) }
+        ensures { Reads (λ x. x) self.old result self.new ((unsigned_number w16).read self.old) }
     {
         let bytes = self.part(2)?;
         Ok(u16::from_be_bytes([bytes[0], bytes[1]]))
@@ -133,7 +133,7 @@ impl<'a> Reader<'a> {
 
     /// A signed number of 32 bits.
     pub fn i32(&mut self) -> Result<i32, ByteFault>
-        ensures { Reads (λ x. x) self.old result self.new ((signed w32).read self.old) }
+        ensures { Reads (λ x. x) self.old result self.new ((signed_number w32).read self.old) }
     {
         let bytes = self.part(4)?;
         Ok(i32::from_be_bytes([bytes[0], bytes[1], bytes[2], bytes[3]]))
@@ -141,7 +141,7 @@ impl<'a> Reader<'a> {
 
     /// A signed number of 64 bits.
     pub fn i64(&mut self) -> Result<i64, ByteFault>
-        ensures { Reads (λ x. x) self.old result self.new ((signed w64).read self.old) }
+        ensures { Reads (λ x. x) self.old result self.new ((signed_number w64).read self.old) }
     {
         let bytes = self.part(8)?;
         Ok(i64::from_be_bytes([
@@ -162,7 +162,7 @@ impl<'a> Reader<'a> {
     // A count and so many items of this size, or null.
     fn counted(&mut self, size: usize) -> Result<Option<&'a [u8]>, ByteFault>
         requires { size ≤ 4 }
-        ensures { Reads (option_map (λ x. x.now)) self.old result self.new ((counted size).read self.old) }
+        ensures { Reads (option_map (λ x. x.now)) self.old result self.new ((items_with_count size).read self.old) }
     {
         let at = self.at;
         let left = self.left;
@@ -216,7 +216,7 @@ impl<'a> Reader<'a> {
 
     /// Numbers of 32 bits, four bytes each, or `None`.
     pub fn ints(&mut self) -> Result<Option<&'a [u8]>, ByteFault>
-        ensures { Reads (option_map (λ x. x.now)) self.old result self.new ((counted 4).read self.old) }
+        ensures { Reads (option_map (λ x. x.now)) self.old result self.new ((items_with_count 4).read self.old) }
     {
         self.counted(4)
     }

@@ -1,7 +1,7 @@
 //! Fields at the end of bytes.
 ghost use Rattle.std.specs.Prelude.{◌≡◌, ◌+◌, ◌*◌, ◌<◌, ◌≤◌, ◌^◌, ◌++◌, List, ℕ, length, Some, IfSome, option_map, OnOk, OnErr};
 ghost use Rattle.std.specs.Int.{w8, w16, w32, w64};
-ghost use Rattle.kz_spec_values.specs.Fields.{Writes, groups_of, uvarint, varint, varlong, signed, unsigned, id, counted, nullable_bytes, nullable_text, int_bytes, zigzag};
+ghost use Rattle.kz_spec_values.specs.Fields.{Writes, groups_of, uvarint, varint, varlong, signed_number, unsigned_number, id, items_with_count, nullable_bytes, nullable_text, int_bytes, zigzag};
 ghost use Rattle.kz_bytes.specs.Groups.{limit};
 
 use kz_types::{Id, NoMemory};
@@ -99,35 +99,35 @@ fn zigzag(v: i64) -> u64
 
 /// Appends a signed number of 8 bits.
 pub fn put_i8(out: &mut Vec<u8>, v: i8) -> Result<(), NoMemory>
-    ensures { Writes out.old.items result out.new.items ((signed w8).written v) }
+    ensures { Writes out.old.items result out.new.items ((signed_number w8).written v) }
 {
     put_all(out, &v.to_be_bytes())
 }
 
 /// Appends a signed number of 16 bits.
 pub fn put_i16(out: &mut Vec<u8>, v: i16) -> Result<(), NoMemory>
-    ensures { Writes out.old.items result out.new.items ((signed w16).written v) }
+    ensures { Writes out.old.items result out.new.items ((signed_number w16).written v) }
 {
     put_all(out, &v.to_be_bytes())
 }
 
 /// Appends an unsigned number of 16 bits.
 pub fn put_u16(out: &mut Vec<u8>, v: u16) -> Result<(), NoMemory>
-    ensures { Writes out.old.items result out.new.items ((unsigned w16).written v) }
+    ensures { Writes out.old.items result out.new.items ((unsigned_number w16).written v) }
 {
     put_all(out, &v.to_be_bytes())
 }
 
 /// Appends a signed number of 32 bits.
 pub fn put_i32(out: &mut Vec<u8>, v: i32) -> Result<(), NoMemory>
-    ensures { Writes out.old.items result out.new.items ((signed w32).written v) }
+    ensures { Writes out.old.items result out.new.items ((signed_number w32).written v) }
 {
     put_all(out, &v.to_be_bytes())
 }
 
 /// Appends a signed number of 64 bits.
 pub fn put_i64(out: &mut Vec<u8>, v: i64) -> Result<(), NoMemory>
-    ensures { Writes out.old.items result out.new.items ((signed w64).written v) }
+    ensures { Writes out.old.items result out.new.items ((signed_number w64).written v) }
 {
     put_all(out, &v.to_be_bytes())
 }
@@ -188,7 +188,7 @@ fn push_ints(out: &mut Vec<u8>, v: &[i32]) -> Result<(), NoMemory>
 /// Appends a list of numbers of 32 bits, or a null.
 pub fn put_ints(out: &mut Vec<u8>, v: Option<&[i32]>) -> Result<(), NoMemory>
     requires { IfSome v (λ numbers. length numbers.now + 1 < 2 ^ 32) }
-    ensures { Writes out.old.items result out.new.items ((counted 4).written (option_map (λ x. int_bytes x.now) v.entry)) }
+    ensures { Writes out.old.items result out.new.items ((items_with_count 4).written (option_map (λ x. int_bytes x.now) v.entry)) }
 {
     match v {
         Some(numbers) => {

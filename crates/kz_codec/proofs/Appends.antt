@@ -2,7 +2,7 @@
 use Rattle.std.proofs.Common.{◌≡◌, ℕ, zero, suc, ◌+◌, ◌*◌, ◌/◌, ◌%◌, ◌^◌, ◌<◌, ℤ, ltb, Bool, true, false, cond, List, [], ◌∷◌, ◌++◌, length, get_or, refl, sym, ap, ◌∙◌, append_assoc, arith}
 use Rattle.std.proofs.lemmas.List.{length-append, append-nil}
 use Rattle.std.specs.Prelude.{Some}
-use Rattle.kz_spec_values.specs.Fields.{groups_of, int_bytes, counted}
+use Rattle.kz_spec_values.specs.Fields.{groups_of, int_bytes, items_with_count}
 use Rattle.kz_spec_values.specs.Forms.{items_written, AllFit, Tag, tags_written}
 
 pub seq : (old a mid b new : List ℕ) → mid ≡ old ++ a → new ≡ mid ++ b → new ≡ old ++ (a ++ b)
@@ -33,13 +33,13 @@ int_bytes_length : (xs : List ℤ) → length (int_bytes xs) ≡ 4 * length xs
 int_bytes_length [] = refl
 int_bytes_length (x ∷ xs) = let h = int_bytes_length xs in omega arith
 
-pub ints_length : (xs : List ℤ) → length ((counted 4).written (Some (int_bytes xs))) ≡ length (groups_of 9 (length xs + 1)) + 4 * length xs
+pub ints_length : (xs : List ℤ) → length ((items_with_count 4).written (Some (int_bytes xs))) ≡ length (groups_of 9 (length xs + 1)) + 4 * length xs
 ints_length xs =
     let size = int_bytes_length xs in
     let count : length (int_bytes xs) / 4 + 1 ≡ length xs + 1 = omega arith in
     length-append (groups_of 9 (length (int_bytes xs) / 4 + 1)) (int_bytes xs) ∙ ap (λ (n : ℕ). length (groups_of 9 n) + length (int_bytes xs)) count ∙ ap (λ (n : ℕ). length (groups_of 9 (length xs + 1)) + n) size
 
-pub ints_few : (xs : List ℤ) → length ((counted 4).written (Some (int_bytes xs))) < 2 ^ 32 → (length xs + 1 < 2 ^ 32) × (4 * length xs < 2 ^ 32)
+pub ints_few : (xs : List ℤ) → length ((items_with_count 4).written (Some (int_bytes xs))) < 2 ^ 32 → (length xs + 1 < 2 ^ 32) × (4 * length xs < 2 ^ 32)
 ints_few xs lt =
     let e = ints_length xs in
     let some = groups_some 9 (length xs + 1) in

@@ -2,7 +2,7 @@
 ghost use Rattle.std.specs.Prelude.{◌≡◌, ◌+◌, length, IfOk, Ok, option_map};
 ghost use Rattle.std.specs.Str.{IsUtf8};
 ghost use Rattle.kz_spec_values.specs.Fields.{uvarint, nullable_text, ints_of};
-ghost use Rattle.kz_spec_values.specs.Forms.{lifted, flag};
+ghost use Rattle.kz_spec_values.specs.Forms.{with_field_fault, flag};
 ghost use Rattle.kz_spec_values.specs.Records.{Gives, int8, int16, uint16, int32, int64, uuid, string, nullable_string, bytes, ints};
 
 use kz_bytes::{ByteFault, Reader};
@@ -23,7 +23,7 @@ macro_rules! lifted {
 
 /// An unsigned number of variable size.
 pub fn uvarint(reader: &mut Reader) -> Result<u32, CodecFault>
-    ensures { Gives (λ x. (x, reader.new)) result (lifted (uvarint.read reader.old)) }
+    ensures { Gives (λ x. (x, reader.new)) result (with_field_fault (uvarint.read reader.old)) }
 {
     lifted!(reader.uvarint())
 }

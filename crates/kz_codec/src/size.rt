@@ -2,7 +2,7 @@
 ghost use Rattle.std.specs.Prelude.{◌≡◌, ◌+◌, ◌*◌, ◌<◌, ◌≤◌, ◌^◌, ◌++◌, length, Some};
 ghost use Rattle.kz_spec_values.specs.Fields.{uvarint, groups_of};
 ghost use Rattle.kz_spec_values.specs.Forms.{section, nothing, items_written, list_of, nullable_ints, tags_written};
-ghost use Rattle.kz_spec_values.specs.Records.{uuid, no_fields, written, head_written, string, nullable_string, bytes, ints, endpoint, feature, register_broker, topic, partition, config, partition_change, partition_tags, change_tags, leader_tag, stated_recovery_tag, ints_tag, user_scram_credential, quota_entity, quota_entities, client_quota, producer_ids, access_control_entry, id_alone, state_alone, name_and_mechanism, tagged_text};
+ghost use Rattle.kz_spec_values.specs.Records.{uuid, no_fields, bytes_of_record, head_written, string, nullable_string, bytes, ints, endpoint, feature, register_broker, topic, partition, config, partition_change, partition_tags, change_tags, leader_tag, stated_recovery_tag, ints_tag, user_scram_credential, quota_entity, quota_entities, client_quota, producer_ids, access_control_entry, id_alone, state_alone, name_and_mechanism, tagged_text};
 
 use crate::write::change_tag_count;
 use kz_bytes::uvarint_size;
@@ -327,7 +327,7 @@ fn head_size(key: u32, version: u32) -> u128
 
 /// How many bytes `write_value` would write for a record, whether or not its lengths fit their fields.
 pub fn value_size(r: &MetaRecord) -> u128
-    ensures { result ≡ length (written r.now) }
+    ensures { result ≡ length (bytes_of_record r.now) }
 {
     match r {
         MetaRecord::RegisterBroker(record) => head_size(0, 2) + register_broker_size(record),

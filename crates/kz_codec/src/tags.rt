@@ -1,8 +1,8 @@
 //! Tagged sections.
 ghost use Rattle.std.specs.Prelude.{◌≡◌, ◌==◌, length, option_map, IfOk};
 ghost use Rattle.std.specs.Int.{w8, w32};
-ghost use Rattle.kz_spec_values.specs.Fields.{Reads, nullable_bytes, signed};
-ghost use Rattle.kz_spec_values.specs.Forms.{section, nothing, tag_at, tags_at, plain, text_content, filled, nullable_ints};
+ghost use Rattle.kz_spec_values.specs.Fields.{Reads, nullable_bytes, signed_number};
+ghost use Rattle.kz_spec_values.specs.Forms.{section, nothing, tag_at, tags_at, plain, text_content, tag_value, nullable_ints};
 ghost use Rattle.kz_spec_values.specs.Records.{Gives, tagged_text, text_tags, partition_tags, change_tags};
 ghost use Rattle.kz_codec.specs.Changes.{parts_of};
 
@@ -47,7 +47,7 @@ pub fn is_done(reader: &mut Reader) -> bool
 
 // A tag's field of 8 bits.
 fn int8_of(at: usize, field: &mut Reader) -> Result<i8, CodecFault>
-    ensures { Gives (λ x. x) result (filled (plain (signed w8)) at field.old) }
+    ensures { Gives (λ x. x) result (tag_value (plain (signed_number w8)) at field.old) }
 {
     match field.i8() {
         Ok(value) => {
@@ -65,7 +65,7 @@ fn int8_of(at: usize, field: &mut Reader) -> Result<i8, CodecFault>
 
 // A tag's field of 32 bits.
 fn int32_of(at: usize, field: &mut Reader) -> Result<i32, CodecFault>
-    ensures { Gives (λ x. x) result (filled (plain (signed w32)) at field.old) }
+    ensures { Gives (λ x. x) result (tag_value (plain (signed_number w32)) at field.old) }
 {
     match field.i32() {
         Ok(value) => {
@@ -87,7 +87,7 @@ fn ints_in(
     at: usize,
     field: &mut Reader,
 ) -> Result<Option<Sequence<i32>>, CodecFault>
-    ensures { Gives (λ x. x) result (filled (plain nullable_ints) at field.old) }
+    ensures { Gives (λ x. x) result (tag_value (plain nullable_ints) at field.old) }
 {
     match field.ints() {
         Ok(bytes) => {
@@ -116,7 +116,7 @@ fn unjudged<'a>(reader: &mut Reader<'a>) -> Result<Option<&'a [u8]>, ByteFault>
 
 // A tag's text, which is judged once it fills the field.
 fn text_in(alloc: Global, at: usize, field: &mut Reader) -> Result<Option<Text>, CodecFault>
-    ensures { Gives (λ x. x) result (filled text_content at field.old) }
+    ensures { Gives (λ x. x) result (tag_value text_content at field.old) }
 {
     let mut taken = field.again();
     match unjudged(&mut taken) {

@@ -3,7 +3,7 @@ ghost use Rattle.std.specs.Prelude.{◌≡◌, ◌+◌, ◌<◌, ◌≤◌, ◌^
 ghost use Rattle.std.specs.Int.{w8, w32};
 ghost use Rattle.kz_spec_values.specs.Fields.{uvarint};
 ghost use Rattle.kz_spec_values.specs.Forms.{section, nothing, items_written, list_of, AllFit, flag, plain, nullable_ints, text_content, tags_written};
-ghost use Rattle.kz_spec_values.specs.Records.{written, head_written, string, nullable_string, bytes, ints, endpoint, feature, register_broker, topic, partition, config, partition_change, partition_tags, change_tags, leader_tag, stated_recovery_tag, ints_tag, user_scram_credential, quota_entity, quota_entities, client_quota, producer_ids, access_control_entry, id_alone, state_alone, name_and_mechanism, no_fields, tagged_text, IsShort, IsShortOrNull, IsFew, FieldFits, ShortEndpoint, ShortFeature, ShortEntity, ShortRegistration, ShortPartition, ShortConfig, ShortChange, ShortCredential, ShortQuota, ShortEntry, LengthsFit};
+ghost use Rattle.kz_spec_values.specs.Records.{bytes_of_record, head_written, string, nullable_string, bytes, ints, endpoint, feature, register_broker, topic, partition, config, partition_change, partition_tags, change_tags, leader_tag, stated_recovery_tag, ints_tag, user_scram_credential, quota_entity, quota_entities, client_quota, producer_ids, access_control_entry, id_alone, state_alone, name_and_mechanism, no_fields, tagged_text, IsShort, IsShortOrNull, IsFew, FieldFits, ShortEndpoint, ShortFeature, ShortEntity, ShortRegistration, ShortPartition, ShortConfig, ShortChange, ShortCredential, ShortQuota, ShortEntry, LengthsFit};
 
 use kz_bytes::{
     put_byte_field, put_i8, put_i16, put_i32, put_i64, put_id, put_ints, put_nullable_text,
@@ -443,7 +443,7 @@ fn put_head(out: &mut Vec<u8>, key: u32, version: u32) -> Result<(), NoMemory>
 
 fn put_record(out: &mut Vec<u8>, r: &MetaRecord) -> Result<(), NoMemory>
     requires { LengthsFit r.now }
-    ensures { OnOk result (out.new.items ≡ out.old.items ++ written r.now) }
+    ensures { OnOk result (out.new.items ≡ out.old.items ++ bytes_of_record r.now) }
 {
     match r {
         MetaRecord::RegisterBroker(record) => {
@@ -522,7 +522,7 @@ fn put_record(out: &mut Vec<u8>, r: &MetaRecord) -> Result<(), NoMemory>
 /// Each length and count has to fit its field.
 pub fn write_value(alloc: Global, r: &MetaRecord) -> Result<Vec<u8>, NoMemory>
     requires { LengthsFit r.now }
-    ensures { IfOk result (λ bytes. bytes.items ≡ written r.now) }
+    ensures { IfOk result (λ bytes. bytes.items ≡ bytes_of_record r.now) }
 {
     let mut out = Vec::new(alloc);
     put_record(&mut out, r)?;

@@ -12,7 +12,7 @@ use Rattle.kz_spec_stores.specs.Tree.{Tree, multi}
 use Rattle.kz_spec_stores.specs.Log.{Log, append}
 use Rattle.kz_spec_stores.specs.Requests.{Disk, Multi, Append, Either}
 use Rattle.kz_spec_znodes.specs.Translation.{Unreadable, translate}
-use Rattle.kz_spec_machine.specs.Driver.{Shared, Driver, epoch_or_zero, asked, made, step, begin_request, next_records, remaining_at, write_request, write_ops}
+use Rattle.kz_spec_machine.specs.Driver.{Shared, Driver, epoch_or_zero, request_at, shared_after, step, begin_request, next_records, remaining_at, write_request, write_ops}
 use Rattle.kz_driver.specs.declared.fault.StepFault.{StepFault}
 use Rattle.kz_driver.specs.declared.fault.StepFault.TheVariants as step_fault
 use Rattle.kz_driver.specs.Drivers.{asks_tree, shared_of}
@@ -23,10 +23,10 @@ use Rattle.kz_driver.proofs.Steps.{written_made}
 -- ---- a step by its request
 
 pub step_disks : (s : Shared) (now : ℤ) (d : Driver) (at : Stage) (files : Files) (r : Result Reply StepFault) (old new : Disks) → d.stage ≡ at
-    → RequestDisks s (epoch_or_zero d.epoch) now d.view.position files (asked s now d at) r old new → (takes_nothing at ≡ true → IsAnswered r)
+    → RequestDisks s (epoch_or_zero d.epoch) now d.view.position files (request_at s now d at) r old new → (takes_nothing at ≡ true → IsAnswered r)
     → StepDisks s now d files r old new
 step_disks s now d at files r old new is request answered = record {
-  request = subst (λ (x : Stage). RequestDisks s (epoch_or_zero d.epoch) now d.view.position files (asked s now d x) r old new) (sym is) request;
+  request = subst (λ (x : Stage). RequestDisks s (epoch_or_zero d.epoch) now d.view.position files (request_at s now d x) r old new) (sym is) request;
   answered = subst (λ (x : Stage). takes_nothing x ≡ true → IsAnswered r) (sym is) answered;
 }
 
@@ -34,10 +34,10 @@ step_disks s now d at files r old new is request answered = record {
 
 -- what is shared after a step
 pub stepped_shared : (s new : Shared) (running : List ℤ) (now : ℤ) (d : Driver) (at : Stage) → d.stage ≡ at
-    → made s (epoch_or_zero d.epoch) now (asked s now d at) ≡ new → new ≡ (step s running now d).shared
+    → shared_after s (epoch_or_zero d.epoch) now (request_at s now d at) ≡ new → new ≡ (step s running now d).shared
 unfolding step
 stepped_shared s new running now d at is shared =
-    sym (ap (λ (x : Stage). made s (epoch_or_zero d.epoch) now (asked s now d x)) is ∙ shared)
+    sym (ap (λ (x : Stage). shared_after s (epoch_or_zero d.epoch) now (request_at s now d x)) is ∙ shared)
 
 leaves : {A : Type 0} (r : Result A StepFault) (before after : Shared) (tree_left : Option Tree → Type 0) (log_left : Option Log → Type 0)
     → (r ≡ Err (step_fault.Tree tree_fault.Device) → Either before.tree after.tree tree_left) → (r ≡ Err (step_fault.Log log_fault.Failed) → Either before.log after.log log_left)
@@ -47,20 +47,20 @@ leaves (Err (step_fault.Log log_fault.Failed)) before after tree_left log_left t
 leaves r before after tree_left log_left tree log = tt
 
 -- a step that changes the tree
-pub tree_change_leaves : {A B E : Type 0} (r : Result A StepFault) (said : Result B E) (file : Option ℕ) (before after : Shared) (tree_left : Option Tree → Type 0) (log_left : Option Log → Type 0) (old new : Disk) → IsTreeChange said file r old new
+pub tree_change_leaves : {A B E : Type 0} (r : Result A StepFault) (said : Result B E) (grown : ℕ → ℕ) (before after : Shared) (tree_left : Option Tree → Type 0) (log_left : Option Log → Type 0) (old new : Disk) → IsTreeChange said grown r old new
     → (r ≡ Err (step_fault.Tree tree_fault.Device) → Either before.tree after.tree tree_left) → StepLeaves r before after tree_left log_left
-tree_change_leaves r said file before after tree_left log_left old new h tree =
-    leaves r before after tree_left log_left tree (λ e. absurd (subst (λ x. IsTreeChange said file x old new) e h))
+tree_change_leaves r said grown before after tree_left log_left old new h tree =
+    leaves r before after tree_left log_left tree (λ e. absurd (subst (λ x. IsTreeChange said grown x old new) e h))
 
 write_keeps_log : {A : Type 0} (r : Result A StepFault) (s : Shared) (epoch now position : ℤ) (files : Files) (held : Option ℤ) (ops : List Op) (target : Recorded) (old new : Disks)
     → RequestDisks s epoch now position files (write_request held ops target) r old new → r ≡ Err (step_fault.Log log_fault.Failed) → ⊥
 write_keeps_log r s epoch now position files None ops target old new h e = subst (λ x. AsksNothing x old new) e h
-write_keeps_log r s epoch now position files (Some claim) ops target old new (inl h) e = subst (λ x. IsTreeChange (multi s.tree (write_ops claim ops target)) (files.tree (Multi (write_ops claim ops target))) x old.tree new.tree) e h.0
+write_keeps_log r s epoch now position files (Some claim) ops target old new (inl h) e = subst (λ x. IsTreeChange (multi s.tree (write_ops claim ops target)) (files.tree s.tree (Multi (write_ops claim ops target))) x old.tree new.tree) e h.0
 write_keeps_log r s epoch now position files (Some claim) ops target old new (inr h) e = let told = h.told in absurd (cc)
 
 -- one that writes under its claim, where it has one
 pub write_leaves : (r : Result Reply StepFault) (t : Tree) (l : Log) (ids running : List ℤ) (now : ℤ) (d : Driver) (at : Stage) (target : Recorded) (files : Files) (old new : Disks) (tree_left : Option Tree → Type 0) (log_left : Option Log → Type 0) → d.stage ≡ at
-    → asked (shared_of t l ids) now d at ≡ write_request d.claim (remaining_at t l target.offset) target
+    → request_at (shared_of t l ids) now d at ≡ write_request d.claim (remaining_at t l target.offset) target
     → RequestDisks (shared_of t l ids) (epoch_or_zero d.epoch) now d.view.position files (write_request d.claim (remaining_at t l target.offset) target) r old new
     → (r ≡ Err (step_fault.Tree tree_fault.Device) → Either t (tree_after_write t d.claim (remaining_at t l target.offset) target) tree_left)
     → StepLeaves r (shared_of t l ids) (step (shared_of t l ids) running now d).shared tree_left log_left
@@ -69,7 +69,7 @@ write_leaves r t l ids running now d at target files old new tree_left log_left 
     let rest = remaining_at t l target.offset in
     let epoch = epoch_or_zero d.epoch in
     let shared = stepped_shared s (shared_of (tree_after_write t d.claim rest target) l ids) running now d at is
-    (ap (made s epoch now) asks ∙ written_made t l ids epoch now d.claim rest target) in
+    (ap (shared_after s epoch now) asks ∙ written_made t l ids epoch now d.claim rest target) in
     leaves r s (step s running now d).shared tree_left log_left
     (subst (λ (x : Shared). r ≡ Err (step_fault.Tree tree_fault.Device) → Either t x.tree tree_left) shared stop)
     (λ e. absurd (write_keeps_log r s epoch now d.view.position files d.claim rest target old new disks e))
@@ -82,13 +82,13 @@ begin_keeps_tree r s epoch now position files (Err f) old new h e = subst (λ x.
 
 -- the same for a step without a request, or one that is of the log
 request_keeps_tree : {A : Type 0} (r : Result A StepFault) (s : Shared) (epoch now position : ℤ) (d : Driver) (at : Stage) (files : Files) (old new : Disks) → asks_tree at ≡ false
-    → RequestDisks s epoch now position files (asked s now d at) r old new → r ≡ Err (step_fault.Tree tree_fault.Device) → ⊥
+    → RequestDisks s epoch now position files (request_at s now d at) r old new → r ≡ Err (step_fault.Tree tree_fault.Device) → ⊥
 request_keeps_tree r s epoch now position d stage.Uninitialized files old new without h e = subst (λ x. AsksNothing x old new) e h
 request_keeps_tree r s epoch now position d stage.Inactive files old new without h e = subst (λ x. AsksNothing x old new) e h
 request_keeps_tree r s epoch now position d stage.WaitForControllerQuorum files old new without h e = subst (λ x. IsLogRead x old.log new.log) e h.0
 request_keeps_tree r s epoch now position d stage.WaitForBrokers files old new without h e = subst (λ x. IsLogRead x old.log new.log) e h.0
 request_keeps_tree r s epoch now position d (stage.BeginMigration rows) files old new without h e = begin_keeps_tree r s epoch now position files (translate rows) old new h e
-request_keeps_tree r s epoch now position d (stage.AppendRecords records) files old new without h e = subst (λ x. IsLogChange (append s.log epoch now (next_records records)) (files.log (Append epoch now (next_records records))) x old.log new.log) e h.0
+request_keeps_tree r s epoch now position d (stage.AppendRecords records) files old new without h e = subst (λ x. IsLogChange (append s.log epoch now (next_records records)) (files.log s.log (Append epoch now (next_records records))) x old.log new.log) e h.0
 request_keeps_tree r s epoch now position d stage.ReadLogForResync files old new without h e = subst (λ x. IsLogRead x old.log new.log) e h.0
 request_keeps_tree r s epoch now position d stage.KraftControllerToBrokerComm files old new without h e = subst (λ x. AsksNothing x old new) e h
 request_keeps_tree r s epoch now position d stage.DualWrite files old new without h e = subst (λ x. IsLogRead x old.log new.log) e h.0

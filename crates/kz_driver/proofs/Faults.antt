@@ -6,13 +6,13 @@ use Rattle.kz_types.specs.declared.tree.Row.{Row}
 use Rattle.kz_types.specs.declared.tree.Op.{Op}
 use Rattle.kz_types.specs.declared.fault.TreeFault.{TreeFault}
 use Rattle.kz_types.specs.declared.fault.TreeFault.TheVariants as fault
-use Rattle.kz_spec_stores.specs.Tree.{Tree, Refusal, code, limit, op_refusal, refused, after_op, after_ops, multi, with_zxid}
+use Rattle.kz_spec_stores.specs.Tree.{Tree, Refusal, code, limit, op_refusal, rows_unless_refused, after_op, after_ops, multi, with_zxid}
 
 abbrev index_of : {A : Type 0} → ℕ → Result A TreeFault → ℕ
 index_of d (Err (fault.Limit j n)) = j
 index_of d other = d
 
-here_or_later : (index len : ℕ) (r : Option Refusal) (rest : Result (List Row) TreeFault) (j n : ℕ) → (rest ≡ Err (fault.Limit j n) → j < index + suc len) → refused index r rest ≡ Err (fault.Limit j n) → j < index + suc len
+here_or_later : (index len : ℕ) (r : Option Refusal) (rest : Result (List Row) TreeFault) (j n : ℕ) → (rest ≡ Err (fault.Limit j n) → j < index + suc len) → rows_unless_refused index r rest ≡ Err (fault.Limit j n) → j < index + suc len
 here_or_later index len None rest j n later e = later e
 here_or_later index len (Some (code c)) rest j n later e = absurd (cc)
 here_or_later index len (Some (limit m)) rest j n later e =

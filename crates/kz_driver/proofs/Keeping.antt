@@ -18,7 +18,7 @@ use Rattle.kz_types.specs.declared.record.MetaRecord.{MetaRecord}
 use Rattle.kz_spec_values.specs.Control.{epoch_path, migration_path, read_epoch}
 use Rattle.kz_spec_stores.specs.Log.{Log, append}
 use Rattle.kz_spec_znodes.specs.Translation.{Unreadable}
-use Rattle.kz_spec_machine.specs.Driver.{Shared, Driver, epoch_or_zero, at_stage, resigned, unless_finalised, wait_or_move, after_quorum, after_brokers, unless_fenced, unless_full_epoch, unless_bad_epoch, unless_full_record, looked, after_append, after_records, after_translation, views_migrated, shown_by, missing_controller, begin_record}
+use Rattle.kz_spec_machine.specs.Driver.{Shared, Driver, epoch_or_zero, at_stage, resigned_driver, unless_finalised, wait_or_move, after_quorum, after_brokers, unless_fenced, unless_full_epoch, unless_bad_epoch, unless_full_record, after_look, after_append, after_records, after_translation, views_migrated, shown_by, missing_controller, begin_record}
 use Rattle.kz_driver.specs.declared.claim.ClaimOutcome.{ClaimOutcome}
 use Rattle.kz_driver.specs.declared.claim.ClaimOutcome.TheVariants.{Done, Refused, Stopped}
 use Rattle.kz_driver.specs.Claims.{after_claim_outcome}
@@ -58,7 +58,7 @@ elected_at e (stage.WriteDelta target ops) h = h
 pub free_kept : (e : Option ℤ) (position : ℤ) (s : Stage) → IsElected e → IsFree position s → IsKept e position s
 free_kept e position s h free = record { elected = elected_at e s h; can_claim = free.0; risen = free.1; at_target = free.2 }
 
-pub resigned_kept : (d : Driver) (told : Reply) → Keeps (resigned d, told)
+pub resigned_kept : (d : Driver) (told : Reply) → Keeps (resigned_driver d, told)
 resigned_kept d told = record { elected = tt; can_claim = tt; risen = tt; at_target = tt }
 
 pub chosen : (P : Driver × Reply → Type 0) (b : Bool) (x y : Driver × Reply) → P x → P y → P (if b then x else y)
@@ -70,7 +70,7 @@ chosen_stage P true x y h k = h
 chosen_stage P false x y h k = k
 
 pub finalised_keeps : (d : Driver) (rest : Driver × Reply) → Keeps rest → Keeps (unless_finalised d rest)
-finalised_keeps d rest k = chosen Keeps (int_eq d.view.image.state POST_MIGRATION) (resigned d, reply.Moved state.Inactive) rest (resigned_kept d (reply.Moved state.Inactive)) k
+finalised_keeps d rest k = chosen Keeps (int_eq d.view.image.state POST_MIGRATION) (resigned_driver d, reply.Moved state.Inactive) rest (resigned_kept d (reply.Moved state.Inactive)) k
 
 wait_keeps : (o : Option ℤ) (d : Driver) → IsElected d.epoch → IsKept d.epoch d.view.position d.stage → Keeps (wait_or_move o d)
 wait_keeps (Some id) d h k = k
@@ -98,7 +98,7 @@ Lives x = IsAlive x.0
 
 fenced_lives : (o : Option ℤ) (d : Driver) (rest : Driver × Reply) → Lives rest → Lives (unless_fenced o d rest)
 fenced_lives None d rest h = h
-fenced_lives (Some e) d rest h = chosen Lives (int_lt (epoch_or_zero d.epoch) e) (resigned d, reply.FencedEpoch e) rest (tt, tt, tt) h
+fenced_lives (Some e) d rest h = chosen Lives (int_lt (epoch_or_zero d.epoch) e) (resigned_driver d, reply.FencedEpoch e) rest (tt, tt, tt) h
 
 full_epoch_lives : (r : Result ℤ BodyFault) (version : ℤ) (d : Driver) (rest : Driver × Reply) → IsAlive d → Lives rest → Lives (unless_full_epoch r version d rest)
 full_epoch_lives (Err e) version d rest here h = here
@@ -112,7 +112,7 @@ full_record_lives : (o : Option Row) (d : Driver) (rest : Driver × Reply) → I
 full_record_lives None d rest here h = h
 full_record_lives (Some r) d rest here h = chosen Lives (not (views_migrated d) && int_eq r.version MAX_VERSION) (d, reply.Limit migration_path) rest here h
 
-pub look_lives : (seen : ClaimSeen) (d : Driver) → IsElected d.epoch → IsKept d.epoch d.view.position d.stage → Lives (looked seen d)
+pub look_lives : (seen : ClaimSeen) (d : Driver) → IsElected d.epoch → IsKept d.epoch d.view.position d.stage → Lives (after_look seen d)
 look_lives seen d h k =
     let here : IsAlive d = (k.elected, k.risen, k.at_target) in
     let end : Driver × Reply = (at_stage (stage.ClaimLeadership seen) d, reply.Looked) in

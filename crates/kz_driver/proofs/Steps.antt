@@ -15,7 +15,7 @@ use Rattle.kz_types.specs.declared.fault.LogFault.{LogFault}
 use Rattle.kz_spec_stores.specs.Tree.{Tree, multi}
 use Rattle.kz_spec_stores.specs.Log.{Log, View, append}
 use Rattle.kz_spec_znodes.specs.Translation.{Unreadable}
-use Rattle.kz_spec_machine.specs.Driver.{Shared, Driver, epoch_or_zero, asked, made, with_tree, with_log, begin_request, write_request, write_ops, writes, remaining_at, answered, after_claim, step, begin_record, after_page}
+use Rattle.kz_spec_machine.specs.Driver.{Shared, Driver, epoch_or_zero, request_at, shared_after, with_tree, with_log, begin_request, write_request, write_ops, writes, remaining_at, after_answer, after_claim, step, begin_record, after_page}
 use Rattle.kz_driver.specs.declared.row.DriverRow.{DriverRow}
 use Rattle.kz_driver.specs.Rows.{driver_of}
 use Rattle.kz_driver.specs.Appends.{log_after, log_after_begin}
@@ -26,18 +26,18 @@ use Rattle.kz_driver.specs.Drivers.{shared_of, HasEpoch, HasRisen, IsAtTarget, I
 use Rattle.kz_driver.proofs.Keeping.{Keeps, Lives, chosen_stage}
 
 pub stepped : (s new : Shared) (running : List ℤ) (now : ℤ) (d e : Driver) (told : Reply) (at : Stage) → d.stage ≡ at
-    → made s (epoch_or_zero d.epoch) now (asked s now d at) ≡ new
-    → answered s running now d at ≡ (e, told)
+    → shared_after s (epoch_or_zero d.epoch) now (request_at s now d at) ≡ new
+    → after_answer s running now d at ≡ (e, told)
     → step s running now d ≡ record { shared = new; driver = e; reply = told }
 unfolding step
 stepped s new running now d e told at is shared answer =
-    ap (λ (x : Stage). record { shared = made s (epoch_or_zero d.epoch) now (asked s now d x); driver = (answered s running now d x).0; reply = (answered s running now d x).1 }) is
-    ∙ ap (λ (t : Shared). record { shared = t; driver = (answered s running now d at).0; reply = (answered s running now d at).1 }) shared
+    ap (λ (x : Stage). record { shared = shared_after s (epoch_or_zero d.epoch) now (request_at s now d x); driver = (after_answer s running now d x).0; reply = (after_answer s running now d x).1 }) is
+    ∙ ap (λ (t : Shared). record { shared = t; driver = (after_answer s running now d at).0; reply = (after_answer s running now d at).1 }) shared
     ∙ ap (λ (x : Driver × Reply). record { shared = new; driver = x.0; reply = x.1 }) answer
 
 pub ok_step : {E : Type 0} (r : Result Reply E) (s new : Shared) (running : List ℤ) (now : ℤ) (d e : Driver) (at : Stage) → d.stage ≡ at
-    → IfOk r (λ told. made s (epoch_or_zero d.epoch) now (asked s now d at) ≡ new)
-    → IfOk r (λ told. answered s running now d at ≡ (e, told))
+    → IfOk r (λ told. shared_after s (epoch_or_zero d.epoch) now (request_at s now d at) ≡ new)
+    → IfOk r (λ told. after_answer s running now d at ≡ (e, told))
     → IfOk r (λ told. step s running now d ≡ record { shared = new; driver = e; reply = told })
 ok_step (Ok told) s new running now d e at is shared answer = stepped s new running now d e told at is shared answer
 ok_step (Err f) s new running now d e at is shared answer = tt
@@ -99,24 +99,24 @@ pub log_made : (t : Tree) (l : Log) (ids : List ℤ) (r : Result Log LogFault) �
 log_made t l ids (Ok new) = refl
 log_made t l ids (Err f) = refl
 
-pub begun_made : (t : Tree) (l : Log) (ids : List ℤ) (epoch now : ℤ) (r : Result (List MetaRecord) Unreadable) → made (shared_of t l ids) epoch now (begin_request r) ≡ shared_of t (log_after_begin l epoch now r) ids
+pub begun_made : (t : Tree) (l : Log) (ids : List ℤ) (epoch now : ℤ) (r : Result (List MetaRecord) Unreadable) → shared_after (shared_of t l ids) epoch now (begin_request r) ≡ shared_of t (log_after_begin l epoch now r) ids
 begun_made t l ids epoch now (Ok records) = log_made t l ids (append l epoch now (begin_record ∷ []))
 begun_made t l ids epoch now (Err e) = refl
 
-pub written_made : (t : Tree) (l : Log) (ids : List ℤ) (epoch now : ℤ) (claim : Option ℤ) (ops : List Op) (target : Recorded) → made (shared_of t l ids) epoch now (write_request claim ops target) ≡ shared_of (tree_after_write t claim ops target) l ids
+pub written_made : (t : Tree) (l : Log) (ids : List ℤ) (epoch now : ℤ) (claim : Option ℤ) (ops : List Op) (target : Recorded) → shared_after (shared_of t l ids) epoch now (write_request claim ops target) ≡ shared_of (tree_after_write t claim ops target) l ids
 written_made t l ids epoch now None ops target = refl
 written_made t l ids epoch now (Some claim) ops target = tree_made t l ids (multi t (write_ops claim ops target))
 
 -- a step that writes under its claim, where it has one
 pub write_step : {E : Type 0} (r : Result Reply E) (t new_tree : Tree) (l new_log : Log) (ids running : List ℤ) (now : ℤ) (d e : Driver) (at : Stage) (target : Recorded) (more : List Op → Stage) (last : Stage) → d.stage ≡ at
-    → asked (shared_of t l ids) now d at ≡ write_request d.claim (remaining_at t l target.offset) target
-    → answered (shared_of t l ids) running now d at ≡ writes t d.claim (remaining_at t l target.offset) target more last d
+    → request_at (shared_of t l ids) now d at ≡ write_request d.claim (remaining_at t l target.offset) target
+    → after_answer (shared_of t l ids) running now d at ≡ writes t d.claim (remaining_at t l target.offset) target more last d
     → IfOk r (λ told. new_tree ≡ tree_after_write t d.claim (remaining_at t l target.offset) target) → new_log ≡ l
     → IfOk r (λ told. writes t d.claim (remaining_at t l target.offset) target more last d ≡ (e, told))
     → IfOk r (λ told. step (shared_of t l ids) running now d ≡ record { shared = shared_of new_tree new_log ids; driver = e; reply = told })
 write_step (Ok told) t new_tree l new_log ids running now d e at target more last is asks answers tree log driver =
     stepped (shared_of t l ids) (shared_of new_tree new_log ids) running now d e told at is
-    (ap (made (shared_of t l ids) (epoch_or_zero d.epoch) now) asks
+    (ap (shared_after (shared_of t l ids) (epoch_or_zero d.epoch) now) asks
     ∙ (written_made t l ids (epoch_or_zero d.epoch) now d.claim (remaining_at t l target.offset) target
     ∙ (ap (λ x. shared_of x l ids) (sym tree) ∙ ap (λ x. shared_of new_tree x ids) (sym log))))
     (answers ∙ driver)

@@ -20,13 +20,13 @@ use Rattle.kz_types.specs.declared.fault.LogFault.TheVariants as log_fault
 use Rattle.kz_types.specs.declared.fault.BodyFault.{BodyFault}
 use Rattle.kz_types.specs.declared.record.MetaRecord.{MetaRecord}
 use Rattle.kz_spec_values.specs.Control.{epoch_path, migration_path, read_epoch}
-use Rattle.kz_spec_stores.specs.Tree.{Tree, Refusal, code, limit, op_refusal, refused, after_op, after_ops, multi, with_zxid}
+use Rattle.kz_spec_stores.specs.Tree.{Tree, Refusal, code, limit, op_refusal, rows_unless_refused, after_op, after_ops, multi, with_zxid}
 use Rattle.kz_spec_stores.specs.Image.{Image}
-use Rattle.kz_spec_stores.specs.Log.{Log, append, added, full_log, with_batch}
+use Rattle.kz_spec_stores.specs.Log.{Log, append, log_unless_limit, full_log, with_batch}
 use Rattle.kz_spec_znodes.specs.Difference.{diff, chunk}
 use Rattle.kz_spec_znodes.specs.Rendering.{render}
 use Rattle.kz_spec_znodes.specs.Translation.{Unreadable, translate}
-use Rattle.kz_spec_machine.specs.Driver.{Shared, Driver, Stepped, epoch_or_zero, at_stage, resigned, begins_again, having_read, unless_finalised, wait_or_move, after_quorum, after_brokers, unless_fenced, unless_full_epoch, unless_bad_epoch, unless_full_record, looked, after_claim, claim_ops, after_append, after_records, next_records, after_translation, after_rest, after_write, writes, write_ops, is_last_write, is_claim_refused, is_recorded_at, target_of, remaining_at, views_migrated, shown_by, seen_in, missing_controller, begin_record, answered, step}
+use Rattle.kz_spec_machine.specs.Driver.{Shared, Driver, Stepped, epoch_or_zero, at_stage, resigned_driver, begins_again, having_read, unless_finalised, wait_or_move, after_quorum, after_brokers, unless_fenced, unless_full_epoch, unless_bad_epoch, unless_full_record, after_look, after_claim, claim_ops, after_append, after_records, next_records, after_translation, after_rest, after_write, writes, write_ops, is_last_write, is_claim_refused, is_recorded_at, target_of, remaining_at, views_migrated, shown_by, seen_in, missing_controller, begin_record, after_answer, step}
 use Rattle.kz_spec_machine.specs.Failures.{is_tree_failure, is_log_failure, is_failed_step}
 use Rattle.kz_driver.proofs.Keeping.{chosen}
 
@@ -38,7 +38,7 @@ IsTreeAnswer r = IfErr r (λ f. is_tree_failure f ≡ false)
 abbrev IsLogAnswer : {A : Type 0} → Result A LogFault → Type 0
 IsLogAnswer r = IfErr r (λ f. is_log_failure f ≡ false)
 
-refused_answers : (index : ℕ) (r : Option Refusal) (rest : Result (List Row) TreeFault) → IsTreeAnswer rest → IsTreeAnswer (refused index r rest)
+refused_answers : (index : ℕ) (r : Option Refusal) (rest : Result (List Row) TreeFault) → IsTreeAnswer rest → IsTreeAnswer (rows_unless_refused index r rest)
 refused_answers index None rest h = h
 refused_answers index (Some (code c)) rest h = refl
 refused_answers index (Some (limit n)) rest h = refl
@@ -59,7 +59,7 @@ multi_answers : (t : Tree) (ops : List Op) → IsTreeAnswer (multi t ops)
 unfolding multi
 multi_answers t ops = zxid_answers t (after_ops t.sessions (t.zxid +ℤ pos 1) 0 ops t.rows) (ops_answer t.sessions (t.zxid +ℤ pos 1) 0 ops t.rows)
 
-added_answers : (o : Option ℕ) (l : Log) → IsLogAnswer (added o l)
+added_answers : (o : Option ℕ) (l : Log) → IsLogAnswer (log_unless_limit o l)
 added_answers None l = tt
 added_answers (Some n) l = refl
 
@@ -68,7 +68,7 @@ chosen_log_answer true x y h k = h
 chosen_log_answer false x y h k = k
 
 append_answers : (l : Log) (epoch now : ℤ) (items : List MetaRecord) → IsLogAnswer (append l epoch now items)
-append_answers l epoch now items = chosen_log_answer (int_eq epoch l.epoch) (added (full_log l items) (with_batch l epoch now items)) (Err (log_fault.Stale l.epoch)) (added_answers (full_log l items) (with_batch l epoch now items)) refl
+append_answers l epoch now items = chosen_log_answer (int_eq epoch l.epoch) (log_unless_limit (full_log l items) (with_batch l epoch now items)) (Err (log_fault.Stale l.epoch)) (added_answers (full_log l items) (with_batch l epoch now items)) refl
 
 -- ---- what follows an answer
 
@@ -76,7 +76,7 @@ abbrev IsTold : Driver × Reply → Type 0
 IsTold x = is_failed_step x.1 ≡ false
 
 finalised_told : (d : Driver) (rest : Driver × Reply) → IsTold rest → IsTold (unless_finalised d rest)
-finalised_told d rest h = chosen IsTold (int_eq d.view.image.state POST_MIGRATION) (resigned d, reply.Moved state.Inactive) rest refl h
+finalised_told d rest h = chosen IsTold (int_eq d.view.image.state POST_MIGRATION) (resigned_driver d, reply.Moved state.Inactive) rest refl h
 
 wait_told : (o : Option ℤ) (d : Driver) → IsTold (wait_or_move o d)
 wait_told (Some id) d = refl
@@ -95,7 +95,7 @@ brokers_told None d = refl
 
 fenced_told : (o : Option ℤ) (d : Driver) (rest : Driver × Reply) → IsTold rest → IsTold (unless_fenced o d rest)
 fenced_told None d rest h = h
-fenced_told (Some e) d rest h = chosen IsTold (int_lt (epoch_or_zero d.epoch) e) (resigned d, reply.FencedEpoch e) rest refl h
+fenced_told (Some e) d rest h = chosen IsTold (int_lt (epoch_or_zero d.epoch) e) (resigned_driver d, reply.FencedEpoch e) rest refl h
 
 full_epoch_told : (r : Result ℤ BodyFault) (version : ℤ) (d : Driver) (rest : Driver × Reply) → IsTold rest → IsTold (unless_full_epoch r version d rest)
 full_epoch_told (Err e) version d rest h = refl
@@ -109,7 +109,7 @@ full_record_told : (o : Option Row) (d : Driver) (rest : Driver × Reply) → Is
 full_record_told None d rest h = h
 full_record_told (Some r) d rest h = chosen IsTold (not (views_migrated d) && int_eq r.version MAX_VERSION) (d, reply.Limit migration_path) rest refl h
 
-look_told : (seen : ClaimSeen) (d : Driver) → IsTold (looked seen d)
+look_told : (seen : ClaimSeen) (d : Driver) → IsTold (after_look seen d)
 look_told seen d =
     let end : Driver × Reply = (at_stage (stage.ClaimLeadership seen) d, reply.Looked) in
     let record_checked = unless_full_record seen.migration d end in
@@ -134,7 +134,7 @@ write_told : (claim : ℤ) (ops : List Op) (target : Recorded) (more : List Op �
 write_told claim ops target more last d (Ok t) h =
     chosen IsTold (is_last_write ops) (record d { stage = last; recorded = Some target.offset }, reply.Recorded target.offset) (at_stage (more (drop MAX_CHUNK ops)) d, reply.Wrote (length (chunk ops))) refl refl
 write_told claim ops target more last d (Err (tree_fault.Refused index c)) h =
-    chosen IsTold (is_claim_refused index c) (resigned d, reply.FencedWrite claim) (begins_again d, reply.Moved state.BecomeController) refl refl
+    chosen IsTold (is_claim_refused index c) (resigned_driver d, reply.FencedWrite claim) (begins_again d, reply.Moved state.BecomeController) refl refl
 write_told claim ops target more last d (Err (tree_fault.Limit index number)) h = refl
 write_told claim ops target more last d (Err f) h = h
 
@@ -150,7 +150,7 @@ dual_write_told before d =
 
 -- ---- a step
 
-answer_told : (s : Shared) (running : List ℤ) (now : ℤ) (d : Driver) (at : Stage) → IsTold (answered s running now d at)
+answer_told : (s : Shared) (running : List ℤ) (now : ℤ) (d : Driver) (at : Stage) → IsTold (after_answer s running now d at)
 answer_told s running now d stage.Uninitialized = refl
 answer_told s running now d stage.Inactive = refl
 answer_told s running now d stage.WaitForControllerQuorum = quorum_told s.declared running (having_read s.log d)

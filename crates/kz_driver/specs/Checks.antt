@@ -6,7 +6,7 @@ use Rattle.kz_types.specs.declared.driver.Stage.{Stage}
 use Rattle.kz_types.specs.declared.driver.Stage.TheVariants as stage
 use Rattle.kz_types.specs.declared.machine.Reply.{Reply}
 use Rattle.kz_types.specs.declared.machine.Reply.TheVariants as reply
-use Rattle.kz_spec_machine.specs.Driver.{Driver, claimed_number, claimed_version, resigned}
+use Rattle.kz_spec_machine.specs.Driver.{Driver, claimed_number, claimed_version, resigned_driver}
 
 -- what is told, or what follows where nothing is
 abbrev pub unless_told : Option Reply → Driver → Driver × Reply → Driver × Reply
@@ -25,4 +25,4 @@ StageCanClaim other = ⊤
 -- a driver that another controller of this epoch fences off, or what follows where there is none
 abbrev pub unless_fenced_by : Option ℤ → Driver → Driver × Reply → Driver × Reply
 unless_fenced_by None d rest = rest
-unless_fenced_by (Some epoch) d rest = (resigned d, reply.FencedEpoch epoch)
+unless_fenced_by (Some epoch) d rest = (resigned_driver d, reply.FencedEpoch epoch)

@@ -8,7 +8,7 @@ use Rattle.kz_types.specs.declared.machine.Reply.{Reply}
 use Rattle.kz_spec_stores.specs.Tree.{Tree, multi}
 use Rattle.kz_spec_stores.specs.Log.{Log, append}
 use Rattle.kz_spec_stores.specs.Requests.{Disk, TreeChange, Multi, LogChange, Append, StoreAnswer, Done, Refused, NoMemory, Failed, Down, Full, answer_of_tree_fault, answer_of_log_fault, IsTaken, ChangesDisk, ReadsDisk, Either}
-use Rattle.kz_spec_machine.specs.Driver.{Shared, Driver, epoch_or_zero, Request, nothing, read_log, list_brokers, look_up, read_page, write, add, asked}
+use Rattle.kz_spec_machine.specs.Driver.{Shared, Driver, epoch_or_zero, Request, nothing, read_log, list_brokers, look_up, read_page, write, add, request_at}
 use Rattle.kz_driver.specs.declared.fault.StepFault.{StepFault}
 use Rattle.kz_driver.specs.declared.fault.StepFault.TheVariants as step_fault
 
@@ -20,12 +20,12 @@ pub record Disks : Type 0 where
 abbrev pub disks_of : Disk → Disk → Disks
 disks_of tree log = record { tree = tree; log = log }
 
--- the bytes that each store's file would have after a change
+-- the bytes that a file of so many bytes would have after a change, as each of the two stores tells it
 pub record Files : Type 0 where
-  pub tree : TreeChange → Option ℕ
-  pub log : LogChange → Option ℕ
+  pub tree : Tree → TreeChange → ℕ → ℕ
+  pub log : Log → LogChange → ℕ → ℕ
 
-abbrev pub files_of : (TreeChange → Option ℕ) → (LogChange → Option ℕ) → Files
+abbrev pub files_of : (Tree → TreeChange → ℕ → ℕ) → (Log → LogChange → ℕ → ℕ) → Files
 files_of tree log = record { tree = tree; log = log }
 
 -- ---- the answer of a store, by the result of the step that asked it
@@ -73,13 +73,14 @@ IsTreeRead result old new = OnTree (λ answer. ReadsDisk answer old new) Done re
 abbrev pub IsLogRead : {A : Type 0} → Result A StepFault → Disk → Disk → Type 0
 IsLogRead result old new = OnLog (λ answer. ReadsDisk answer old new) Done result
 
--- the tree is asked for a change, which the definition answers with `made` and after which its file would have this length
-abbrev pub IsTreeChange : {A B E : Type 0} → Result B E → Option ℕ → Result A StepFault → Disk → Disk → Type 0
-IsTreeChange made file result old new = OnTree (λ answer. ChangesDisk (IsTaken made) file answer old new) (answer_of_made made) result
+-- The tree is asked for a change, which the definition answers with `made` and after which a file of so many bytes would have
+-- `grown` of them.
+abbrev pub IsTreeChange : {A B E : Type 0} → Result B E → (ℕ → ℕ) → Result A StepFault → Disk → Disk → Type 0
+IsTreeChange made grown result old new = OnTree (λ answer. ChangesDisk (IsTaken made) grown answer old new) (answer_of_made made) result
 
 -- the same of the log
-abbrev pub IsLogChange : {A B E : Type 0} → Result B E → Option ℕ → Result A StepFault → Disk → Disk → Type 0
-IsLogChange made file result old new = OnLog (λ answer. ChangesDisk (IsTaken made) file answer old new) (answer_of_made made) result
+abbrev pub IsLogChange : {A B E : Type 0} → Result B E → (ℕ → ℕ) → Result A StepFault → Disk → Disk → Type 0
+IsLogChange made grown result old new = OnLog (λ answer. ChangesDisk (IsTaken made) grown answer old new) (answer_of_made made) result
 
 -- ---- one request of a driver
 
@@ -99,12 +100,12 @@ abbrev pub ReadsLog : {A : Type 0} → Result A StepFault → Disks → Disks �
 ReadsLog result old new = IsLogRead result old.log new.log × (new.tree ≡ old.tree)
 
 -- the tree is asked for a change
-abbrev pub ChangesTree : {A B E : Type 0} → Result B E → Option ℕ → Result A StepFault → Disks → Disks → Type 0
-ChangesTree made file result old new = IsTreeChange made file result old.tree new.tree × (new.log ≡ old.log)
+abbrev pub ChangesTree : {A B E : Type 0} → Result B E → (ℕ → ℕ) → Result A StepFault → Disks → Disks → Type 0
+ChangesTree made grown result old new = IsTreeChange made grown result old.tree new.tree × (new.log ≡ old.log)
 
 -- the log is asked for a change
-abbrev pub ChangesLog : {A B E : Type 0} → Result B E → Option ℕ → Result A StepFault → Disks → Disks → Type 0
-ChangesLog made file result old new = IsLogChange made file result old.log new.log × (new.tree ≡ old.tree)
+abbrev pub ChangesLog : {A B E : Type 0} → Result B E → (ℕ → ℕ) → Result A StepFault → Disks → Disks → Type 0
+ChangesLog made grown result old new = IsLogChange made grown result old.log new.log × (new.tree ≡ old.tree)
 
 -- The log is found down by a write: what is to be written is read of it anew where its base has passed the driver's view.
 pub record FindsLogDown {A : Type 0} (position base : ℤ) (result : Result A StepFault) (old new : Disks) : Type 0 where
@@ -121,9 +122,9 @@ RequestDisks s epoch now position files list_brokers result old new = ReadsTree 
 RequestDisks s epoch now position files look_up result old new = ReadsTree result old new
 RequestDisks s epoch now position files (read_page after) result old new = ReadsTree result old new
 RequestDisks s epoch now position files (write ops) result old new =
-    ChangesTree (multi s.tree ops) (files.tree (Multi ops)) result old new ⊎ FindsLogDown position s.log.base result old new
+    ChangesTree (multi s.tree ops) (files.tree s.tree (Multi ops)) result old new ⊎ FindsLogDown position s.log.base result old new
 RequestDisks s epoch now position files (add records) result old new =
-    ChangesLog (append s.log epoch now records) (files.log (Append epoch now records)) result old new
+    ChangesLog (append s.log epoch now records) (files.log s.log (Append epoch now records)) result old new
 
 -- ---- a step
 
@@ -140,7 +141,7 @@ IsAnswered (Err fault) = ⊥
 
 -- What a step does to the disks: what its one request does; and it is answered where it takes nothing.
 pub record StepDisks (s : Shared) (now : ℤ) (d : Driver) (files : Files) (result : Result Reply StepFault) (old new : Disks) : Type 0 where
-  pub request : RequestDisks s (epoch_or_zero d.epoch) now d.view.position files (asked s now d d.stage) result old new
+  pub request : RequestDisks s (epoch_or_zero d.epoch) now d.view.position files (request_at s now d d.stage) result old new
   pub answered : takes_nothing d.stage ≡ true → IsAnswered result
 
 -- What a stop may leave of the two stores where a disk failed in this step: the value from before it, or the one that the

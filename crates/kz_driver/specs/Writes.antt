@@ -13,7 +13,7 @@ use Rattle.kz_types.specs.declared.fault.TreeFault.TheVariants as fault
 use Rattle.kz_types.specs.declared.fault.LogFault.TheVariants as log_fault
 use Rattle.kz_spec_stores.specs.Tree.{Tree, multi}
 use Rattle.kz_spec_znodes.specs.Difference.{chunk}
-use Rattle.kz_spec_machine.specs.Driver.{Driver, at_stage, begins_again, resigned, path_at, is_last_write, is_claim_refused, write_ops}
+use Rattle.kz_spec_machine.specs.Driver.{Driver, at_stage, begins_again, resigned_driver, path_at, is_last_write, is_claim_refused, write_ops}
 use Rattle.kz_driver.specs.declared.fault.StepFault.{StepFault}
 use Rattle.kz_driver.specs.declared.fault.StepFault.TheVariants as step_fault
 use Rattle.kz_driver.specs.declared.writing.Scope.{Scope}
@@ -59,7 +59,7 @@ write_outcome claim ops target (Err f) = Stopped (reply.TreeFailed f)
 abbrev pub after_write_outcome : WriteOutcome → Recorded → (List Op → Stage) → Stage → Driver → Driver × Reply
 after_write_outcome Last target more last d = (record d { stage = last; recorded = Some target.offset }, reply.Recorded target.offset)
 after_write_outcome (More rest count) target more last d = (at_stage (more rest) d, reply.Wrote count)
-after_write_outcome (Fenced claim) target more last d = (resigned d, reply.FencedWrite claim)
+after_write_outcome (Fenced claim) target more last d = (resigned_driver d, reply.FencedWrite claim)
 after_write_outcome Refused target more last d = (begins_again d, reply.Moved state.BecomeController)
 after_write_outcome (Stopped told) target more last d = (d, told)
 

@@ -9,16 +9,16 @@ ghost use Rattle.kz_types.specs.declared.machine.Reply.{Reply as ReplyValue};
 ghost use Rattle.kz_spec_values.specs.Control.{control_path, epoch_path, migration_path};
 ghost use Rattle.kz_types.specs.Paths.{base_paths};
 ghost use Rattle.kz_spec_stores.specs.Tree.{Tree as TreeValue, row_at, look};
-ghost use Rattle.kz_spec_machine.specs.Driver.{Driver as DriverValue, seen_in, shown_by, looked, unless_fenced, unless_bad_epoch, unless_full_record, views_migrated, claimed_number, claimed_version};
+ghost use Rattle.kz_spec_machine.specs.Driver.{Driver as DriverValue, seen_in, shown_by, after_look, unless_fenced, unless_bad_epoch, unless_full_record, views_migrated, claimed_number, claimed_version};
 ghost use Rattle.kz_driver.specs.Disks.{IsTreeRead};
 ghost use Rattle.kz_driver.specs.Rows.{driver_of};
 ghost use Rattle.kz_driver.specs.Checks.{unless_told, unless_fenced_by, CanClaim, StageCanClaim};
 
 use crate::fault::StepFault;
-use crate::paths::{epoch_path, migration_path, seen_paths};
 use crate::row::DriverRow;
 use crate::tree_requests::rows_at;
 use crate::waiting::resign;
+use kz_paths::{control_and_base_paths, epoch_path, migration_path};
 use kz_state::{read_control, read_epoch};
 use kz_tree::ZTree;
 use kz_types::{
@@ -69,7 +69,7 @@ pub fn seen_in<T: ZTree>(alloc: Global, tree: &mut T) -> Result<ClaimSeen, StepF
     ensures same { T.tree tree.new ≡ T.tree tree.old }
     ensures disk { IsTreeRead result (T.disk tree.old) (T.disk tree.new) }
 {
-    let paths = seen_paths(alloc)?;
+    let paths = control_and_base_paths(alloc)?;
     let rows = rows_at(tree, &paths)?;
     Ok(seen_of(rows))
 }
@@ -142,7 +142,7 @@ fn after_control_znodes(
     row: &mut DriverRow,
     seen: ClaimSeen,
 ) -> Result<Reply, NoMemory>
-    ensures ok { IfOk result (λ told. looked seen (driver_of row.old) ≡ (driver_of row.new, told)) }
+    ensures ok { IfOk result (λ told. after_look seen (driver_of row.old) ≡ (driver_of row.new, told)) }
     ensures can { row.old.stage ≡ stage.ReadControlZnodes → IfOk result (λ told. StageCanClaim row.new.stage) }
     ensures view { row.new.view ≡ row.old.view }
     ensures err { OnErr result (row.new ≡ row.old) }
@@ -168,7 +168,7 @@ pub fn read_control_znodes<T: ZTree>(
     row: &mut DriverRow,
     tree: &mut T,
 ) -> Result<Reply, StepFault>
-    ensures ok { IfOk result (λ told. looked (seen_in (T.tree tree.old)) (driver_of row.old) ≡ (driver_of row.new, told)) }
+    ensures ok { IfOk result (λ told. after_look (seen_in (T.tree tree.old)) (driver_of row.old) ≡ (driver_of row.new, told)) }
     ensures can { row.old.stage ≡ stage.ReadControlZnodes → IfOk result (λ told. StageCanClaim row.new.stage) }
     ensures view { row.new.view ≡ row.old.view }
     ensures err { OnErr result (row.new ≡ row.old) }

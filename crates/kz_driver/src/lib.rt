@@ -13,7 +13,6 @@ mod log_requests;
 mod migration;
 mod migration_scan;
 mod multis;
-mod paths;
 mod peers;
 mod resync_log;
 mod resync_scan;

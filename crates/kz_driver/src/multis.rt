@@ -5,7 +5,7 @@ ghost use Rattle.kz_spec_values.specs.Control.{written_epoch, written_control, w
 ghost use Rattle.kz_driver.specs.Multis.{claim_ops_by};
 ghost use Rattle.kz_spec_machine.specs.Driver.{claimed_number, epoch_op, control_ops, migration_ops, base_op, base_ops, record_ops, is_last_write, write_ops};
 
-use crate::paths::{base_paths, control_path, epoch_path, migration_path};
+use kz_paths::{base_paths, control_path, epoch_path, migration_path};
 use kz_state::{write_control, write_epoch, write_migration};
 use kz_types::{
     ClaimSeen, Duplicate, MAX_CHUNK, NoMemory, Op, Recorded, Row, Sequence, ZPath, copy_all,

@@ -6,7 +6,7 @@ ghost use Rattle.kz_types.specs.declared.driver.Stage.TheVariants as stage;
 ghost use Rattle.kz_types.specs.declared.machine.Reply.TheVariants as reply;
 ghost use Rattle.kz_spec_stores.specs.Tree.{broker_ids};
 ghost use Rattle.kz_spec_stores.specs.Log.{IsViewOf};
-ghost use Rattle.kz_spec_machine.specs.Driver.{having_read, after_quorum, after_brokers, missing_broker, unless_finalised, at_stage, resigned};
+ghost use Rattle.kz_spec_machine.specs.Driver.{having_read, after_quorum, after_brokers, missing_broker, unless_finalised, at_stage, resigned_driver};
 ghost use Rattle.kz_driver.specs.Disks.{IsTreeRead, IsLogRead};
 ghost use Rattle.kz_driver.specs.Rows.{driver_of};
 
@@ -21,7 +21,7 @@ use kz_types::{DriverState, MIGRATION, POST_MIGRATION, Reply, Stage};
 
 /// The driver has no epoch and no claim from now on, and does nothing until it is elected anew.
 pub fn resign(row: &mut DriverRow)
-    ensures { driver_of row.new ≡ resigned (driver_of row.old) }
+    ensures { driver_of row.new ≡ resigned_driver (driver_of row.old) }
 {
     row.epoch = None;
     row.claim = None;

@@ -162,7 +162,7 @@ fn ask_write<T: ZTree>(
     ensures said { IfOk result (λ written. written ≡ write_outcome claim ops.items target.now (multi (T.tree tree.old) (write_ops claim ops.items target.now))) }
     ensures tree { IfOk result (λ written. T.tree tree.new ≡ tree_after (multi (T.tree tree.old) (write_ops claim ops.items target.now)) (T.tree tree.old)) }
     ensures err { OnErr result (T.tree tree.new ≡ T.tree tree.old) }
-    ensures disk { IsTreeChange (multi (T.tree tree.old) (write_ops claim ops.items target.now)) (T.length_with tree.old (Multi (write_ops claim ops.items target.now))) result (T.disk tree.old) (T.disk tree.new) }
+    ensures disk { IsTreeChange (multi (T.tree tree.old) (write_ops claim ops.items target.now)) (T.length_with (T.tree tree.old) (Multi (write_ops claim ops.items target.now))) result (T.disk tree.old) (T.disk tree.new) }
     ensures stop { IsErrOf result (StepFault.Tree TreeFault.Device) → Either (T.tree tree.old) (tree_after (multi (T.tree tree.old) (write_ops claim ops.items target.now)) (T.tree tree.old)) (T.left tree.new) }
 {
     let made = write_ops(alloc, claim, &ops, target)?;
@@ -254,7 +254,7 @@ pub fn write<T: ZTree, L: MetaLog>(
     ensures view { row.new.view ≡ row.old.view }
     ensures err { OnErr result ((row.new ≡ row.old) × (T.tree tree.new ≡ T.tree tree.old)) }
     ensures same { L.log log.new ≡ L.log log.old }
-    ensures disks { (ids : List ℤ) (epoch time : ℤ) → RequestDisks (shared_of (T.tree tree.old) (L.log log.old) ids) epoch time row.old.view.position (files_of (T.length_with tree.old) (L.length_with log.old))
+    ensures disks { (ids : List ℤ) (epoch time : ℤ) → RequestDisks (shared_of (T.tree tree.old) (L.log log.old) ids) epoch time row.old.view.position (files_of T.length_with L.length_with)
         (write_request row.old.claim (remaining_at (T.tree tree.old) (L.log log.old) target.offset) target) result (disks_of (T.disk tree.old) (L.disk log.old)) (disks_of (T.disk tree.new) (L.disk log.new)) }
     ensures stop { IsErrOf result (StepFault.Tree TreeFault.Device) → Either (T.tree tree.old) (tree_after_write (T.tree tree.old) row.old.claim (remaining_at (T.tree tree.old) (L.log log.old) target.offset) target) (T.left tree.new) }
 {

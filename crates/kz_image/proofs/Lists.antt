@@ -10,7 +10,7 @@ use Rattle.kz_ordered.specs.Ordered.{Rises}
 use Rattle.kz_ordered.specs.Spot.{IsSpot}
 use Rattle.kz_ordered.proofs.Order.{bytes_order}
 use Rattle.kz_ordered.proofs.Spot.{find_by_spot, find_by_gap, put_by_spot, put_by_gap, without_by_spot, without_by_gap}
-use Rattle.kz_spec_stores.specs.Image.{name_of_configuration, with_member, with_pairs, configured, Image, applied, all_applied}
+use Rattle.kz_spec_stores.specs.Image.{name_of_configuration, with_member, with_pairs, configurations_after, Image, image_with, all_applied}
 use Rattle.kz_spec_stores.specs.Metadata.{pairs_of, pairs_at}
 use Rattle.kz_spec_stores.specs.InOrder.{AreInOrder}
 
@@ -42,14 +42,14 @@ module _ (change : ConfigRecord) (xs : List Configuration) (i : ℕ) (old new : 
   name_is : new.name ≡ change.resource_name
   name_is = ap (λ (c : Configuration). c.name) is ∙ ap (λ (c : Configuration). c.name) was ∙ there.1 old
 
-  pub set_configured : 0 < length new.pairs → set xs i new ≡ configured change xs
+  pub set_configured : 0 < length new.pairs → set xs i new ≡ configurations_after change xs
   set_configured some =
       let config : List ℕ → List Pair → Configuration = λ n ps. record { name = n; pairs = ps } in
       ap (λ n. set xs i (config n new.pairs)) name_is
       ∙ set_with_pairs change.resource_name new.pairs xs i order.rising there some
       ∙ ap (λ ps. with_pairs change.resource_name ps xs) pairs_are
 
-  pub remove_configured : length new.pairs ≡ 0 → remove (set xs i new) i ≡ configured change xs
+  pub remove_configured : length new.pairs ≡ 0 → remove (set xs i new) i ≡ configurations_after change xs
   remove_configured none =
       remove-set xs i new
       ∙ remove_with_pairs change.resource_name new.pairs xs i order.rising there none
@@ -58,7 +58,7 @@ module _ (change : ConfigRecord) (xs : List Configuration) (i : ℕ) (old new : 
 -- ---- a configuration that is absent
 
 pub insert_configured : (change : ConfigRecord) (value : List ℕ) (xs : List Configuration) (i : ℕ) (new : Configuration) → IsSpot bytes_cmp name_of_configuration change.resource_name xs (Err i) → change.value ≡ Some value
-    → new ≡ record { name = change.resource_name; pairs = record { name = change.name; value = value } ∷ [] } → insert xs i new ≡ configured change xs
+    → new ≡ record { name = change.resource_name; pairs = record { name = change.name; value = value } ∷ [] } → insert xs i new ≡ configurations_after change xs
 insert_configured change value xs i new s has is =
     let pair : Pair = record { name = change.name; value = value } in
     let config : Configuration = record { name = change.resource_name; pairs = pair ∷ [] } in
@@ -66,7 +66,7 @@ insert_configured change value xs i new s has is =
     ∙ ap (λ v. with_pairs change.resource_name (with_member change.name v []) xs) (sym has)
     ∙ ap (λ c. with_pairs change.resource_name (with_member change.name change.value (pairs_of c)) xs) (sym (find_by_gap bytes_order name_of_configuration change.resource_name xs i s))
 
-pub absent_configured : (change : ConfigRecord) (xs : List Configuration) (i : ℕ) → IsSpot bytes_cmp name_of_configuration change.resource_name xs (Err i) → change.value ≡ None → xs ≡ configured change xs
+pub absent_configured : (change : ConfigRecord) (xs : List Configuration) (i : ℕ) → IsSpot bytes_cmp name_of_configuration change.resource_name xs (Err i) → change.value ≡ None → xs ≡ configurations_after change xs
 absent_configured change xs i s has =
     sym (without_by_gap bytes_order name_of_configuration change.resource_name xs i s)
     ∙ ap (λ v. with_pairs change.resource_name (with_member change.name v []) xs) (sym has)
@@ -76,10 +76,10 @@ absent_configured change xs i s has =
 
 pub all_applied-append : (epoch : ℤ) (xs ys : List MetaRecord) (i : Image) → all_applied epoch (xs ++ ys) i ≡ all_applied epoch ys (all_applied epoch xs i)
 all_applied-append epoch [] ys i = refl
-all_applied-append epoch (x ∷ xs) ys i = all_applied-append epoch xs ys (applied epoch x i)
+all_applied-append epoch (x ∷ xs) ys i = all_applied-append epoch xs ys (image_with epoch x i)
 
 -- one record more
-pub applied_more : (epoch : ℤ) (xs : List MetaRecord) (n : ℕ) (x : MetaRecord) (i : Image) → n < length xs → x ≡ get_or xs n x → applied epoch x (all_applied epoch (take n xs) i) ≡ all_applied epoch (take (n + 1) xs) i
+pub applied_more : (epoch : ℤ) (xs : List MetaRecord) (n : ℕ) (x : MetaRecord) (i : Image) → n < length xs → x ≡ get_or xs n x → image_with epoch x (all_applied epoch (take n xs) i) ≡ all_applied epoch (take (n + 1) xs) i
 applied_more epoch xs n x i h e =
     sym (all_applied-append epoch (take n xs) (x ∷ []) i)
     ∙ ap (λ ys. all_applied epoch ys i) (sym (take_more xs n x h ∙ ap (λ y. take n xs ++ y ∷ []) (sym e)))

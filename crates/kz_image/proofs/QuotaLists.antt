@@ -1,24 +1,29 @@
 -- What a change of quotas makes of the entities that have some, at the place of its path.
-use Rattle.std.proofs.Common.{◌≡◌, ◌≢◌, ℕ, ◌<◌, ℤ, ◌++◌, Bool, true, false, cond, List, [], ◌∷◌, Option, None, Ok, Err, length, get_or, set, insert, remove, refl, sym, ap, ◌∙◌}
+use Rattle.std.proofs.Common.{◌≡◌, ◌≢◌, ℕ, ◌<◌, ℤ, ◌++◌, ◌&&◌, Bool, true, false, cond, List, [], ◌∷◌, Option, Some, None, Ok, Err, length, get_or, set, insert, remove, refl, sym, ap, ◌∙◌}
 use Rattle.std.proofs.lemmas.Bool.{false≢true}
 use Rattle.std.specs.Ordering.{int_eq}
-use Rattle.std.specs.Prelude.{pos, codes}
+use Rattle.std.specs.Prelude.{pos, is_some, codes}
 use Rattle.std.specs.List.{All}
 use Rattle.std.proofs.lemmas.List.Elements.{All-head, All-tail}
 use Rattle.kz_types.specs.PathRule.{is_path}
-use Rattle.kz_types.specs.Paths.{path_of}
+use Rattle.kz_types.specs.Paths.{path_of, key_of, has_path, is_legal}
+use Rattle.kz_types.specs.declared.key.EntityKey.{EntityKey}
 use Rattle.kz_types.specs.declared.key.EntityKey.TheVariants as key
 use Rattle.kz_types.specs.declared.image.QuotaEntry.{QuotaEntry}
 use Rattle.kz_types.specs.declared.record.ClientQuotaRecord.{ClientQuotaRecord}
+use Rattle.kz_types.proofs.PathRules.{both_hold}
 use Rattle.kz_ordered.specs.Order.{bytes_cmp}
 use Rattle.kz_ordered.specs.Ordered.{find, put, without}
 use Rattle.kz_ordered.specs.Spot.{IsSpot}
 use Rattle.kz_ordered.proofs.Order.{bytes_order, is_eq_other}
 use Rattle.kz_spec_stores.specs.Metadata.{path_of_quotas, key_of_quota}
+use Rattle.kz_spec_stores.specs.ImageRules.{has_quota}
 use Rattle.kz_spec_stores.specs.Image.{quotas_in, with_quota, with_quotas}
 use Rattle.kz_spec_stores.specs.InOrder.{AreQuotasInOrder}
 use Rattle.kz_spec_stores.specs.InOrder.{is_below_quota_root}
+use Rattle.kz_image.specs.QuotaPaths.{IsEntityRead}
 use Rattle.kz_image.proofs.Entries.{set_there, remove_there, key_there, entry_there, entry_absent, insert_absent, none_absent}
+use Rattle.kz_laws_images.proofs.Entries.{changed_all}
 use Rattle.kz_laws_images.proofs.QuotaLists.{quotas_hold, rows_of}
 
 -- ---- what isn't found
@@ -98,3 +103,14 @@ module _ (change : ClientQuotaRecord) (path : List ℕ) (xs : List QuotaEntry) (
       none_absent quotas_hold path xs i s
       ∙ ap (λ b. with_quotas path (cond b (without bytes_cmp key_of_quota change.key []) (put bytes_cmp key_of_quota (record { key = change.key; value = change.value }) [])) xs) (sym removes)
       ∙ ap (λ f. with_quotas path (with_quota change (quotas_in f)) xs) (sym (entry_absent quotas_hold path xs i s))
+
+-- ---- paths that are read
+
+-- an entity with a quota is legal
+pub quota_legal : (k : EntityKey) (name : List ℕ) → has_quota (Some k) name ≡ true → is_legal k ≡ true
+quota_legal k name h = (both_hold (is_legal k) (has_path k) (both_hold (is_legal k && has_path k) _ h).0).0
+
+-- each path is read after a change under a path that is
+pub changed_is_read : (change : ClientQuotaRecord) (path : List ℕ) (xs : List QuotaEntry) → is_some (key_of path) ≡ true → All IsEntityRead xs
+    → All IsEntityRead (with_quotas path (with_quota change (quotas_in (find bytes_cmp path_of_quotas path xs))) xs)
+changed_is_read change path xs read h = changed_all quotas_hold IsEntityRead path (with_quota change (quotas_in (find bytes_cmp path_of_quotas path xs))) xs (λ some. read) h

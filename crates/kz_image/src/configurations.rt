@@ -3,7 +3,7 @@ ghost use Rattle.std.specs.Prelude.{◌≡◌, ◌∷◌, [], IfOk, OnOk, OnErr,
 ghost use Rattle.kz_ordered.specs.Order.{bytes_cmp};
 ghost use Rattle.kz_ordered.specs.Ordered.{Rises};
 ghost use Rattle.kz_ordered.specs.Spot.{IsSpot};
-ghost use Rattle.kz_spec_stores.specs.Image.{name_of_configuration, name_of_pair, with_member, configured};
+ghost use Rattle.kz_spec_stores.specs.Image.{name_of_configuration, name_of_pair, with_member, configurations_after};
 ghost use Rattle.kz_spec_stores.specs.InOrder.{AreInOrder};
 
 use kz_sorted::{put, spot, without};
@@ -84,7 +84,7 @@ fn change_at(
 ) -> Result<(), NoMemory>
     requires order { AreInOrder configs.old.items }
     requires there { IsSpot bytes_cmp name_of_configuration change.now.resource_name configs.old.items (Ok place) }
-    ensures ok { OnOk result (configs.new.items ≡ configured change.now configs.old.items) }
+    ensures ok { OnOk result (configs.new.items ≡ configurations_after change.now configs.old.items) }
     ensures err { OnErr result (configs.new.items ≡ configs.old.items) }
 {
     let config = &mut configs[place];
@@ -102,7 +102,7 @@ pub fn configure(
     change: &ConfigRecord,
 ) -> Result<(), NoMemory>
     requires { AreInOrder configs.old.items }
-    ensures ok { OnOk result (configs.new.items ≡ configured change.now configs.old.items) }
+    ensures ok { OnOk result (configs.new.items ≡ configurations_after change.now configs.old.items) }
     ensures err { OnErr result (configs.new.items ≡ configs.old.items) }
 {
     match spot(configs, change.resource_name.bytes()) {

@@ -8,16 +8,17 @@ ghost use Rattle.kz_types.specs.declared.codes.TheConstants.{NO_MIGRATION, POST_
 ghost use Rattle.kz_types.specs.declared.record.MetaRecord.TheVariants as meta;
 ghost use Rattle.kz_spec_stores.specs.Metadata.{empty_image, topic_named, id_of_acl, id_of_broker, topic_id_of, topic_name_of, partition_of, configs_of, quotas_of, scram_of, acl_of};
 ghost use Rattle.kz_spec_stores.specs.ImageRules.{broken, quota_key, is_broker_name, is_empty};
-ghost use Rattle.kz_spec_stores.specs.Image.{acl_row, configured, topic_configured, with_changed, put_topic, new_topic, without_topic, scram_set, scram_removed, quota_changed, effect, applied, all_applied, first_bad};
+ghost use Rattle.kz_spec_stores.specs.Image.{acl_row, configurations_after, topic_configured, with_changed, put_topic, new_topic, without_topic, scram_set, scram_removed, quota_changed, effect, image_with, all_applied, first_bad};
 ghost use Rattle.kz_spec_stores.specs.InOrder.{AreTopicsInOrder, AreInOrder, AreQuotasInOrder, AreUsersInOrder};
 ghost use Rattle.kz_spec_stores.specs.Legal.{AreTopics, IsConfiguration, IsQuotaEntry, IsScramEntry, IsAcl, IsBroker, IsNext};
 ghost use Rattle.kz_image.specs.Faults.{IsFirstBad};
+ghost use Rattle.kz_image.specs.QuotaPaths.{IsEntityRead};
 
 use crate::brokers::{is_migrating, register};
 use crate::configurations::configure;
 use crate::credentials::{remove_scram, scram_at, set_scram};
 use crate::places::partition_at;
-use crate::quotas::{change_quota, quotas_of};
+use crate::quotas::QuotaList;
 use crate::rules::{broken, refused};
 use crate::topics::Topics;
 use kz_sorted::{find, put, without};
@@ -47,7 +48,7 @@ pub struct Image {
     alloc: Global,
     topics: Topics,
     broker_configs: Vec<Configuration>,
-    quotas: Vec<QuotaEntry>,
+    quotas: QuotaList,
     users: Vec<ScramEntry>,
     acls: Vec<AclEntry>,
     brokers: Brokers,
@@ -64,7 +65,7 @@ impl Model for Image {
     ghost view = { λ i. record {
       topics = i.topics;
       broker_configs = i.broker_configs.items;
-      quotas = i.quotas.items;
+      quotas = i.quotas;
       users = i.users.items;
       acls = i.acls.items;
       brokers = i.brokers;
@@ -75,7 +76,7 @@ impl Model for Image {
     ghost invariant = { λ i. IsInOrder (record {
       topics = i.topics;
       broker_configs = i.broker_configs.items;
-      quotas = i.quotas.items;
+      quotas = i.quotas;
       users = i.users.items;
       acls = i.acls.items;
       brokers = i.brokers;
@@ -113,7 +114,7 @@ impl Image {
             alloc,
             topics: Topics::new(alloc),
             broker_configs: Vec::new(alloc),
-            quotas: Vec::new(alloc),
+            quotas: QuotaList::new(alloc),
             users: Vec::new(alloc),
             acls: Vec::new(alloc),
             brokers: Sequence::new(alloc),
@@ -192,7 +193,7 @@ impl Image {
     pub fn quotas(&self, key: &EntityKey) -> Option<&Quotas>
         ensures { option_map (λ quotas. quotas.now) result ≡ quotas_of key.now self.now }
     {
-        quotas_of(&self.quotas, key)
+        self.quotas.of(key)
     }
 
     /// The credential of a user by a mechanism: 1 is SCRAM-SHA-256, 2 is SCRAM-SHA-512.
@@ -269,11 +270,13 @@ impl Image {
         self.broker_configs.as_slice()
     }
 
-    /// Lends the quotas, by the rising path of their entity's znode. No entity has none.
+    /// Lends the quotas, by the rising path of their entity's znode. No entity has none, and each path is read as that of an
+    /// entity.
     pub fn quota_entries(&self) -> &[QuotaEntry]
         ensures quotas { result.now ≡ self.now.quotas }
         ensures in_order { AreQuotasInOrder self.now.quotas }
         ensures legal { All IsQuotaEntry self.now.quotas }
+        ensures read { All IsEntityRead self.now.quotas }
     {
         self.quotas.as_slice()
     }
@@ -337,7 +340,7 @@ impl Image {
     fn configure_broker(&mut self, change: &ConfigRecord) -> Result<(), NoMemory>
         requires resource { is_broker_name change.now.resource_name ≡ true }
         requires member { is_empty change.now.name ≡ false }
-        ensures ok { OnOk result (self.new ≡ record self.old { broker_configs = configured change.now self.old.broker_configs }) }
+        ensures ok { OnOk result (self.new ≡ record self.old { broker_configs = configurations_after change.now self.old.broker_configs }) }
         ensures err { OnErr result (self.new ≡ self.old) }
     {
         configure(self.alloc, &mut self.broker_configs, change)?;
@@ -346,7 +349,7 @@ impl Image {
 
     fn configure(&mut self, change: &ConfigRecord) -> Result<(), NoMemory>
         requires { broken self.old (meta.Config change.now) ≡ None }
-        ensures ok { OnOk result (self.new ≡ (if int_eq change.now.resource_type (pos 2) then record self.old { topics = with_changed (topic_configured change.now) (topic_named change.now.resource_name self.old) self.old.topics } else record self.old { broker_configs = configured change.now self.old.broker_configs })) }
+        ensures ok { OnOk result (self.new ≡ (if int_eq change.now.resource_type (pos 2) then record self.old { topics = with_changed (topic_configured change.now) (topic_named change.now.resource_name self.old) self.old.topics } else record self.old { broker_configs = configurations_after change.now self.old.broker_configs })) }
         ensures err { OnErr result (self.new ≡ self.old) }
     {
         if change.resource_type == 2 {
@@ -395,7 +398,7 @@ impl Image {
         ensures ok { OnOk result (self.new ≡ record self.old { quotas = quota_changed change.now (quota_key change.now.entity) self.old.quotas }) }
         ensures err { OnErr result (self.new ≡ self.old) }
     {
-        change_quota(self.alloc, &mut self.quotas, change)?;
+        self.quotas.change(self.alloc, change)?;
         Ok(())
     }
 
@@ -474,7 +477,7 @@ impl Image {
 
     /// Takes in a record of a batch of this epoch. One that breaks a rule changes nothing. At `Err` nothing has changed.
     pub fn apply(&mut self, epoch: i32, item: &MetaRecord) -> Result<(), NoMemory>
-        ensures ok { OnOk result (self.new ≡ applied epoch item.now self.old) }
+        ensures ok { OnOk result (self.new ≡ image_with epoch item.now self.old) }
         ensures err { OnErr result (self.new ≡ self.old) }
     {
         match broken(self, item) {
@@ -501,7 +504,7 @@ impl Duplicate for Image {
             alloc,
             topics: self.topics.copy(alloc)?,
             broker_configs: copy_all(alloc, &self.broker_configs)?,
-            quotas: copy_all(alloc, &self.quotas)?,
+            quotas: self.quotas.copy(alloc)?,
             users: copy_all(alloc, &self.users)?,
             acls: copy_all(alloc, &self.acls)?,
             brokers: self.brokers.copy(alloc)?,

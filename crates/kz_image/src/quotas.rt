@@ -1,5 +1,5 @@
 //! The quotas of clients, users and addresses, by the rising path of their znode.
-ghost use Rattle.std.specs.Prelude.{◌≡◌, ◌≢◌, List, [], ◌∷◌, true, None, Some, Ok, IfOk, OnOk, OnErr, option_map, if◌then◌else◌};
+ghost use Rattle.std.specs.Prelude.{◌≡◌, ◌≢◌, List, [], ◌∷◌, true, All, None, Some, Ok, IfOk, OnOk, OnErr, option_map, if◌then◌else◌};
 ghost use Rattle.kz_types.specs.Paths.{path_of, is_legal};
 ghost use Rattle.kz_types.specs.PathRule.{is_path};
 ghost use Rattle.kz_types.specs.declared.bodies.QuotaRow.{QuotaRow};
@@ -11,15 +11,35 @@ ghost use Rattle.kz_spec_stores.specs.ImageRules.{quota_key, has_quota};
 ghost use Rattle.kz_spec_stores.specs.Image.{quotas_in, with_quota, with_quotas, quota_changed};
 ghost use Rattle.kz_spec_stores.specs.InOrder.{AreQuotasInOrder};
 ghost use Rattle.kz_image_rules.specs.QuotaKeys.{entity_of};
+ghost use Rattle.kz_image.specs.QuotaPaths.{IsEntityRead};
 
 use kz_image_rules::{QuotaKey, path_of, quota_key};
 use kz_sorted::{find, put, spot, without};
 use kz_types::{
     ClientQuotaRecord, Duplicate, EntityKey, NoMemory, PathFault, QuotaEntry, QuotaRow, Sequence,
-    ZPath,
+    ZPath, copy_all,
 };
 use std::alloc::Global;
+use std::marker::Model;
 use std::mem;
+
+/// The entities that have quotas, by the rising path of their znode. Each path is read as that of an entity.
+#[derive(Drop)]
+pub struct QuotaList {
+    entries: Vec<QuotaEntry>,
+}
+
+impl Model for QuotaList {
+    ghost use Rattle.std.specs.Prelude.{List, All};
+    ghost use Rattle.kz_types.specs.declared.image.QuotaEntry.{QuotaEntry};
+    ghost use Rattle.kz_image.specs.QuotaPaths.{IsEntityRead};
+
+    ghost Value = { List QuotaEntry };
+
+    ghost view = { λ q. q.entries.items };
+
+    ghost invariant = { λ q. All IsEntityRead q.entries.items };
+}
 
 // ---- look-ups
 
@@ -48,8 +68,8 @@ fn quotas_of_key<'a>(
     }
 }
 
-/// The quotas of an entity. What is no entity has none.
-pub fn quotas_of<'a>(entries: &'a [QuotaEntry], key: &EntityKey) -> Option<&'a Sequence<QuotaRow>>
+// The quotas of an entity. What is no entity has none.
+fn quotas_of<'a>(entries: &'a [QuotaEntry], key: &EntityKey) -> Option<&'a Sequence<QuotaRow>>
     requires { AreQuotasInOrder entries.now }
     ensures { option_map (λ quotas. quotas.now) result ≡ (if is_legal key.now then option_map (λ q. q.quotas) (find_in bytes_cmp path_of_quotas (path_of key.now) entries.entry.now) else None) }
 {
@@ -191,16 +211,18 @@ fn change_under(
     }
 }
 
-/// Sets or removes a quota of whom the record speaks. At `Err` nothing has changed.
-pub fn change_quota(
+// Sets or removes a quota of whom the record speaks. At `Err` nothing has changed.
+fn change_entries(
     alloc: Global,
     entries: &mut Vec<QuotaEntry>,
     change: &ClientQuotaRecord,
 ) -> Result<(), NoMemory>
     requires order { AreQuotasInOrder entries.old.items }
+    requires read { All IsEntityRead entries.old.items }
     requires named { has_quota (quota_key change.now.entity) change.now.key ≡ true }
     ensures ok { OnOk result (entries.new.items ≡ quota_changed change.now (quota_key change.now.entity) entries.old.items) }
     ensures err { OnErr result (entries.new.items ≡ entries.old.items) }
+    ensures read { All IsEntityRead entries.new.items }
 {
     let Some(key) = quota_key(change.entity.as_slice()) else {
         return Ok(());
@@ -208,5 +230,52 @@ pub fn change_quota(
     let Some(path) = path_of(&key) else {
         return Ok(());
     };
-    change_under(alloc, entries, path.bytes(), change)
+    change_under(alloc, entries, path.bytes(), change)?;
+    Ok(())
+}
+
+impl QuotaList {
+    /// No quotas.
+    pub fn new(alloc: Global) -> Self
+        ensures { result ≡ [] }
+    {
+        QuotaList {
+            entries: Vec::new(alloc),
+        }
+    }
+
+    /// Lends the entities with their quotas, by rising path.
+    pub fn as_slice(&self) -> &[QuotaEntry]
+        ensures entries { result.now ≡ self.now }
+        ensures read { All IsEntityRead self.now }
+    {
+        self.entries.as_slice()
+    }
+
+    /// The quotas of an entity. What is no entity has none.
+    pub fn of(&self, key: &EntityKey) -> Option<&Sequence<QuotaRow>>
+        requires { AreQuotasInOrder self.now }
+        ensures { option_map (λ quotas. quotas.now) result ≡ (if is_legal key.now then option_map (λ q. q.quotas) (find_in bytes_cmp path_of_quotas (path_of key.now) self.now) else None) }
+    {
+        quotas_of(&self.entries, key)
+    }
+
+    /// Sets or removes a quota of whom the record speaks. At `Err` nothing has changed.
+    pub fn change(&mut self, alloc: Global, change: &ClientQuotaRecord) -> Result<(), NoMemory>
+        requires order { AreQuotasInOrder self.old }
+        requires named { has_quota (quota_key change.now.entity) change.now.key ≡ true }
+        ensures ok { OnOk result (self.new ≡ quota_changed change.now (quota_key change.now.entity) self.old) }
+        ensures err { OnErr result (self.new ≡ self.old) }
+    {
+        change_entries(alloc, &mut self.entries, change)?;
+        Ok(())
+    }
+}
+
+impl Duplicate for QuotaList {
+    fn copy(&self, alloc: Global) -> Result<Self, NoMemory> {
+        Ok(QuotaList {
+            entries: copy_all(alloc, &self.entries)?,
+        })
+    }
 }

@@ -1,6 +1,6 @@
 //! Which records the metadata accepts.
 ghost use Rattle.std.specs.Prelude.{◌≡◌};
-ghost use Rattle.kz_spec_stores.specs.ImageRules.{is_kept_back, broken, refused};
+ghost use Rattle.kz_spec_stores.specs.ImageRules.{is_kept_back, broken, rule_against};
 
 use crate::Image;
 use crate::presence::{lacks, repeats};
@@ -45,7 +45,7 @@ fn is_kept_back(item: &MetaRecord) -> bool
 
 /// The first rule that a record breaks which a controller is asked for.
 pub fn refused(image: &Image, item: &MetaRecord) -> Option<ImageRule>
-    ensures { result ≡ refused image.now item.now }
+    ensures { result ≡ rule_against image.now item.now }
 {
     if is_kept_back(item) {
         return Some(ImageRule::NotAllowed);

@@ -2,7 +2,7 @@
 ghost use Rattle.std.specs.Prelude.{◌≡◌, ◌+ℤ◌, pos, negsuc, true, IfOk, if◌then◌else◌, option_map};
 ghost use Rattle.std.specs.List.{list_all};
 ghost use Rattle.std.specs.Ordering.{int_eq};
-ghost use Rattle.kz_spec_stores.specs.ImageRules.{is_epoch, is_replica, is_recovery, is_assigned, is_row, new_row, changed_row, leaves_row, stated, states_leader};
+ghost use Rattle.kz_spec_stores.specs.ImageRules.{is_epoch, is_replica, is_recovery, is_assigned, is_row, new_row, changed_row, leaves_row, stated_or, states_leader};
 
 use kz_replicas::{are_replicas, are_some_of, is_in};
 use kz_types::{
@@ -67,7 +67,7 @@ fn is_recovery(recovery: i8) -> bool
 
 // What is stated, or else what was there before.
 fn stated<'a>(change: &'a Option<Sequence<i32>>, before: &'a Sequence<i32>) -> &'a [i32]
-    ensures { result.now ≡ stated change.entry.now before.entry.now }
+    ensures { result.now ≡ stated_or change.entry.now before.entry.now }
 {
     match change {
         Some(list) => list.as_slice(),
@@ -201,7 +201,7 @@ fn stated_copy(
     change: &Option<Sequence<i32>>,
     before: &Sequence<i32>,
 ) -> Result<Sequence<i32>, NoMemory>
-    ensures { IfOk result (λ made. made ≡ stated change.now before.now) }
+    ensures { IfOk result (λ made. made ≡ stated_or change.now before.now) }
 {
     match change {
         Some(list) => list.copy(alloc),

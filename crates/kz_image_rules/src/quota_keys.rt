@@ -1,9 +1,11 @@
 //! Whom a quota speaks of.
-ghost use Rattle.std.specs.Prelude.{◌≡◌, ◌<◌, ◌+◌, ◌&&◌, ◌∷◌, [], true, false, ◌++◌, length, option_map, MatchOption};
+ghost use Rattle.std.specs.Prelude.{◌≡◌, ◌<◌, ◌+◌, ◌&&◌, ◌∷◌, [], true, false, Some, ◌++◌, length, option_map, IfSome, MatchOption};
+ghost use Rattle.kz_types.specs.declared.limits.TheConstants.{MAX_PATH_BYTES};
 ghost use Rattle.kz_types.specs.PathRule.{is_path};
-ghost use Rattle.kz_types.specs.Paths.{is_legal, path_of, has_path, is_among};
+ghost use Rattle.kz_types.specs.Paths.{is_legal, key_of, path_of, has_path, is_among};
 ghost use Rattle.kz_spec_values.specs.Credentials.{quota_keys};
 ghost use Rattle.kz_spec_stores.specs.ImageRules.{quota_key, has_quota};
+ghost use Rattle.kz_laws_paths.specs.TextKeys.{IsText, HasTexts};
 ghost use Rattle.kz_image_rules.specs.QuotaKeys.{entity_of};
 
 use crate::paths::push_named;
@@ -70,11 +72,42 @@ fn is_legal(key: &QuotaKey<'_>) -> bool
     }
 }
 
+// A name is UTF-8.
+fn name(text: &Text)
+    ensures { IsText text.now }
+{
+    let _ = text.as_str().as_bytes();
+}
+
+// A name that is there is UTF-8.
+fn name_or_none(text: &Option<Text>)
+    ensures { IfSome text.now IsText }
+{
+    if let Some(text) = text {
+        name(text);
+    }
+}
+
+// The names of an entity are UTF-8.
+fn names(key: &QuotaKey<'_>)
+    ensures { HasTexts (entity_of key.now) }
+{
+    match *key {
+        QuotaKey::User(user) => name_or_none(user),
+        QuotaKey::Client(client) => name_or_none(client),
+        QuotaKey::Ip(address) => name_or_none(address),
+        QuotaKey::UserClient(user, client) => {
+            name_or_none(user);
+            name_or_none(client);
+        }
+    }
+}
+
 // Adds the path of an entity.
 #[tactic(auto, unfolding(kz_types::specs::Paths::path_of))]
 fn push_path(path: &mut PathBuffer, key: &QuotaKey<'_>) -> bool
     ensures added { result ≡ true → path.new ≡ path.old ++ path_of (entity_of key.now) }
-    ensures too_long { result ≡ false → 1024 < length path.old + length (path_of (entity_of key.now)) }
+    ensures too_long { result ≡ false → MAX_PATH_BYTES < length path.old + length (path_of (entity_of key.now)) }
 {
     match *key {
         QuotaKey::User(user) => push_named(path, b"/config/users/", user),
@@ -86,10 +119,12 @@ fn push_path(path: &mut PathBuffer, key: &QuotaKey<'_>) -> bool
     }
 }
 
-/// The path of an entity. `None`: it is longer than a path.
+/// The path of an entity. `None`: it is longer than a path. The path of a legal entity is read as this entity's.
 pub fn path_of(key: &QuotaKey<'_>) -> Option<PathBuffer>
-    ensures { MatchOption result (is_path (path_of (entity_of key.now)) ≡ false) (λ path. path ≡ path_of (entity_of key.now)) }
+    ensures path { MatchOption result (is_path (path_of (entity_of key.now)) ≡ false) (λ path. path ≡ path_of (entity_of key.now)) }
+    ensures read { is_legal (entity_of key.now) ≡ true → key_of (path_of (entity_of key.now)) ≡ Some (entity_of key.now) }
 {
+    names(key);
     let mut path = PathBuffer::new();
     if push_path(&mut path, key) {
         Some(path)

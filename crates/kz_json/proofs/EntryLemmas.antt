@@ -8,10 +8,10 @@ use Rattle.kz_types.specs.declared.bodies.Pair.{Pair}
 use Rattle.kz_types.specs.declared.bodies.QuotaRow.{QuotaRow}
 use Rattle.kz_types.specs.declared.fault.BodyFault.{BodyFault}
 use Rattle.kz_types.specs.declared.key.EntityKey.{EntityKey}
-use Rattle.kz_spec_values.specs.Credentials.{Entries, entry_of, entries_of, joined, both}
+use Rattle.kz_spec_values.specs.Credentials.{Entries, entry_of, entries_of, entries_of_both, both}
 use Rattle.kz_json.specs.Entries.{are_quotas}
 
-both_onto : (a b : Entries) (r : Result Entries BodyFault) → both (Ok a) (both (Ok b) r) ≡ both (Ok (joined a b)) r
+both_onto : (a b : Entries) (r : Result Entries BodyFault) → both (Ok a) (both (Ok b) r) ≡ both (Ok (entries_of_both a b)) r
 both_onto a b (Ok c) = λ i. Ok (record { quotas = sym (append_assoc a.quotas b.quotas c.quotas) i; scrams = sym (append_assoc a.scrams b.scrams c.scrams) i })
 both_onto a b (Err fault) = refl
 
@@ -24,7 +24,7 @@ entries_from key pairs pair at lt is =
 
 -- one more member
 pub one_more : (key : EntityKey) (pairs : List Pair) (pair : Pair) (at : ℕ) (so_far more : Entries) → at < length pairs → pair ≡ get_or pairs at pair → entry_of key pair ≡ Ok more
-    → both (Ok (joined so_far more)) (entries_of key (drop (at + 1) pairs)) ≡ both (Ok so_far) (entries_of key (drop at pairs))
+    → both (Ok (entries_of_both so_far more)) (entries_of key (drop (at + 1) pairs)) ≡ both (Ok so_far) (entries_of key (drop at pairs))
 one_more key pairs pair at so_far more lt is says =
     sym (both_onto so_far more (entries_of key (drop (at + 1) pairs)))
     ∙ sym (ap (both (Ok so_far)) (entries_from key pairs pair at lt is ∙ ap (λ r. both r (entries_of key (drop (at + 1) pairs))) says))

@@ -1,7 +1,7 @@
 //! Bodies of every entity, read and written.
 ghost use Rattle.std.specs.Prelude.{◌≡◌, ◌≢◌, IfOk, IfErr, Err, string_bytes, true};
 ghost use Rattle.kz_types.specs.declared.fault.BodyFault.{BodyFault};
-ghost use Rattle.kz_spec_values.specs.Bodies.{read_body, written, is_of_kind};
+ghost use Rattle.kz_spec_values.specs.Bodies.{read_body, text_of_body, is_of_kind};
 ghost use Rattle.kz_json.specs.Entries.{keeps_quotas};
 
 use crate::acls::Resource;
@@ -61,10 +61,10 @@ pub fn read_body(alloc: Global, key: &EntityKey, bytes: &[u8]) -> Result<Body, B
 }
 
 /// The text of a body.
-#[tactic(auto, unfolding(kz_spec_values::specs::Bodies::written))]
+#[tactic(auto, unfolding(kz_spec_values::specs::Bodies::text_of_body))]
 fn body_text(alloc: Global, body: &Body) -> Result<String, NoMemory>
     requires { keeps_quotas body.now ≡ true }
-    ensures { IfOk result (λ text. string_bytes text ≡ written body.now) }
+    ensures { IfOk result (λ text. string_bytes text ≡ text_of_body body.now) }
 {
     match body {
         Body::Topic { id, partitions } => topic_text(alloc, id, partitions.as_slice()),
@@ -97,7 +97,7 @@ fn body_text(alloc: Global, body: &Body) -> Result<String, NoMemory>
 pub fn write_body(alloc: Global, key: &EntityKey, body: &Body) -> Result<Vec<u8>, BodyFault>
     requires kind { is_of_kind key.now body.now ≡ true }
     requires quotas { keeps_quotas body.now ≡ true }
-    ensures text { IfOk result (λ text. text.items ≡ written body.now) }
+    ensures text { IfOk result (λ text. text.items ≡ text_of_body body.now) }
     ensures memory { IfErr result (λ fault. fault ≡ BodyFault.NoMemory) }
 {
     match body_text(alloc, body) {

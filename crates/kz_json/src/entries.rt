@@ -7,7 +7,7 @@ ghost use Rattle.kz_spec_quotas.specs.Quotas.{quota_of};
 ghost use Rattle.kz_types.specs.declared.fault.BodyFault.{BodyFault};
 ghost use Rattle.kz_types.specs.declared.fault.BodyFault.TheVariants.{UnknownKey};
 ghost use Rattle.kz_spec_values.specs.Credentials as said;
-ghost use Rattle.kz_spec_values.specs.Credentials.{quota_keys, mechanism_of, credential_key, credential_of, credential_entry, quota_entry, entry_of, entries_of, joined};
+ghost use Rattle.kz_spec_values.specs.Credentials.{quota_keys, mechanism_of, credential_key, credential_of, credential_entry, quota_entry, entry_of, entries_of, entries_of_both};
 ghost use Rattle.kz_spec_values.specs.Bodies.{quota_of_data};
 ghost use Rattle.kz_json.specs.Entries.{entry_value};
 
@@ -151,7 +151,7 @@ impl Entries {
 
     /// Adds what one member says.
     fn push(&mut self, entry: Entry) -> Result<(), NoMemory>
-        ensures { OnOk result (self.new ≡ joined self.old (entry_value entry)) }
+        ensures { OnOk result (self.new ≡ entries_of_both self.old (entry_value entry)) }
     {
         match entry {
             Entry::Quota(row) => self.quotas.push(row),

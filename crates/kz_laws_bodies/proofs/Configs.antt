@@ -11,7 +11,7 @@ use Rattle.kz_types.specs.declared.key.EntityKey.{EntityKey}
 use Rattle.kz_types.specs.declared.key.EntityKey.TheVariants.{Topic, Partition, TopicConfig, BrokerConfig, Client, User, UserClient, Ip, Acl, Producer}
 use Rattle.kz_ordered.specs.Order.{bytes_cmp}
 use Rattle.kz_ordered.proofs.Order.{bytes_order, cmp_greater}
-use Rattle.kz_spec_values.specs.Bodies.{with_texts, texts_in, config_of, whole_data, body_of, read_body, written, is_of_kind}
+use Rattle.kz_spec_values.specs.Bodies.{with_texts, texts_in, config_of, whole_data, body_of, read_body, text_of_body, is_of_kind}
 use Rattle.kz_laws_bodies.specs.Readable.{AreTexts, IsBelow, AreRising, IsConfiguration}
 use Rattle.kz_laws_bodies.proofs.Plain.{puts, IsPlain, ArePlainMembers, object_says, whole_is_plain, word}
 
@@ -101,13 +101,13 @@ config_plain pairs h = (
 config_says : (pairs : List Pair) → config_of (object (config_members (texts_members pairs))) ≡ Ok (body.Config pairs)
 config_says pairs = rw (texts_read pairs) refl
 
-config_object : (key : EntityKey) (pairs : List Pair) → IsConfiguration pairs → read_body key (written (body.Config pairs)) ≡ body_of key (object (config_members (texts_members pairs)))
-unfolding written
+config_object : (key : EntityKey) (pairs : List Pair) → IsConfiguration pairs → read_body key (text_of_body (body.Config pairs)) ≡ body_of key (object (config_members (texts_members pairs)))
+unfolding text_of_body
 config_object key pairs h =
     ap (λ ms. read_body key (compact_text (object (config_members ms)))) (written_texts pairs h.rising)
     ∙ object_says key (config_members (texts_members pairs)) (config_plain pairs h)
 
-pub config_is_read : (key : EntityKey) (pairs : List Pair) → is_of_kind key (body.Config pairs) ≡ true → IsConfiguration pairs → read_body key (written (body.Config pairs)) ≡ Ok (body.Config pairs)
+pub config_is_read : (key : EntityKey) (pairs : List Pair) → is_of_kind key (body.Config pairs) ≡ true → IsConfiguration pairs → read_body key (text_of_body (body.Config pairs)) ≡ Ok (body.Config pairs)
 unfolding body_of is_of_kind
 config_is_read (TopicConfig name) pairs kind h = config_object (TopicConfig name) pairs h ∙ config_says pairs
 config_is_read (BrokerConfig broker) pairs kind h = config_object (BrokerConfig broker) pairs h ∙ config_says pairs

@@ -6,7 +6,7 @@ use Rattle.serde_json.specs.View.{items_of}
 use Rattle.kz_types.specs.declared.row.AclRow.{AclRow}
 use Rattle.kz_types.specs.declared.bodies.Body.TheVariants as body
 use Rattle.kz_types.specs.declared.key.EntityKey.TheVariants.{Acl}
-use Rattle.kz_spec_values.specs.Bodies.{operation_of, operation_name, permission_of, permission_name, entry_in, entries_in, acl_data, acls_data, acls_of_data, body_of, read_body, written}
+use Rattle.kz_spec_values.specs.Bodies.{operation_of, operation_name, permission_of, permission_name, entry_in, entries_in, acl_data, acls_data, acls_of_data, body_of, read_body, text_of_body}
 use Rattle.kz_laws_values.specs.Ranges.{IsBetween}
 use Rattle.kz_laws_bodies.specs.Readable.{IsText, IsEntry, AreEntries}
 use Rattle.kz_laws_bodies.proofs.Plain.{IsPlain, ArePlainItems, object_says, whole_is_plain, word}
@@ -92,7 +92,7 @@ acls_say : (pattern kind : ℤ) (name : List ℕ) (rows : List AclRow) → AreEn
 acls_say pattern kind name rows h = rw (entries_read pattern kind name rows h) refl
 
 pub entries_are_read : (pattern kind : ℤ) (name : List ℕ) (rows : List AclRow) → AreEntries pattern kind name rows
-    → read_body (Acl pattern kind name) (written (body.Acls rows)) ≡ Ok (body.Acls rows)
-unfolding written body_of
+    → read_body (Acl pattern kind name) (text_of_body (body.Acls rows)) ≡ Ok (body.Acls rows)
+unfolding text_of_body body_of
 entries_are_read pattern kind name rows h =
     object_says (Acl pattern kind name) _ (acls_plain pattern kind name rows h) ∙ acls_say pattern kind name rows h

@@ -12,7 +12,7 @@ use Rattle.kz_types.specs.Numbers.{is_digit, number_of, digits_up_to}
 use Rattle.kz_types.proofs.NumberLemmas.{tells}
 use Rattle.kz_types.specs.declared.bodies.Body.TheVariants as body
 use Rattle.kz_types.specs.declared.key.EntityKey.TheVariants.{Producer}
-use Rattle.kz_spec_values.specs.Bodies.{greatest, digits_number, producer_data, producer_of_data, body_of, empty_body, read_body, written}
+use Rattle.kz_spec_values.specs.Bodies.{greatest, digits_number, producer_data, producer_of_data, body_of, empty_body, read_body, text_of_body}
 use Rattle.kz_laws_values.specs.Ranges.{IsBetween, IsLong}
 use Rattle.kz_laws_values.proofs.ReadsBack.{whole_in_range, signed_is_utf8}
 use Rattle.kz_laws_bodies.specs.Readable.{IsText, IsOffset, IsBlock}
@@ -72,10 +72,10 @@ producer_says broker start end h =
       digits_read end h.end_is,
     ) refl
 
-pub producer_is_read : (broker start end : ℤ) → IsBlock broker start end → read_body Producer (written (body.Producer broker start end)) ≡ Ok (body.Producer broker start end)
-unfolding written body_of
+pub producer_is_read : (broker start end : ℤ) → IsBlock broker start end → read_body Producer (text_of_body (body.Producer broker start end)) ≡ Ok (body.Producer broker start end)
+unfolding text_of_body body_of
 producer_is_read broker start end h = object_says Producer _ (producer_plain broker start end h) ∙ producer_says broker start end h
 
-pub blank_is_read : read_body Producer (written body.Blank) ≡ Ok body.Blank
-unfolding written read_body empty_body
+pub blank_is_read : read_body Producer (text_of_body body.Blank) ≡ Ok body.Blank
+unfolding text_of_body read_body empty_body
 blank_is_read = refl

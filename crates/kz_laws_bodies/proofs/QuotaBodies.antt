@@ -19,7 +19,7 @@ use Rattle.kz_types.specs.declared.key.EntityKey.TheVariants.{Topic, Partition, 
 use Rattle.kz_ordered.specs.Order.{bytes_cmp}
 use Rattle.kz_ordered.proofs.Order.{bytes_order, cmp_greater}
 use Rattle.kz_spec_values.specs.Credentials.{client_keys, quota_keys, mechanism_of, mechanism_name, credential_key, credential_entry, quota_entry, entry_by, entry_of, entries_of, both, quota_pair, credential_pair}
-use Rattle.kz_spec_values.specs.Bodies.{then_read, with_texts, pairs_of, quota_of_data, body_of, read_body, written, is_of_kind}
+use Rattle.kz_spec_values.specs.Bodies.{then_read, with_texts, pairs_of, quota_of_data, body_of, read_body, text_of_body, is_of_kind}
 use Rattle.kz_laws_bodies.specs.Readable.{IsText, AreTexts, IsBelow, AreRising, IsQuota, AreQuotas, IsCredential, AreCredentials, IsQuotaBody}
 use Rattle.kz_laws_bodies.proofs.Plain.{IsPlain, object_says, whole_is_plain, word}
 use Rattle.kz_laws_bodies.proofs.Credentials.{credential_is, credential_is_text}
@@ -207,14 +207,14 @@ quota_says key quotas scrams h =
     ∙ ap (λ r. then_read r (λ entries. Ok (body.Quota entries.quotas entries.scrams))) (all_read key scrams quotas h.scrams_are h.quotas_are)
 
 quota_object : (key : EntityKey) (quotas : List QuotaRow) (scrams : List ScramPair) → IsQuotaBody key quotas scrams
-    → read_body key (written (body.Quota quotas scrams)) ≡ body_of key (object (config_members (texts_members (sorted quotas scrams))))
-unfolding written
+    → read_body key (text_of_body (body.Quota quotas scrams)) ≡ body_of key (object (config_members (texts_members (sorted quotas scrams))))
+unfolding text_of_body
 quota_object key quotas scrams h =
     ap (λ ms. read_body key (compact_text (object (config_members ms)))) (members_written key quotas scrams h)
     ∙ object_says key (config_members (texts_members (sorted quotas scrams))) (pairs_plain (sorted quotas scrams) (sorted_texts key quotas scrams h) (sorted_rise key quotas scrams h))
 
 pub quotas_are_read : (key : EntityKey) (quotas : List QuotaRow) (scrams : List ScramPair) → is_of_kind key (body.Quota quotas scrams) ≡ true → IsQuotaBody key quotas scrams
-    → read_body key (written (body.Quota quotas scrams)) ≡ Ok (body.Quota quotas scrams)
+    → read_body key (text_of_body (body.Quota quotas scrams)) ≡ Ok (body.Quota quotas scrams)
 unfolding body_of is_of_kind
 quotas_are_read (Client client) quotas scrams kind h = quota_object (Client client) quotas scrams h ∙ quota_says (Client client) quotas scrams h
 quotas_are_read (User user) quotas scrams kind h = quota_object (User user) quotas scrams h ∙ quota_says (User user) quotas scrams h

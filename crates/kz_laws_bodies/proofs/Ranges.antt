@@ -12,7 +12,7 @@ use Rattle.kz_types.specs.declared.bodies.Body.TheVariants as body
 use Rattle.kz_types.specs.declared.fault.BodyFault.{BodyFault}
 use Rattle.kz_types.specs.declared.key.EntityKey.{EntityKey}
 use Rattle.kz_types.specs.declared.key.EntityKey.TheVariants.{Partition, Producer}
-use Rattle.kz_spec_values.specs.Bodies.{then_read, of_form, required, optional, field, greatest, within, whole, brokers_in, brokers_of, digits_number, digits_of_data, state_of_data, producer_of_data, json_of, object_of, body_of, body_of_object, body_of_json, empty_body, read_body}
+use Rattle.kz_spec_values.specs.Bodies.{then_read, of_form, required_member, optional, field, greatest, within, whole, brokers_in, brokers_of, digits_number, digits_of_data, state_of_data, producer_of_data, json_of, object_of, body_of, body_of_object, body_of_json, empty_body, read_body}
 use Rattle.kz_laws_values.specs.Ranges.{IsBetween}
 use Rattle.kz_laws_bodies.specs.Readable.{AreBrokers, IsState, IsOffset, IsBlock}
 use Rattle.kz_laws_bodies.proofs.Rows.{some_same}
@@ -32,7 +32,7 @@ form_holds : {A : Type 0} (name : List ℕ) (o : Option A) (a : A) → of_form n
 form_holds name None a h = cc h
 form_holds name (Some b) a h = cc h
 
-required_holds : {A : Type 0} (name : List ℕ) (form : Data → Option A) (o : Option Data) (a : A) → required name form o ≡ Ok a → (d : Data) × (form d ≡ Some a)
+required_holds : {A : Type 0} (name : List ℕ) (form : Data → Option A) (o : Option Data) (a : A) → required_member name form o ≡ Ok a → (d : Data) × (form d ≡ Some a)
 required_holds name form None a h = cc h
 required_holds name form (Some d) a h = (d, form_holds name (form d) a h)
 

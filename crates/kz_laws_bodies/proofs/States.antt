@@ -5,7 +5,7 @@ use Rattle.std.proofs.lemmas.Int.{ints}
 use Rattle.serde_json.specs.View.{items_of}
 use Rattle.kz_types.specs.declared.bodies.Body.TheVariants as body
 use Rattle.kz_types.specs.declared.key.EntityKey.TheVariants.{Partition}
-use Rattle.kz_spec_values.specs.Bodies.{greatest, whole, whole_data, brokers_in, state_data, state_of_data, body_of, read_body, written}
+use Rattle.kz_spec_values.specs.Bodies.{greatest, whole, whole_data, brokers_in, state_data, state_of_data, body_of, read_body, text_of_body}
 use Rattle.kz_laws_values.specs.Ranges.{IsBetween, IsLong}
 use Rattle.kz_laws_values.proofs.ReadsBack.{whole_in_range}
 use Rattle.kz_laws_bodies.specs.Readable.{IsWhole, AreBrokers, IsState}
@@ -71,8 +71,8 @@ state_says leader leader_epoch controller_epoch isr recovery h =
     ) refl
 
 pub state_is_read : (topic : List ℕ) (partition leader leader_epoch controller_epoch : ℤ) (isr : List ℤ) (recovery : ℤ) → IsState leader leader_epoch controller_epoch isr recovery
-    → read_body (Partition topic partition) (written (body.State leader leader_epoch controller_epoch isr recovery)) ≡ Ok (body.State leader leader_epoch controller_epoch isr recovery)
-unfolding written body_of
+    → read_body (Partition topic partition) (text_of_body (body.State leader leader_epoch controller_epoch isr recovery)) ≡ Ok (body.State leader leader_epoch controller_epoch isr recovery)
+unfolding text_of_body body_of
 state_is_read topic partition leader leader_epoch controller_epoch isr recovery h =
     object_says (Partition topic partition) _ (state_plain leader leader_epoch controller_epoch isr recovery h)
     ∙ state_says leader leader_epoch controller_epoch isr recovery h

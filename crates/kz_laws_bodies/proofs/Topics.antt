@@ -15,7 +15,7 @@ use Rattle.kz_types.specs.declared.bodies.AssignmentRow.{AssignmentRow}
 use Rattle.kz_types.specs.declared.bodies.Body.TheVariants as body
 use Rattle.kz_types.specs.declared.fault.BodyFault.TheVariants.{NoTopicId}
 use Rattle.kz_types.specs.declared.key.EntityKey.TheVariants.{Topic}
-use Rattle.kz_spec_values.specs.Bodies.{whole_data, brokers_data, with_list, with_lists, replicas_members, topic_id_of, topic_data, topic_of_data, body_of, read_body, written}
+use Rattle.kz_spec_values.specs.Bodies.{whole_data, brokers_data, with_list, with_lists, replicas_members, topic_id_of, topic_data, topic_of_data, body_of, read_body, text_of_body}
 use Rattle.kz_laws_bodies.specs.Readable.{IsText, ArePartitions, IsAssignment}
 use Rattle.kz_laws_bodies.proofs.Plain.{IsPlain, ArePlainMembers, object_says, whole_is_plain, word}
 use Rattle.kz_laws_bodies.proofs.States.{brokers_plain}
@@ -115,8 +115,8 @@ topic_says id rows h =
 written_topic : (id : Id) (rows : List AssignmentRow) → topic_data id rows ≡ object (members_of_topic id rows (added rows) (removed rows))
 written_topic id rows i = object (members_of_topic id rows (adding_lists rows no_members i) (removing_lists rows no_members i))
 
-pub topic_is_read : (name : List ℕ) (id : Id) (rows : List AssignmentRow) → IsAssignment id rows → read_body (Topic name) (written (body.Topic id rows)) ≡ Ok (body.Topic id rows)
-unfolding written body_of
+pub topic_is_read : (name : List ℕ) (id : Id) (rows : List AssignmentRow) → IsAssignment id rows → read_body (Topic name) (text_of_body (body.Topic id rows)) ≡ Ok (body.Topic id rows)
+unfolding text_of_body body_of
 topic_is_read name id rows h =
     ap (λ d. read_body (Topic name) (compact_text d)) (written_topic id rows)
     ∙ object_says (Topic name) (members_of_topic id rows (added rows) (removed rows)) (topic_plain id rows h)

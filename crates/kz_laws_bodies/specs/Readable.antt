@@ -4,6 +4,7 @@ use Rattle.std.specs.Str.{is_utf8}
 use Rattle.std.specs.declared.cmp.Ordering.TheVariants.{Less}
 use Rattle.kz_ordered.specs.Order.{bytes_cmp}
 use Rattle.base64.specs.GeneralPurpose.{IsBytes}
+use Rattle.kz_types.specs.declared.limits.TheConstants.{MAX_NUMBER}
 use Rattle.kz_types.specs.Ids.{zero_id}
 use Rattle.kz_types.specs.declared.id.Id.{Id}
 use Rattle.kz_types.specs.declared.bodies.AssignmentRow.{AssignmentRow}
@@ -47,18 +48,18 @@ pub record IsConfiguration (pairs : List Pair) : Type 0 where
 
 -- ---- partitions
 
--- a number from 0 to 2147483647
+-- a number from 0 to the greatest of 32 bits
 abbrev pub IsWhole : ℤ → Type 0
-IsWhole n = IsBetween (pos 0) (pos 2147483647) n
+IsWhole n = IsBetween (pos 0) (pos MAX_NUMBER) n
 
 -- ids of brokers
 abbrev pub AreBrokers : List ℤ → Type 0
 AreBrokers [] = ⊤
 AreBrokers (id ∷ ids) = IsWhole id × AreBrokers ids
 
--- The state of a partition: its leader is from -2 to 2147483647, and its recovery is 0 or 1.
+-- The state of a partition: its leader is from -2 to the greatest of 32 bits, and its recovery is 0 or 1.
 pub record IsState (leader leader_epoch controller_epoch : ℤ) (isr : List ℤ) (recovery : ℤ) : Type 0 where
-  pub leader_is : IsBetween (negsuc 1) (pos 2147483647) leader
+  pub leader_is : IsBetween (negsuc 1) (pos MAX_NUMBER) leader
   pub leader_epoch_is : IsWhole leader_epoch
   pub controller_epoch_is : IsWhole controller_epoch
   pub isr_is : AreBrokers isr
@@ -70,9 +71,9 @@ pub record IsState (leader leader_epoch controller_epoch : ℤ) (isr : List ℤ)
 abbrev pub IsOffset : ℤ → Type 0
 IsOffset n = IsBetween (pos 0) (pos 9223372036854775807) n
 
--- A block of producer ids: its broker is from -1 to 2147483647.
+-- A block of producer ids: its broker is from -1 to the greatest of 32 bits.
 pub record IsBlock (broker start end : ℤ) : Type 0 where
-  pub broker_is : IsBetween (negsuc 0) (pos 2147483647) broker
+  pub broker_is : IsBetween (negsuc 0) (pos MAX_NUMBER) broker
   pub start_is : IsOffset start
   pub end_is : IsOffset end
 
@@ -139,12 +140,12 @@ abbrev pub AreQuotas : EntityKey → List QuotaRow → Type 0
 AreQuotas key [] = ⊤
 AreQuotas key (row ∷ rows) = IsQuota key row × AreQuotas key rows
 
--- A credential of bytes, with 1 to 2147483647 iterations.
+-- A credential of bytes, whose iterations are from 1 to the greatest of 32 bits.
 pub record IsScram (row : ScramRow) : Type 0 where
   pub salt_is : IsBytes row.salt
   pub stored_key_is : IsBytes row.stored_key
   pub server_key_is : IsBytes row.server_key
-  pub iterations_are : IsBetween (pos 1) (pos 2147483647) row.iterations
+  pub iterations_are : IsBetween (pos 1) (pos MAX_NUMBER) row.iterations
 
 -- A credential that this entity may have.
 pub record IsCredential (key : EntityKey) (pair : ScramPair) : Type 0 where

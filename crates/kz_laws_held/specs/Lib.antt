@@ -1,2 +1,1 @@
-pub mod HeldMetadata
 pub mod Worked

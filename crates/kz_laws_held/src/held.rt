@@ -1,17 +1,16 @@
-//! Metadata that a program holds is in order and can be written. But for `are_quotas_read`, the functions here are never run:
-//! what they go over is what their contracts say.
-ghost use Rattle.std.specs.Prelude.{◌≡◌, ℤ, true, length, All, IsTrue, ◌↔◌};
+//! Metadata that a program holds is in order and can be written. The functions here are never run: what they go over is what
+//! their contracts say.
+ghost use Rattle.std.specs.Prelude.{◌≡◌, ℤ, true, length, All};
 ghost use Rattle.base64.specs.GeneralPurpose.{IsBytes};
 ghost use Rattle.kz_spec_stores.specs.InOrder.{IsInOrder};
 ghost use Rattle.kz_spec_znodes.specs.Rendering.{render};
 ghost use Rattle.kz_laws_znodes.specs.RoundTrip.{IsSameBut, IsText, FitsInt, IsPartitionWritable, IsMemberWritable, IsTopicWritable, IsConfigWritable, IsQuotaWritable, AreQuotasWritable, IsScramWritable, IsUserWritable, IsAclWritable, IsWritable, MayReturn, Returns};
-ghost use Rattle.kz_laws_held.specs.HeldMetadata.{IsEntityRead, AreQuotasRead};
+ghost use Rattle.kz_image.specs.QuotaPaths.{IsEntityRead};
 
 use kz_image::Image;
-use kz_path::kind;
 use kz_types::{
-    AclEntry, Configuration, Kind, Pair, PartitionEntry, QuotaEntry, QuotaRow, ScramEntry,
-    ScramPair, Text, TopicEntry,
+    AclEntry, Configuration, Pair, PartitionEntry, QuotaEntry, QuotaRow, ScramEntry, ScramPair,
+    Text, TopicEntry,
 };
 
 // ---- fields
@@ -218,9 +217,8 @@ fn in_order(i: &Image)
     let _ = i.state();
 }
 
-// Every metadata whose quotas are read can be written.
+// Every metadata can be written.
 fn writable(i: &Image)
-    requires { AreQuotasRead i.now }
     ensures { IsWritable i.now }
 {
     topics(i.topics());
@@ -230,27 +228,11 @@ fn writable(i: &Image)
     acls(i.acls());
 }
 
-// Whether the path is read as that of an entity.
-#[tactic(auto, unfolding(kz_types::specs::Paths::kind_of))]
-fn is_entity_read(q: &QuotaEntry) -> bool
-    ensures { IsTrue result ↔ IsEntityRead q.now }
-{
-    matches!(kind(&q.path), Kind::Entity)
-}
-
-/// Whether the path of each entity that has quotas is read as that of an entity. It takes no memory.
-pub fn are_quotas_read(i: &Image) -> bool
-    ensures { IsTrue result ↔ AreQuotasRead i.now }
-{
-    i.quota_entries().iter().all(|q| is_entity_read(q))
-}
-
 /// Metadata that a program holds, rendered, translated to records and made again, is the same metadata: the same topics,
 /// partitions, configurations, quotas, credentials and access control entries. No controller epoch is negative, a further block
-/// of producer ids fits, and neither the znodes nor the records pass a limit (`MayReturn`); and the paths of quotas are read.
+/// of producer ids fits, and neither the znodes nor the records pass a limit (`MayReturn`).
 pub fn round_trip(i: &Image)
-    requires may_return { MayReturn i.now }
-    requires quotas { AreQuotasRead i.now }
+    requires { MayReturn i.now }
     ensures { Returns i.now }
 {
     in_order(i);
@@ -260,9 +242,7 @@ pub fn round_trip(i: &Image)
 /// Metadata that a program holds is told by its rendering, but for what doesn't return: two with one rendering are the same.
 pub fn one_rendering(one: &Image, other: &Image)
     requires one_may_return { MayReturn one.now }
-    requires one_is_read { AreQuotasRead one.now }
     requires other_may_return { MayReturn other.now }
-    requires other_is_read { AreQuotasRead other.now }
     requires rendering { render one.now ≡ render other.now }
     ensures { IsSameBut one.now other.now }
 {

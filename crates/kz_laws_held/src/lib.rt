@@ -5,7 +5,7 @@
 mod held;
 mod worked;
 
-pub use held::{are_quotas_read, one_rendering, round_trip};
+pub use held::{one_rendering, round_trip};
 pub use worked::worked_is_made;
 
 #[cfg(test)]

@@ -6,7 +6,7 @@ ghost use Rattle.kz_laws_znodes.specs.RoundTrip.{MayReturn};
 ghost use Rattle.kz_laws_held.specs.Worked.{topic_id, topic, partition, topic_member, broker_member, quota, credential, entry, producer_ids, worked_records};
 
 use crate::worked::worked_is_made;
-use crate::{are_quotas_read, one_rendering, round_trip};
+use crate::{one_rendering, round_trip};
 use kz_image::Image;
 use kz_laws_znodes::worked_metadata;
 use kz_types::{
@@ -203,9 +203,6 @@ fn may_return(image: &Image)
 #[test]
 fn held_metadata_returns(rt: HostRuntime) -> Result<(), &'static str> {
     let image = image(rt.alloc()).ok().ok_or("memory")?;
-    if !are_quotas_read(&image) {
-        return Err("a path isn't read");
-    }
     may_return(&image);
     round_trip(&image);
     one_rendering(&image, &image);

@@ -24,7 +24,7 @@ use Rattle.kz_ordered.specs.Ordered.{find, put, without, Rises}
 use Rattle.kz_ordered.proofs.Order.{bytes_order, int_order}
 use Rattle.kz_spec_stores.specs.Metadata.{Image, name_of_pair, name_of_configuration, mechanism_of_pair, name_of_user, key_of_quota, path_of_quotas, some_pairs, pairs_of, pairs_at, topic_named, scram_of}
 use Rattle.kz_spec_stores.specs.ImageRules.{quota_key}
-use Rattle.kz_spec_stores.specs.Image.{with_member, with_pairs, configured, with_changed, topic_configured, scrams_in, scrams_at, with_scrams, scram_row, quotas_in, with_quota, quota_changed}
+use Rattle.kz_spec_stores.specs.Image.{with_member, with_pairs, configurations_after, with_changed, topic_configured, scrams_in, scrams_at, with_scrams, scram_row, quotas_in, with_quota, quota_changed}
 use Rattle.kz_spec_stores.specs.InOrder.{IsInOrder}
 use Rattle.kz_laws_images.specs.Words.{value_in, member_of, quota_in, quota_of, broker_member_word, scram_word, is_entity, quota_word}
 use Rattle.kz_laws_images.proofs.Lists.{pairs_rise}
@@ -67,10 +67,10 @@ pub broker_member : (name member : List ℕ) (i : Image) → member_of (pos 4) n
 broker_member name member i = value_of_some member (pairs_at name i.broker_configs)
 
 configured_member : (name member : List ℕ) (r : ConfigRecord) (i : Image) → IsInOrder i
-    → member_of (pos 4) name member (record i { broker_configs = configured r i.broker_configs }) ≡ cond (bytes_eq r.resource_name name && bytes_eq r.name member) r.value (member_of (pos 4) name member i)
+    → member_of (pos 4) name member (record i { broker_configs = configurations_after r i.broker_configs }) ≡ cond (bytes_eq r.resource_name name && bytes_eq r.name member) r.value (member_of (pos 4) name member i)
 configured_member name member r i order =
     let pairs = pairs_at r.resource_name i.broker_configs in
-    broker_member name member (record i { broker_configs = configured r i.broker_configs })
+    broker_member name member (record i { broker_configs = configurations_after r i.broker_configs })
     ∙ value_changed configurations_hold pairs_found (value_in member) r.value name r.resource_name (with_member r.name r.value pairs) i.broker_configs (bytes_eq r.resource_name name) (bytes_eq r.name member)
     (bytes_eq-Decides r.resource_name name) order.configs.rising
     (value_with_member member r.name r.value pairs (bytes_eq r.name member) (bytes_eq-Decides r.name member) (pairs_rise r.resource_name i.broker_configs order.configs.filled))
@@ -81,7 +81,7 @@ topic_kind : (kind : ℤ) → int_eq kind (pos 2) ≡ true → int_eq kind (pos 
 topic_kind kind h = ap (λ k. int_eq k (pos 4)) ((Decides-int_eq kind (pos 2)).0 h)
 
 config_by : (topic broker : Bool) (name member : List ℕ) (r : ConfigRecord) (topics : List TopicEntry) (i : Image) → IsInOrder i → (topic ≡ true → broker ≡ false) → not topic && not broker ≡ false
-    → member_of (pos 4) name member (cond topic (record i { topics = topics }) (record i { broker_configs = configured r i.broker_configs })) ≡ cond (broker && bytes_eq r.resource_name name && bytes_eq r.name member) r.value (member_of (pos 4) name member i)
+    → member_of (pos 4) name member (cond topic (record i { topics = topics }) (record i { broker_configs = configurations_after r i.broker_configs })) ≡ cond (broker && bytes_eq r.resource_name name && bytes_eq r.name member) r.value (member_of (pos 4) name member i)
 config_by true true name member r topics i order other known = let e : true ≡ false = other refl in absurd (cc)
 config_by true false name member r topics i order other known = refl
 config_by false true name member r topics i order other known = configured_member name member r i order

@@ -18,7 +18,7 @@ use Rattle.kz_ordered.proofs.Order.{bytes_order, int_order}
 use Rattle.kz_ordered.proofs.Lookup.{Rises-put, Rises-without}
 use Rattle.kz_spec_stores.specs.Metadata.{Image, id_of_acl, id_of_broker, topic_named, topic_with}
 use Rattle.kz_spec_stores.specs.ImageRules.{is_empty, is_zero, is_broker_name, is_mechanism, is_user, are_codes, is_resource, is_row, new_row, is_epoch, is_operation, is_permission, is_epoch_or_none, is_below_next, max_next, broken, quota_key}
-use Rattle.kz_spec_stores.specs.Image.{acl_row, topic_configured, with_changed, configured, without_topic, scram_removed, effect}
+use Rattle.kz_spec_stores.specs.Image.{acl_row, topic_configured, with_changed, configurations_after, without_topic, scram_removed, effect}
 use Rattle.kz_spec_stores.specs.Legal.{AreTopics, IsScramEntry, IsAcl, IsBroker}
 use Rattle.kz_spec_stores.specs.InOrder.{AreTopicsInOrder, AreUsersInOrder, IsInOrder}
 use Rattle.kz_laws_images.proofs.Lists.{All-put, All-without, configured_in_order}
@@ -113,7 +113,7 @@ module _ (i : Image) (order : IsInOrder i) where
   topic_configuration_kept r member = with_topics _ (topic_configured_in_order r i.topics order.topics) (topic_configured_legal r i.topics member order.topics.rising order.legal.topics)
 
   -- a member of a broker's configuration
-  pub broker_configuration_kept : (r : ConfigRecord) → is_broker_name r.resource_name ≡ true → is_empty r.name ≡ false → IsInOrder (record i { broker_configs = configured r i.broker_configs })
+  pub broker_configuration_kept : (r : ConfigRecord) → is_broker_name r.resource_name ≡ true → is_empty r.name ≡ false → IsInOrder (record i { broker_configs = configurations_after r i.broker_configs })
   broker_configuration_kept r named member = record {
     topics = order.topics;
     configs = configured_in_order r i.broker_configs order.configs;
@@ -134,7 +134,7 @@ module _ (i : Image) (order : IsInOrder i) where
   }
 
   configuration_kept : (b : Bool) (r : ConfigRecord) → (b ≡ false → is_broker_name r.resource_name ≡ true) → is_empty r.name ≡ false
-      → IsInOrder (cond b (record i { topics = with_changed (topic_configured r) (topic_named r.resource_name i) i.topics }) (record i { broker_configs = configured r i.broker_configs }))
+      → IsInOrder (cond b (record i { topics = with_changed (topic_configured r) (topic_named r.resource_name i) i.topics }) (record i { broker_configs = configurations_after r i.broker_configs }))
   configuration_kept true r named member = topic_configuration_kept r member
   configuration_kept false r named member = broker_configuration_kept r (named refl) member
 

@@ -38,7 +38,7 @@ use Rattle.kz_ordered.proofs.Spot.{put_by_spot}
 use Rattle.kz_spec_values.specs.Credentials.{quota_keys}
 use Rattle.kz_spec_stores.specs.Metadata.{name_of_topic, number_of_partition, name_of_configuration, name_of_pair, path_of_quotas, key_of_quota, name_of_user, mechanism_of_pair, same_id, partition_at, pairs_of, pairs_at}
 use Rattle.kz_spec_stores.specs.ImageRules.{is_empty, is_zero, is_broker_name, is_mechanism, is_user, is_row, new_row, changed_row, leaves_row, has_quota}
-use Rattle.kz_spec_stores.specs.Image.{put_topic, new_topic, with_changed, put_partition, change_partition, partition_changed, without_topic, topic_configured, with_member, with_pairs, configured, quotas_in, with_quota, quota_changed, scrams_in, scrams_at, with_scrams, scram_row, scram_set, scram_removed}
+use Rattle.kz_spec_stores.specs.Image.{put_topic, new_topic, with_changed, put_partition, change_partition, partition_changed, without_topic, topic_configured, with_member, with_pairs, configurations_after, quotas_in, with_quota, quota_changed, scrams_in, scrams_at, with_scrams, scram_row, scram_set, scram_removed}
 use Rattle.kz_spec_stores.specs.Legal.{IsMember, IsPartition, IsTopic, AreApart, AreTopics, IsConfiguration, IsQuotaOf, IsQuotaEntry, IsScramOf, IsScramEntry}
 use Rattle.kz_laws_images.proofs.Lists.{All-put, All-without}
 use Rattle.kz_laws_images.proofs.Entries.{HasIfFound, found_has, found_by_has, changed_all}
@@ -213,7 +213,7 @@ with_pairs_legal : (name : List ℕ) (ps : List Pair) (xs : List Configuration) 
 with_pairs_legal name [] xs named h legal = All-without IsConfiguration bytes_cmp name_of_configuration name xs legal
 with_pairs_legal name (p ∷ ps) xs named h legal = All-put IsConfiguration bytes_cmp name_of_configuration (record { name = name; pairs = p ∷ ps }) xs (named, h) legal
 
-pub configured_legal : (c : ConfigRecord) (xs : List Configuration) → is_broker_name c.resource_name ≡ true → is_empty c.name ≡ false → All IsConfiguration xs → All IsConfiguration (configured c xs)
+pub configured_legal : (c : ConfigRecord) (xs : List Configuration) → is_broker_name c.resource_name ≡ true → is_empty c.name ≡ false → All IsConfiguration xs → All IsConfiguration (configurations_after c xs)
 configured_legal c xs named member legal =
     with_pairs_legal c.resource_name _ xs named
     (member_legal c.name c.value (pairs_at c.resource_name xs) member (found_members _ (found_has IsConfiguration bytes_cmp name_of_configuration c.resource_name xs legal))) legal

@@ -10,7 +10,7 @@ use Rattle.kz_ordered.specs.Order.{bytes_cmp}
 use Rattle.kz_ordered.specs.Ordered.{find, put, without, Rises}
 use Rattle.kz_ordered.proofs.Order.{bytes_order}
 use Rattle.kz_ordered.proofs.Lookup.{Rises-put, Rises-without}
-use Rattle.kz_spec_stores.specs.Image.{name_of_configuration, name_of_pair, with_member, with_pairs, configured}
+use Rattle.kz_spec_stores.specs.Image.{name_of_configuration, name_of_pair, with_member, with_pairs, configurations_after}
 use Rattle.kz_spec_stores.specs.Metadata.{pairs_of, pairs_at}
 use Rattle.kz_spec_stores.specs.InOrder.{IsFilled, AreInOrder}
 
@@ -59,7 +59,7 @@ with_pairs_in_order k (p ∷ ps) xs h order =
       filled = All-put IsFilled bytes_cmp name_of_configuration c xs (omega arith, h) order.filled;
     }
 
-pub configured_in_order : (change : ConfigRecord) (xs : List Configuration) → AreInOrder xs → AreInOrder (configured change xs)
+pub configured_in_order : (change : ConfigRecord) (xs : List Configuration) → AreInOrder xs → AreInOrder (configurations_after change xs)
 configured_in_order change xs order =
     with_pairs_in_order change.resource_name (with_member change.name change.value (pairs_at change.resource_name xs)) xs
     (member_rises change.name change.value (pairs_at change.resource_name xs) (pairs_rise change.resource_name xs order.filled)) order

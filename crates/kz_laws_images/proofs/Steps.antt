@@ -11,11 +11,11 @@ use Rattle.kz_types.specs.declared.record.MetaRecord.TheVariants as meta
 use Rattle.kz_types.specs.declared.record.ConfigRecord.{ConfigRecord}
 use Rattle.kz_spec_stores.specs.Metadata.{Image, topic_named}
 use Rattle.kz_spec_stores.specs.ImageRules.{broken}
-use Rattle.kz_spec_stores.specs.Image.{with_changed, topic_configured, configured, effect, unless_broken, applied, all_applied}
+use Rattle.kz_spec_stores.specs.Image.{with_changed, topic_configured, configurations_after, effect, unless_broken, image_with, all_applied}
 use Rattle.kz_spec_stores.specs.InOrder.{IsInOrder}
-use Rattle.kz_spec_stores.specs.Settlement.{counted}
+use Rattle.kz_spec_stores.specs.Settlement.{counting_records}
 use Rattle.kz_spec_stores.specs.Log.{Log, entries, all_entries_applied, image_at}
-use Rattle.kz_laws_images.specs.Said.{before_unless_broken, accepted, said, accepted_entries, said_by_entries}
+use Rattle.kz_laws_images.specs.Said.{before_unless_broken, acceptable_records, said, accepted_entries, said_by_entries}
 use Rattle.kz_laws_images.specs.ImageLaws.{IsWhatIsSaid}
 use Rattle.kz_laws_images.proofs.Kept.{kept}
 
@@ -23,12 +23,12 @@ applied_by : (epoch : ℤ) (r : MetaRecord) (i : Image) (found : Option ImageRul
 applied_by epoch r i None e order = kept i order epoch r e
 applied_by epoch r i (Some rule) e order = order
 
-pub applied_keeps : (epoch : ℤ) (r : MetaRecord) (i : Image) → IsInOrder i → IsInOrder (applied epoch r i)
+pub applied_keeps : (epoch : ℤ) (r : MetaRecord) (i : Image) → IsInOrder i → IsInOrder (image_with epoch r i)
 applied_keeps epoch r i order = applied_by epoch r i (broken i r) refl order
 
 pub all_applied_keeps : (epoch : ℤ) (rs : List MetaRecord) (i : Image) → IsInOrder i → IsInOrder (all_applied epoch rs i)
 all_applied_keeps epoch [] i order = order
-all_applied_keeps epoch (r ∷ rs) i order = all_applied_keeps epoch rs (applied epoch r i) (applied_keeps epoch r i order)
+all_applied_keeps epoch (r ∷ rs) i order = all_applied_keeps epoch rs (image_with epoch r i) (applied_keeps epoch r i order)
 
 -- an accepted record says by this word what is looked up after it
 abbrev pub IsStep : {V : Type 0} → (Image → V) → (ℤ → MetaRecord → V → V) → Type 0
@@ -44,7 +44,7 @@ module _ {V : Type 0} (look : Image → V) (word : ℤ → MetaRecord → V → 
   applied_says_by epoch r i None e order = step epoch r i order e
   applied_says_by epoch r i (Some rule) e order = refl
 
-  applied_says : (epoch : ℤ) (r : MetaRecord) (i : Image) → IsInOrder i → look (applied epoch r i) ≡ said_unless_broken (broken i r) (word epoch r (look i)) (look i)
+  applied_says : (epoch : ℤ) (r : MetaRecord) (i : Image) → IsInOrder i → look (image_with epoch r i) ≡ said_unless_broken (broken i r) (word epoch r (look i)) (look i)
   applied_says epoch r i order = applied_says_by epoch r i (broken i r) refl order
 
   first_said : (epoch : ℤ) (found : Option ImageRule) (r : MetaRecord) (rs : List MetaRecord) (v : V) → said (word epoch) rs (said_unless_broken found (word epoch r v) v) ≡ said (word epoch) (before_unless_broken found r rs) v
@@ -55,21 +55,21 @@ module _ {V : Type 0} (look : Image → V) (word : ℤ → MetaRecord → V → 
   first_entry_said None e es v = refl
   first_entry_said (Some rule) e es v = refl
 
-  all_said : (epoch : ℤ) (rs : List MetaRecord) (i : Image) → IsInOrder i → look (all_applied epoch rs i) ≡ said (word epoch) (accepted epoch rs i) (look i)
+  all_said : (epoch : ℤ) (rs : List MetaRecord) (i : Image) → IsInOrder i → look (all_applied epoch rs i) ≡ said (word epoch) (acceptable_records epoch rs i) (look i)
   all_said epoch [] i order = refl
   all_said epoch (r ∷ rs) i order =
-      let rest = accepted epoch rs (applied epoch r i) in
-      all_said epoch rs (applied epoch r i) (applied_keeps epoch r i order) ∙ ap (said (word epoch) rest) (applied_says epoch r i order) ∙ first_said epoch (broken i r) r rest (look i)
+      let rest = acceptable_records epoch rs (image_with epoch r i) in
+      all_said epoch rs (image_with epoch r i) (applied_keeps epoch r i order) ∙ ap (said (word epoch) rest) (applied_says epoch r i order) ∙ first_said epoch (broken i r) r rest (look i)
 
   entries_said : (es : List Entry) (i : Image) → IsInOrder i → look (all_entries_applied es i) ≡ said_by_entries word (accepted_entries es i) (look i)
   entries_said [] i order = refl
   entries_said (e ∷ es) i order =
-      let rest = accepted_entries es (applied e.epoch e.item i) in
-      entries_said es (applied e.epoch e.item i) (applied_keeps e.epoch e.item i order) ∙ ap (said_by_entries word rest) (applied_says e.epoch e.item i order) ∙ first_entry_said (broken i e.item) e rest (look i)
+      let rest = accepted_entries es (image_with e.epoch e.item i) in
+      entries_said es (image_with e.epoch e.item i) (applied_keeps e.epoch e.item i order) ∙ ap (said_by_entries word rest) (applied_says e.epoch e.item i order) ∙ first_entry_said (broken i e.item) e rest (look i)
 
-  log_says : (l : Log) (at : ℤ) → IsInOrder l.base_image → look (image_at l at) ≡ said_by_entries word (accepted_entries (counted (entries l.batches) at) l.base_image) (look l.base_image)
+  log_says : (l : Log) (at : ℤ) → IsInOrder l.base_image → look (image_at l at) ≡ said_by_entries word (accepted_entries (counting_records (entries l.batches) at) l.base_image) (look l.base_image)
   unfolding image_at
-  log_says l at order = entries_said (counted (entries l.batches) at) l.base_image order
+  log_says l at order = entries_said (counting_records (entries l.batches) at) l.base_image order
 
   pub is_said : IsWhatIsSaid look word
   is_said = record { after_records = all_said; in_logs = log_says }
@@ -85,7 +85,7 @@ module _ {V : Type 0} (look : Image → V) (v : V) (i : Image) where
   -- what a configuration leaves
   pub config_leaves : (epoch : ℤ) (r : ConfigRecord) → ((topics : List TopicEntry) → look (record i { topics = topics }) ≡ v) → ((configs : List Configuration) → look (record i { broker_configs = configs }) ≡ v)
       → look (effect epoch (meta.Config r) i) ≡ v
-  config_leaves epoch r h g = either_config (int_eq r.resource_type (pos 2)) (with_changed (topic_configured r) (topic_named r.resource_name i) i.topics) (configured r i.broker_configs) (h _) (g _)
+  config_leaves epoch r h g = either_config (int_eq r.resource_type (pos 2)) (with_changed (topic_configured r) (topic_named r.resource_name i) i.topics) (configurations_after r i.broker_configs) (h _) (g _)
 
   either_state : (b : Bool) (state : ℤ) → look (record i { state = state }) ≡ v → look i ≡ v → look (cond b (record i { state = state }) i) ≡ v
   either_state true state h g = h

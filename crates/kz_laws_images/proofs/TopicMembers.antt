@@ -19,11 +19,11 @@ use Rattle.kz_ordered.proofs.Order.{bytes_order}
 use Rattle.kz_ordered.proofs.Lookup.{key_of_found, found_is_contained}
 use Rattle.kz_spec_stores.specs.Metadata.{Image, name_of_topic, pairs_of_topic, topic_named, topic_with, topic_id_of, partition_at}
 use Rattle.kz_spec_stores.specs.ImageRules.{new_row, changed_row}
-use Rattle.kz_spec_stores.specs.Image.{put_topic, new_topic, with_changed, put_partition, change_partition, partition_changed, topic_configured, configured, all_applied}
-use Rattle.kz_spec_stores.specs.Settlement.{counted}
+use Rattle.kz_spec_stores.specs.Image.{put_topic, new_topic, with_changed, put_partition, change_partition, partition_changed, topic_configured, configurations_after, all_applied}
+use Rattle.kz_spec_stores.specs.Settlement.{counting_records}
 use Rattle.kz_spec_stores.specs.Log.{entries, image_at}
 use Rattle.kz_spec_stores.specs.InOrder.{IsTopicInOrder, IsInOrder}
-use Rattle.kz_laws_images.specs.Said.{accepted, said, accepted_entries, said_by_entries}
+use Rattle.kz_laws_images.specs.Said.{acceptable_records, said, accepted_entries, said_by_entries}
 use Rattle.kz_laws_images.specs.Words.{value_in, TopicMember, topic_member_of, topic_member_word}
 use Rattle.kz_laws_images.specs.ImageLaws.{IsWhatIsSaid, TopicMemberIsSaid}
 use Rattle.kz_laws_images.proofs.Legal.{topic_id}
@@ -56,7 +56,7 @@ either_value true topic v w kept e = ap (λ (m : TopicMember). record m { value 
 either_value false topic v w kept e = sym e
 
 config_by : (topic : Bool) (name member : List ℕ) (r : ConfigRecord) (i : Image) → IsInOrder i → (found : Option TopicEntry) → topic_named r.resource_name i ≡ found → topic && is_none found ≡ false
-    → named_member name member (cond topic (record i { topics = with_changed (topic_configured r) found i.topics }) (record i { broker_configs = configured r i.broker_configs }))
+    → named_member name member (cond topic (record i { topics = with_changed (topic_configured r) found i.topics }) (record i { broker_configs = configurations_after r i.broker_configs }))
     ≡ cond (topic && bytes_eq r.resource_name name && bytes_eq r.name member) (record (named_member name member i) { value = r.value }) (named_member name member i)
 config_by false name member r i order found e there = refl
 config_by true name member r i order None e there = absurd (cc)
@@ -94,7 +94,7 @@ named_member_said name member = is_said (named_member name member) (λ epoch. to
 
 pub topic_member_said : TopicMemberIsSaid
 topic_member_said name member = record {
-  after_records = λ epoch rs i order. member_is_in name member (all_applied epoch rs i) ∙ (named_member_said name member).after_records epoch rs i order ∙ ap (said (topic_member_word name member) (accepted epoch rs i)) (sym (member_is_in name member i));
+  after_records = λ epoch rs i order. member_is_in name member (all_applied epoch rs i) ∙ (named_member_said name member).after_records epoch rs i order ∙ ap (said (topic_member_word name member) (acceptable_records epoch rs i)) (sym (member_is_in name member i));
   in_logs = λ l at order. member_is_in name member (image_at l at) ∙ (named_member_said name member).in_logs l at order
-      ∙ ap (said_by_entries (λ (epoch : ℤ). topic_member_word name member) (accepted_entries (counted (entries l.batches) at) l.base_image)) (sym (member_is_in name member l.base_image));
+      ∙ ap (said_by_entries (λ (epoch : ℤ). topic_member_word name member) (accepted_entries (counting_records (entries l.batches) at) l.base_image)) (sym (member_is_in name member l.base_image));
 }

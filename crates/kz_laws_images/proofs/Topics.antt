@@ -23,7 +23,7 @@ use Rattle.kz_ordered.proofs.Order.{bytes_order, int_order}
 use Rattle.kz_ordered.proofs.Lookup.{contained_is_found}
 use Rattle.kz_spec_stores.specs.Metadata.{Image, name_of_topic, number_of_partition, same_id, topic_named, topic_with, topic_id_of, topic_name_of, partition_at, partition_of}
 use Rattle.kz_spec_stores.specs.ImageRules.{broken, new_row, changed_row}
-use Rattle.kz_spec_stores.specs.Image.{put_topic, new_topic, with_changed, put_partition, change_partition, partition_changed, topic_configured, configured}
+use Rattle.kz_spec_stores.specs.Image.{put_topic, new_topic, with_changed, put_partition, change_partition, partition_changed, topic_configured, configurations_after}
 use Rattle.kz_spec_stores.specs.Legal.{AreApart}
 use Rattle.kz_spec_stores.specs.InOrder.{IsInOrder}
 use Rattle.kz_laws_images.specs.Words.{topic_id_word, topic_name_word, partition_word}
@@ -123,7 +123,7 @@ topic_id_step name epoch (meta.PartitionChange r) i order fine =
     alike_by_name (option_map topic_id) i.topics order.topics.rising order.legal.topics.apart (partition_changed epoch r) (partition_changed_leaves epoch r) name
     (topic_with r.topic_id i) (among_with r.topic_id i.topics) (λ t. ap (λ (id : Id). Some id) ((partition_changed_leaves epoch r).identified t))
 topic_id_step name epoch (meta.Config r) i order fine =
-    either_config (topic_id_of name) (topic_id_of name i) i (int_eq r.resource_type (pos 2)) (with_changed (topic_configured r) (topic_named r.resource_name i) i.topics) (configured r i.broker_configs)
+    either_config (topic_id_of name) (topic_id_of name i) i (int_eq r.resource_type (pos 2)) (with_changed (topic_configured r) (topic_named r.resource_name i) i.topics) (configurations_after r i.broker_configs)
     (alike_by_name (option_map topic_id) i.topics order.topics.rising order.legal.topics.apart (topic_configured r) (topic_configured_leaves r) name (topic_named r.resource_name i) (among_named r.resource_name i.topics) (λ t. refl))
     refl
 topic_id_step name epoch (meta.RemoveTopic removed) i order fine = removed_by_name (option_map topic_id) name removed i.topics order.topics.rising
@@ -142,7 +142,7 @@ topic_name_step id epoch (meta.PartitionChange r) i order fine =
     alike_by_id (option_map name_of_topic) i.topics order.topics.rising order.legal.topics.apart (partition_changed epoch r) (partition_changed_leaves epoch r) id
     (topic_with r.topic_id i) (among_with r.topic_id i.topics) (λ t. ap (λ (name : List ℕ). Some name) ((partition_changed_leaves epoch r).named t))
 topic_name_step id epoch (meta.Config r) i order fine =
-    either_config (topic_name_of id) (topic_name_of id i) i (int_eq r.resource_type (pos 2)) (with_changed (topic_configured r) (topic_named r.resource_name i) i.topics) (configured r i.broker_configs)
+    either_config (topic_name_of id) (topic_name_of id i) i (int_eq r.resource_type (pos 2)) (with_changed (topic_configured r) (topic_named r.resource_name i) i.topics) (configurations_after r i.broker_configs)
     (alike_by_id (option_map name_of_topic) i.topics order.topics.rising order.legal.topics.apart (topic_configured r) (topic_configured_leaves r) id (topic_named r.resource_name i) (among_named r.resource_name i.topics) (λ t. refl))
     refl
 topic_name_step id epoch (meta.RemoveTopic removed) i order fine = ap (option_map name_of_topic) (removed_by_id id removed i.topics) ∙ map_by name_of_topic (same_id removed id) None (topic_with id i)
@@ -208,7 +208,7 @@ partition_step id number epoch (meta.PartitionChange r) i order fine =
     id r.topic_id (int_eq r.partition_id number) (option_map (changed_row epoch r) (partition_of id number i)) found refl (among_with r.topic_id i.topics) (with_identified r.topic_id i.topics)
     (λ there. partition_is_changed number epoch r found ∙ ap (λ q. cond (int_eq r.partition_id number) (option_map (changed_row epoch r) (partition_in number q)) (partition_in number found)) (sym there))
 partition_step id number epoch (meta.Config r) i order fine =
-    either_config (partition_of id number) (partition_of id number i) i (int_eq r.resource_type (pos 2)) (with_changed (topic_configured r) (topic_named r.resource_name i) i.topics) (configured r i.broker_configs)
+    either_config (partition_of id number) (partition_of id number i) i (int_eq r.resource_type (pos 2)) (with_changed (topic_configured r) (topic_named r.resource_name i) i.topics) (configurations_after r i.broker_configs)
     (alike_by_id (partition_in number) i.topics order.topics.rising order.legal.topics.apart (topic_configured r) (topic_configured_leaves r) id (topic_named r.resource_name i) (among_named r.resource_name i.topics) (λ t. refl))
     refl
 partition_step id number epoch (meta.RemoveTopic removed) i order fine = ap (partition_in number) (removed_by_id id removed i.topics) ∙ look_by (partition_in number) (same_id removed id) None (topic_with id i)

@@ -6,10 +6,10 @@ use Rattle.kz_types.specs.declared.record.MetaRecord.{MetaRecord}
 use Rattle.kz_types.specs.Paths.{is_legal}
 use Rattle.kz_spec_stores.specs.Metadata.{Image, empty_image, topic_id_of, topic_name_of, partition_of, scram_of, acl_of}
 use Rattle.kz_spec_stores.specs.InOrder.{IsInOrder}
-use Rattle.kz_spec_stores.specs.Image.{applied, all_applied}
-use Rattle.kz_spec_stores.specs.Settlement.{counted}
+use Rattle.kz_spec_stores.specs.Image.{image_with, all_applied}
+use Rattle.kz_spec_stores.specs.Settlement.{counting_records}
 use Rattle.kz_spec_stores.specs.Log.{Log, entries, image_at}
-use Rattle.kz_laws_images.specs.Said.{accepted, said, accepted_entries, said_by_entries}
+use Rattle.kz_laws_images.specs.Said.{acceptable_records, said, accepted_entries, said_by_entries}
 use Rattle.kz_laws_images.specs.Words.{broker_of, member_of, quota_of, topic_member_of, broker_word, acl_word, producer_word, state_word, broker_member_word, scram_word, quota_word, topic_id_word, topic_name_word, partition_word, topic_member_word}
 
 -- ---- order
@@ -20,7 +20,7 @@ EmptyIsInOrder = IsInOrder empty_image
 
 -- A metadata in order stays so under every record.
 abbrev pub AppliedKeepsOrder : Type 0
-AppliedKeepsOrder = (epoch : ℤ) (r : MetaRecord) (i : Image) → IsInOrder i → IsInOrder (applied epoch r i)
+AppliedKeepsOrder = (epoch : ℤ) (r : MetaRecord) (i : Image) → IsInOrder i → IsInOrder (image_with epoch r i)
 
 -- And under many.
 abbrev pub AllAppliedKeepsOrder : Type 0
@@ -32,9 +32,9 @@ AllAppliedKeepsOrder = (epoch : ℤ) (records : List MetaRecord) (i : Image) →
 -- any records of an epoch, and at any offset of a log after those that count there.
 pub record IsWhatIsSaid {V : Type 0} (look : Image → V) (word : ℤ → MetaRecord → V → V) : Type 0 where
   pub after_records : (epoch : ℤ) (records : List MetaRecord) (i : Image) → IsInOrder i
-      → look (all_applied epoch records i) ≡ said (word epoch) (accepted epoch records i) (look i)
+      → look (all_applied epoch records i) ≡ said (word epoch) (acceptable_records epoch records i) (look i)
   pub in_logs : (l : Log) (at : ℤ) → IsInOrder l.base_image
-      → look (image_at l at) ≡ said_by_entries word (accepted_entries (counted (entries l.batches) at) l.base_image) (look l.base_image)
+      → look (image_at l at) ≡ said_by_entries word (accepted_entries (counting_records (entries l.batches) at) l.base_image) (look l.base_image)
 
 -- The broker of an id.
 abbrev pub BrokerIsSaid : Type 0

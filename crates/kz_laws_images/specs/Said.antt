@@ -5,7 +5,7 @@ use Rattle.kz_types.specs.declared.image_fault.ImageRule.{ImageRule}
 use Rattle.kz_types.specs.declared.record.MetaRecord.{MetaRecord}
 use Rattle.kz_spec_stores.specs.Metadata.{Image}
 use Rattle.kz_spec_stores.specs.ImageRules.{broken}
-use Rattle.kz_spec_stores.specs.Image.{applied}
+use Rattle.kz_spec_stores.specs.Image.{image_with}
 
 -- a record before these, unless it breaks a rule
 abbrev pub before_unless_broken : {A : Type 0} → Option ImageRule → A → List A → List A
@@ -15,9 +15,9 @@ before_unless_broken (Some rule) r rest = rest
 -- ---- records of one epoch
 
 -- The records that break no rule, each judged after the accepted ones before it.
-abbrev pub accepted : ℤ → List MetaRecord → Image → List MetaRecord
-accepted epoch [] i = []
-accepted epoch (r ∷ rs) i = before_unless_broken (broken i r) r (accepted epoch rs (applied epoch r i))
+abbrev pub acceptable_records : ℤ → List MetaRecord → Image → List MetaRecord
+acceptable_records epoch [] i = []
+acceptable_records epoch (r ∷ rs) i = before_unless_broken (broken i r) r (acceptable_records epoch rs (image_with epoch r i))
 
 -- What records say of a thing, one after another, from what was said before them: a word is what one record says of it,
 -- from what was said before that record.
@@ -30,7 +30,7 @@ said word (r ∷ rs) before = said word rs (word r before)
 -- The entries whose record breaks no rule, each judged after the accepted ones before it.
 abbrev pub accepted_entries : List Entry → Image → List Entry
 accepted_entries [] i = []
-accepted_entries (e ∷ es) i = before_unless_broken (broken i e.item) e (accepted_entries es (applied e.epoch e.item i))
+accepted_entries (e ∷ es) i = before_unless_broken (broken i e.item) e (accepted_entries es (image_with e.epoch e.item i))
 
 -- What their records say of a thing, one after another, each in its epoch.
 abbrev pub said_by_entries : {V : Type 0} → (ℤ → MetaRecord → V → V) → List Entry → V → V

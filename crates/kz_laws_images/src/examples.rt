@@ -3,14 +3,14 @@ ghost use Rattle.std.specs.Prelude.{◌≡◌, [], ◌∷◌, Some, None, pos, n
 ghost use Rattle.kz_types.specs.declared.record.MetaRecord.TheVariants as meta;
 ghost use Rattle.kz_spec_stores.specs.Metadata.{empty_image};
 ghost use Rattle.kz_spec_stores.specs.ImageExamples.{id, topic, partition, change, topic_member};
-ghost use Rattle.kz_laws_images.specs.Said.{accepted, said};
+ghost use Rattle.kz_laws_images.specs.Said.{acceptable_records, said};
 ghost use Rattle.kz_laws_images.specs.Words.{partition_word, topic_member_word};
 
 /// A change of a partition that isn't there and a second topic of a name are not accepted; once the topic is removed, its
 /// name is free.
 #[tactic(auto, unfolding(kz_spec_stores::proofs::OnLiterals::stores_on_literals))]
 pub fn accepted_records()
-    ensures { accepted (pos 1) (change 1 None (pos 2) ∷ topic (codes "t") 1 ∷ topic (codes "t") 2 ∷ meta.RemoveTopic (id 1) ∷ topic (codes "t") 2 ∷ []) empty_image
+    ensures { acceptable_records (pos 1) (change 1 None (pos 2) ∷ topic (codes "t") 1 ∷ topic (codes "t") 2 ∷ meta.RemoveTopic (id 1) ∷ topic (codes "t") 2 ∷ []) empty_image
         ≡ topic (codes "t") 1 ∷ meta.RemoveTopic (id 1) ∷ topic (codes "t") 2 ∷ [] }
 {}
 

@@ -3,7 +3,7 @@ use Rattle.std.proofs.Common.{◌≡◌, ℕ, ℤ, pos, Bool, true, false, cond,
 use Rattle.std.specs.Ordering.{int_eq}
 use Rattle.std.proofs.lemmas.Bool.Decides.{Decides-int_eq}
 use Rattle.serde_json.specs.Data.{Members, object}
-use Rattle.kz_types.specs.QuotaEntities.{is_client_first, turned, user_first}
+use Rattle.kz_types.specs.QuotaEntities.{is_client_first, other_order, user_first}
 use Rattle.kz_types.specs.Quotas.{is_quota}
 use Rattle.kz_spec_quotas.specs.Quotas.{quota_text}
 use Rattle.kz_laws_quotas.proofs.QuotaTexts.{quota_restored}
@@ -117,7 +117,7 @@ entity_is : (e : QuotaEntity) → IsEntity e → entity_of (entity_data e) ≡ S
 entity_is e h = rw (nullable_is e.name) refl
 
 in_order : (parts : List QuotaEntity) → is_client_first parts ≡ false → user_first parts ≡ parts
-in_order parts h = (λ i. cond (h i) (turned parts) parts)
+in_order parts h = (λ i. cond (h i) (other_order parts) parts)
 
 -- the members of a quota without its value
 abbrev without_value : ClientQuotaRecord → Members

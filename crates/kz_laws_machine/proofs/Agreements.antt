@@ -7,12 +7,12 @@ use Rattle.kz_types.specs.declared.tree.Row.{Row}
 use Rattle.kz_types.specs.declared.driver.ClaimSeen.{ClaimSeen}
 use Rattle.kz_types.specs.declared.machine.Recorded.{Recorded}
 use Rattle.kz_spec_values.specs.Control.{recorded_of, written_recorded}
-use Rattle.kz_spec_stores.specs.Tree.{Tree, multi, area, recorded, has_offset, unclosed}
+use Rattle.kz_spec_stores.specs.Tree.{Tree, multi, area, migration_record, has_offset, unclosed_path}
 use Rattle.kz_spec_stores.specs.Image.{Image}
 use Rattle.kz_spec_stores.specs.Log.{Log, View, image_at, is_migrated_log}
 use Rattle.kz_spec_znodes.specs.Rendering.{render}
 use Rattle.kz_spec_znodes.specs.Difference.{diff}
-use Rattle.kz_spec_machine.specs.Driver.{Driver, epoch_or_zero, views_migrated, unrecorded, claim_ops, is_last_write, write_ops}
+use Rattle.kz_spec_machine.specs.Driver.{Driver, epoch_or_zero, views_migrated, record_before_offsets, claim_ops, is_last_write, write_ops}
 use Rattle.kz_spec_machine.specs.Machine.{is_held_tree}
 use Rattle.kz_spec_machine.specs.Sound.{IsId, IsEpochOrNone, TreeShape, LogShape, IsBatchEnd, Agreement, Rests}
 use Rattle.kz_laws_values.proofs.Control.{recorded_is_read}
@@ -31,7 +31,7 @@ not_negative n is = grind (arith, ints)
 offset_of : (m : Option Recorded) (r : Recorded) → m ≡ Some r → has_offset m ≡ true → pos 0 ≤ℤ r.offset
 offset_of m r is has = not_negative r.offset (sym (ap has_offset is) ∙ has)
 
-pub closed_offset : (t : Tree) (r : Recorded) → recorded t ≡ Some r → unclosed t ≡ None → pos 0 ≤ℤ r.offset
+pub closed_offset : (t : Tree) (r : Recorded) → migration_record t ≡ Some r → unclosed_path t ≡ None → pos 0 ≤ℤ r.offset
 closed_offset t r is closed =
     let c = closed_is t closed in
     offset_of (recorded_of c.row.body) r (sym (ap (option_and_then (λ (x : Row). recorded_of x.body)) c.found) ∙ is) c.offset
@@ -55,7 +55,7 @@ named (Some r) o is = (r, refl, cc)
 -- the area is the rendering of the metadata at the view's end
 pub rest_area : (t : Tree) (l : Log) (v : View) (offset : Option ℤ) → Agreement t l → Rests t v offset → area t ≡ render (image_at l v.position)
 rest_area t l v offset agreement rests =
-    let r = named (recorded t) v.position (rests.same ∙ rests.view) in
+    let r = named (migration_record t) v.position (rests.same ∙ rests.view) in
     agreement.same r.0 r.1 rests.closed ∙ ap (λ (o : ℤ). render (image_at l o)) r.2
 
 -- ---- a write
@@ -67,8 +67,8 @@ pub agreement_last : (t : Tree) (l : Log) (target : Recorded) → is_held_tree t
 agreement_last t l target held end read all = record {
   holds = λ migrated. held;
   held = λ r is low. held;
-  end = λ r is low. subst (λ (x : Recorded). IsBatchEnd l x.offset) (sym (same_recorded (recorded t) (recorded_of (written_recorded target)) r target all.recorded is read)) end;
-  same = λ r is closed. all.area ∙ ap (λ (x : Recorded). render (image_at l x.offset)) (sym (same_recorded (recorded t) (recorded_of (written_recorded target)) r target all.recorded is read));
+  end = λ r is low. subst (λ (x : Recorded). IsBatchEnd l x.offset) (sym (same_recorded (migration_record t) (recorded_of (written_recorded target)) r target all.recorded is read)) end;
+  same = λ r is closed. all.area ∙ ap (λ (x : Recorded). render (image_at l x.offset)) (sym (same_recorded (migration_record t) (recorded_of (written_recorded target)) r target all.recorded is read));
 }
 
 pub agreement_more : (t new : Tree) (l : Log) (i : Image) (claim : ℤ) (target : Recorded) → TreeShape t → TreeShape new → Agreement t l → is_last_write (diff (area t) (render i)) ≡ false → multi t (write_ops claim (diff (area t) (render i)) target) ≡ Ok new → Agreement new l
@@ -81,20 +81,20 @@ agreement_more t new l i claim target shape after old more is = record {
 
 -- ---- a claim
 
-unrecorded_read : (d : Driver) → IsId d.id → IsEpochOrNone (epoch_or_zero d.epoch) → recorded_of (written_recorded (unrecorded d)) ≡ Some (unrecorded d)
-unrecorded_read d id epoch = ap result_ok (recorded_is_read (unrecorded d) (record {
+unrecorded_read : (d : Driver) → IsId d.id → IsEpochOrNone (epoch_or_zero d.epoch) → recorded_of (written_recorded (record_before_offsets d)) ≡ Some (record_before_offsets d)
+unrecorded_read d id epoch = ap result_ok (recorded_is_read (record_before_offsets d) (record {
   id = (id.least, id.most);
   controller_epoch = (epoch.least, epoch.most);
   offset = (omega (arith, ints), omega (arith, ints));
   epoch = (omega (arith, ints), omega (arith, ints));
 }))
 
-agreement_none : (t : Tree) (l : Log) (d : Driver) → is_held_tree t ≡ true → recorded t ≡ Some (unrecorded d) → Agreement t l
+agreement_none : (t : Tree) (l : Log) (d : Driver) → is_held_tree t ≡ true → migration_record t ≡ Some (record_before_offsets d) → Agreement t l
 agreement_none t l d held none = record {
   holds = λ migrated. held;
   held = λ r is low. held;
-  end = λ r is low. let same : r ≡ unrecorded d = same_recorded (recorded t) (recorded t) r (unrecorded d) refl is none in absurd (below r.offset (ap (λ (x : Recorded). x.offset) same) low);
-  same = λ r is closed. let same : r ≡ unrecorded d = same_recorded (recorded t) (recorded t) r (unrecorded d) refl is none in absurd (below r.offset (ap (λ (x : Recorded). x.offset) same) (closed_offset t r is closed));
+  end = λ r is low. let same : r ≡ record_before_offsets d = same_recorded (migration_record t) (migration_record t) r (record_before_offsets d) refl is none in absurd (below r.offset (ap (λ (x : Recorded). x.offset) same) low);
+  same = λ r is closed. let same : r ≡ record_before_offsets d = same_recorded (migration_record t) (migration_record t) r (record_before_offsets d) refl is none in absurd (below r.offset (ap (λ (x : Recorded). x.offset) same) (closed_offset t r is closed));
 }
   where
     below : (o : ℤ) → o ≡ negsuc 0 → pos 0 ≤ℤ o → ⊥

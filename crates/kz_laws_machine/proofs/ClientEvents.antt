@@ -9,7 +9,7 @@ use Rattle.kz_types.specs.declared.machine.Recorded.{Recorded}
 use Rattle.kz_types.specs.declared.machine.Event.{Event}
 use Rattle.kz_types.specs.declared.machine.Event.TheVariants as event
 use Rattle.kz_spec_values.specs.Control.{recorded_of}
-use Rattle.kz_spec_stores.specs.Tree.{Tree, multi, begin_session, end_session, rendered_row, has_offset, recorded, unclosed}
+use Rattle.kz_spec_stores.specs.Tree.{Tree, multi, begin_session, end_session, rendered_row, has_offset, migration_record, unclosed_path}
 use Rattle.kz_spec_stores.specs.Log.{Log, image_of}
 use Rattle.kz_spec_znodes.specs.Rendering.{render}
 use Rattle.kz_spec_machine.specs.Driver.{Driver}
@@ -62,11 +62,11 @@ an_offset None is = absurd (cc)
 an_offset (Some r) is = (r, refl)
 
 -- a KRaft controller holds a tree that is closed
-closed_held : (t : Tree) (l : Log) → Agreement t l → unclosed t ≡ None → is_held_tree t ≡ true
+closed_held : (t : Tree) (l : Log) → Agreement t l → unclosed_path t ≡ None → is_held_tree t ≡ true
 closed_held t l agreement closed =
     let c = closed_is t closed in
     let some = an_offset (recorded_of c.row.body) c.offset in
-    let is : recorded t ≡ Some some.0 = ap (option_and_then (λ (r : Row). recorded_of r.body)) c.found ∙ some.1 in
+    let is : migration_record t ≡ Some some.0 = ap (option_and_then (λ (r : Row). recorded_of r.body)) c.found ∙ some.1 in
     agreement.held some.0 is (closed_offset t some.0 is closed)
 
 pub step_kept : (w : World) (e : Event) → IsOfClient e → Sound w → InStep w.shared → InStep (next w e).0.shared

@@ -3,7 +3,7 @@ use Rattle.std.proofs.Common.{◌≡◌, ℤ, pos, ◌≤ℤ◌, false, map, Opt
 use Rattle.kz_types.specs.declared.driver.Stage.{Stage}
 use Rattle.kz_types.specs.declared.driver.Stage.TheVariants as stage
 use Rattle.kz_types.specs.declared.machine.Recorded.{Recorded}
-use Rattle.kz_spec_stores.specs.Tree.{Tree, rendered_row, recorded}
+use Rattle.kz_spec_stores.specs.Tree.{Tree, rendered_row, migration_record}
 use Rattle.kz_spec_stores.specs.Log.{Log, image_at}
 use Rattle.kz_spec_znodes.specs.Rendering.{render}
 use Rattle.kz_spec_znodes.specs.Difference.{diff}
@@ -78,11 +78,11 @@ current_unchanged s new d u current some = let old = current some in (old.0 ∙ 
 
 -- ---- a tree that no KRaft controller holds
 
-not_held : (t : Tree) (l : Log) (r : Recorded) → is_held_tree t ≡ false → Agreement t l → recorded t ≡ Some r → pos 0 ≤ℤ r.offset → ⊥
+not_held : (t : Tree) (l : Log) (r : Recorded) → is_held_tree t ≡ false → Agreement t l → migration_record t ≡ Some r → pos 0 ≤ℤ r.offset → ⊥
 not_held t l r free old is low = let held = old.held r is low in cc
 
 -- the log isn't migrated then, no offset is recorded, and none is where that stays
-pub agreement_unheld : (t new : Tree) (l : Log) → is_held_tree t ≡ false → recorded new ≡ recorded t → Agreement t l → Agreement new l
+pub agreement_unheld : (t new : Tree) (l : Log) → is_held_tree t ≡ false → migration_record new ≡ migration_record t → Agreement t l → Agreement new l
 agreement_unheld t new l free same old = record {
   holds = λ migrated. absurd (let held = old.holds migrated in cc);
   held = λ r is low. absurd (not_held t l r free old (sym same ∙ is) low);

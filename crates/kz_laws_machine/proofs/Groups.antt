@@ -7,9 +7,9 @@ use Rattle.kz_types.specs.declared.machine.DriverState.TheVariants as state
 use Rattle.kz_types.specs.declared.machine.Recorded.{Recorded}
 use Rattle.kz_types.specs.declared.machine.Reply.{Reply}
 use Rattle.kz_types.specs.declared.machine.Reply.TheVariants as reply
-use Rattle.kz_spec_stores.specs.Tree.{Tree, recorded}
+use Rattle.kz_spec_stores.specs.Tree.{Tree, migration_record}
 use Rattle.kz_spec_stores.specs.Log.{Log, end_of, is_migrated_log}
-use Rattle.kz_spec_machine.specs.Driver.{Shared, Driver, state_of, at_stage, resigned, begins_again, epoch_or_zero, unless_finalised, having_read, target_of}
+use Rattle.kz_spec_machine.specs.Driver.{Shared, Driver, state_of, at_stage, resigned_driver, begins_again, epoch_or_zero, unless_finalised, having_read, target_of}
 use Rattle.kz_spec_machine.specs.Machine.{is_held_tree}
 use Rattle.kz_spec_machine.specs.Sound.{IsId, IsEpochOrNone, LogShape, Agreement, claim_version, IsCurrent, shown_in, Claims, Views, Epochs, Elected, Aims, AtStage, Fine}
 use Rattle.kz_spec_stores.specs.Image.{is_migrated_state}
@@ -36,7 +36,7 @@ Current s d = d.claim ≢ None → IsCurrent s.tree d.claim
 pub record AtRest (s : Shared) : Type 0 where
   pub step : InStep s
   pub migrated : is_migrated_log s.log ≡ true
-  pub offset : option_map (λ (r : Recorded). r.offset) (recorded s.tree) ≡ Some (end_of s.log)
+  pub offset : option_map (λ (r : Recorded). r.offset) (migration_record s.tree) ≡ Some (end_of s.log)
 
 -- What is owed after a step of a driver of this id: the driver is fine, its claim is current, and where it rests the tree
 -- is in step with the log.
@@ -74,7 +74,7 @@ stays s d x r is base current elected at busy = record {
   rest = λ idle dual. absurd (busy idle);
 }
 
-pub resigns : (s : Shared) (d : Driver) (r : Reply) → Base s d → r ≢ reply.Idle → Owed s d.id (resigned d, r)
+pub resigns : (s : Shared) (d : Driver) (r : Reply) → Base s d → r ≢ reply.Idle → Owed s d.id (resigned_driver d, r)
 resigns s d r base busy = record {
   agreement = base.agreement;
   own = record { id = base.id; epochs = tt; elected = tt; claims = tt; views = base.views; stage = tt };
@@ -97,7 +97,7 @@ chosen s id true x y first second = first refl
 chosen s id false x y first second = second refl
 
 pub finalised : (s : Shared) (d : Driver) (rest : Driver × Reply) → Base s d → Owed s d.id rest → Owed s d.id (unless_finalised d rest)
-finalised s d rest base owed = chosen s d.id (int_eq d.view.image.state (pos 3)) (resigned d, reply.Moved state.Inactive) rest (λ over. resigns s d (reply.Moved state.Inactive) base (λ is. cc)) (λ on. owed)
+finalised s d rest base owed = chosen s d.id (int_eq d.view.image.state (pos 3)) (resigned_driver d, reply.Moved state.Inactive) rest (λ over. resigns s d (reply.Moved state.Inactive) base (λ is. cc)) (λ on. owed)
 
 -- ---- after a read of the log
 

@@ -3,9 +3,9 @@ use Rattle.std.proofs.Common.{ℤ, List, [], ◌∷◌, refl, sym, subst, arith}
 use Rattle.std.proofs.lemmas.List.Elements.{All-nil}
 use Rattle.kz_types.specs.declared.log.Entry.{Entry}
 use Rattle.kz_spec_stores.specs.Metadata.{Image, empty_image}
-use Rattle.kz_spec_stores.specs.Image.{applied}
+use Rattle.kz_spec_stores.specs.Image.{image_with}
 use Rattle.kz_spec_stores.specs.InOrder.{IsInOrder}
-use Rattle.kz_spec_stores.specs.Settlement.{counted}
+use Rattle.kz_spec_stores.specs.Settlement.{counting_records}
 use Rattle.kz_spec_stores.specs.Log.{Log, entries, all_entries_applied, image_at}
 use Rattle.kz_spec_machine.specs.Sound.{LogShape}
 use Rattle.kz_laws_images.proofs.Steps.{applied_keeps}
@@ -32,8 +32,8 @@ empty_in_order = record {
 
 entries_keep : (es : List Entry) (i : Image) → IsInOrder i → IsInOrder (all_entries_applied es i)
 entries_keep [] i order = order
-entries_keep (e ∷ es) i order = entries_keep es (applied e.epoch e.item i) (applied_keeps e.epoch e.item i order)
+entries_keep (e ∷ es) i order = entries_keep es (image_with e.epoch e.item i) (applied_keeps e.epoch e.item i order)
 
 pub log_in_order : (l : Log) (at : ℤ) → LogShape l → IsInOrder (image_at l at)
 unfolding image_at
-log_in_order l at shape = entries_keep (counted (entries l.batches) at) l.base_image (subst IsInOrder (sym shape.empty) empty_in_order)
+log_in_order l at shape = entries_keep (counting_records (entries l.batches) at) l.base_image (subst IsInOrder (sym shape.empty) empty_in_order)

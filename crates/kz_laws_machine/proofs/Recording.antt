@@ -15,7 +15,7 @@ use Rattle.kz_types.specs.declared.move_fault.MoveFault.{MoveFault}
 use Rattle.kz_spec_stores.specs.Tree.{Tree, multi, begin_session, end_session}
 use Rattle.kz_spec_stores.specs.Log.{Log, append, end_of, image_at}
 use Rattle.kz_spec_znodes.specs.Translation.{Unreadable, translate}
-use Rattle.kz_spec_machine.specs.Driver.{Shared, Driver, epoch_or_zero, claim_ops, remaining_at, write_ops, next_records, begin_record, begin_request, write_request, asked, with_tree, with_log, made, step}
+use Rattle.kz_spec_machine.specs.Driver.{Shared, Driver, epoch_or_zero, claim_ops, remaining_at, write_ops, next_records, begin_record, begin_request, write_request, request_at, with_tree, with_log, shared_after, step}
 use Rattle.kz_spec_machine.specs.Machine.{World, empty_world, running_ids, driver_of, Turned, with_reply, ends, turn, work, quorum_refusal, declared_world, start_refusal, started_world, election_refusal, elected_world, election_answer, running_refusal, turn_result, change_refusal, changed_log, changed_world, registration, register_refusal, moved_world, client_refusal, client_world, next, after_events}
 use Rattle.kz_spec_machine.specs.Sound.{IsTime, Kept, Views, Fine, IsLawful}
 use Rattle.kz_laws_trees.specs.RefusalLaws.{HeldHasMigration}
@@ -37,16 +37,16 @@ log_made : (s : Shared) (r : Result Log LogFault) → Records s → Records (wit
 log_made s (Ok l) has = has
 log_made s (Err e) has = has
 
-write_made : (s : Shared) (epoch now : ℤ) (m : Option ℤ) (target : Recorded) → Records s → Records (made s epoch now (write_request m (remaining_at s.tree s.log target.offset) target))
+write_made : (s : Shared) (epoch now : ℤ) (m : Option ℤ) (target : Recorded) → Records s → Records (shared_after s epoch now (write_request m (remaining_at s.tree s.log target.offset) target))
 write_made s epoch now None target has = has
 write_made s epoch now (Some claim) target has =
     tree_made s (multi s.tree (write_ops claim (remaining_at s.tree s.log target.offset) target)) (λ new is. write_keeps_migration s.tree new (image_at s.log target.offset) claim target is has) has
 
-begin_made : (s : Shared) (epoch now : ℤ) (r : Result (List MetaRecord) Unreadable) → Records s → Records (made s epoch now (begin_request r))
+begin_made : (s : Shared) (epoch now : ℤ) (r : Result (List MetaRecord) Unreadable) → Records s → Records (shared_after s epoch now (begin_request r))
 begin_made s epoch now (Ok records) has = log_made s (append s.log epoch now (begin_record ∷ [])) has
 begin_made s epoch now (Err e) has = has
 
-asked_made : (s : Shared) (now : ℤ) (d : Driver) (x : Stage) → Kept s → Views s.log d.view → Records s → Records (made s (epoch_or_zero d.epoch) now (asked s now d x))
+asked_made : (s : Shared) (now : ℤ) (d : Driver) (x : Stage) → Kept s → Views s.log d.view → Records s → Records (shared_after s (epoch_or_zero d.epoch) now (request_at s now d x))
 asked_made s now d stage.Uninitialized kept views has = has
 asked_made s now d stage.Inactive kept views has = has
 asked_made s now d stage.WaitForControllerQuorum kept views has = has

@@ -1,7 +1,7 @@
 -- The tree in step with the log after each turn that comes to rest.
 use Rattle.kz_spec_machine.specs.Verdicts.{verdict}
 use Rattle.kz_spec_stores.specs.Log.{end_of}
-use Rattle.kz_spec_stores.specs.Tree.{recorded}
+use Rattle.kz_spec_stores.specs.Tree.{migration_record}
 use Rattle.kz_types.specs.declared.machine.Verdict.TheVariants.{Closed}
 use Rattle.kz_types.specs.declared.machine.Verdict.{Verdict}
 use Rattle.kz_types.specs.declared.machine.Recorded.{Recorded}
@@ -112,7 +112,7 @@ recorded_end (Some r) end is = (r, refl, cc)
 
 told_by : (s : Shared) → RestKept s → verdict s.tree s.log ≡ Closed (end_of s.log)
 told_by s k =
-    let r = recorded_end (recorded s.tree) (end_of s.log) k.rest.offset in
+    let r = recorded_end (migration_record s.tree) (end_of s.log) k.rest.offset in
     closed_told s r.0 k.kept k.rest.migrated r.1 k.rest.step.closed ∙ ap (λ (o : ℤ). Closed o) r.2
 
 check_answers : (w : World) (v : Verdict) → verdict w.shared.tree w.shared.log ≡ v → (next w event.Check).1 ≡ answer.Check v

@@ -38,7 +38,7 @@ use Rattle.kz_spec_stores.specs.Log.{Log, append, end_of, image_at, image_of, wi
 use Rattle.kz_spec_znodes.specs.Rendering.{render}
 use Rattle.kz_spec_znodes.specs.Translation.{Unreadable, translate}
 use Rattle.kz_spec_znodes.specs.Difference.{diff, chunk}
-use Rattle.kz_spec_machine.specs.Driver.{Shared, Driver, state_of, at_stage, resigned, begins_again, epoch_or_zero, views_migrated, seen_in, shown_by, unless_fenced, unless_full_epoch, unless_bad_epoch, unless_full_record, looked, claimed_version, claim_ops, remaining_at, is_last_write, write_ops, target_of, last_path, Request, nothing, read_log, list_brokers, look_up, read_page, write, add, begin_record, begin_request, next_records, write_request, asked, with_tree, with_log, made, missing_controller, missing_broker, having_read, wait_or_move, after_quorum, after_brokers, path_at, after_claim, after_append, after_translation, after_records, written_driver, is_claim_refused, after_write, writes, is_recorded_at, answered}
+use Rattle.kz_spec_machine.specs.Driver.{Shared, Driver, state_of, at_stage, resigned_driver, begins_again, epoch_or_zero, views_migrated, seen_in, shown_by, unless_fenced, unless_full_epoch, unless_bad_epoch, unless_full_record, after_look, claimed_version, claim_ops, remaining_at, is_last_write, write_ops, target_of, last_path, Request, nothing, read_log, list_brokers, look_up, read_page, write, add, begin_record, begin_request, next_records, write_request, request_at, with_tree, with_log, shared_after, missing_controller, missing_broker, having_read, wait_or_move, after_quorum, after_brokers, path_at, after_claim, after_append, after_translation, after_records, written_driver, is_claim_refused, after_write, writes, is_recorded_at, after_answer}
 use Rattle.kz_spec_machine.specs.Machine.{is_held_tree}
 use Rattle.kz_spec_machine.specs.Sound.{IsId, IsEpochOrNone, IsStamped, TreeShape, LogShape, IsBatchEnd, Kept, IsTime, claim_version, IsCurrent, shown_in, Claimed, Claims, Epochs, Elected, Aims, Reads, Writes, Rests, AtStage, IsTranslated}
 use Rattle.kz_laws_values.proofs.Control.{recorded_is_read}
@@ -82,7 +82,7 @@ begin_request_keeps : (r : Result (List MetaRecord) Unreadable) → RequestKeeps
 begin_request_keeps (Ok records) = tt
 begin_request_keeps (Err e) = tt
 
-pub asked_keeps : (s : Shared) (now : ℤ) (d : Driver) (x : Stage) → RequestKeeps (asked s now d x)
+pub asked_keeps : (s : Shared) (now : ℤ) (d : Driver) (x : Stage) → RequestKeeps (request_at s now d x)
 asked_keeps s now d stage.Uninitialized = tt
 asked_keeps s now d stage.Inactive = tt
 asked_keeps s now d stage.WaitForControllerQuorum = tt
@@ -100,7 +100,7 @@ asked_keeps s now d stage.KraftControllerToBrokerComm = tt
 asked_keeps s now d stage.DualWrite = tt
 asked_keeps s now d (stage.WriteDelta target ops) = write_request_keeps s d.claim target
 
-pub made_shaped : (s : Shared) (epoch now : ℤ) (request : Request) → RequestKeeps request → Kept s → Shaped (made s epoch now request)
+pub made_shaped : (s : Shared) (epoch now : ℤ) (request : Request) → RequestKeeps request → Kept s → Shaped (shared_after s epoch now request)
 made_shaped s epoch now nothing keeps kept = (kept.tree, kept.log)
 made_shaped s epoch now read_log keeps kept = (kept.tree, kept.log)
 made_shaped s epoch now list_brokers keeps kept = (kept.tree, kept.log)
@@ -117,7 +117,7 @@ log_declared : (s : Shared) (r : Result Log LogFault) → (with_log s r).declare
 log_declared s (Ok l) = refl
 log_declared s (Err e) = refl
 
-pub made_declared : (s : Shared) (epoch now : ℤ) (request : Request) → (made s epoch now request).declared ≡ s.declared
+pub made_declared : (s : Shared) (epoch now : ℤ) (request : Request) → (shared_after s epoch now request).declared ≡ s.declared
 made_declared s epoch now nothing = refl
 made_declared s epoch now read_log = refl
 made_declared s epoch now list_brokers = refl
@@ -147,7 +147,7 @@ brokers_wait s d None base current elected = moves s d stage.ReadControlZnodes (
 
 fenced : (s : Shared) (d : Driver) (m : Option ℤ) (rest : Driver × Reply) → Base s d → Owed s d.id rest → Owed s d.id (unless_fenced m d rest)
 fenced s d None rest base owed = owed
-fenced s d (Some e) rest base owed = chosen s d.id (int_lt (epoch_or_zero d.epoch) e) (resigned d, reply.FencedEpoch e) rest (λ over. resigns s d (reply.FencedEpoch e) base (λ is. cc)) (λ on. owed)
+fenced s d (Some e) rest base owed = chosen s d.id (int_lt (epoch_or_zero d.epoch) e) (resigned_driver d, reply.FencedEpoch e) rest (λ over. resigns s d (reply.FencedEpoch e) base (λ is. cc)) (λ on. owed)
 
 full_epoch : (s : Shared) (d : Driver) (r : Result ℤ BodyFault) (version : ℤ) (rest : Driver × Reply) → d.stage ≡ stage.ReadControlZnodes → Base s d → Current s d → d.epoch ≢ None → Owed s d.id rest → Owed s d.id (unless_full_epoch r version d rest)
 full_epoch s d (Err e) version rest is base current elected owed = stays s d stage.ReadControlZnodes (reply.Untranslatable epoch_path (why.Body e)) is base current elected tt (λ idle. cc)
@@ -166,7 +166,7 @@ full_record s d (Some r) rest is base current elected owed = chosen s d.id (not 
 version_low : (t : Tree) (r : Row) → TreeShape t → row_at epoch_path t.rows ≡ Some r → pos 0 ≤ℤ r.version
 version_low t r shape is = (All-contains (IsStamped t.zxid) t.rows r shape.stamped (found_is_contained bytes_order path_of_row epoch_path t.rows r is)).version
 
-looks : (s : Shared) (d : Driver) → Kept s → d.stage ≡ stage.ReadControlZnodes → Base s d → Current s d → d.epoch ≢ None → Owed s d.id (looked (seen_in s.tree) d)
+looks : (s : Shared) (d : Driver) → Kept s → d.stage ≡ stage.ReadControlZnodes → Base s d → Current s d → d.epoch ≢ None → Owed s d.id (after_look (seen_in s.tree) d)
 looks s d kept is base current elected =
     let seen = seen_in s.tree in
     let last : Driver × Reply = (at_stage (stage.ClaimLeadership seen) d, reply.Looked) in
@@ -268,7 +268,7 @@ appends s d now items x next (Err log_fault.Down) made-is is kept base current e
 appends s d now items x next (Err (log_fault.Full length)) made-is is kept base current elected at elected-next stays-so holds at-next = stays s d x (reply.LogFailed (log_fault.Full length)) is base current elected at (λ e. cc)
 
 begins : (s : Shared) (now : ℤ) (d : Driver) (rows : List Row) (r : Result (List MetaRecord) Unreadable) → translate rows ≡ r → d.stage ≡ stage.BeginMigration rows → Kept s → Base s d → Current s d → d.epoch ≢ None → d.claim ≢ None
-    → Owed (made s (epoch_or_zero d.epoch) now (begin_request r)) d.id (after_translation s now d r)
+    → Owed (shared_after s (epoch_or_zero d.epoch) now (begin_request r)) d.id (after_translation s now d r)
 begins s now d rows (Err e) translated is kept base current elected claimed = moves s d (stage.ScanForMigration []) (reply.Untranslatable e.path e.why) base current elected claimed (λ i. cc)
 begins s now d rows (Ok records) translated is kept base current elected claimed =
     appends s d now (begin_record ∷ []) (stage.BeginMigration rows) (stage.AppendRecords records) (append s.log (epoch_or_zero d.epoch) now (begin_record ∷ [])) refl is kept base current elected claimed elected
@@ -410,7 +410,7 @@ writes_by : (s : Shared) (d : Driver) (claim : ℤ) (target : Recorded) (x : Sta
 writes_by s d claim target x more last (Ok t) from is kept base current claimed elected at made-is =
     written_by s d claim target x more last t from kept base current claimed (from.elected d.epoch elected) (from.aims s.tree s.log d at) made-is
 writes_by s d claim target x more last (Err (tree_fault.Refused index code)) from is kept base current claimed elected at made-is =
-    chosen s d.id (is_claim_refused index code) (resigned d, reply.FencedWrite claim) (begins_again d, reply.Moved state.BecomeController)
+    chosen s d.id (is_claim_refused index code) (resigned_driver d, reply.FencedWrite claim) (begins_again d, reply.Moved state.BecomeController)
     (λ first. resigns s d (reply.FencedWrite claim) base (λ i. cc))
     (λ later. again s d (reply.Moved state.BecomeController) base (from.elected d.epoch elected) (λ i. cc))
 writes_by s d claim target x more last (Err (tree_fault.Limit index number)) from is kept base current claimed elected at made-is =
@@ -423,7 +423,7 @@ writes_by s d claim target x more last (Err (tree_fault.Full length)) from is ke
 -- under its claim, if it has one
 writes_under : (s : Shared) (now : ℤ) (d : Driver) (m : Option ℤ) (target : Recorded) (x : Stage) (more : List Op → Stage) (last : Stage) → WritesFrom target x more last
     → d.stage ≡ x → d.claim ≡ m → Kept s → Base s d → Current s d → Elected d.epoch x → AtStage s.tree s.log d x
-    → Owed (made s (epoch_or_zero d.epoch) now (write_request m (remaining_at s.tree s.log target.offset) target)) d.id (writes s.tree m (remaining_at s.tree s.log target.offset) target more last d)
+    → Owed (shared_after s (epoch_or_zero d.epoch) now (write_request m (remaining_at s.tree s.log target.offset) target)) d.id (writes s.tree m (remaining_at s.tree s.log target.offset) target more last d)
 writes_under s now d None target x more last from is claimed kept base current elected at = again s d (reply.Moved state.BecomeController) base (from.elected d.epoch elected) (λ i. cc)
 writes_under s now d (Some claim) target x more last from is claimed kept base current elected at =
     writes_by s d claim target x more last (multi s.tree (write_ops claim (remaining_at s.tree s.log target.offset) target)) from is kept base current claimed elected at refl
@@ -503,7 +503,7 @@ paged_by s d false x y r first second = second refl
 -- ---- every stage
 
 pub owed : (s : Shared) (running : List ℤ) (now : ℤ) (d : Driver) (x : Stage) → IsTime now → d.stage ≡ x → Kept s → Base s d → Current s d → Elected d.epoch x → AtStage s.tree s.log d x
-    → Owed (made s (epoch_or_zero d.epoch) now (asked s now d x)) d.id (answered s running now d x)
+    → Owed (shared_after s (epoch_or_zero d.epoch) now (request_at s now d x)) d.id (after_answer s running now d x)
 owed s running now d stage.Uninitialized time is kept base current elected at = moves s d stage.Inactive (reply.Moved state.Inactive) base current tt tt (λ i. cc)
 owed s running now d stage.Inactive time is kept base current elected at = record {
   agreement = base.agreement;

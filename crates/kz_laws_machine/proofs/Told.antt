@@ -8,7 +8,7 @@ use Rattle.std.proofs.lemmas.List.Elements.{filter-append}
 use Rattle.kz_types.specs.declared.machine.Recorded.{Recorded}
 use Rattle.kz_types.specs.declared.machine.Verdict.{Verdict}
 use Rattle.kz_types.specs.declared.machine.Verdict.TheVariants.{Unmigrated, Unrecorded, Closed}
-use Rattle.kz_spec_stores.specs.Tree.{Tree, area, recorded, unclosed}
+use Rattle.kz_spec_stores.specs.Tree.{Tree, area, migration_record, unclosed_path}
 use Rattle.kz_spec_stores.specs.Log.{Log, image_at, is_migrated_log}
 use Rattle.kz_spec_znodes.specs.Rendering.{render, body_at}
 use Rattle.kz_spec_machine.specs.Driver.{Shared}
@@ -57,20 +57,20 @@ none_found : (p : List ℕ → Bool) (paths : List (List ℕ)) → ((path : List
 none_found p [] none = refl
 none_found p (x ∷ xs) none = ap (λ b. cond b (Some x) (find_by p xs)) (none x) ∙ none_found p xs none
 
-told_at : (t : Tree) (l : Log) (offset : ℤ) → IsBatchEnd l offset → area t ≡ render (image_at l offset) → unclosed t ≡ None → verdict_at t l offset (is_none (unclosed t)) ≡ Closed offset
+told_at : (t : Tree) (l : Log) (offset : ℤ) → IsBatchEnd l offset → area t ≡ render (image_at l offset) → unclosed_path t ≡ None → verdict_at t l offset (is_none (unclosed_path t)) ≡ Closed offset
 told_at t l offset end same closed =
-    ap (λ m. unless_disagrees m (closed_or_ahead t l offset (is_none (unclosed t)))) (none_found (disagrees t l offset (is_none (unclosed t))) (paths_at t l offset) (λ path. agrees_everywhere t l offset (is_none (unclosed t)) path end same))
+    ap (λ m. unless_disagrees m (closed_or_ahead t l offset (is_none (unclosed_path t)))) (none_found (disagrees t l offset (is_none (unclosed_path t))) (paths_at t l offset) (λ path. agrees_everywhere t l offset (is_none (unclosed_path t)) path end same))
     ∙ ap (λ (m : Option (List ℕ)). closed_or_ahead t l offset (is_none m)) closed
 
 at_least_zero : (o : ℤ) → pos 0 ≤ℤ o → int_le (pos 0) o ≡ true
 at_least_zero o low = grind (arith, ints)
 
-pub closed_told : (s : Shared) (r : Recorded) → Kept s → is_migrated_log s.log ≡ true → recorded s.tree ≡ Some r → unclosed s.tree ≡ None → verdict s.tree s.log ≡ Closed r.offset
+pub closed_told : (s : Shared) (r : Recorded) → Kept s → is_migrated_log s.log ≡ true → migration_record s.tree ≡ Some r → unclosed_path s.tree ≡ None → verdict s.tree s.log ≡ Closed r.offset
 unfolding verdict
 closed_told s r kept migrated is closed =
     let low = closed_offset s.tree r is closed in
-    let at : Verdict = verdict_at s.tree s.log r.offset (is_none (unclosed s.tree)) in
-    ap (λ (b : Bool). if b then verdict_of s.tree s.log (recorded s.tree) else Unmigrated) migrated
+    let at : Verdict = verdict_at s.tree s.log r.offset (is_none (unclosed_path s.tree)) in
+    ap (λ (b : Bool). if b then verdict_of s.tree s.log (migration_record s.tree) else Unmigrated) migrated
     ∙ ap (verdict_of s.tree s.log) is
     ∙ ap (λ (b : Bool). if b then at else Unrecorded) (at_least_zero r.offset low)
     ∙ told_at s.tree s.log r.offset (kept.agreement.end r is low) (kept.agreement.same r is closed) closed

@@ -3,7 +3,7 @@ use Rattle.std.proofs.Common.{◌≡◌, ℕ, zero, suc, ℤ, Bool, true, false,
 use Rattle.kz_types.specs.declared.machine.DriverState.TheVariants as state
 use Rattle.kz_types.specs.declared.machine.Reply.{Reply}
 use Rattle.kz_types.specs.declared.machine.Reply.TheVariants as reply
-use Rattle.kz_spec_machine.specs.Driver.{Shared, Driver, state_of, epoch_or_zero, asked, Stepped, step}
+use Rattle.kz_spec_machine.specs.Driver.{Shared, Driver, state_of, epoch_or_zero, request_at, Stepped, step}
 use Rattle.kz_spec_machine.specs.Machine.{ends, Turned, with_reply, turn}
 use Rattle.kz_spec_machine.specs.Sound.{IsTime, Kept, Fine}
 use Rattle.kz_spec_runs.specs.InStep.{last_reply}
@@ -19,11 +19,11 @@ pub record StepKept (s : Shared) (id : ℤ) (t : Stepped) : Type 0 where
 pub stepped : (s : Shared) (running : List ℤ) (now : ℤ) (d : Driver) → IsTime now → Kept s → Fine s d → Current s d → StepKept s d.id (step s running now d)
 unfolding step
 stepped s running now d time kept fine current =
-    let shaped = made_shaped s (epoch_or_zero d.epoch) now (asked s now d d.stage) (asked_keeps s now d d.stage) kept in
+    let shaped = made_shaped s (epoch_or_zero d.epoch) now (request_at s now d d.stage) (asked_keeps s now d d.stage) kept in
     let o = owed s running now d d.stage time refl kept (base_of s d kept.agreement fine) current fine.elected fine.stage in
     record {
       kept = record { tree = shaped.0; log = shaped.1; agreement = o.agreement };
-      declared = made_declared s (epoch_or_zero d.epoch) now (asked s now d d.stage);
+      declared = made_declared s (epoch_or_zero d.epoch) now (request_at s now d d.stage);
       owed = o;
     }
 

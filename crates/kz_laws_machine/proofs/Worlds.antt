@@ -24,7 +24,7 @@ use Rattle.kz_spec_znodes.specs.Difference.{diff}
 use Rattle.kz_spec_stores.specs.Log.{Log, empty_log, end_of, image_at, full_log, is_migrated_log, image_of, is_open_log}
 use Rattle.kz_spec_znodes.specs.Rendering.{render}
 use Rattle.kz_spec_machine.specs.Driver.{Shared, Driver, new_driver, elected_driver, is_one_of}
-use Rattle.kz_spec_machine.specs.Machine.{World, empty_world, running_ids, is_running, driver_of, with_driver, Turned, turn, work, decided, first_of, unless, over, full, running_refusal, leader_refusal, quorum_refusal, declared_world, start_refusal, started_world, election_records, next_epoch, elected_log, election_refusal, elected_world, election_answer, turn_result, bad_record, change_refusal, changed_log, changed_world, registration, register_refusal, with_tree, moved_world, is_held_tree, client_refusal, client_world, unless_refused, next}
+use Rattle.kz_spec_machine.specs.Machine.{World, empty_world, running_ids, is_running, driver_of, with_driver, Turned, turn, work, outcome_unless, first_of, unless, over, full, running_refusal, leader_refusal, quorum_refusal, declared_world, start_refusal, started_world, election_records, next_epoch, elected_log, election_refusal, elected_world, election_answer, turn_result, bad_record, change_refusal, changed_log, changed_world, registration, register_refusal, with_tree, moved_world, is_held_tree, client_refusal, client_world, unless_refused, next}
 use Rattle.kz_spec_machine.specs.Sound.{IsId, IsTime, IsEpoch, IsEpochOrNone, TreeShape, LogShape, IsBatchEnd, Agreement, Kept, Aims, AtStage, Fine, IsLawful, IsSession, IsLawfulOp}
 use Rattle.kz_laws_trees.specs.TreeLaws.{Unchanged}
 use Rattle.kz_laws_trees.proofs.Sessions.{begin_leaves, end_leaves}
@@ -108,7 +108,7 @@ fine_grown s l d kept grows fine = record {
 
 -- ---- refusals
 
-pub decided_kept : (P : World → Type 0) (w : World) (refusal : Option Answer) (new : World) (reply : Answer) → P w → (refusal ≡ None → P new) → P (decided w refusal new reply).0
+pub decided_kept : (P : World → Type 0) (w : World) (refusal : Option Answer) (new : World) (reply : Answer) → P w → (refusal ≡ None → P new) → P (outcome_unless w refusal new reply).0
 decided_kept P w (Some a) new reply old made = old
 decided_kept P w None new reply old made = made refl
 

@@ -10,7 +10,7 @@ use Rattle.kz_types.specs.declared.fault.TreeFault.{TreeFault}
 use Rattle.kz_types.specs.declared.fault.TreeFault.TheVariants as fault
 use Rattle.kz_spec_stores.specs.Tree.{Tree, multi}
 use Rattle.kz_spec_stores.specs.Log.{image_at}
-use Rattle.kz_spec_machine.specs.Driver.{Shared, Driver, remaining_at, is_last_write, write_ops, write, write_request, asked, after_write, writes, answered, step}
+use Rattle.kz_spec_machine.specs.Driver.{Shared, Driver, remaining_at, is_last_write, write_ops, write, write_request, request_at, after_write, writes, after_answer, step}
 use Rattle.kz_spec_machine.specs.Machine.{empty_world, running_ids, turn, after_events}
 use Rattle.kz_spec_machine.specs.Sound.{Kept, claim_version, IsCurrent, shown_in, Claims, Fine}
 use Rattle.kz_laws_trees.specs.RefusalLaws.{HasBases, HeldHasMigration}
@@ -66,12 +66,12 @@ request_taken s d None target ops index code is m bases current made = absurd (c
 request_taken s d (Some claim) target ops index code is m bases current made =
     subst (λ (os : List Op). multi s.tree os ≢ Err (fault.Refused index code)) (same_ops (write_ops claim (remaining_at s.tree s.log target.offset) target) ops made) (taken_by s d claim target index code m bases current is)
 
-asked_taken : (s : Shared) (now : ℤ) (d : Driver) (x : Stage) (ops : List Op) (index : ℕ) (code : ℤ) → Moment s d → HasBases s.tree → IsCurrent s.tree d.claim → IsWriting x → asked s now d x ≡ write ops → multi s.tree ops ≢ Err (fault.Refused index code)
+asked_taken : (s : Shared) (now : ℤ) (d : Driver) (x : Stage) (ops : List Op) (index : ℕ) (code : ℤ) → Moment s d → HasBases s.tree → IsCurrent s.tree d.claim → IsWriting x → request_at s now d x ≡ write ops → multi s.tree ops ≢ Err (fault.Refused index code)
 asked_taken s now d (stage.WriteResync target held) ops index code m bases current writing made = request_taken s d d.claim target ops index code refl m bases current made
 asked_taken s now d (stage.WriteDelta target held) ops index code m bases current writing made = request_taken s d d.claim target ops index code refl m bases current made
 asked_taken s now d x ops index code m bases current writing made = absurd writing
 
-pub writes_taken : (s : Shared) (d : Driver) → IsReached s d → MayWrite s d → (now : ℤ) (ops : List Op) → asked s now d d.stage ≡ write ops → (index : ℕ) (code : ℤ) → multi s.tree ops ≢ Err (fault.Refused index code)
+pub writes_taken : (s : Shared) (d : Driver) → IsReached s d → MayWrite s d → (now : ℤ) (ops : List Op) → request_at s now d d.stage ≡ write ops → (index : ℕ) (code : ℤ) → multi s.tree ops ≢ Err (fault.Refused index code)
 writes_taken s d at may now ops made index code = asked_taken s now d d.stage ops index code (moment_of s d at) may.bases may.claim may.stage made
 
 -- ---- its reply
@@ -93,7 +93,7 @@ writes_reply s d None target more last is m bases current = absurd (current.1 is
 writes_reply s d (Some claim) target more last is m bases current =
     write_replies s d claim target more last (multi s.tree (write_ops claim (remaining_at s.tree s.log target.offset) target)) refl (λ index code. taken_by s d claim target index code m bases current is)
 
-answered_taken : (s : Shared) (running : List ℤ) (now : ℤ) (d : Driver) (x : Stage) → Moment s d → HasBases s.tree → IsCurrent s.tree d.claim → IsWriting x → IsTaken (answered s running now d x).1
+answered_taken : (s : Shared) (running : List ℤ) (now : ℤ) (d : Driver) (x : Stage) → Moment s d → HasBases s.tree → IsCurrent s.tree d.claim → IsWriting x → IsTaken (after_answer s running now d x).1
 answered_taken s running now d (stage.WriteResync target held) m bases current writing = writes_reply s d d.claim target (λ rest. stage.WriteResync target rest) stage.KraftControllerToBrokerComm refl m bases current
 answered_taken s running now d (stage.WriteDelta target held) m bases current writing = writes_reply s d d.claim target (λ rest. stage.WriteDelta target rest) stage.DualWrite refl m bases current
 answered_taken s running now d x m bases current writing = absurd writing

@@ -11,9 +11,9 @@ use Rattle.kz_types.specs.declared.machine.Verdict.TheVariants.{Closed}
 use Rattle.kz_types.specs.declared.machine.Event.{Event}
 use Rattle.kz_types.specs.declared.machine.Event.TheVariants as event
 use Rattle.kz_types.specs.declared.machine.Answer.TheVariants as answer
-use Rattle.kz_spec_stores.specs.Tree.{multi, recorded, unclosed}
+use Rattle.kz_spec_stores.specs.Tree.{multi, migration_record, unclosed_path}
 use Rattle.kz_spec_stores.specs.Log.{is_migrated_log, end_of}
-use Rattle.kz_spec_machine.specs.Driver.{Shared, Driver, remaining_at, write, asked, step}
+use Rattle.kz_spec_machine.specs.Driver.{Shared, Driver, remaining_at, write, request_at, step}
 use Rattle.kz_spec_machine.specs.Machine.{World, empty_world, running_ids, driver_of, turn, is_held_tree, next, after_events}
 use Rattle.kz_spec_machine.specs.Verdicts.{verdict}
 use Rattle.kz_spec_machine.specs.Sound.{IsTime, Kept, IsCurrent, Fine, Sound, Alone, IsLawful}
@@ -48,7 +48,7 @@ HeldOperationsRemain = (s : Shared) (d : Driver) (target : Recorded) (ops : List
 
 -- Where the tree is closed and the log migrated, a check tells so, with the offset that is recorded.
 abbrev pub ClosedIsTold : Type 0
-ClosedIsTold = (s : Shared) (r : Recorded) → Kept s → is_migrated_log s.log ≡ true → recorded s.tree ≡ Some r → unclosed s.tree ≡ None → verdict s.tree s.log ≡ Closed r.offset
+ClosedIsTold = (s : Shared) (r : Recorded) → Kept s → is_migrated_log s.log ≡ true → migration_record s.tree ≡ Some r → unclosed_path s.tree ≡ None → verdict s.tree s.log ≡ Closed r.offset
 
 -- An event keeps a world sound, and one controller alone.
 abbrev pub EventsKeepSound : Type 0
@@ -128,7 +128,7 @@ WritesAreReached = (s : Shared) × (d : Driver) × (IsReached s d) × (MayWrite 
 
 -- Its multi is refused with no code. It may pass a limit.
 abbrev pub WritesAreTaken : Type 0
-WritesAreTaken = (s : Shared) (d : Driver) → IsReached s d → MayWrite s d → (now : ℤ) (ops : List Op) → asked s now d d.stage ≡ write ops → (index : ℕ) (code : ℤ) → multi s.tree ops ≢ Err (Refused index code)
+WritesAreTaken = (s : Shared) (d : Driver) → IsReached s d → MayWrite s d → (now : ℤ) (ops : List Op) → request_at s now d d.stage ≡ write ops → (index : ℕ) (code : ℤ) → multi s.tree ops ≢ Err (Refused index code)
 
 -- operations are written, the offset is recorded, or a limit would be passed
 abbrev pub IsTaken : Reply → Type 0

@@ -7,7 +7,7 @@ use Rattle.std.proofs.lemmas.Bool.{and_parts}
 use Rattle.kz_types.specs.declared.key.EntityKey.{EntityKey}
 use Rattle.kz_types.specs.declared.key.EntityKey.TheVariants.{Topic, Partition, TopicConfig, BrokerConfig, Client, User, UserClient, Ip, Acl, Producer}
 use Rattle.kz_types.specs.PathRule.{is_part}
-use Rattle.kz_types.specs.Paths.{is_topic_name, sanitised, part_or_default, resource_type_name, is_absent_or, is_not_negative, is_address, is_pattern, is_resource_type, key_of, key_of_parts, path_of, is_legal}
+use Rattle.kz_types.specs.Paths.{is_topic_name, part_for_name, part_or_default, resource_type_name, is_absent_or, is_not_negative, is_address, is_pattern, is_resource_type, key_of, key_of_parts, path_of, is_legal}
 use Rattle.kz_laws_paths.specs.TextKeys.{IsText, IsSmall, HasTexts}
 use Rattle.kz_laws_paths.proofs.Names.{some_same}
 use Rattle.kz_laws_paths.proofs.Parts.{HasNoSlash, split_part, split_last, topic_has_none, topic_is_read, part_has_none, sanitised_has_none, named_is_read, address_has_none, address_is_read, number_has_none, number_is_read, broker_has_none, broker_is_read, IsOneOf, pattern_is, type_has_none, type_is_read}
@@ -41,17 +41,17 @@ broker_config_key broker legal small =
 
 client_key : (client : Option (List ℕ)) → IfSome client IsText → key_of (path_of (Client client)) ≡ Some (Client client)
 unfolding key_of path_of
-client_key client text = three_parts (codes "config") (codes "clients") (part_or_default sanitised client) (sanitised_has_none client) ∙ ap (option_map (λ c. Client c)) (named_is_read client text)
+client_key client text = three_parts (codes "config") (codes "clients") (part_or_default part_for_name client) (sanitised_has_none client) ∙ ap (option_map (λ c. Client c)) (named_is_read client text)
 
 user_key : (user : Option (List ℕ)) → IfSome user IsText → key_of (path_of (User user)) ≡ Some (User user)
 unfolding key_of path_of
-user_key user text = three_parts (codes "config") (codes "users") (part_or_default sanitised user) (sanitised_has_none user) ∙ ap (option_map (λ u. User u)) (named_is_read user text)
+user_key user text = three_parts (codes "config") (codes "users") (part_or_default part_for_name user) (sanitised_has_none user) ∙ ap (option_map (λ u. User u)) (named_is_read user text)
 
 user_client_key : (user client : Option (List ℕ)) → IfSome user IsText → IfSome client IsText → key_of (path_of (UserClient user client)) ≡ Some (UserClient user client)
 unfolding key_of path_of
 user_client_key user client one other =
-    ap (λ ps. key_of_parts (codes "config" ∷ codes "users" ∷ ps)) (split_part (part_or_default sanitised user) (codes "clients/" ++ part_or_default sanitised client) (sanitised_has_none user))
-    ∙ ap (λ ps. key_of_parts (codes "config" ∷ codes "users" ∷ part_or_default sanitised user ∷ codes "clients" ∷ ps)) (split_last (part_or_default sanitised client) (sanitised_has_none client))
+    ap (λ ps. key_of_parts (codes "config" ∷ codes "users" ∷ ps)) (split_part (part_or_default part_for_name user) (codes "clients/" ++ part_or_default part_for_name client) (sanitised_has_none user))
+    ∙ ap (λ ps. key_of_parts (codes "config" ∷ codes "users" ∷ part_or_default part_for_name user ∷ codes "clients" ∷ ps)) (split_last (part_or_default part_for_name client) (sanitised_has_none client))
     ∙ (λ i. option_and_then (λ u. option_map (λ c. UserClient u c) (named_is_read client other i)) (named_is_read user one i))
 
 ip_key : (address : Option (List ℕ)) → is_absent_or is_address address ≡ true → key_of (path_of (Ip address)) ≡ Some (Ip address)

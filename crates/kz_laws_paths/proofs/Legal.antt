@@ -8,7 +8,7 @@ use Rattle.kz_types.specs.declared.key.EntityKey.{EntityKey}
 use Rattle.kz_types.specs.declared.key.EntityKey.TheVariants.{Topic, Partition, TopicConfig, BrokerConfig, Client, User, UserClient, Ip, Acl, Producer}
 use Rattle.kz_types.specs.Numbers.{canonical, number_in}
 use Rattle.kz_types.specs.PathRule.{is_part}
-use Rattle.kz_types.specs.Paths.{is_topic_name, sanitised, unescaped, default_part, default_or, restored, topic_of, address_of, resource_type_of, are, is_absent_or, is_not_negative, is_not_empty, is_address, is_resource_type, key_of_parts, key_of_three, key_of_four, key_of_five, key_of_six, is_legal}
+use Rattle.kz_types.specs.Paths.{is_topic_name, part_for_name, bytes_of_part, default_part, default_or, name_of_part, topic_of, address_of, resource_type_of, are, is_absent_or, is_not_negative, is_not_empty, is_address, is_resource_type, key_of_parts, key_of_three, key_of_four, key_of_five, key_of_six, is_legal}
 use Rattle.kz_types.proofs.NumberLemmas.{canonical_sound}
 use Rattle.kz_laws_paths.specs.TextKeys.{IsText, IsSmall, HasTexts}
 use Rattle.kz_laws_paths.proofs.Names.{taken, some_same, no_some, part_is_written}
@@ -59,22 +59,22 @@ default_good P read part o none some h = elim (taken (bytes_eq part default_part
 broker_good : (part : List ℕ) (o : Option ℤ) → default_or number_in part ≡ Some o → (is_absent_or is_not_negative o ≡ true) × IfSome o IsSmall
 broker_good part o h = default_good (λ b. (is_absent_or is_not_negative b ≡ true) × IfSome b IsSmall) number_in part o (refl, tt) (λ z other is. number_good part z is) h
 
-restored_good : (part name : List ℕ) → IsGoodPart part → restored part ≡ Some name → (is_not_empty name ≡ true) × IsText name
-unfolding restored sanitised
+restored_good : (part name : List ℕ) → IsGoodPart part → name_of_part part ≡ Some name → (is_not_empty name ≡ true) × IsText name
+unfolding name_of_part part_for_name
 restored_good part name good h = (some name (part_is_written part name h), text)
   where
     text : IsText name
-    text = elim (taken (bytes_eq (sanitised (unescaped part)) part && is_utf8 (unescaped part)) (Some (unescaped part)) None name h) [
-      | inl same ↦ subst IsText (some_same (unescaped part) name same.1) (and_parts (bytes_eq (sanitised (unescaped part)) part) (is_utf8 (unescaped part)) same.0).1
+    text = elim (taken (bytes_eq (part_for_name (bytes_of_part part)) part && is_utf8 (bytes_of_part part)) (Some (bytes_of_part part)) None name h) [
+      | inl same ↦ subst IsText (some_same (bytes_of_part part) name same.1) (and_parts (bytes_eq (part_for_name (bytes_of_part part)) part) (is_utf8 (bytes_of_part part)) same.0).1
       | inr other ↦ no_some name other.1
     ]
 
-    some : (n : List ℕ) → sanitised n ≡ part → is_not_empty n ≡ true
+    some : (n : List ℕ) → part_for_name n ≡ part → is_not_empty n ≡ true
     some [] e = absurd (false≢true (ap is_part e ∙ good.0))
     some (b ∷ bs) e = let more : 0 < length (b ∷ bs) = omega arith in lt-ltb 0 (length (b ∷ bs)) more
 
-name_good : (part : List ℕ) (o : Option (List ℕ)) → IsGoodPart part → default_or restored part ≡ Some o → (is_absent_or is_not_empty o ≡ true) × IfSome o IsText
-name_good part o good h = default_good (λ n. (is_absent_or is_not_empty n ≡ true) × IfSome n IsText) restored part o (refl, tt) (λ name other is. restored_good part name good is) h
+name_good : (part : List ℕ) (o : Option (List ℕ)) → IsGoodPart part → default_or name_of_part part ≡ Some o → (is_absent_or is_not_empty o ≡ true) × IfSome o IsText
+name_good part o good h = default_good (λ n. (is_absent_or is_not_empty n ≡ true) × IfSome n IsText) name_of_part part o (refl, tt) (λ name other is. restored_good part name good is) h
 
 address_good : (part : List ℕ) (o : Option (List ℕ)) → IsGoodPart part → default_or address_of part ≡ Some o → (is_absent_or is_address o ≡ true) × IfSome o IsText
 address_good part o good h = default_good (λ a. (is_absent_or is_address a ≡ true) × IfSome a IsText) address_of part o (refl, tt) one h
@@ -111,8 +111,8 @@ three_good a b c key good h =
     by_test (are a b (codes "brokers") (codes "topics")) (option_map (λ name. Topic name) (topic_of c)) _ key h (made (λ name. Topic name) (topic_of c) key (λ name e. topic_good c name good e)) (λ h.
     by_test (are a b (codes "config") (codes "topics")) (option_map (λ name. TopicConfig name) (topic_of c)) _ key h (made (λ name. TopicConfig name) (topic_of c) key (λ name e. topic_good c name good e)) (λ h.
     by_test (are a b (codes "config") (codes "brokers")) (option_map (λ broker. BrokerConfig broker) (default_or number_in c)) _ key h (made (λ broker. BrokerConfig broker) (default_or number_in c) key (λ o e. broker_good c o e)) (λ h.
-    by_test (are a b (codes "config") (codes "clients")) (option_map (λ client. Client client) (default_or restored c)) _ key h (made (λ client. Client client) (default_or restored c) key (λ o e. name_good c o good e)) (λ h.
-    by_test (are a b (codes "config") (codes "users")) (option_map (λ user. User user) (default_or restored c)) _ key h (made (λ user. User user) (default_or restored c) key (λ o e. name_good c o good e)) (λ h.
+    by_test (are a b (codes "config") (codes "clients")) (option_map (λ client. Client client) (default_or name_of_part c)) _ key h (made (λ client. Client client) (default_or name_of_part c) key (λ o e. name_good c o good e)) (λ h.
+    by_test (are a b (codes "config") (codes "users")) (option_map (λ user. User user) (default_or name_of_part c)) _ key h (made (λ user. User user) (default_or name_of_part c) key (λ o e. name_good c o good e)) (λ h.
     by_test (are a b (codes "config") (codes "ips")) (option_map (λ address. Ip address) (default_or address_of c)) _ key h (made (λ address. Ip address) (default_or address_of c) key (λ o e. address_good c o good e)) (λ h.
     by_test (bytes_eq a (codes "kafka-acl")) (option_map (λ kind. Acl (pos 3) kind c) (resource_type_of b)) None key h
     (made (λ kind. Acl (pos 3) kind c) (resource_type_of b) key (λ kind e. (and_from (is_resource_type kind) (is_part c) (kind_good b kind e) good.0, good.1)))
@@ -127,11 +127,11 @@ four_good a b c d key good h = by_test (are a b (codes "kafka-acl-extended") (co
 five_good : (a b c d e : List ℕ) (key : EntityKey) → IsGoodPart c → IsGoodPart e → key_of_five a b c d e ≡ Some key → IsGoodKey key
 unfolding is_legal
 five_good a b c d e key one other h = by_test (are a b (codes "config") (codes "users") && bytes_eq d (codes "clients"))
-    (option_and_then (λ user. option_map (λ client. UserClient user client) (default_or restored e)) (default_or restored c)) None key h
+    (option_and_then (λ user. option_map (λ client. UserClient user client) (default_or name_of_part e)) (default_or name_of_part c)) None key h
     (λ h.
-    let u = chained (λ user. option_map (λ client. UserClient user client) (default_or restored e)) (default_or restored c) key h in
+    let u = chained (λ user. option_map (λ client. UserClient user client) (default_or name_of_part e)) (default_or name_of_part c) key h in
     let first = name_good c u.0 one u.1 in
-    made (λ client. UserClient u.0 client) (default_or restored e) key
+    made (λ client. UserClient u.0 client) (default_or name_of_part e) key
     (λ o is. let second = name_good e o other is in (and_from (is_absent_or is_not_empty u.0) (is_absent_or is_not_empty o) first.0 second.0, (first.1, second.1))) u.2)
     (no_some key)
 

@@ -5,7 +5,7 @@ use Rattle.std.specs.Str.{IsUtf8, is_utf8, encode_utf8_all, all_scalars}
 use Rattle.std.specs.Char.{encode_utf8, IsScalar}
 use Rattle.std.proofs.lemmas.Bool.{and_parts, ltb-true}
 use Rattle.std.proofs.lemmas.Str.{IsUtf8-from_is_utf8}
-use Rattle.kz_types.specs.Paths.{sanitised, unescaped, restored}
+use Rattle.kz_types.specs.Paths.{part_for_name, bytes_of_part, name_of_part}
 use Rattle.kz_types.proofs.NumberLemmas.{bytes_eq-true}
 use Rattle.kz_types.proofs.NameLemmas.{restored_sanitised}
 
@@ -70,7 +70,7 @@ bytes_of_text bs text = subst AreBytes text.1.1 (all_encoded_bytes text.0 text.1
 
 -- ---- names and parts
 
-pub name_is_read : (name : List ℕ) → is_utf8 name ≡ true → restored (sanitised name) ≡ Some name
+pub name_is_read : (name : List ℕ) → is_utf8 name ≡ true → name_of_part (part_for_name name) ≡ Some name
 name_is_read name h = let text = IsUtf8-from_is_utf8 name h in restored_sanitised name (bytes_of_text name text) text
 
 -- what an answer says of its test
@@ -84,9 +84,9 @@ some_same a b h = cc h
 pub no_some : {A P : Type 0} (a : A) → None ≡ Some a → P
 no_some a h = cc h
 
-pub part_is_written : (part name : List ℕ) → restored part ≡ Some name → sanitised name ≡ part
-unfolding restored
-part_is_written part name h = elim (taken (bytes_eq (sanitised (unescaped part)) part && is_utf8 (unescaped part)) (Some (unescaped part)) None name h) [
-  | inl same ↦ ap sanitised (sym (some_same (unescaped part) name same.1)) ∙ bytes_eq-true (sanitised (unescaped part)) part (and_parts (bytes_eq (sanitised (unescaped part)) part) (is_utf8 (unescaped part)) same.0).0
+pub part_is_written : (part name : List ℕ) → name_of_part part ≡ Some name → part_for_name name ≡ part
+unfolding name_of_part
+part_is_written part name h = elim (taken (bytes_eq (part_for_name (bytes_of_part part)) part && is_utf8 (bytes_of_part part)) (Some (bytes_of_part part)) None name h) [
+  | inl same ↦ ap part_for_name (sym (some_same (bytes_of_part part) name same.1)) ∙ bytes_eq-true (part_for_name (bytes_of_part part)) part (and_parts (bytes_eq (part_for_name (bytes_of_part part)) part) (is_utf8 (bytes_of_part part)) same.0).0
   | inr other ↦ no_some name other.1
 ]

@@ -12,7 +12,7 @@ use Rattle.std.proofs.lemmas.List.Sums.{AllPass-from_list_all}
 use Rattle.std.proofs.lemmas.List.Splits.{slice_split_none, slice_split_at}
 use Rattle.kz_types.specs.Numbers.{number_in, is_digit}
 use Rattle.kz_types.specs.PathRule.{is_part, is_shown}
-use Rattle.kz_types.specs.Paths.{is_topic_name, is_topic_byte, is_plain, hex_digit, sanitised, sanitised_byte, default_part, default_or, part_or_default, restored, topic_of, address_of, resource_type_of, resource_type_name, is_absent_or, is_not_negative, is_address, is_pattern, is_resource_type}
+use Rattle.kz_types.specs.Paths.{is_topic_name, is_topic_byte, is_plain, hex_digit, part_for_name, sanitised_byte, default_part, default_or, part_or_default, name_of_part, topic_of, address_of, resource_type_of, resource_type_name, is_absent_or, is_not_negative, is_address, is_pattern, is_resource_type}
 use Rattle.kz_types.proofs.NumberLemmas.{bytes_eq-true, tells, canonical_complete}
 use Rattle.kz_laws_paths.specs.TextKeys.{IsText, IsSmall}
 use Rattle.kz_laws_paths.proofs.Names.{name_is_read}
@@ -89,18 +89,18 @@ byte_is_written b = by (is_plain b) refl
     by true e = and_from _ true (plain_is_written b e) refl
     by false e = and_from _ _ (digit_is_written (b / 16)) (and_from _ true (digit_is_written (b % 16)) refl)
 
-name_is_written : (name : List ℕ) → list_all is_written_byte (sanitised name) ≡ true
-unfolding sanitised
+name_is_written : (name : List ℕ) → list_all is_written_byte (part_for_name name) ≡ true
+unfolding part_for_name
 name_is_written [] = refl
-name_is_written (b ∷ bs) = list_all-append is_written_byte (sanitised_byte b) (sanitised bs) ∙ and_from _ _ (byte_is_written b) (name_is_written bs)
+name_is_written (b ∷ bs) = list_all-append is_written_byte (sanitised_byte b) (part_for_name bs) ∙ and_from _ _ (byte_is_written b) (name_is_written bs)
 
-pub sanitised_has_none : (name : Option (List ℕ)) → HasNoSlash (part_or_default sanitised name)
+pub sanitised_has_none : (name : Option (List ℕ)) → HasNoSlash (part_or_default part_for_name name)
 sanitised_has_none None = passed_has_none is_shown refl default_part refl
-sanitised_has_none (Some name) = passed_has_none is_written_byte refl (sanitised name) (name_is_written name)
+sanitised_has_none (Some name) = passed_has_none is_written_byte refl (part_for_name name) (name_is_written name)
 
-pub named_is_read : (name : Option (List ℕ)) → IfSome name IsText → default_or restored (part_or_default sanitised name) ≡ Some name
+pub named_is_read : (name : Option (List ℕ)) → IfSome name IsText → default_or name_of_part (part_or_default part_for_name name) ≡ Some name
 named_is_read None text = refl
-named_is_read (Some name) text = named restored (sanitised name) name (not_default (sanitised name) (name_is_written name)) (name_is_read name text)
+named_is_read (Some name) text = named name_of_part (part_for_name name) name (not_default (part_for_name name) (name_is_written name)) (name_is_read name text)
 
 -- ---- addresses
 

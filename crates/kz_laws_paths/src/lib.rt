@@ -9,7 +9,7 @@ ghost use Rattle.std.specs.Str.{is_utf8};
 ghost use Rattle.kz_types.specs.declared.key.EntityKey.{EntityKey};
 ghost use Rattle.kz_types.specs.PathRule.{is_path, has_path_form, BeginsPath};
 ghost use Rattle.kz_types.specs.Faults.{IsFaultPlace};
-ghost use Rattle.kz_types.specs.Paths.{sanitised, restored, key_of, path_of, is_legal};
+ghost use Rattle.kz_types.specs.Paths.{part_for_name, name_of_part, key_of, path_of, is_legal};
 ghost use Rattle.kz_laws_paths.specs.TextKeys.{HasTexts};
 
 mod held;
@@ -18,8 +18,8 @@ pub use held::{held_key_has_its_path, held_keys_have_one_path, held_path_has_its
 
 /// A name that is UTF-8 is read from the part that it is written as, and a part is what the name that is read from it is written as.
 pub fn names_are_restored()
-    ensures read { (name : List ℕ) → is_utf8 name ≡ true → restored (sanitised name) ≡ Some name }
-    ensures written { (part name : List ℕ) → restored part ≡ Some name → sanitised name ≡ part }
+    ensures read { (name : List ℕ) → is_utf8 name ≡ true → name_of_part (part_for_name name) ≡ Some name }
+    ensures written { (part name : List ℕ) → name_of_part part ≡ Some name → part_for_name name ≡ part }
 {}
 
 /// The path of a legal key holds this key, where its names are UTF-8 and its numbers are at most [`MAX_NUMBER`](kz_types::MAX_NUMBER).

@@ -11,7 +11,7 @@ use Rattle.kz_types.specs.declared.limits.TheConstants.{MAX_LONG}
 use Rattle.kz_types.specs.declared.row.QuotaValue.{QuotaValue}
 use Rattle.kz_types.specs.declared.value_fault.QuotaFault.TheVariants.{NotNumber, TooLarge}
 use Rattle.kz_types.proofs.PathRules.{both_hold}
-use Rattle.kz_spec_quotas.specs.Quotas.{Numeral, digits_at, after_digits, exponent_of, after_letter, after_decimals, after_point, after_whole, numeral_of, digits_of, scale_of, scaled, quota_of_millionths, quota_of_numeral, quota_of}
+use Rattle.kz_spec_quotas.specs.Quotas.{Numeral, digits_at, after_digits, exponent_of, after_letter, after_decimals, after_point, after_whole, numeral_of, digits_of, scale_of, in_millionths, quota_of_millionths, quota_of_numeral, quota_of}
 use Rattle.kz_laws_quotas.specs.Grammar.{AreDigits, IsPoint, IsSign, IsExponent, IsDecimal, BeginsDecimal}
 use Rattle.kz_laws_quotas.proofs.QuotaNumerals.{numeral_is, no_numeral}
 use Rattle.kz_laws_quotas.proofs.QuotaTexts.{digits_front, after_front}
@@ -450,4 +450,4 @@ place_of_fault text at e = by (numeral_of text) refl e
   where
     by : (r : Result Numeral ℕ) → numeral_of text ≡ r → quota_of_numeral r ≡ Err (NotNumber at) → IsFaultPlace BeginsDecimal text at
     by (Err place) is h = let same : place ≡ at = cc in subst (IsFaultPlace BeginsDecimal text) same (fault_of text place (subst (Told text) is (told text)))
-    by (Ok n) is h = absurd (never_millionths (scaled (digits_of n) (scale_of n)) at h)
+    by (Ok n) is h = absurd (never_millionths (in_millionths (digits_of n) (scale_of n)) at h)

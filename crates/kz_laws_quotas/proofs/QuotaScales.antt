@@ -12,7 +12,7 @@ use Rattle.std.proofs.lemmas.Nat.{pow-add, div-add-mod'}
 use Rattle.std.proofs.lemmas.Int.Digits.{digits_value_push, digits_value_more}
 use Rattle.std.proofs.lemmas.Str.{digit_value_digit}
 use Rattle.kz_types.specs.Numbers.{is_digit, number_of}
-use Rattle.kz_spec_quotas.specs.Quotas.{Numeral, digits_of, scale_of, onto_digits, without_end_zeros, scaled, quota_of_millionths, quota_of_numeral}
+use Rattle.kz_spec_quotas.specs.Quotas.{Numeral, digits_of, scale_of, onto_digits, without_end_zeros, in_millionths, quota_of_millionths, quota_of_numeral}
 use Rattle.kz_types.specs.declared.value_fault.QuotaFault.TheVariants.{TooLarge}
 use Rattle.std.proofs.lemmas.Str.Parse.{digit_at, numerals_by_value}
 use Rattle.kz_types.proofs.NumberLemmas.{tells}
@@ -138,14 +138,14 @@ difference_down : (up down k : ℕ) → up + suc k ≡ down → pos up -ℤ pos 
 difference_down up down k e = omega (arith, ints)
 
 -- a scale below zero
-lowered : (n k z : ℕ) → suc k ≤ z → scaled (n * 10 ^ z) (negsuc k) ≡ Some (n * 10 ^ (z - suc k))
+lowered : (n k z : ℕ) → suc k ≤ z → in_millionths (n * 10 ^ z) (negsuc k) ≡ Some (n * 10 ^ (z - suc k))
 lowered n k z le =
     let parts : n * 10 ^ (z - suc k) * 10 ^ suc k ≡ n * 10 ^ z = in_parts n (z - suc k) (suc k) z (omega arith) in
     let whole : n * 10 ^ z % 10 ^ suc k ≡ 0 = ap (λ x. x % 10 ^ suc k) (sym parts) ∙ mul-mod_left (n * 10 ^ (z - suc k)) (10 ^ suc k) in
     let quotient : n * 10 ^ z / 10 ^ suc k ≡ n * 10 ^ (z - suc k) = ap (λ x. x / 10 ^ suc k) (sym parts) ∙ mul-div_cancel (n * 10 ^ (z - suc k)) (ten_pos (suc k)) in
     (λ i. if eq-eqb (n * 10 ^ z % 10 ^ suc k) 0 whole i then Some (n * 10 ^ z / 10 ^ suc k) else None) ∙ ap (λ x. Some x) quotient
 
-not_lowered : (n k z : ℕ) → z < suc k → (n % 10 ≡ 0 → ⊥) → scaled (n * 10 ^ z) (negsuc k) ≡ None
+not_lowered : (n k z : ℕ) → z < suc k → (n % 10 ≡ 0 → ⊥) → in_millionths (n * 10 ^ z) (negsuc k) ≡ None
 not_lowered n k z lt last = λ i. if ne_eqb (n * 10 ^ z % 10 ^ suc k) 0 (λ whole.
     let q : ℕ = n * 10 ^ z / 10 ^ suc k in
     let j : ℕ = suc k - z - 1 in
@@ -155,23 +155,23 @@ not_lowered n k z lt last = λ i. if ne_eqb (n * 10 ^ z % 10 ^ suc k) 0 (λ whol
     last (ap (λ x. x % 10) (left ∙ sym ten) ∙ mul-mod_left (q * 10 ^ j) 10)) i then Some (n * 10 ^ z / 10 ^ suc k) else None
 
 -- it is raised
-pub rises : (n z up down : ℕ) → down ≤ z + up → scaled (n * 10 ^ z) (pos up -ℤ pos down) ≡ Some (n * 10 ^ (z + up - down))
+pub rises : (n z up down : ℕ) → down ≤ z + up → in_millionths (n * 10 ^ z) (pos up -ℤ pos down) ≡ Some (n * 10 ^ (z + up - down))
 rises n z up down le = elim (cases_lt up down) [
-  | inl lt ↦ ap (scaled (n * 10 ^ z)) (difference_down up down (down - up - 1) (omega arith)) ∙ lowered n (down - up - 1) z (omega arith)
+  | inl lt ↦ ap (in_millionths (n * 10 ^ z)) (difference_down up down (down - up - 1) (omega arith)) ∙ lowered n (down - up - 1) z (omega arith)
       ∙ ap (λ k. Some (n * 10 ^ k)) (omega arith)
-  | inr ge ↦ ap (scaled (n * 10 ^ z)) (difference_up up down ge) ∙ ap (λ x. Some x) (in_parts n z (up - down) (z + up - down) (omega arith))
+  | inr ge ↦ ap (in_millionths (n * 10 ^ z)) (difference_up up down ge) ∙ ap (λ x. Some x) (in_parts n z (up - down) (z + up - down) (omega arith))
 ]
 
 -- it is no whole number
-pub falls : (n z up down : ℕ) → z + up < down → (n % 10 ≡ 0 → ⊥) → scaled (n * 10 ^ z) (pos up -ℤ pos down) ≡ None
+pub falls : (n z up down : ℕ) → z + up < down → (n % 10 ≡ 0 → ⊥) → in_millionths (n * 10 ^ z) (pos up -ℤ pos down) ≡ None
 falls n z up down lt last =
-    ap (scaled (n * 10 ^ z)) (difference_down up down (down - up - 1) (omega arith)) ∙ not_lowered n (down - up - 1) z (omega arith) last
+    ap (in_millionths (n * 10 ^ z)) (difference_down up down (down - up - 1) (omega arith)) ∙ not_lowered n (down - up - 1) z (omega arith) last
 
 -- zero stays zero
-pub stays_zero : (up down : ℕ) → scaled 0 (pos up -ℤ pos down) ≡ Some 0
+pub stays_zero : (up down : ℕ) → in_millionths 0 (pos up -ℤ pos down) ≡ Some 0
 stays_zero up down =
     let nothing : (k : ℕ) → 0 ≡ 0 * 10 ^ k = λ k. omega arith in
-    ap (λ x. scaled x (pos up -ℤ pos down)) (nothing down) ∙ rises 0 down up down (omega arith) ∙ ap (λ x. Some x) (sym (nothing (down + up - down)))
+    ap (λ x. in_millionths x (pos up -ℤ pos down)) (nothing down) ∙ rises 0 down up down (omega arith) ∙ ap (λ x. Some x) (sym (nothing (down + up - down)))
 
 -- ---- numbers that are too large
 
@@ -240,27 +240,27 @@ one_more xs ds at number count lt is = subst (λ l. IsSignificant l number count
 -- ---- the number of all digits
 
 pub whole_zero : (digits : List ℕ) (number count up down : ℕ) → IsSignificant digits number count → number ≡ 0
-    → Some 0 ≡ option_map cap (scaled (number_of digits) (pos up -ℤ pos down))
+    → Some 0 ≡ option_map cap (in_millionths (number_of digits) (pos up -ℤ pos down))
 whole_zero digits number count up down is none =
     let core : number_of (without_end_zeros digits) ≡ 0 = omega (arith, is.number_is) in
     let product : number_of (without_end_zeros digits) * 10 ^ count ≡ 0 * 10 ^ count = ap (λ x. x * 10 ^ count) core in
     let all : number_of digits ≡ 0 = number_is digits count is.zeros_are ∙ product ∙ omega arith in
-    sym (ap (λ n. option_map cap (scaled n (pos up -ℤ pos down))) all ∙ ap (option_map cap) (stays_zero up down))
+    sym (ap (λ n. option_map cap (in_millionths n (pos up -ℤ pos down))) all ∙ ap (option_map cap) (stays_zero up down))
 
 pub no_whole : (digits : List ℕ) (number count up down : ℕ) → list_all is_digit digits ≡ true → IsSignificant digits number count → (number ≡ 0 → ⊥) → count + up < down
-    → None ≡ option_map cap (scaled (number_of digits) (pos up -ℤ pos down))
+    → None ≡ option_map cap (in_millionths (number_of digits) (pos up -ℤ pos down))
 no_whole digits number count up down are is some lt = elim (last_is digits are) [
   | inl nothing ↦ absurd (some (is.number_is ∙ ap cap nothing))
-  | inr last ↦ sym (ap (λ n. option_map cap (scaled n (pos up -ℤ pos down))) (number_is digits count is.zeros_are)
+  | inr last ↦ sym (ap (λ n. option_map cap (in_millionths n (pos up -ℤ pos down))) (number_is digits count is.zeros_are)
       ∙ ap (option_map cap) (falls (number_of (without_end_zeros digits)) count up down lt last))
 ]
 
 pub whole_raised : (digits : List ℕ) (number count up down raised : ℕ) → IsSignificant digits number count → down ≤ count + up → raised ≡ cap (number * 10 ^ (count + up - down))
-    → Some raised ≡ option_map cap (scaled (number_of digits) (pos up -ℤ pos down))
+    → Some raised ≡ option_map cap (in_millionths (number_of digits) (pos up -ℤ pos down))
 whole_raised digits number count up down raised is le r =
     let core : ℕ = number_of (without_end_zeros digits) in
     ap (λ x. Some x) (r ∙ ap (λ x. cap (x * 10 ^ (count + up - down))) is.number_is ∙ capped_product core (10 ^ (count + up - down)) (ten_pos (count + up - down)))
-    ∙ sym (ap (λ n. option_map cap (scaled n (pos up -ℤ pos down))) (number_is digits count is.zeros_are) ∙ ap (option_map cap) (rises core count up down le))
+    ∙ sym (ap (λ n. option_map cap (in_millionths n (pos up -ℤ pos down))) (number_is digits count is.zeros_are) ∙ ap (option_map cap) (rises core count up down le))
 
 -- ---- the number of an exponent
 
@@ -283,7 +283,7 @@ capped_power n k some le =
     omega (arith, most)
 
 abbrev capped_scale : List ℕ → ℤ → Option ℕ
-capped_scale digits scale = option_map cap (scaled (number_of digits) scale)
+capped_scale digits scale = option_map cap (in_millionths (number_of digits) scale)
 
 -- what the powers make of digits, though the exponent may be greater
 pub same_scale : (digits : List ℕ) (number count places up down : ℕ) (exponent : ℤ) → list_all is_digit digits ≡ true → IsSignificant digits number count → count < 2 ^ 66 → places < 2 ^ 64
@@ -299,16 +299,16 @@ same_scale digits number count places up down exponent are is few short powers =
     nothing : (u d v w : ℕ) → core ≡ 0 → capped_scale digits (pos u -ℤ pos d) ≡ capped_scale digits (pos v -ℤ pos w)
     nothing u d v w none =
         let all : number_of digits ≡ 0 = value ∙ ap (λ x. x * 10 ^ count) none ∙ omega arith in
-        ap (λ n. option_map cap (scaled n (pos u -ℤ pos d))) all ∙ ap (option_map cap) (stays_zero u d ∙ sym (stays_zero v w))
-        ∙ sym (ap (λ n. option_map cap (scaled n (pos v -ℤ pos w))) all)
+        ap (λ n. option_map cap (in_millionths n (pos u -ℤ pos d))) all ∙ ap (option_map cap) (stays_zero u d ∙ sym (stays_zero v w))
+        ∙ sym (ap (λ n. option_map cap (in_millionths n (pos v -ℤ pos w))) all)
 
     raised : (u d : ℕ) → (core % 10 ≡ 0 → ⊥) → d + 25 ≤ u → capped_scale digits (pos u -ℤ pos d) ≡ Some 10000000000000000000000000
     raised u d last le =
-        ap (λ n. option_map cap (scaled n (pos u -ℤ pos d))) value ∙ ap (option_map cap) (rises core count u d (omega arith))
+        ap (λ n. option_map cap (in_millionths n (pos u -ℤ pos d))) value ∙ ap (option_map cap) (rises core count u d (omega arith))
         ∙ ap (λ x. Some x) (capped_power core (count + u - d) (omega (arith, last)) (omega arith))
 
     fallen : (u d : ℕ) → (core % 10 ≡ 0 → ⊥) → count + u < d → capped_scale digits (pos u -ℤ pos d) ≡ None
-    fallen u d last lt = ap (λ n. option_map cap (scaled n (pos u -ℤ pos d))) value ∙ ap (option_map cap) (falls core count u d lt last)
+    fallen u d last lt = ap (λ n. option_map cap (in_millionths n (pos u -ℤ pos d))) value ∙ ap (option_map cap) (falls core count u d lt last)
 
     by : ArePowers exponent up down → capped_scale digits (pos (up + 6) -ℤ pos (down + places)) ≡ capped_scale digits ((exponent +ℤ pos 6) -ℤ pos places)
     by (inl h) =
@@ -337,8 +337,8 @@ same_scale digits number count places up down exponent are is few short powers =
 -- the quota that the powers make of a numeral
 pub value_is : (n : Numeral) (number count places up down : ℕ) (o : Option ℕ) → list_all is_digit (n.whole ++ n.decimals) ≡ true → IsSignificant (n.whole ++ n.decimals) number count
     → count < 2 ^ 66 → places ≡ length n.decimals → places < 2 ^ 64 → ArePowers n.exponent up down
-    → o ≡ option_map cap (scaled (digits_of n) (pos (up + 6) -ℤ pos (down + places))) → quota_of_millionths o ≡ quota_of_numeral (Ok n)
+    → o ≡ option_map cap (in_millionths (digits_of n) (pos (up + 6) -ℤ pos (down + places))) → quota_of_millionths o ≡ quota_of_numeral (Ok n)
 value_is n number count places up down o are is few same short powers made =
     ap quota_of_millionths (made ∙ same_scale (n.whole ++ n.decimals) number count places up down n.exponent are is few short powers
-    ∙ ap (λ k. option_map cap (scaled (digits_of n) ((n.exponent +ℤ pos 6) -ℤ pos k))) same)
-    ∙ capped (scaled (digits_of n) (scale_of n))
+    ∙ ap (λ k. option_map cap (in_millionths (digits_of n) ((n.exponent +ℤ pos 6) -ℤ pos k))) same)
+    ∙ capped (in_millionths (digits_of n) (scale_of n))

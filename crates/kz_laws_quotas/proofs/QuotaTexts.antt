@@ -15,7 +15,7 @@ use Rattle.std.proofs.lemmas.List.Folds.{list_all-append}
 use Rattle.std.proofs.lemmas.Str.{digit_value_digit, IsUtf8-from_ascii, IsAscii-append, is_utf8-from_IsUtf8}
 use Rattle.std.proofs.lemmas.Str.Parse.{digit_at, numerals_by_value}
 use Rattle.kz_types.specs.Numbers.{is_digit, number_of}
-use Rattle.kz_spec_quotas.specs.Quotas.{digits_at, after_digits, after_decimals, after_point, after_whole, numeral_of, scaled, quota_of_millionths, quota_of_numeral, quota_of, last_digits, onto_digits, without_end_zeros, decimals_text, quota_text}
+use Rattle.kz_spec_quotas.specs.Quotas.{digits_at, after_digits, after_decimals, after_point, after_whole, numeral_of, in_millionths, quota_of_millionths, quota_of_numeral, quota_of, last_digits, onto_digits, without_end_zeros, decimals_text, quota_text}
 use Rattle.kz_types.specs.Quotas.{is_quota}
 use Rattle.kz_types.specs.declared.row.QuotaValue.{QuotaValue}
 use Rattle.kz_types.specs.declared.value_fault.QuotaFault.TheVariants.{TooLarge}
@@ -176,7 +176,7 @@ pointed_restored whole micros all fits few some are six worth alone =
     let number : number_of (decimal whole ++ decimals) ≡ digits_value_after 10 whole decimals =
     after_append 0 (decimal whole) decimals ∙ ap (λ n. digits_value_after 10 n decimals) (decimal_value whole small) in
     ap quota_of_numeral (goes_on whole (46 ∷ decimals) small refl ∙ all_decimals (decimal whole) decimals (length (decimal whole) + 1) (ends_are_digits all are) not_none)
-    ∙ (λ i. quota_of_millionths (scaled (number i) (scale i)))
+    ∙ (λ i. quota_of_millionths (in_millionths (number i) (scale i)))
     ∙ ap (λ n. quota_of_millionths (Some n)) (sym (value_after whole all count left) ∙ worth) ∙ of_millionths whole micros fits few
 
 pub natural_restored : (whole micros : ℕ) → whole ≤ 9223372036854775807 → micros ≤ 999999

@@ -9,8 +9,8 @@ use Rattle.kz_types.specs.declared.record.ByteFault.{ByteFault}
 use Rattle.kz_types.specs.declared.record.ByteFault.TheVariants as bytes
 use Rattle.kz_types.specs.declared.record.CodecFault.{CodecFault}
 use Rattle.kz_types.specs.declared.record.CodecFault.TheVariants as codec
-use Rattle.kz_spec_values.specs.Fields.{Reading, Format, ◌>>=◌, front, end_of, past, unsigned, signed, id}
-use Rattle.kz_spec_values.specs.Forms.{field, lifted, present, there, flag, flag_at, flag_byte}
+use Rattle.kz_spec_values.specs.Fields.{Reading, Format, ◌>>=◌, front, end_of, past, unsigned_number, signed_number, id}
+use Rattle.kz_spec_values.specs.Forms.{field, with_field_fault, present, there, flag, flag_at, flag_byte}
 use Rattle.kz_laws_records.proofs.Exact.{AreSmall, came, ok_same, Takes, Comes, Exact, small_front, mapped_exact}
 
 -- ---- tests
@@ -102,28 +102,28 @@ eight_below bs l s = omega (arith, small_at bs s 0, small_at bs s 1, small_at bs
 pub bytes_64 : HasBytes w64
 bytes_64 = record { size = λ n. refl; again = from_be_bytes-to_be_bytes_8; below = eight_below; there = λ bs l s. be_bytes_8 bs _ l (small_at bs s) refl }
 
-unsigned_takes : (w : Width) → HasBytes w → (n : ℕ) (rest : List ℕ) (at : ℕ) → n < 2 ^ bits w → Takes (unsigned w).read n (to_be_bytes w n) rest at
+unsigned_takes : (w : Width) → HasBytes w → (n : ℕ) (rest : List ℕ) (at : ℕ) → n < 2 ^ bits w → Takes (unsigned_number w).read n (to_be_bytes w n) rest at
 unsigned_takes w has n rest at fits =
     ap (λ m. m >>= λ x. Ok (from_be_bytes w x.0, x.1)) (front_takes (byte_len w) (to_be_bytes w n) rest at (has.size n))
     ∙ ap (λ k. Ok (k, record { at = at + length (to_be_bytes w n); left = rest })) (has.again n fits)
 
-unsigned_taken : (w : Width) → HasBytes w → (n : ℕ) (bytes rest : List ℕ) (at : ℕ) → (unsigned w).spells n bytes → Takes (unsigned w).read n bytes rest at
-unsigned_taken w has n bytes rest at s = subst (λ b. Takes (unsigned w).read n b rest at) (sym s.1) (unsigned_takes w has n rest at s.0)
+unsigned_taken : (w : Width) → HasBytes w → (n : ℕ) (bytes rest : List ℕ) (at : ℕ) → (unsigned_number w).spells n bytes → Takes (unsigned_number w).read n bytes rest at
+unsigned_taken w has n bytes rest at s = subst (λ b. Takes (unsigned_number w).read n b rest at) (sym s.1) (unsigned_takes w has n rest at s.0)
 
-unsigned_given : (w : Width) → HasBytes w → (n : ℕ) (r next : Reading) → AreSmall r.left → (unsigned w).read r ≡ Ok (n, next) → Comes (unsigned w) n r.left next.left
+unsigned_given : (w : Width) → HasBytes w → (n : ℕ) (r next : Reading) → AreSmall r.left → (unsigned_number w).read r ≡ Ok (n, next) → Comes (unsigned_number w) n r.left next.left
 unsigned_given w has n r next small h =
     let c = came ((front (byte_len w)).read r) (λ x. Ok (from_be_bytes w x.0, x.1)) (n, next) h in
     let one = front_given (byte_len w) c.value.0 r c.value.1 small c.first in
     let same : one.bytes ≡ c.value.0 = one.spelled.1 in
     let bound : AreSmall c.value.0 = subst AreSmall same (small_front one.bytes c.value.1.left (subst AreSmall one.split small)) in
-    subst (λ q. Comes (unsigned w) q.0 r.left q.1.left) (ok_same (from_be_bytes w c.value.0, c.value.1) (n, next) c.second)
+    subst (λ q. Comes (unsigned_number w) q.0 r.left q.1.left) (ok_same (from_be_bytes w c.value.0, c.value.1) (n, next) c.second)
     (record {
       bytes = one.bytes;
       split = one.split;
       spelled = (has.below c.value.0 one.spelled.0 bound, same ∙ sym (has.there c.value.0 one.spelled.0 bound));
     })
 
-pub unsigned_exact : (w : Width) → HasBytes w → Exact (unsigned w)
+pub unsigned_exact : (w : Width) → HasBytes w → Exact (unsigned_number w)
 unsigned_exact w has = record { taken = unsigned_taken w has; given = unsigned_given w has }
 
 -- a number of this width in two's complement
@@ -131,23 +131,23 @@ pub record HasSigns (w : Width) : Type 0 where
   pub bound : (z : ℤ) → FitsSigned w z → cast_unsigned w z < 2 ^ bits w
   pub fits : (n : ℕ) → n < 2 ^ bits w → FitsSigned w (cast_signed w n)
 
-signed_taken : (w : Width) → HasBytes w → HasSigns w → (z : ℤ) (bytes rest : List ℕ) (at : ℕ) → (signed w).spells z bytes → Takes (signed w).read z bytes rest at
+signed_taken : (w : Width) → HasBytes w → HasSigns w → (z : ℤ) (bytes rest : List ℕ) (at : ℕ) → (signed_number w).spells z bytes → Takes (signed_number w).read z bytes rest at
 signed_taken w has signs z bytes rest at s =
     ap (λ m. m >>= λ x. Ok (cast_signed w x.0, x.1)) (unsigned_taken w has (cast_unsigned w z) bytes rest at (signs.bound z s.0, s.1))
     ∙ ap (λ k. Ok (k, record { at = at + length bytes; left = rest })) (to_z-of_z w z s.0)
 
-signed_given : (w : Width) → HasBytes w → HasSigns w → (z : ℤ) (r next : Reading) → AreSmall r.left → (signed w).read r ≡ Ok (z, next) → Comes (signed w) z r.left next.left
+signed_given : (w : Width) → HasBytes w → HasSigns w → (z : ℤ) (r next : Reading) → AreSmall r.left → (signed_number w).read r ≡ Ok (z, next) → Comes (signed_number w) z r.left next.left
 signed_given w has signs z r next small h =
-    let c = came ((unsigned w).read r) (λ x. Ok (cast_signed w x.0, x.1)) (z, next) h in
+    let c = came ((unsigned_number w).read r) (λ x. Ok (cast_signed w x.0, x.1)) (z, next) h in
     let one = unsigned_given w has c.value.0 r c.value.1 small c.first in
-    subst (λ q. Comes (signed w) q.0 r.left q.1.left) (ok_same (cast_signed w c.value.0, c.value.1) (z, next) c.second)
+    subst (λ q. Comes (signed_number w) q.0 r.left q.1.left) (ok_same (cast_signed w c.value.0, c.value.1) (z, next) c.second)
     (record {
       bytes = one.bytes;
       split = one.split;
       spelled = (signs.fits c.value.0 one.spelled.0, one.spelled.1 ∙ ap (to_be_bytes w) (sym (of_z-to_z w c.value.0 one.spelled.0)));
     })
 
-pub signed_exact : (w : Width) → HasBytes w → HasSigns w → Exact (signed w)
+pub signed_exact : (w : Width) → HasBytes w → HasSigns w → Exact (signed_number w)
 signed_exact w has signs = record { taken = signed_taken w has signs; given = signed_given w has signs }
 
 pub signs_8 : HasSigns w8
@@ -167,13 +167,13 @@ signs_64 = record { bound = λ z f. omega (arith, ints); fits = λ n h. search r
 pub id_exact : Exact id
 id_exact = mapped_exact (λ x. record { bytes = x }) (λ i. i.bytes) (front 16) (record { there = λ x. refl; again = λ y. refl }) (front_exact 16)
 
-pub lifted_same : {A : Type 0} (m : Result A ByteFault) (y : A) → lifted m ≡ Ok y → m ≡ Ok y
+pub lifted_same : {A : Type 0} (m : Result A ByteFault) (y : A) → with_field_fault m ≡ Ok y → m ≡ Ok y
 lifted_same (Ok x) y h = cc
 lifted_same (Err e) y h = absurd (cc)
 
 pub field_exact : {X : Type 0} (f : Format ByteFault X) → Exact f → Exact (field f)
 field_exact f ef = record {
-  taken = λ x bytes rest at s. ap lifted (ef.taken x bytes rest at s);
+  taken = λ x bytes rest at s. ap with_field_fault (ef.taken x bytes rest at s);
   given = λ x r next small h. let c = ef.given x r next small (lifted_same (f.read r) (x, next) h) in record { bytes = c.bytes; split = c.split; spelled = c.spelled };
 }
 
@@ -185,7 +185,7 @@ there_same {X = X} at (Some y) mid x next h =
 
 present_given : {X : Type 0} (f : Format ByteFault (Option X)) → Exact f → (x : X) (r next : Reading) → AreSmall r.left → (present f).read r ≡ Ok (x, next) → Comes (present f) x r.left next.left
 present_given f ef x r next small h =
-    let c = came (lifted (f.read r)) (there r.at) (x, next) h in
+    let c = came (with_field_fault (f.read r)) (there r.at) (x, next) h in
     let one = ef.given c.value.0 r c.value.1 small (lifted_same (f.read r) c.value c.first) in
     let same = there_same r.at c.value.0 c.value.1 x next c.second in
     record {
@@ -196,7 +196,7 @@ present_given f ef x r next small h =
 
 pub present_exact : {X : Type 0} (f : Format ByteFault (Option X)) → Exact f → Exact (present f)
 present_exact f ef = record {
-  taken = λ x bytes rest at s. ap (λ m. lifted m >>= there at) (ef.taken (Some x) bytes rest at s);
+  taken = λ x bytes rest at s. ap (λ m. with_field_fault m >>= there at) (ef.taken (Some x) bytes rest at s);
   given = present_given f ef;
 }
 

@@ -6,7 +6,7 @@ use Rattle.kz_types.specs.declared.record.BatchFault.{BatchFault}
 use Rattle.kz_types.specs.declared.record.BatchFault.TheVariants.{BadCount}
 use Rattle.kz_spec_values.specs.Fields.{Reading, Format, ◌>>=◌, front, uvarint, uvarlong, varint, varlong, zigzag, unzigzag}
 use Rattle.kz_spec_values.specs.Forms.{◌⊗◌}
-use Rattle.kz_spec_values.specs.Batches.{countable, part, zero_at, no_attributes, measured_at, measured_or_null, not_null, measured, header, headers_at, headers, Content, content, whole, sized_at, entry}
+use Rattle.kz_spec_values.specs.Batches.{countable, part, zero_at, no_attributes, measured_at, measured_or_null, not_null, bytes_with_length, header, headers_at, headers, Content, content, whole, sized_at, entry}
 use Rattle.kz_laws_records.proofs.Exact.{AreSmall, came, ok_same, Takes, taken_then, Comes, Exact, small_front, small_after, pair_exact, mapped_exact, Turns}
 use Rattle.kz_laws_records.proofs.Basics.{passed_true, cond_true, cond_false, front_takes, front_exact}
 use Rattle.kz_laws_records.proofs.Counted.{groups_takes, groups_given, uvarint_exact}
@@ -123,7 +123,7 @@ some_same (Some y) mid x next h =
     let e : (y, mid) ≡ (x, next) = ok_same (y, mid) (x, next) h in
     (ap (λ (p : List ℕ × Reading). Some p.0) e, ap (λ (p : List ℕ × Reading). p.1) e)
 
-length_given : (x : List ℕ) (r next : Reading) → AreSmall r.left → measured.read r ≡ Ok (x, next) → Comes measured x r.left next.left
+length_given : (x : List ℕ) (r next : Reading) → AreSmall r.left → bytes_with_length.read r ≡ Ok (x, next) → Comes bytes_with_length x r.left next.left
 length_given x r next small h =
     let c = came (measured_or_null.read r) not_null (x, next) h in
     let one = measured_given c.value.0 r c.value.1 small c.first in
@@ -134,13 +134,13 @@ length_given x r next small h =
       spelled = subst (λ o. measured_or_null.spells o one.bytes) same.0 one.spelled;
     }
 
-pub measured_exact : Exact measured
+pub measured_exact : Exact bytes_with_length
 measured_exact = record { taken = λ x bytes rest at s. ap (λ m. m >>= not_null) (measured_taken (Some x) bytes rest at s); given = length_given }
 
 -- ---- headers
 
 header_exact : Exact header
-header_exact = pair_exact measured measured_or_null measured_exact measured_or_null_exact
+header_exact = pair_exact bytes_with_length measured_or_null measured_exact measured_or_null_exact
 
 abbrev Header : Type 0
 Header = List ℕ × Option (List ℕ)

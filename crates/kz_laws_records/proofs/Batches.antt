@@ -11,7 +11,7 @@ use Rattle.kz_types.specs.declared.record.BatchFault.TheVariants.{Short, BadMagi
 use Rattle.kz_spec_values.specs.Fields.{Reading, ◌>>=◌}
 use Rattle.kz_spec_values.specs.Forms.{Each, items_at}
 use Rattle.kz_spec_values.specs.Checksum.{crc32c}
-use Rattle.kz_spec_values.specs.Batches.{base_offset, stated_length, leader_epoch, magic, stated_sum, compression, is_control, last_delta, base_time, stated_count, Content, delta_of, value_of, entry, BatchContents, AreNumbered, AreRecords, IsContent, IsBatch, sized, is_short, summed_rest, summed, records_counted, is_numbered, values_of, batch_with, batch_of}
+use Rattle.kz_spec_values.specs.Batches.{base_offset, stated_length, leader_epoch, magic, stated_sum, compression, is_control, last_delta, base_time, stated_count, Content, delta_of, value_of, entry, BatchContents, AreNumbered, AreRecords, IsContent, IsBatch, holds_whole_batch, is_short, summed_rest, bytes_under_sum, records_counted, is_numbered, values_of, batch_with, batch_of}
 use Rattle.kz_laws_records.proofs.Exact.{AreSmall, came, ok_same, result_same, small_rest}
 use Rattle.kz_laws_records.proofs.Basics.{passed_true, passed_false, cond_true, cond_false}
 use Rattle.kz_laws_records.proofs.Lists.{items_takes, items_given}
@@ -124,12 +124,12 @@ values_given false bytes values small h =
 
 -- ---- the header
 
-summed_all : (bytes : List ℕ) → 61 ≤ length bytes → stated_length bytes ≡ pos (length bytes - 12) → summed bytes ≡ drop 21 bytes
+summed_all : (bytes : List ℕ) → 61 ≤ length bytes → stated_length bytes ≡ pos (length bytes - 12) → bytes_under_sum bytes ≡ drop 21 bytes
 summed_all bytes size stated =
     let rest : length (drop 21 bytes) ≤ (length bytes - 12) - 9 = omega (arith, size, length-drop 21 bytes) in
     ap (summed_rest (drop 21 bytes)) stated ∙ take_all ((length bytes - 12) - 9) (drop 21 bytes) rest
 
-sized_true : (size : ℕ) → 61 ≤ size → sized (pos (size - 12)) size ≡ true
+sized_true : (size : ℕ) → 61 ≤ size → holds_whole_batch (pos (size - 12)) size ≡ true
 sized_true size le =
     both_true (not (nat_lt (size - 12) 49)) (not (nat_lt size (12 + (size - 12))))
     (ap not (le-ltb (size - 12) 49 (omega (arith, le))))
@@ -137,8 +137,8 @@ sized_true size le =
 
 long_enough : (bytes : List ℕ) → 61 ≤ length bytes → stated_length bytes ≡ pos (length bytes - 12) → is_short bytes ≡ false
 long_enough bytes size stated =
-    cond_false (nat_lt (length bytes) 61) true (not (sized (stated_length bytes) (length bytes))) (le-ltb (length bytes) 61 size)
-    ∙ ap (λ z. not (sized z (length bytes))) stated
+    cond_false (nat_lt (length bytes) 61) true (not (holds_whole_batch (stated_length bytes) (length bytes))) (le-ltb (length bytes) 61 size)
+    ∙ ap (λ z. not (holds_whole_batch z (length bytes))) stated
     ∙ ap not (sized_true (length bytes) size)
 
 short_61 : (bytes : List ℕ) (less rest : Bool) → nat_lt (length bytes) 61 ≡ less → cond less true rest ≡ false → 61 ≤ length bytes
@@ -160,7 +160,7 @@ abbrev plain_read : List ℕ → Result BatchContents BatchFault
 plain_read bytes = cond (not (compression bytes == 0)) (Err (Compressed (compression bytes))) (length_read bytes)
 
 abbrev sum_read : List ℕ → Result BatchContents BatchFault
-sum_read bytes = cond (not (stated_sum bytes == crc32c (summed bytes))) (Err (BadCrc (stated_sum bytes) (crc32c (summed bytes)))) (plain_read bytes)
+sum_read bytes = cond (not (stated_sum bytes == crc32c (bytes_under_sum bytes))) (Err (BadCrc (stated_sum bytes) (crc32c (bytes_under_sum bytes)))) (plain_read bytes)
 
 abbrev format_read : List ℕ → Result BatchContents BatchFault
 format_read bytes = cond (not (magic bytes == 2)) (Err (BadMagic (magic bytes))) (sum_read bytes)
@@ -184,11 +184,11 @@ batch_same bytes b s = contents_same (base_offset bytes) (leader_epoch bytes) (b
 pub batch_is_read : (bytes : List ℕ) (b : BatchContents) → IsBatch bytes b → batch_of bytes ≡ Ok b
 unfolding batch_of
 batch_is_read bytes b s =
-    let sum : stated_sum bytes ≡ crc32c (summed bytes) = s.sum ∙ ap crc32c (sym (summed_all bytes s.size s.stated)) in
+    let sum : stated_sum bytes ≡ crc32c (bytes_under_sum bytes) = s.sum ∙ ap crc32c (sym (summed_all bytes s.size s.stated)) in
     let values : values_of (is_control bytes) bytes ≡ Ok b.values = values_taken (is_control bytes) bytes b.values (subst (λ k. IsContent k bytes b.values) s.control s.content) in
     cond_false (is_short bytes) (Err Short) (format_read bytes) (long_enough bytes s.size s.stated)
     ∙ meets (magic bytes == 2) (BadMagic (magic bytes)) (sum_read bytes) (eq-eqb (magic bytes) 2 s.format)
-    ∙ meets (stated_sum bytes == crc32c (summed bytes)) (BadCrc (stated_sum bytes) (crc32c (summed bytes))) (plain_read bytes) (eq-eqb (stated_sum bytes) (crc32c (summed bytes)) sum)
+    ∙ meets (stated_sum bytes == crc32c (bytes_under_sum bytes)) (BadCrc (stated_sum bytes) (crc32c (bytes_under_sum bytes))) (plain_read bytes) (eq-eqb (stated_sum bytes) (crc32c (bytes_under_sum bytes)) sum)
     ∙ meets (compression bytes == 0) (Compressed (compression bytes)) (length_read bytes) (eq-eqb (compression bytes) 0 s.plain)
     ∙ meets (int_eq (stated_length bytes) (pos (length bytes - 12))) BadCount (values_read bytes) (int_eq_true (stated_length bytes) (pos (length bytes - 12)) s.stated)
     ∙ ap (λ m. m >>= with_values bytes) values
@@ -199,11 +199,11 @@ unfolding batch_of
 read_is_batch bytes b small h =
     let c = passed_false (is_short bytes) Short (format_read bytes) b h in
     let d = met (magic bytes == 2) (BadMagic (magic bytes)) (sum_read bytes) b c.1 in
-    let e = met (stated_sum bytes == crc32c (summed bytes)) (BadCrc (stated_sum bytes) (crc32c (summed bytes))) (plain_read bytes) b d.1 in
+    let e = met (stated_sum bytes == crc32c (bytes_under_sum bytes)) (BadCrc (stated_sum bytes) (crc32c (bytes_under_sum bytes))) (plain_read bytes) b d.1 in
     let f = met (compression bytes == 0) (Compressed (compression bytes)) (length_read bytes) b e.1 in
     let g = met (int_eq (stated_length bytes) (pos (length bytes - 12))) BadCount (values_read bytes) b f.1 in
     let v = came (values_of (is_control bytes) bytes) (with_values bytes) b g.1 in
-    let size = short_61 bytes (nat_lt (length bytes) 61) (not (sized (stated_length bytes) (length bytes))) refl c.0 in
+    let size = short_61 bytes (nat_lt (length bytes) 61) (not (holds_whole_batch (stated_length bytes) (length bytes))) refl c.0 in
     let stated = int_eq_is (stated_length bytes) (pos (length bytes - 12)) g.0 in
     let tail : AreSmall (drop 61 bytes) = small_rest (take 61 bytes) (drop 61 bytes) (subst AreSmall (sym (take-append-drop 61 bytes)) small) in
     subst (IsBatch bytes) (ok_same (batch_with bytes v.value) b v.second)
@@ -211,7 +211,7 @@ read_is_batch bytes b small h =
       size = size;
       stated = stated;
       format = eqb-true (magic bytes) 2 d.0;
-      sum = eqb-true (stated_sum bytes) (crc32c (summed bytes)) e.0 ∙ ap crc32c (summed_all bytes size stated);
+      sum = eqb-true (stated_sum bytes) (crc32c (bytes_under_sum bytes)) e.0 ∙ ap crc32c (summed_all bytes size stated);
       plain = eqb-true (compression bytes) 0 f.0;
       first = refl;
       epoch = refl;

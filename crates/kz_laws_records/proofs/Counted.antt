@@ -7,7 +7,7 @@ use Rattle.std.proofs.lemmas.Int.{to_z-of_z, of_z-to_z}
 use borrow.Author.Tests.{eqb-false}
 use Rattle.kz_types.specs.declared.record.ByteFault.{ByteFault}
 use Rattle.kz_types.specs.declared.record.ByteFault.TheVariants.{Overlong, NotUtf8}
-use Rattle.kz_spec_values.specs.Fields.{Reading, ◌>>=◌, front, uvarint, groups_at, IsGroups, counted, nullable_bytes, nullable_text, judged, IsText, text_fault, ints_of, int_bytes, AreInts}
+use Rattle.kz_spec_values.specs.Fields.{Reading, ◌>>=◌, front, uvarint, groups_at, IsGroups, items_with_count, nullable_bytes, nullable_text, text_or_fault, IsText, text_fault, ints_of, int_bytes, AreInts}
 use Rattle.kz_spec_values.specs.Forms.{nullable_ints, AreIntsOrNull}
 use Rattle.kz_laws_records.proofs.Exact.{AreSmall, came, ok_same, Takes, taken_then, Comes, Exact, small_front, small_rest, small_after}
 use Rattle.kz_laws_records.proofs.Basics.{passed_true, cond_true, cond_false, front_takes, front_exact, bytes_32, signs_32}
@@ -123,11 +123,11 @@ uvarint_exact = record {
 abbrev pub counted_rest : ℕ → ℕ × Reading → Result (Option (List ℕ) × Reading) ByteFault
 counted_rest size count = cond (count.0 == 0) (Ok (None, count.1)) ((front (size * (count.0 - 1))).read count.1 >>= λ items. Ok (Some items.0, items.1))
 
-counted_taken : (size : ℕ) (value : Option (List ℕ)) (bytes rest : List ℕ) (at : ℕ) → (counted size).spells value bytes → Takes (counted size).read value bytes rest at
+counted_taken : (size : ℕ) (value : Option (List ℕ)) (bytes rest : List ℕ) (at : ℕ) → (items_with_count size).spells value bytes → Takes (items_with_count size).read value bytes rest at
 counted_taken size None bytes rest at s = ap (λ m. m >>= counted_rest size) (uvarint_exact.taken 0 bytes rest at s)
 counted_taken size (Some items) bytes rest at s =
     let count : length items ≡ size * ((s.0 + 1) - 1) = s.2 ∙ ap (λ n. size * n) (omega arith) in
-    subst (λ b. Takes (counted size).read (Some items) b rest at) (sym s.4)
+    subst (λ b. Takes (items_with_count size).read (Some items) b rest at) (sym s.4)
     (taken_then uvarint.read (counted_rest size) (s.0 + 1) (Some items) s.1 items rest at
     (uvarint_exact.taken (s.0 + 1) s.1 (items ++ rest) at s.3)
     (cond_false (s.0 + 1 == 0) _ _ (ne_eqb (s.0 + 1) 0 (λ e. omega arith))
@@ -136,36 +136,36 @@ counted_taken size (Some items) bytes rest at s =
 counted_after : (size n : ℕ) (value : Option (List ℕ)) (left : List ℕ) (mid next : Reading) (none : Bool)
     → AreSmall left → Comes uvarint n left mid.left → (n == 0) ≡ none
     → cond {A = Result (Option (List ℕ) × Reading) ByteFault} none (Ok (None, mid)) ((front (size * (n - 1))).read mid >>= λ items. Ok (Some items.0, items.1)) ≡ Ok (value, next)
-    → Comes (counted size) value left next.left
+    → Comes (items_with_count size) value left next.left
 counted_after size n value left mid next true small one e h =
-    subst (λ q. Comes (counted size) q.0 left q.1.left) (ok_same (None, mid) (value, next) h)
+    subst (λ q. Comes (items_with_count size) q.0 left q.1.left) (ok_same (None, mid) (value, next) h)
     (record { bytes = one.bytes; split = one.split; spelled = subst (λ k. uvarint.spells k one.bytes) (eqb-true n 0 e) one.spelled })
 counted_after size n value left mid next false small one e h =
     let c = came ((front (size * (n - 1))).read mid) (λ items. Ok (Some items.0, items.1)) (value, next) h in
     let two = (front_exact (size * (n - 1))).given c.value.0 mid c.value.1 (small_after uvarint n left mid.left one small) c.first in
     let some : n ≡ (n - 1) + 1 = omega (arith, eqb-false n 0 e) in
-    subst (λ q. Comes (counted size) q.0 left q.1.left) (ok_same (Some c.value.0, c.value.1) (value, next) c.second)
+    subst (λ q. Comes (items_with_count size) q.0 left q.1.left) (ok_same (Some c.value.0, c.value.1) (value, next) c.second)
     (record {
       bytes = one.bytes ++ two.bytes;
       split = one.split ∙ ap (λ b. one.bytes ++ b) two.split ∙ sym (append_assoc one.bytes two.bytes c.value.1.left);
       spelled = (n - 1, one.bytes, two.spelled.0, subst (λ k. uvarint.spells k one.bytes) some one.spelled, ap (λ b. one.bytes ++ b) two.spelled.1);
     })
 
-counted_given : (size : ℕ) (value : Option (List ℕ)) (r next : Reading) → AreSmall r.left → (counted size).read r ≡ Ok (value, next) → Comes (counted size) value r.left next.left
+counted_given : (size : ℕ) (value : Option (List ℕ)) (r next : Reading) → AreSmall r.left → (items_with_count size).read r ≡ Ok (value, next) → Comes (items_with_count size) value r.left next.left
 counted_given size value r next small h =
     let c = came (uvarint.read r) (counted_rest size) (value, next) h in
     counted_after size c.value.0 value r.left c.value.1 next (c.value.0 == 0) small (uvarint_exact.given c.value.0 r c.value.1 small c.first) refl c.second
 
-pub counted_exact : (size : ℕ) → Exact (counted size)
+pub counted_exact : (size : ℕ) → Exact (items_with_count size)
 counted_exact size = record { taken = counted_taken size; given = counted_given size }
 
 -- ---- texts
 
-pub judged_is : (end : ℕ) (value : Option (List ℕ)) → IsText value → judged end value ≡ Ok value
+pub judged_is : (end : ℕ) (value : Option (List ℕ)) → IsText value → text_or_fault end value ≡ Ok value
 judged_is end None t = refl
 judged_is end (Some text) t = cond_true (is_utf8 text) _ _ (is_utf8-from_IsUtf8 text t)
 
-pub judged_good : (end : ℕ) (value other : Option (List ℕ)) → judged end value ≡ Ok other → IsText other × (value ≡ other)
+pub judged_good : (end : ℕ) (value other : Option (List ℕ)) → text_or_fault end value ≡ Ok other → IsText other × (value ≡ other)
 judged_good end None other h =
     let e : None ≡ other = ok_same None other h in
     (subst IsText e tt, e)
@@ -176,13 +176,13 @@ judged_good end (Some text) other h =
 
 text_taken : (value : Option (List ℕ)) (bytes rest : List ℕ) (at : ℕ) → nullable_text.spells value bytes → Takes nullable_text.read value bytes rest at
 text_taken value bytes rest at s =
-    ap (λ m. m >>= λ x. judged x.1.at x.0 >>= λ text. Ok (text, x.1)) (counted_taken 1 value bytes rest at s.1)
+    ap (λ m. m >>= λ x. text_or_fault x.1.at x.0 >>= λ text. Ok (text, x.1)) (counted_taken 1 value bytes rest at s.1)
     ∙ ap (λ m. m >>= λ text. Ok (text, record { at = at + length bytes; left = rest })) (judged_is (at + length bytes) value s.0)
 
 text_given : (value : Option (List ℕ)) (r next : Reading) → AreSmall r.left → nullable_text.read r ≡ Ok (value, next) → Comes nullable_text value r.left next.left
 text_given value r next small h =
-    let c = came (nullable_bytes.read r) (λ x. judged x.1.at x.0 >>= λ text. Ok (text, x.1)) (value, next) h in
-    let d = came (judged c.value.1.at c.value.0) (λ text. Ok (text, c.value.1)) (value, next) c.second in
+    let c = came (nullable_bytes.read r) (λ x. text_or_fault x.1.at x.0 >>= λ text. Ok (text, x.1)) (value, next) h in
+    let d = came (text_or_fault c.value.1.at c.value.0) (λ text. Ok (text, c.value.1)) (value, next) c.second in
     let one = counted_given 1 c.value.0 r c.value.1 small c.first in
     let good = judged_good c.value.1.at c.value.0 d.value d.first in
     subst (λ q. Comes nullable_text q.0 r.left q.1.left) (ok_same (d.value, c.value.1) (value, next) d.second)
@@ -235,7 +235,7 @@ record IntsOrNull (value : Option (List ℕ)) : Type 0 where
   fit : AreIntsOrNull (option_map ints_of value)
   there : option_map int_bytes (option_map ints_of value) ≡ value
 
-there_or_null : (value : Option (List ℕ)) (bytes : List ℕ) → AreSmall bytes → (counted 4).spells value bytes → IntsOrNull value
+there_or_null : (value : Option (List ℕ)) (bytes : List ℕ) → AreSmall bytes → (items_with_count 4).spells value bytes → IntsOrNull value
 there_or_null None bytes small s = record { fit = tt; there = refl }
 there_or_null (Some items) bytes small s =
     let i = ints_there s.0 items s.2 (small_rest s.1 items (subst AreSmall s.4 small)) in
@@ -248,11 +248,11 @@ ints_taken value bytes rest at s =
 
 ints_given : (value : Option (List ℤ)) (r next : Reading) → AreSmall r.left → nullable_ints.read r ≡ Ok (value, next) → Comes nullable_ints value r.left next.left
 ints_given value r next small h =
-    let c = came ((counted 4).read r) (λ x. Ok (option_map ints_of x.0, x.1)) (value, next) h in
+    let c = came ((items_with_count 4).read r) (λ x. Ok (option_map ints_of x.0, x.1)) (value, next) h in
     let one = counted_given 4 c.value.0 r c.value.1 small c.first in
     let i = there_or_null c.value.0 one.bytes (small_front one.bytes c.value.1.left (subst AreSmall one.split small)) one.spelled in
     subst (λ q. Comes nullable_ints q.0 r.left q.1.left) (ok_same (option_map ints_of c.value.0, c.value.1) (value, next) c.second)
-    (record { bytes = one.bytes; split = one.split; spelled = (i.fit, subst (λ v. (counted 4).spells v one.bytes) (sym i.there) one.spelled) })
+    (record { bytes = one.bytes; split = one.split; spelled = (i.fit, subst (λ v. (items_with_count 4).spells v one.bytes) (sym i.there) one.spelled) })
 
 pub ints_exact : Exact nullable_ints
 ints_exact = record { taken = ints_taken; given = ints_given }

@@ -1,7 +1,7 @@
 -- Formats whose reading is their spelling: what spells a value is read as it, and what is read spells its value.
 use Rattle.std.proofs.Common.{◌≡◌, ℕ, ◌+◌, ◌<◌, List, [], ◌∷◌, ◌++◌, length, Result, Ok, Err, refl, sym, ap, ◌∙◌, subst, append_assoc, length-append, add_assoc}
 use Rattle.std.specs.Prelude.{⊤}
-use Rattle.kz_spec_values.specs.Fields.{Reading, Format, ◌>>=◌, mapped}
+use Rattle.kz_spec_values.specs.Fields.{Reading, Format, ◌>>=◌, format_through}
 use Rattle.kz_spec_values.specs.Forms.{◌⊗◌}
 use Rattle.std.proofs.lemmas.List.Elements.{All-head, All-tail}
 use Rattle.kz_laws_records.specs.Texts.{AreBytes}
@@ -110,18 +110,18 @@ pub record Turns {X Y : Type 0} (made : X → Y) (back : Y → X) : Type 0 where
   pub again : (y : Y) → made (back y) ≡ y
 
 mapped_taken : {E X Y : Type 0} (made : X → Y) (back : Y → X) (f : Format E X) → Turns made back → Exact f
-    → (y : Y) (bytes rest : List ℕ) (at : ℕ) → (mapped made back f).spells y bytes → Takes (mapped made back f).read y bytes rest at
+    → (y : Y) (bytes rest : List ℕ) (at : ℕ) → (format_through made back f).spells y bytes → Takes (format_through made back f).read y bytes rest at
 mapped_taken made back f t ef y bytes rest at s =
     ap (λ n. n >>= λ x. Ok (made x.0, x.1)) (ef.taken (back y) bytes rest at s)
     ∙ ap (λ z. Ok (z, record { at = at + length bytes; left = rest })) (t.again y)
 
 mapped_given : {E X Y : Type 0} (made : X → Y) (back : Y → X) (f : Format E X) → Turns made back → Exact f
-    → (y : Y) (r next : Reading) → AreSmall r.left → (mapped made back f).read r ≡ Ok (y, next) → Comes (mapped made back f) y r.left next.left
+    → (y : Y) (r next : Reading) → AreSmall r.left → (format_through made back f).read r ≡ Ok (y, next) → Comes (format_through made back f) y r.left next.left
 mapped_given made back f t ef y r next small h =
     let c = came (f.read r) (λ x. Ok (made x.0, x.1)) (y, next) h in
     let one = ef.given c.value.0 r c.value.1 small c.first in
-    subst (λ q. Comes (mapped made back f) q.0 r.left q.1.left) (ok_same (made c.value.0, c.value.1) (y, next) c.second)
+    subst (λ q. Comes (format_through made back f) q.0 r.left q.1.left) (ok_same (made c.value.0, c.value.1) (y, next) c.second)
     (record { bytes = one.bytes; split = one.split; spelled = subst (λ x. f.spells x one.bytes) (sym (t.there c.value.0)) one.spelled })
 
-pub mapped_exact : {E X Y : Type 0} (made : X → Y) (back : Y → X) (f : Format E X) → Turns made back → Exact f → Exact (mapped made back f)
+pub mapped_exact : {E X Y : Type 0} (made : X → Y) (back : Y → X) (f : Format E X) → Turns made back → Exact f → Exact (format_through made back f)
 mapped_exact made back f t ef = record { taken = mapped_taken made back f t ef; given = mapped_given made back f t ef }

@@ -5,7 +5,7 @@ use Rattle.std.proofs.lemmas.Int.{of_z-to_z}
 use borrow.Author.Tests.{eqb-false}
 use Rattle.kz_types.specs.declared.record.ByteFault.{ByteFault}
 use Rattle.kz_types.specs.declared.record.ByteFault.TheVariants.{Short, Overlong, NotUtf8}
-use Rattle.kz_spec_values.specs.Fields.{Reading, Format, ◌>>=◌, mapped, end_of, front, unsigned, signed, id, uvarint, uvarlong, varint, varlong, zigzag, unzigzag, groups_at, IsGroups, counted}
+use Rattle.kz_spec_values.specs.Fields.{Reading, Format, ◌>>=◌, format_through, end_of, front, unsigned_number, signed_number, id, uvarint, uvarlong, varint, varlong, zigzag, unzigzag, groups_at, IsGroups, items_with_count}
 use Rattle.kz_laws_records.specs.Texts.{AreBytes}
 use Rattle.kz_laws_records.specs.FaultLaws.{GoesOn, IsFirstBad, IsFirstFault, FaultsAreFirst}
 use Rattle.kz_laws_records.proofs.Exact.{AreSmall, small_from_bytes, Exact, Turns}
@@ -97,30 +97,30 @@ front_faults n r fault small h =
     let c = front_fails n r fault h in
     short_first (front n) r fault c.0 (r.left ++ zeros (n - length r.left), zeros (n - length r.left), (filled_to r.left n c.1, refl))
 
-pub unsigned_faults : (w : Width) → HasBytes w → FaultsAreFirst (unsigned w)
+pub unsigned_faults : (w : Width) → HasBytes w → FaultsAreFirst (unsigned_number w)
 unsigned_faults w has r fault small h =
     let c = front_fails (byte_len w) r fault (made_fails ((front (byte_len w)).read r) (λ x. (from_be_bytes w x.0, x.1)) fault h) in
     let more : List ℕ = zeros (byte_len w - length r.left) in
     let size : length (r.left ++ more) ≡ byte_len w = filled_to r.left (byte_len w) c.1 in
     let bytes : AreSmall (r.left ++ more) = small_joined r.left more (small_from_bytes r.left small) (small_zeros (byte_len w - length r.left)) in
-    short_first (unsigned w) r fault c.0 (from_be_bytes w (r.left ++ more), more, (has.below (r.left ++ more) size bytes, sym (has.there (r.left ++ more) size bytes)))
+    short_first (unsigned_number w) r fault c.0 (from_be_bytes w (r.left ++ more), more, (has.below (r.left ++ more) size bytes, sym (has.there (r.left ++ more) size bytes)))
 
-signed_goes : (w : Width) → HasSigns w → (bytes : List ℕ) → GoesOn (unsigned w) bytes → GoesOn (signed w) bytes
+signed_goes : (w : Width) → HasSigns w → (bytes : List ℕ) → GoesOn (unsigned_number w) bytes → GoesOn (signed_number w) bytes
 signed_goes w signs bytes g = (cast_signed w g.0, g.1, (signs.fits g.0 g.2.0, g.2.1 ∙ ap (to_be_bytes w) (sym (of_z-to_z w g.0 g.2.0))))
 
-pub signed_faults : (w : Width) → HasBytes w → HasSigns w → FaultsAreFirst (signed w)
+pub signed_faults : (w : Width) → HasBytes w → HasSigns w → FaultsAreFirst (signed_number w)
 signed_faults w has signs r fault small h =
-    let e = made_fails ((unsigned w).read r) (λ x. (cast_signed w x.0, x.1)) fault h in
+    let e = made_fails ((unsigned_number w).read r) (λ x. (cast_signed w x.0, x.1)) fault h in
     let c = front_fails (byte_len w) r fault (made_fails ((front (byte_len w)).read r) (λ x. (from_be_bytes w x.0, x.1)) fault e) in
     let u = unsigned_faults w has r (Short (end_of r)) small (e ∙ ap Err c.0) in
-    short_first (signed w) r fault c.0 (signed_goes w signs r.left u.1)
+    short_first (signed_number w) r fault c.0 (signed_goes w signs r.left u.1)
 
 -- ---- a value that another one stands for
 
-mapped_goes : {X Y : Type 0} (made : X → Y) (back : Y → X) (f : Format ByteFault X) → Turns made back → (bytes : List ℕ) → GoesOn f bytes → GoesOn (mapped made back f) bytes
+mapped_goes : {X Y : Type 0} (made : X → Y) (back : Y → X) (f : Format ByteFault X) → Turns made back → (bytes : List ℕ) → GoesOn f bytes → GoesOn (format_through made back f) bytes
 mapped_goes made back f t bytes g = (made g.0, g.1, subst (λ x. f.spells x (bytes ++ g.1)) (sym (t.there g.0)) g.2)
 
-mapped_bad : {X Y : Type 0} (made : X → Y) (back : Y → X) (f : Format ByteFault X) → Turns made back → (r : Reading) (place : ℕ) → IsFirstBad f r place → IsFirstBad (mapped made back f) r place
+mapped_bad : {X Y : Type 0} (made : X → Y) (back : Y → X) (f : Format ByteFault X) → Turns made back → (r : Reading) (place : ℕ) → IsFirstBad f r place → IsFirstBad (format_through made back f) r place
 mapped_bad made back f t r place c = record {
   before = c.before;
   byte = c.byte;
@@ -131,12 +131,12 @@ mapped_bad made back f t r place c = record {
   none = λ g. c.none (back g.0, g.1, g.2);
 }
 
-mapped_first : {X Y : Type 0} (made : X → Y) (back : Y → X) (f : Format ByteFault X) → Turns made back → (r : Reading) (fault : ByteFault) → IsFirstFault f r fault → IsFirstFault (mapped made back f) r fault
+mapped_first : {X Y : Type 0} (made : X → Y) (back : Y → X) (f : Format ByteFault X) → Turns made back → (r : Reading) (fault : ByteFault) → IsFirstFault f r fault → IsFirstFault (format_through made back f) r fault
 mapped_first made back f t r (Short place) c = (c.0, mapped_goes made back f t r.left c.1)
 mapped_first made back f t r (Overlong place) c = mapped_bad made back f t r place c
 mapped_first made back f t r (NotUtf8 place) c = mapped_bad made back f t r place c
 
-pub mapped_faults : {X Y : Type 0} (made : X → Y) (back : Y → X) (f : Format ByteFault X) → Turns made back → FaultsAreFirst f → FaultsAreFirst (mapped made back f)
+pub mapped_faults : {X Y : Type 0} (made : X → Y) (back : Y → X) (f : Format ByteFault X) → Turns made back → FaultsAreFirst f → FaultsAreFirst (format_through made back f)
 mapped_faults made back f t ff r fault small h = mapped_first made back f t r fault (ff r fault small (made_fails (f.read r) (λ x. (made x.0, x.1)) fault h))
 
 pub id_faults : FaultsAreFirst id
@@ -277,7 +277,7 @@ varlong_faults = mapped_faults unzigzag zigzag uvarlong turns uvarlong_faults
 -- ---- lengths and what they count
 
 -- what begins a count begins items too
-pub counted_goes : (size : ℕ) (bytes : List ℕ) (n : ℕ) (more : List ℕ) → uvarint.spells n (bytes ++ more) → GoesOn (counted size) bytes
+pub counted_goes : (size : ℕ) (bytes : List ℕ) (n : ℕ) (more : List ℕ) → uvarint.spells n (bytes ++ more) → GoesOn (items_with_count size) bytes
 counted_goes size bytes zero more s = (None, more, s)
 counted_goes size bytes (suc n) more s =
     let count : suc n ≡ n + 1 = omega arith in
@@ -286,7 +286,7 @@ counted_goes size bytes (suc n) more s =
 -- items are cut
 record Items (size : ℕ) (r : Reading) (fault : ByteFault) : Type 0 where
   pub ends : fault ≡ Short (end_of r)
-  pub goes : GoesOn (counted size) r.left
+  pub goes : GoesOn (items_with_count size) r.left
 
 cut_items : (size n : ℕ) (r mid : Reading) (fault : ByteFault) (none : Bool) → AreBytes r.left → uvarint.read r ≡ Ok (n, mid) → (n == 0) ≡ none
     → cond {A = Result (Option (List ℕ) × Reading) ByteFault} none (Ok (None, mid)) ((front (size * (n - 1))).read mid >>= λ items. Ok (Some items.0, items.1)) ≡ Err fault
@@ -306,19 +306,19 @@ cut_items size n r mid fault false small h e g =
 -- where a count or its items fail
 pub data CountedFails (size : ℕ) (r : Reading) (fault : ByteFault) : Type 0 where
   at_count : Ends 4 16 r.at r.left fault → CountedFails size r fault
-  at_items : fault ≡ Short (end_of r) → GoesOn (counted size) r.left → CountedFails size r fault
+  at_items : fault ≡ Short (end_of r) → GoesOn (items_with_count size) r.left → CountedFails size r fault
 
 counted_where : (size : ℕ) (r : Reading) (fault : ByteFault) → AreBytes r.left
     → (uvarint.read r ≡ Err fault) ⊎ ((x : ℕ × Reading) × (uvarint.read r ≡ Ok x) × (counted_rest size x ≡ Err fault)) → CountedFails size r fault
 counted_where size r fault small (inl e) = at_count (uvarint_fails r fault small e)
 counted_where size r fault small (inr c) = let i = cut_items size c.0.0 r c.0.1 fault (c.0.0 == 0) small c.1 refl c.2 in at_items i.ends i.goes
 
-pub counted_fails : (size : ℕ) (r : Reading) (fault : ByteFault) → AreBytes r.left → (counted size).read r ≡ Err fault → CountedFails size r fault
+pub counted_fails : (size : ℕ) (r : Reading) (fault : ByteFault) → AreBytes r.left → (items_with_count size).read r ≡ Err fault → CountedFails size r fault
 counted_fails size r fault small h = counted_where size r fault small (failed (uvarint.read r) (counted_rest size) fault h)
 
-head_first : (size : ℕ) (r : Reading) (fault : ByteFault) → Ends 4 16 r.at r.left fault → IsFirstFault (counted size) r fault
+head_first : (size : ℕ) (r : Reading) (fault : ByteFault) → Ends 4 16 r.at r.left fault → IsFirstFault (items_with_count size) r fault
 head_first size r (Short place) c = let g = cut_goes r.left c.1 in (c.0, counted_goes size r.left g.0 g.1 g.2)
-head_first size r (Overlong place) c = let g = cut_goes c.before c.cut in first_bad (counted size) (counted_exact size) r place (Overlong place) (record {
+head_first size r (Overlong place) c = let g = cut_goes c.before c.cut in first_bad (items_with_count size) (counted_exact size) r place (Overlong place) (record {
   before = c.before;
   byte = c.byte;
   after = c.after;
@@ -329,9 +329,9 @@ head_first size r (Overlong place) c = let g = cut_goes c.before c.cut in first_
 })
 head_first size r (NotUtf8 place) c = absurd c
 
-counted_first : (size : ℕ) (r : Reading) (fault : ByteFault) → CountedFails size r fault → IsFirstFault (counted size) r fault
+counted_first : (size : ℕ) (r : Reading) (fault : ByteFault) → CountedFails size r fault → IsFirstFault (items_with_count size) r fault
 counted_first size r fault (at_count c) = head_first size r fault c
-counted_first size r fault (at_items e g) = short_first (counted size) r fault e g
+counted_first size r fault (at_items e g) = short_first (items_with_count size) r fault e g
 
-pub counted_faults : (size : ℕ) → FaultsAreFirst (counted size)
+pub counted_faults : (size : ℕ) → FaultsAreFirst (items_with_count size)
 counted_faults size r fault small h = counted_first size r fault (counted_fails size r fault small h)

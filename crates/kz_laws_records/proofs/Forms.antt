@@ -4,7 +4,7 @@ use Rattle.std.specs.Ordering.{int_eq}
 use Rattle.std.specs.Int.{w8, w16, w32, w64}
 use Rattle.kz_types.specs.declared.record.QuotaEntity.{QuotaEntity}
 use Rattle.kz_types.specs.QuotaEntities.{user_first}
-use Rattle.kz_spec_values.specs.Fields.{Reading, Format, ◌>>=◌, unsigned, signed, id, nullable_bytes, nullable_text}
+use Rattle.kz_spec_values.specs.Fields.{Reading, Format, ◌>>=◌, unsigned_number, signed_number, id, nullable_bytes, nullable_text}
 use Rattle.kz_spec_values.specs.Forms.{nullable_ints, ◌⊗◌, list_of, nothing, plain, text_content}
 use Rattle.kz_spec_values.specs.Records.{int8, int16, uint16, int32, int64, uuid, string, nullable_string, bytes, ints, endpoint, feature, register_broker, topic, partition_tags, partition, config, ints_tag, leader_tag, stated_recovery_tag, change_tags, partition_change, user_scram_credential, quota_entity, quota_entities, client_quota, producer_ids, access_control_entry, id_alone, state_alone, name_and_mechanism, text_tags, tagged_text, no_fields}
 use Rattle.kz_laws_records.proofs.Exact.{AreSmall, came, ok_same, Takes, Comes, Exact, pair_exact, mapped_exact}
@@ -15,19 +15,19 @@ use Rattle.kz_laws_records.proofs.Sections.{ExactTags, section_exact, nothing_ex
 use Rattle.kz_laws_records.proofs.Known.{plain_exact, text_content_exact, tag_exact, both_exact, step_of_tag}
 
 int8_exact : Exact int8
-int8_exact = field_exact (signed w8) (signed_exact w8 bytes_8 signs_8)
+int8_exact = field_exact (signed_number w8) (signed_exact w8 bytes_8 signs_8)
 
 int16_exact : Exact int16
-int16_exact = field_exact (signed w16) (signed_exact w16 bytes_16 signs_16)
+int16_exact = field_exact (signed_number w16) (signed_exact w16 bytes_16 signs_16)
 
 uint16_exact : Exact uint16
-uint16_exact = field_exact (unsigned w16) (unsigned_exact w16 bytes_16)
+uint16_exact = field_exact (unsigned_number w16) (unsigned_exact w16 bytes_16)
 
 int32_exact : Exact int32
-int32_exact = field_exact (signed w32) (signed_exact w32 bytes_32 signs_32)
+int32_exact = field_exact (signed_number w32) (signed_exact w32 bytes_32 signs_32)
 
 int64_exact : Exact int64
-int64_exact = field_exact (signed w64) (signed_exact w64 bytes_64 signs_64)
+int64_exact = field_exact (signed_number w64) (signed_exact w64 bytes_64 signs_64)
 
 uuid_exact : Exact uuid
 uuid_exact = field_exact id id_exact
@@ -65,8 +65,8 @@ register_broker_exact = mapped_exact _ _ _ (record { there = λ x. refl; again =
 pub topic_exact : Exact topic
 topic_exact = mapped_exact _ _ _ (record { there = λ x. refl; again = λ y. refl }) (closed_exact _ (string_exact ⊠ uuid_exact))
 
-partition_tags_exact : ExactTags partition_tags (step_of_tag 0 (plain (signed w8)))
-partition_tags_exact = tag_exact 0 (pos 0) (int_eq (pos 0)) (plain (signed w8)) (plain_exact (signed w8) (signed_exact w8 bytes_8 signs_8))
+partition_tags_exact : ExactTags partition_tags (step_of_tag 0 (plain (signed_number w8)))
+partition_tags_exact = tag_exact 0 (pos 0) (int_eq (pos 0)) (plain (signed_number w8)) (plain_exact (signed_number w8) (signed_exact w8 bytes_8 signs_8))
 
 pub partition_exact : Exact partition
 partition_exact = mapped_exact _ _ _ (record { there = λ x. refl; again = λ y. refl })
@@ -80,11 +80,11 @@ config_exact = mapped_exact _ _ _ (record { there = λ x. refl; again = λ y. re
 ints_tag_exact : (number : ℕ) → ExactTags (ints_tag number) (step_of_tag number (plain nullable_ints))
 ints_tag_exact number = tag_exact number None is_none (plain nullable_ints) (plain_exact nullable_ints ints_exact)
 
-leader_tag_exact : ExactTags leader_tag (step_of_tag 1 (plain (signed w32)))
-leader_tag_exact = tag_exact 1 (negsuc 1) (int_eq (negsuc 1)) (plain (signed w32)) (plain_exact (signed w32) (signed_exact w32 bytes_32 signs_32))
+leader_tag_exact : ExactTags leader_tag (step_of_tag 1 (plain (signed_number w32)))
+leader_tag_exact = tag_exact 1 (negsuc 1) (int_eq (negsuc 1)) (plain (signed_number w32)) (plain_exact (signed_number w32) (signed_exact w32 bytes_32 signs_32))
 
-stated_recovery_tag_exact : ExactTags stated_recovery_tag (step_of_tag 5 (plain (signed w8)))
-stated_recovery_tag_exact = tag_exact 5 (negsuc 0) (int_eq (negsuc 0)) (plain (signed w8)) (plain_exact (signed w8) (signed_exact w8 bytes_8 signs_8))
+stated_recovery_tag_exact : ExactTags stated_recovery_tag (step_of_tag 5 (plain (signed_number w8)))
+stated_recovery_tag_exact = tag_exact 5 (negsuc 0) (int_eq (negsuc 0)) (plain (signed_number w8)) (plain_exact (signed_number w8) (signed_exact w8 bytes_8 signs_8))
 
 pub partition_change_exact : Exact partition_change
 partition_change_exact = mapped_exact _ _ _ (record { there = λ x. refl; again = λ y. refl })

@@ -3,7 +3,7 @@ use Rattle.std.proofs.Common.{◌≡◌, ℕ, ◌+◌, ◌<◌, Bool, true, fals
 use Rattle.kz_types.specs.declared.record.ByteFault.{ByteFault}
 use Rattle.kz_types.specs.declared.record.CodecFault.TheVariants.{BadField}
 use Rattle.kz_spec_values.specs.Fields.{Format, ◌>>=◌}
-use Rattle.kz_spec_values.specs.Forms.{lifted, Tag, Known, both, field_of, Content, plain, text_content, taken, filled, Says, tag}
+use Rattle.kz_spec_values.specs.Forms.{with_field_fault, Tag, Known, both, field_of, Content, plain, text_content, with_tag_fault, tag_value, Says, tag}
 use Rattle.kz_laws_records.proofs.Exact.{AreSmall, came, ok_same, Exact}
 use Rattle.kz_laws_records.proofs.Basics.{passed_true, lifted_same}
 use Rattle.kz_laws_records.proofs.Counted.{judged_is, judged_good, counted_exact}
@@ -22,7 +22,7 @@ plain_exact f ef = record { exact = ef; judge_is = λ end x good. refl; judge_go
 pub text_content_exact : ExactContent text_content
 text_content_exact = record { exact = counted_exact 1; judge_is = judged_is; judge_good = judged_good }
 
-taken_same : {X : Type 0} (at : ℕ) (m : Result X ByteFault) (y : X) → taken at m ≡ Ok y → m ≡ Ok y
+taken_same : {X : Type 0} (at : ℕ) (m : Result X ByteFault) (y : X) → with_tag_fault at m ≡ Ok y → m ≡ Ok y
 taken_same at (Ok x) y h = cc
 taken_same at (Err e) y h = absurd (cc)
 
@@ -30,17 +30,17 @@ pub none_left : (l : List ℕ) → length l ≡ 0 → l ≡ []
 none_left [] e = refl
 none_left (x ∷ l) e = absurd (omega arith)
 
-filled_is : {X : Type 0} (c : Content X) → ExactContent c → (place at : ℕ) (bytes : List ℕ) (x : X) → c.good x → c.format.spells x bytes → filled c place (record { at = at; left = bytes }) ≡ Ok x
+filled_is : {X : Type 0} (c : Content X) → ExactContent c → (place at : ℕ) (bytes : List ℕ) (x : X) → c.good x → c.format.spells x bytes → tag_value c place (record { at = at; left = bytes }) ≡ Ok x
 filled_is c ec place at bytes x good spelled =
-    ap (λ b. filled c place (record { at = at; left = b })) (sym (append-nil bytes))
-    ∙ ap (λ m. taken place m >>= λ y. cond (length y.1.left == 0) (lifted (c.judge y.1.at y.0)) (Err (BadField place))) (ec.exact.taken x bytes [] at spelled)
-    ∙ ap lifted (ec.judge_is (at + length bytes) x good)
+    ap (λ b. tag_value c place (record { at = at; left = b })) (sym (append-nil bytes))
+    ∙ ap (λ m. with_tag_fault place m >>= λ y. cond (length y.1.left == 0) (with_field_fault (c.judge y.1.at y.0)) (Err (BadField place))) (ec.exact.taken x bytes [] at spelled)
+    ∙ ap with_field_fault (ec.judge_is (at + length bytes) x good)
 
-filled_says : {X : Type 0} (c : Content X) → ExactContent c → (place at : ℕ) (bytes : List ℕ) (x : X) → AreSmall bytes → filled c place (record { at = at; left = bytes }) ≡ Ok x → c.good x × c.format.spells x bytes
+filled_says : {X : Type 0} (c : Content X) → ExactContent c → (place at : ℕ) (bytes : List ℕ) (x : X) → AreSmall bytes → tag_value c place (record { at = at; left = bytes }) ≡ Ok x → c.good x × c.format.spells x bytes
 filled_says c ec place at bytes x small h =
-    let k = came (taken place (c.format.read (record { at = at; left = bytes }))) (λ y. cond (length y.1.left == 0) (lifted (c.judge y.1.at y.0)) (Err (BadField place))) x h in
+    let k = came (with_tag_fault place (c.format.read (record { at = at; left = bytes }))) (λ y. cond (length y.1.left == 0) (with_field_fault (c.judge y.1.at y.0)) (Err (BadField place))) x h in
     let one = ec.exact.given k.value.0 (record { at = at; left = bytes }) k.value.1 small (taken_same place (c.format.read (record { at = at; left = bytes })) k.value k.first) in
-    let d = passed_true (length k.value.1.left == 0) (BadField place) (lifted (c.judge k.value.1.at k.value.0)) x k.second in
+    let d = passed_true (length k.value.1.left == 0) (BadField place) (with_field_fault (c.judge k.value.1.at k.value.0)) x k.second in
     let end : k.value.1.left ≡ [] = none_left k.value.1.left (eqb-true (length k.value.1.left) 0 d.0) in
     let whole : bytes ≡ one.bytes = one.split ∙ ap (λ b. one.bytes ++ b) end ∙ append-nil one.bytes in
     let good = ec.judge_good k.value.1.at k.value.0 x (lifted_same (c.judge k.value.1.at k.value.0) x d.1) in
@@ -57,12 +57,12 @@ abbrev pub step_of_tag : {X : Type 0} → ℕ → Content X → ℕ → List ℕ
 step_of_tag number content other bytes x next = Fills content (other == number) bytes x next
 
 fills_is : {X : Type 0} (c : Content X) → ExactContent c → (same : Bool) (place at : ℕ) (bytes : List ℕ) (x next : X) → Fills c same bytes x next
-    → cond same (filled c place (record { at = at; left = bytes })) (Ok x) ≡ Ok next
+    → cond same (tag_value c place (record { at = at; left = bytes })) (Ok x) ≡ Ok next
 fills_is c ec true place at bytes x next f = filled_is c ec place at bytes next f.0 f.1
 fills_is c ec false place at bytes x next f = ap (λ y. Ok y) f
 
 fills_says : {X : Type 0} (c : Content X) → ExactContent c → (same : Bool) (place at : ℕ) (bytes : List ℕ) (x next : X) → AreSmall bytes
-    → cond same (filled c place (record { at = at; left = bytes })) (Ok x) ≡ Ok next → Fills c same bytes x next
+    → cond same (tag_value c place (record { at = at; left = bytes })) (Ok x) ≡ Ok next → Fills c same bytes x next
 fills_says c ec true place at bytes x next small h = filled_says c ec place at bytes next small h
 fills_says c ec false place at bytes x next small h = ok_same x next h
 

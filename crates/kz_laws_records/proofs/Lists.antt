@@ -4,7 +4,7 @@ use borrow.Author.Tests.{eqb-false}
 use Rattle.kz_types.specs.declared.record.CodecFault.{CodecFault}
 use Rattle.kz_types.specs.declared.record.CodecFault.TheVariants.{BadField}
 use Rattle.kz_spec_values.specs.Fields.{Reading, Format, ◌>>=◌, uvarint}
-use Rattle.kz_spec_values.specs.Forms.{lifted, Each, items_at, counted_items, list_of}
+use Rattle.kz_spec_values.specs.Forms.{with_field_fault, Each, items_at, counted_items, list_of}
 use Rattle.kz_laws_records.proofs.Exact.{AreSmall, came, ok_same, Takes, taken_then, Comes, Exact, small_after}
 use Rattle.kz_laws_records.proofs.Basics.{passed_false, cond_false, lifted_same}
 use Rattle.kz_laws_records.proofs.Counted.{uvarint_exact}
@@ -50,15 +50,15 @@ list_taken : {X : Type 0} (f : Format CodecFault X) → Exact f → (xs : List X
 list_taken f ef xs bytes rest at s =
     let count : (length xs + 1) - 1 ≡ length xs = omega arith in
     subst (λ b. Takes (list_of f).read xs b rest at) (sym s.2)
-    (taken_then (λ r. lifted (uvarint.read r)) (counted_items f.read at) (length xs + 1) xs s.0 s.1 rest at
-    (ap lifted (uvarint_exact.taken (length xs + 1) s.0 (s.1 ++ rest) at s.3))
+    (taken_then (λ r. with_field_fault (uvarint.read r)) (counted_items f.read at) (length xs + 1) xs s.0 s.1 rest at
+    (ap with_field_fault (uvarint_exact.taken (length xs + 1) s.0 (s.1 ++ rest) at s.3))
     (cond_false (length xs + 1 == 0) _ _ (ne_eqb (length xs + 1) 0 (λ e. omega arith))
     ∙ ap (λ n. items_at f.read n (record { at = at + length s.0; left = s.1 ++ rest })) count
     ∙ items_takes f ef xs s.1 rest (at + length s.0) s.4))
 
 list_given : {X : Type 0} (f : Format CodecFault X) → Exact f → (xs : List X) (r next : Reading) → AreSmall r.left → (list_of f).read r ≡ Ok (xs, next) → Comes (list_of f) xs r.left next.left
 list_given f ef xs r next small h =
-    let c = came (lifted (uvarint.read r)) (counted_items f.read r.at) (xs, next) h in
+    let c = came (with_field_fault (uvarint.read r)) (counted_items f.read r.at) (xs, next) h in
     let one = uvarint_exact.given c.value.0 r c.value.1 small (lifted_same (uvarint.read r) c.value c.first) in
     let d = passed_false (c.value.0 == 0) (BadField r.at) (items_at f.read (c.value.0 - 1) c.value.1) (xs, next) c.second in
     let more = items_given f ef (c.value.0 - 1) xs c.value.1 next (small_after uvarint c.value.0 r.left c.value.1.left one small) d.1 in

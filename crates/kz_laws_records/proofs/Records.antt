@@ -5,8 +5,8 @@ use Rattle.kz_types.specs.declared.record.MetaRecord.TheVariants.{RegisterBroker
 use Rattle.kz_types.specs.declared.record.CodecFault.{CodecFault}
 use Rattle.kz_types.specs.declared.record.CodecFault.TheVariants.{UnknownKey, UnknownVersion, BadField, Rest}
 use Rattle.kz_spec_values.specs.Fields.{Reading, Format, ◌>>=◌, uvarint}
-use Rattle.kz_spec_values.specs.Forms.{lifted}
-use Rattle.kz_spec_values.specs.Records.{register_broker, topic, partition, config, partition_change, id_alone, user_scram_credential, client_quota, producer_ids, access_control_entry, no_fields, state_alone, name_and_mechanism, tagged_text, IsValue, Spells, version_of, as_record, fields_at, versioned, record_at, record_of}
+use Rattle.kz_spec_values.specs.Forms.{with_field_fault}
+use Rattle.kz_spec_values.specs.Records.{register_broker, topic, partition, config, partition_change, id_alone, user_scram_credential, client_quota, producer_ids, access_control_entry, no_fields, state_alone, name_and_mechanism, tagged_text, IsValue, Spells, version_of, as_record, fields_at, fields_of_version, record_at, record_of}
 use Rattle.kz_laws_records.proofs.Exact.{AreSmall, came, ok_same, result_same, Takes, taken_then, Exact, small_after}
 use Rattle.kz_laws_records.proofs.Basics.{passed_true, lifted_same, cond_true}
 use Rattle.kz_laws_records.proofs.Counted.{uvarint_exact}
@@ -20,10 +20,10 @@ some_same o x y e h = cc
 
 -- the number of a key, its version and the fields
 abbrev after_frame : ℕ → ℕ × Reading → Result (MetaRecord × Reading) CodecFault
-after_frame at frame = cond (frame.0 == 1) (lifted (uvarint.read frame.1) >>= λ key. versioned key.0 (version_of key.0) key.1) (Err (BadField at))
+after_frame at frame = cond (frame.0 == 1) (with_field_fault (uvarint.read frame.1) >>= λ key. fields_of_version key.0 (version_of key.0) key.1) (Err (BadField at))
 
 abbrev after_key : ℕ × Reading → Result (MetaRecord × Reading) CodecFault
-after_key key = versioned key.0 (version_of key.0) key.1
+after_key key = fields_of_version key.0 (version_of key.0) key.1
 
 abbrev after_version : ℕ → ℕ → ℕ × Reading → Result (MetaRecord × Reading) CodecFault
 after_version key version stated = cond (stated.0 == version) (fields_at key stated.1) (Err (UnknownVersion key stated.0))
@@ -31,11 +31,11 @@ after_version key version stated = cond (stated.0 == version) (fields_at key sta
 version_takes : {X : Type 0} (key version : ℕ) (form : Format CodecFault X) (made : X → MetaRecord) → Exact form → version_of key ≡ Some version
     → ((r : Reading) → fields_at key r ≡ as_record made form r)
     → (x : X) (stated fields rest : List ℕ) (at : ℕ) → uvarint.spells version stated → form.spells x fields
-    → Takes (λ r. versioned key (version_of key) r) (made x) (stated ++ fields) rest at
+    → Takes (λ r. fields_of_version key (version_of key) r) (made x) (stated ++ fields) rest at
 version_takes key version form made ef known at_key x stated fields rest at spelled is =
-    ap (λ v. versioned key v (record { at = at; left = (stated ++ fields) ++ rest })) known
-    ∙ taken_then (λ r. lifted (uvarint.read r)) (after_version key version) version (made x) stated fields rest at
-    (ap lifted (uvarint_exact.taken version stated (fields ++ rest) at spelled))
+    ap (λ v. fields_of_version key v (record { at = at; left = (stated ++ fields) ++ rest })) known
+    ∙ taken_then (λ r. with_field_fault (uvarint.read r)) (after_version key version) version (made x) stated fields rest at
+    (ap with_field_fault (uvarint_exact.taken version stated (fields ++ rest) at spelled))
     (cond_true (version == version) _ _ (eq-eqb version version refl)
     ∙ at_key (record { at = at + length stated; left = fields ++ rest })
     ∙ ap (λ m. m >>= λ y. Ok (made y.0, y.1)) (ef.taken x fields rest (at + length stated) is))
@@ -46,10 +46,10 @@ value_takes : {X : Type 0} (key version : ℕ) (form : Format CodecFault X) (mad
 unfolding record_at
 value_takes key version form made ef known at_key x text rest at v =
     subst (λ b. Takes record_at (made x) b rest at) (sym v.4)
-    (taken_then (λ r. lifted (uvarint.read r)) (after_frame at) 1 (made x) v.0 (v.1 ++ (v.2 ++ v.3)) rest at
-    (ap lifted (uvarint_exact.taken 1 v.0 ((v.1 ++ (v.2 ++ v.3)) ++ rest) at v.5))
-    (taken_then (λ r. lifted (uvarint.read r)) after_key key (made x) v.1 (v.2 ++ v.3) rest (at + length v.0)
-    (ap lifted (uvarint_exact.taken key v.1 ((v.2 ++ v.3) ++ rest) (at + length v.0) v.6))
+    (taken_then (λ r. with_field_fault (uvarint.read r)) (after_frame at) 1 (made x) v.0 (v.1 ++ (v.2 ++ v.3)) rest at
+    (ap with_field_fault (uvarint_exact.taken 1 v.0 ((v.1 ++ (v.2 ++ v.3)) ++ rest) at v.5))
+    (taken_then (λ r. with_field_fault (uvarint.read r)) after_key key (made x) v.1 (v.2 ++ v.3) rest (at + length v.0)
+    (ap with_field_fault (uvarint_exact.taken key v.1 ((v.2 ++ v.3) ++ rest) (at + length v.0) v.6))
     (version_takes key version form made ef known at_key x v.2 v.3 rest ((at + length v.0) + length v.1) v.7 v.8)))
 
 record_takes : (m : MetaRecord) (text rest : List ℕ) (at : ℕ) → Spells m text → Takes record_at m text rest at
@@ -97,7 +97,7 @@ fields_given key least version form made ef known spells same m r next small h =
     (record {
       bytes = one.bytes;
       split = one.split;
-      value = λ other frame number stated is framed numbered versioned. spells c.value.0 (frame ++ (number ++ (stated ++ one.bytes))) (
+      value = λ other frame number stated is framed numbered fields_of_version. spells c.value.0 (frame ++ (number ++ (stated ++ one.bytes))) (
         frame,
         number,
         stated,
@@ -105,7 +105,7 @@ fields_given key least version form made ef known spells same m r next small h =
         refl,
         framed,
         subst (λ k. uvarint.spells k number) same numbered,
-        subst (λ v. uvarint.spells v stated) (some_same (version_of key) other version is (ap version_of same ∙ known)) versioned,
+        subst (λ v. uvarint.spells v stated) (some_same (version_of key) other version is (ap version_of same ∙ known)) fields_of_version,
         one.spelled,
       );
     })
@@ -146,11 +146,11 @@ all_fields key m r next small h0 =
     chosen key 25 0 tagged_text AbortTransaction tagged_text_exact refl (λ x text s. s) m r next small _ (key == 25) refl h16 (λ h17.
     absurd (no_record key m next h17))))))))))))))))))
 
-versioned_given : (key : ℕ) (version : Option ℕ) → version_of key ≡ version → (m : MetaRecord) (r next : Reading) → AreSmall r.left → versioned key version r ≡ Ok (m, next)
+versioned_given : (key : ℕ) (version : Option ℕ) → version_of key ≡ version → (m : MetaRecord) (r next : Reading) → AreSmall r.left → fields_of_version key version r ≡ Ok (m, next)
     → (bytes : List ℕ) × (r.left ≡ bytes ++ next.left) × ((frame number : List ℕ) → uvarint.spells 1 frame → uvarint.spells key number → Spells m (frame ++ (number ++ bytes)))
 versioned_given key None known m r next small h = absurd (cc)
 versioned_given key (Some version) known m r next small h =
-    let c = came (lifted (uvarint.read r)) (after_version key version) (m, next) h in
+    let c = came (with_field_fault (uvarint.read r)) (after_version key version) (m, next) h in
     let one = uvarint_exact.given c.value.0 r c.value.1 small (lifted_same (uvarint.read r) c.value c.first) in
     let d = passed_true (c.value.0 == version) (UnknownVersion key c.value.0) (fields_at key c.value.1) (m, next) c.second in
     let two = all_fields key m c.value.1 next (small_after uvarint c.value.0 r.left c.value.1.left one small) d.1 in (
@@ -168,11 +168,11 @@ record Front (m : MetaRecord) (left rest : List ℕ) : Type 0 where
 record_given : (m : MetaRecord) (r next : Reading) → AreSmall r.left → record_at r ≡ Ok (m, next) → Front m r.left next.left
 unfolding record_at
 record_given m r next small h =
-    let c = came (lifted (uvarint.read r)) (after_frame r.at) (m, next) h in
+    let c = came (with_field_fault (uvarint.read r)) (after_frame r.at) (m, next) h in
     let one = uvarint_exact.given c.value.0 r c.value.1 small (lifted_same (uvarint.read r) c.value c.first) in
-    let d = passed_true (c.value.0 == 1) (BadField r.at) (lifted (uvarint.read c.value.1) >>= after_key) (m, next) c.second in
+    let d = passed_true (c.value.0 == 1) (BadField r.at) (with_field_fault (uvarint.read c.value.1) >>= after_key) (m, next) c.second in
     let later = small_after uvarint c.value.0 r.left c.value.1.left one small in
-    let e = came (lifted (uvarint.read c.value.1)) after_key (m, next) d.1 in
+    let e = came (with_field_fault (uvarint.read c.value.1)) after_key (m, next) d.1 in
     let two = uvarint_exact.given e.value.0 c.value.1 e.value.1 later (lifted_same (uvarint.read c.value.1) e.value e.first) in
     let three = versioned_given e.value.0 (version_of e.value.0) refl m e.value.1 next (small_after uvarint e.value.0 c.value.1.left e.value.1.left two later) e.second in
     record {

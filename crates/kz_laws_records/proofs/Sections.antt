@@ -4,7 +4,7 @@ use Rattle.std.specs.Prelude.{⊤}
 use Rattle.kz_types.specs.declared.record.CodecFault.{CodecFault}
 use Rattle.kz_types.specs.declared.record.CodecFault.TheVariants.{BadField}
 use Rattle.kz_spec_values.specs.Fields.{Reading, Format, ◌>>=◌, uvarint, front}
-use Rattle.kz_spec_values.specs.Forms.{lifted, ◌⊗◌, Tag, AreTags, Known, nothing, tag_at, tags_at, section, closed}
+use Rattle.kz_spec_values.specs.Forms.{with_field_fault, ◌⊗◌, Tag, AreTags, Known, nothing, tag_at, tags_at, section, without_tags}
 use Rattle.kz_laws_records.proofs.Exact.{AreSmall, came, ok_same, Takes, taken_then, Comes, Exact, small_front, small_rest, small_after, mapped_exact, pair_exact}
 use Rattle.kz_laws_records.proofs.Basics.{passed_false, cond_false, lifted_same, front_takes, front_exact}
 use Rattle.kz_laws_records.proofs.Counted.{uvarint_exact}
@@ -14,23 +14,23 @@ use Rattle.kz_laws_records.proofs.Counted.{uvarint_exact}
 abbrev tag_fields : ℕ → ℕ → ℕ × Reading → Result ((ℕ × Reading) × Reading) CodecFault
 tag_fields least at number =
     cond (nat_lt number.0 least) (Err (BadField at))
-    (lifted (uvarint.read number.1) >>= λ size. lifted ((front size.0).read size.1) >>= λ content. Ok ((number.0, record { at = size.1.at; left = content.0 }), content.1))
+    (with_field_fault (uvarint.read number.1) >>= λ size. with_field_fault ((front size.0).read size.1) >>= λ content. Ok ((number.0, record { at = size.1.at; left = content.0 }), content.1))
 
 abbrev tag_content : ℕ → ℕ × Reading → Result ((ℕ × Reading) × Reading) CodecFault
-tag_content number size = lifted ((front size.0).read size.1) >>= λ content. Ok ((number, record { at = size.1.at; left = content.0 }), content.1)
+tag_content number size = with_field_fault ((front size.0).read size.1) >>= λ content. Ok ((number, record { at = size.1.at; left = content.0 }), content.1)
 
 content_takes : (n : ℕ) (field size rest : List ℕ) (at : ℕ) → uvarint.spells (length field) size
-    → Takes (λ r. lifted (uvarint.read r) >>= tag_content n) (n, record { at = at + length size; left = field }) (size ++ field) rest at
+    → Takes (λ r. with_field_fault (uvarint.read r) >>= tag_content n) (n, record { at = at + length size; left = field }) (size ++ field) rest at
 content_takes n field size rest at s =
-    taken_then (λ r. lifted (uvarint.read r)) (tag_content n) (length field) (n, record { at = at + length size; left = field }) size field rest at
-    (ap lifted (uvarint_exact.taken (length field) size (field ++ rest) at s))
-    (ap (λ m. lifted m >>= λ content. Ok ((n, record { at = at + length size; left = content.0 }), content.1)) (front_takes (length field) field rest (at + length size) refl))
+    taken_then (λ r. with_field_fault (uvarint.read r)) (tag_content n) (length field) (n, record { at = at + length size; left = field }) size field rest at
+    (ap with_field_fault (uvarint_exact.taken (length field) size (field ++ rest) at s))
+    (ap (λ m. with_field_fault m >>= λ content. Ok ((n, record { at = at + length size; left = content.0 }), content.1)) (front_takes (length field) field rest (at + length size) refl))
 
 tag_takes : (least n : ℕ) (field number size rest : List ℕ) (at : ℕ) → least ≤ n → uvarint.spells n number → uvarint.spells (length field) size
     → Takes (tag_at least) (n, record { at = (at + length number) + length size; left = field }) (number ++ (size ++ field)) rest at
 tag_takes least n field number size rest at le spelled sized =
-    taken_then (λ r. lifted (uvarint.read r)) (tag_fields least at) n (n, record { at = (at + length number) + length size; left = field }) number (size ++ field) rest at
-    (ap lifted (uvarint_exact.taken n number ((size ++ field) ++ rest) at spelled))
+    taken_then (λ r. with_field_fault (uvarint.read r)) (tag_fields least at) n (n, record { at = (at + length number) + length size; left = field }) number (size ++ field) rest at
+    (ap with_field_fault (uvarint_exact.taken n number ((size ++ field) ++ rest) at spelled))
     (cond_false (nat_lt n least) _ _ (le-ltb n least le) ∙ content_takes n field size rest (at + length number) sized)
 
 -- a tag that was read
@@ -52,11 +52,11 @@ abbrev tag_read : ℕ → Reading → Reading → (ℕ × Reading) × Reading
 tag_read n field next = ((n, field), next)
 
 content_given : (n : ℕ) (r : Reading) (t : (ℕ × Reading) × Reading) → AreSmall r.left
-    → lifted (uvarint.read r) >>= tag_content n ≡ Ok t → (t.0.0 ≡ n) × OneField t.0.1.left r.left t.1.left
+    → with_field_fault (uvarint.read r) >>= tag_content n ≡ Ok t → (t.0.0 ≡ n) × OneField t.0.1.left r.left t.1.left
 content_given n r t small h =
-    let c = came (lifted (uvarint.read r)) (tag_content n) t h in
+    let c = came (with_field_fault (uvarint.read r)) (tag_content n) t h in
     let one = uvarint_exact.given c.value.0 r c.value.1 small (lifted_same (uvarint.read r) c.value c.first) in
-    let d = came (lifted ((front c.value.0).read c.value.1)) (λ content. Ok ((n, record { at = c.value.1.at; left = content.0 }), content.1)) t c.second in
+    let d = came (with_field_fault ((front c.value.0).read c.value.1)) (λ content. Ok ((n, record { at = c.value.1.at; left = content.0 }), content.1)) t c.second in
     let two = (front_exact c.value.0).given d.value.0 c.value.1 d.value.1 (small_after uvarint c.value.0 r.left c.value.1.left one small) (lifted_same ((front c.value.0).read c.value.1) d.value d.first) in
     subst (λ q. (q.0.0 ≡ n) × OneField q.0.1.left r.left q.1.left) (ok_same (tag_read n (record { at = c.value.1.at; left = d.value.0 }) d.value.1) t d.second) (
       refl,
@@ -69,9 +69,9 @@ content_given n r t small h =
 
 tag_given : (least : ℕ) (r : Reading) (t : (ℕ × Reading) × Reading) → AreSmall r.left → tag_at least r ≡ Ok t → OneTag least t.0.0 t.0.1.left r.left t.1.left
 tag_given least r t small h =
-    let c = came (lifted (uvarint.read r)) (tag_fields least r.at) t h in
+    let c = came (with_field_fault (uvarint.read r)) (tag_fields least r.at) t h in
     let one = uvarint_exact.given c.value.0 r c.value.1 small (lifted_same (uvarint.read r) c.value c.first) in
-    let d = passed_false (nat_lt c.value.0 least) (BadField r.at) (lifted (uvarint.read c.value.1) >>= tag_content c.value.0) t c.second in
+    let d = passed_false (nat_lt c.value.0 least) (BadField r.at) (with_field_fault (uvarint.read c.value.1) >>= tag_content c.value.0) t c.second in
     let two = content_given c.value.0 c.value.1 t (small_after uvarint c.value.0 r.left c.value.1.left one small) d.1 in
     record {
       number = one.bytes;
@@ -163,14 +163,14 @@ section_taken : {S : Type 0} (k : Known S) (step : ℕ → List ℕ → S → S 
 section_taken k step ek s bytes rest at said =
     let is = said.1 in
     subst (λ b. Takes (section k).read s b rest at) (sym said.1.2)
-    (taken_then (λ r. lifted (uvarint.read r)) (λ count. tags_at k.take count.0 0 k.default count.1) (length said.0) s said.1.0 said.1.1 rest at
-    (ap lifted (uvarint_exact.taken (length said.0) said.1.0 (said.1.1 ++ rest) at said.1.3))
+    (taken_then (λ r. with_field_fault (uvarint.read r)) (λ count. tags_at k.take count.0 0 k.default count.1) (length said.0) s said.1.0 said.1.1 rest at
+    (ap with_field_fault (uvarint_exact.taken (length said.0) said.1.0 (said.1.1 ++ rest) at said.1.3))
     (tags_taken k step ek said.0 0 k.default s said.1.1 rest (at + length said.1.0) said.1.4 (ek.stepped said.0 s (rising_tags 0 said.0 said.1.1 said.1.4) said.2)))
 
 section_given : {S : Type 0} (k : Known S) (step : ℕ → List ℕ → S → S → Type 0) → ExactTags k step
     → (s : S) (r next : Reading) → AreSmall r.left → (section k).read r ≡ Ok (s, next) → Comes (section k) s r.left next.left
 section_given k step ek s r next small h =
-    let c = came (lifted (uvarint.read r)) (λ count. tags_at k.take count.0 0 k.default count.1) (s, next) h in
+    let c = came (with_field_fault (uvarint.read r)) (λ count. tags_at k.take count.0 0 k.default count.1) (s, next) h in
     let one = uvarint_exact.given c.value.0 r c.value.1 small (lifted_same (uvarint.read r) c.value c.first) in
     let more = tags_given k step ek c.value.0 0 k.default s c.value.1 next (small_after uvarint c.value.0 r.left c.value.1.left one small) c.second in
     record {
@@ -203,6 +203,6 @@ nothing_exact = record {
   stepped = λ ts s rising says. steps_of_nothing ts s;
 }
 
-pub closed_exact : {X : Type 0} (f : Format CodecFault X) → Exact f → Exact (closed f)
+pub closed_exact : {X : Type 0} (f : Format CodecFault X) → Exact f → Exact (without_tags f)
 closed_exact f ef =
     mapped_exact (λ p. p.0) (λ x. (x, tt)) (f ⊗ section nothing) (record { there = λ x. refl; again = λ y. refl }) (pair_exact f (section nothing) ef (section_exact nothing step_of_nothing nothing_exact))

@@ -4,7 +4,7 @@ use Rattle.std.specs.Str.{is_utf8}
 use Rattle.std.proofs.lemmas.List.{take_more, drop_more}
 use Rattle.kz_types.specs.declared.record.ByteFault.{ByteFault}
 use Rattle.kz_types.specs.declared.record.ByteFault.TheVariants.{Short, Overlong, NotUtf8}
-use Rattle.kz_spec_values.specs.Fields.{Reading, ◌>>=◌, uvarint, nullable_bytes, nullable_text, judged, text_fault}
+use Rattle.kz_spec_values.specs.Fields.{Reading, ◌>>=◌, uvarint, nullable_bytes, nullable_text, text_or_fault, text_fault}
 use Rattle.kz_laws_records.specs.Texts.{AreBytes}
 use Rattle.kz_laws_records.specs.FieldLaws.{AreBetween}
 use Rattle.kz_laws_records.specs.FaultLaws.{GoesOn, IsFirstBad, IsFirstTextFault}
@@ -27,11 +27,11 @@ head_first r (Short place) c = let g = cut_goes r.left c.1 in (c.0, counted_goes
 head_first r (Overlong place) c = let g = cut_goes c.before c.cut in first_bad nullable_text text_exact r place (Overlong place) (record {
   before = c.before;
   byte = c.byte;
-  following = c.following;
+  after = c.after;
   left = c.split;
   at = c.stands;
   some = text_goes c.before g.0 g.1 g.2;
-  same = λ rest. ap (λ m. (m >>= counted_rest 1) >>= λ x. judged x.1.at x.0 >>= λ text. Ok (text, x.1)) (c.same rest);
+  same = λ rest. ap (λ m. (m >>= counted_rest 1) >>= λ x. text_or_fault x.1.at x.0 >>= λ text. Ok (text, x.1)) (c.same rest);
 })
 head_first r (NotUtf8 place) c = absurd c
 
@@ -85,7 +85,7 @@ module _ (head text : List ℕ) (count : ℕ) (size : length text ≡ 1 * count)
   text_bad r after left at = record {
     before = front;
     byte = byte;
-    following = drop (place + 1) text ++ after.left;
+    after = drop (place + 1) text ++ after.left;
     left =
         left ∙ append_assoc head text after.left
         ∙ ap (λ l. head ++ (l ++ after.left)) (sym (take-append-drop place text) ∙ ap (λ l. take place text ++ l) (drop_more text place 0 stop.within))
@@ -105,7 +105,7 @@ judged_fails : (text : List ℕ) (place : ℕ) (fault : ByteFault) (good : Bool)
 judged_fails text place fault true h = absurd (cc)
 judged_fails text place fault false h = (refl, err_same (NotUtf8 place) fault h)
 
-judging_fails : (r after : Reading) (value : Option (List ℕ)) (fault : ByteFault) → AreBetween nullable_bytes value r after → judged after.at value ≡ Err fault → IsFirstTextFault r fault
+judging_fails : (r after : Reading) (value : Option (List ℕ)) (fault : ByteFault) → AreBetween nullable_bytes value r after → text_or_fault after.at value ≡ Err fault → IsFirstTextFault r fault
 judging_fails r after None fault b h = absurd (cc)
 judging_fails r after (Some text) fault b h =
     let c = judged_fails text (after.at - length text + text_fault text) fault (is_utf8 text) h in
@@ -117,10 +117,10 @@ abbrev kept : Reading → Option (List ℕ) → Result (Option (List ℕ) × Rea
 kept r text = Ok (text, r)
 
 text_where : (r : Reading) (fault : ByteFault) → AreBytes r.left
-    → (nullable_bytes.read r ≡ Err fault) ⊎ ((x : Option (List ℕ) × Reading) × (nullable_bytes.read r ≡ Ok x) × ((judged x.1.at x.0 >>= kept x.1) ≡ Err fault)) → IsFirstTextFault r fault
+    → (nullable_bytes.read r ≡ Err fault) ⊎ ((x : Option (List ℕ) × Reading) × (nullable_bytes.read r ≡ Ok x) × ((text_or_fault x.1.at x.0 >>= kept x.1) ≡ Err fault)) → IsFirstTextFault r fault
 text_where r fault small (inl e) = taking_fails r fault (counted_fails 1 r fault small e)
 text_where r fault small (inr c) =
-    judging_fails r c.0.1 c.0.0 fault (between nullable_bytes (counted_exact 1) c.0.0 r c.0.1 small c.1) (made_fails (judged c.0.1.at c.0.0) (λ text. (text, c.0.1)) fault c.2)
+    judging_fails r c.0.1 c.0.0 fault (between nullable_bytes (counted_exact 1) c.0.0 r c.0.1 small c.1) (made_fails (text_or_fault c.0.1.at c.0.0) (λ text. (text, c.0.1)) fault c.2)
 
 pub text_faults : (r : Reading) (fault : ByteFault) → AreBytes r.left → nullable_text.read r ≡ Err fault → IsFirstTextFault r fault
-text_faults r fault small h = text_where r fault small (failed (nullable_bytes.read r) (λ x. judged x.1.at x.0 >>= λ text. Ok (text, x.1)) fault h)
+text_faults r fault small h = text_where r fault small (failed (nullable_bytes.read r) (λ x. text_or_fault x.1.at x.0 >>= λ text. Ok (text, x.1)) fault h)

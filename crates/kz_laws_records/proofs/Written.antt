@@ -4,8 +4,8 @@ use Rattle.std.specs.Prelude.{⊤}
 use Rattle.std.specs.Int.{Width}
 use Rattle.kz_types.specs.declared.record.ByteFault.{ByteFault}
 use Rattle.kz_types.specs.declared.record.CodecFault.{CodecFault}
-use Rattle.kz_spec_values.specs.Fields.{Format, mapped, front, unsigned, signed, id, uvarint, groups_of, IsGroups, counted, nullable_text}
-use Rattle.kz_spec_values.specs.Forms.{field, present, flag, nullable_ints, ◌⊗◌, list_of, Each, items_written, AllFit, Tag, AreTags, tags_written, Known, nothing, both, field_of, Content, Says, tag, section, closed}
+use Rattle.kz_spec_values.specs.Fields.{Format, format_through, front, unsigned_number, signed_number, id, uvarint, groups_of, IsGroups, items_with_count, nullable_text}
+use Rattle.kz_spec_values.specs.Forms.{field, present, flag, nullable_ints, ◌⊗◌, list_of, Each, items_written, AllFit, Tag, AreTags, tags_written, Known, nothing, both, field_of, Content, Says, tag, section, without_tags}
 use Rattle.kz_laws_records.proofs.Counted.{limit, more_groups}
 
 -- What is written for a value that fits spells it, where the value is short.
@@ -21,10 +21,10 @@ any x = ⊤
 pub front_writes : (n : ℕ) → Writes (front n) any
 front_writes n = record { writes = λ x fits short. (fits, refl) }
 
-pub unsigned_writes : (w : Width) → Writes (unsigned w) any
+pub unsigned_writes : (w : Width) → Writes (unsigned_number w) any
 unsigned_writes w = record { writes = λ n fits short. (fits, refl) }
 
-pub signed_writes : (w : Width) → Writes (signed w) any
+pub signed_writes : (w : Width) → Writes (signed_number w) any
 signed_writes w = record { writes = λ z fits short. (fits, refl) }
 
 pub id_writes : Writes id any
@@ -66,11 +66,11 @@ uvarint_spells n lt = let g = groups_written 9 4 n (omega arith) (omega (arith, 
 pub uvarint_writes : Writes uvarint any
 uvarint_writes = record { writes = λ n fits short. uvarint_spells n fits }
 
-counted_spells : (size : ℕ) (value : Option (List ℕ)) → (counted size).fits value → (counted size).spells value ((counted size).written value)
+counted_spells : (size : ℕ) (value : Option (List ℕ)) → (items_with_count size).fits value → (items_with_count size).spells value ((items_with_count size).written value)
 counted_spells size None fits = ((omega arith, refl), omega arith, omega arith)
 counted_spells size (Some items) fits = (length items / size, uvarint.written (length items / size + 1), fits.0, uvarint_spells (length items / size + 1) fits.1, refl)
 
-pub counted_writes : (size : ℕ) → Writes (counted size) any
+pub counted_writes : (size : ℕ) → Writes (items_with_count size) any
 counted_writes size = record { writes = λ value fits short. counted_spells size value fits }
 
 pub text_writes : Writes nullable_text any
@@ -93,7 +93,7 @@ flag_writes = record { writes = λ b fits short. refl }
 pub pair_writes : {E X Y : Type 0} (f : Format E X) (g : Format E Y) (short : Y → Type 0) → Writes f any → Writes g short → Writes (f ⊗ g) (λ p. short p.1)
 pair_writes f g short wf wg = record { writes = λ p fits is. (f.written p.0, g.written p.1, refl, wf.writes p.0 fits.0 tt, wg.writes p.1 fits.1 is) }
 
-pub mapped_writes : {E X Y : Type 0} (made : X → Y) (back : Y → X) (f : Format E X) (short : X → Type 0) → Writes f short → Writes (mapped made back f) (λ y. short (back y))
+pub mapped_writes : {E X Y : Type 0} (made : X → Y) (back : Y → X) (f : Format E X) (short : X → Type 0) → Writes f short → Writes (format_through made back f) (λ y. short (back y))
 mapped_writes made back f short wf = record { writes = λ y fits is. wf.writes (back y) fits is }
 
 pub items_spell : {E X : Type 0} (f : Format E X) → Writes f any → (xs : List X) → AllFit f.fits xs → Each f.spells xs (items_written f.written xs)
@@ -164,7 +164,7 @@ section_writes k short low high lt wk = record {
 pub nothing_writes : WritesTags nothing any 0 0
 nothing_writes = record { within = λ s fits is. omega arith; says = λ s before after top fits is w v. tt }
 
-pub closed_writes : {X : Type 0} (f : Format CodecFault X) → Writes f any → Writes (closed f) any
+pub closed_writes : {X : Type 0} (f : Format CodecFault X) → Writes f any → Writes (without_tags f) any
 closed_writes f wf =
     mapped_writes (λ p. p.0) (λ x. (x, tt)) (f ⊗ section nothing) any (pair_writes f (section nothing) any wf (section_writes nothing any 0 0 (omega arith) nothing_writes))
 

@@ -11,7 +11,7 @@ use Rattle.kz_types.specs.declared.record.ByteFault.{ByteFault}
 use Rattle.kz_spec_values.specs.Fields.{Format, varint, varlong, zigzag, groups_of, IsGroups}
 use Rattle.kz_spec_values.specs.Forms.{◌⊗◌, Each, items_written, AllFit}
 use Rattle.kz_spec_values.specs.Checksum.{polynomial, after_bit, after_bits, after_bytes, crc32c}
-use Rattle.kz_spec_values.specs.Batches.{base_offset, stated_length, leader_epoch, magic, stated_sum, compression, is_control, last_delta, base_time, stated_count, IsContent, part, no_attributes, measured_or_null, measured_written, IsMeasured, HasLength, measured, header, headers, Content, content, value_of, entry, AreNumbered, IsBatch, batch_of, holding, records_written, header_written, summed_written, batch_written, Holds31, BatchFits}
+use Rattle.kz_spec_values.specs.Batches.{base_offset, stated_length, leader_epoch, magic, stated_sum, compression, is_control, last_delta, base_time, stated_count, IsContent, part, no_attributes, measured_or_null, measured_written, IsMeasured, HasLength, bytes_with_length, header, headers, Content, content, value_of, entry, AreNumbered, IsBatch, batch_of, holding, records_written, header_written, summed_written, batch_written, Holds31, BatchFits}
 use Rattle.kz_laws_records.specs.Texts.{AreBytes}
 use Rattle.kz_laws_records.specs.WrittenContents.{contents_of}
 use Rattle.kz_laws_records.proofs.Exact.{AreSmall, small_from_bytes}
@@ -88,11 +88,11 @@ measured_spells (Some x) fits = (varint.written (pos (length x)), refl, varint_s
 measured_or_null_writes : Writes measured_or_null any
 measured_or_null_writes = record { writes = λ value fits short. measured_spells value fits }
 
-measured_writes : Writes measured any
+measured_writes : Writes bytes_with_length any
 measured_writes = record { writes = λ x fits short. measured_spells (Some x) fits }
 
 header_writes : Writes header any
-header_writes = pair_writes measured measured_or_null any measured_writes measured_or_null_writes
+header_writes = pair_writes bytes_with_length measured_or_null any measured_writes measured_or_null_writes
 
 headers_writes : Writes headers any
 headers_writes = record {

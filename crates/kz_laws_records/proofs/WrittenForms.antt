@@ -6,26 +6,26 @@ use Rattle.std.proofs.lemmas.Bool.Decides.{Decides-int_eq}
 use Rattle.kz_types.specs.declared.record.MetaRecord.{MetaRecord}
 use Rattle.kz_types.specs.declared.record.MetaRecord.TheVariants.{RegisterBroker, Topic, Partition, Config, PartitionChange, RemoveTopic, UserScramCredential, ClientQuota, ProducerIds, AccessControlEntry, RemoveAccessControlEntry, NoOp, ZkMigrationState, RemoveUserScramCredential, BeginTransaction, EndTransaction, AbortTransaction}
 use Rattle.kz_types.specs.declared.record.CodecFault.{CodecFault}
-use Rattle.kz_spec_values.specs.Fields.{Format, unsigned, signed, id, uvarint, nullable_bytes, nullable_text}
+use Rattle.kz_spec_values.specs.Fields.{Format, unsigned_number, signed_number, id, uvarint, nullable_bytes, nullable_text}
 use Rattle.kz_spec_values.specs.Forms.{nullable_ints, ◌⊗◌, nothing, plain, text_content}
-use Rattle.kz_spec_values.specs.Records.{int8, int16, uint16, int32, int64, uuid, string, nullable_string, bytes, ints as all_ints, endpoint, feature, register_broker, topic, partition_tags, partition, config, ints_tag, leader_tag, stated_recovery_tag, change_tags, partition_change, user_scram_credential, quota_entity, quota_entities, client_quota, producer_ids, access_control_entry, id_alone, state_alone, name_and_mechanism, text_tags, tagged_text, no_fields, IsValue, head_written, Spells, written, Fits, FieldFits, LengthsFit, record_of}
+use Rattle.kz_spec_values.specs.Records.{int8, int16, uint16, int32, int64, uuid, string, nullable_string, bytes, ints as all_ints, endpoint, feature, register_broker, topic, partition_tags, partition, config, ints_tag, leader_tag, stated_recovery_tag, change_tags, partition_change, user_scram_credential, quota_entity, quota_entities, client_quota, producer_ids, access_control_entry, id_alone, state_alone, name_and_mechanism, text_tags, tagged_text, no_fields, IsValue, head_written, Spells, bytes_of_record, Fits, FieldFits, LengthsFit, record_of}
 use Rattle.kz_laws_records.proofs.Written.{Writes, any, unsigned_writes, signed_writes, id_writes, uvarint_spells, counted_writes, text_writes, ints_writes, field_writes, present_writes, flag_writes, pair_writes, mapped_writes, list_writes, WritesTags, section_writes, nothing_writes, closed_writes, both_writes, tag_writes}
 use Rattle.kz_laws_records.proofs.Records.{spelled_is_read}
 
 int8_writes : Writes int8 any
-int8_writes = field_writes (signed w8) (signed_writes w8)
+int8_writes = field_writes (signed_number w8) (signed_writes w8)
 
 int16_writes : Writes int16 any
-int16_writes = field_writes (signed w16) (signed_writes w16)
+int16_writes = field_writes (signed_number w16) (signed_writes w16)
 
 uint16_writes : Writes uint16 any
-uint16_writes = field_writes (unsigned w16) (unsigned_writes w16)
+uint16_writes = field_writes (unsigned_number w16) (unsigned_writes w16)
 
 int32_writes : Writes int32 any
-int32_writes = field_writes (signed w32) (signed_writes w32)
+int32_writes = field_writes (signed_number w32) (signed_writes w32)
 
 int64_writes : Writes int64 any
-int64_writes = field_writes (signed w64) (signed_writes w64)
+int64_writes = field_writes (signed_number w64) (signed_writes w64)
 
 uuid_writes : Writes uuid any
 uuid_writes = field_writes id id_writes
@@ -75,7 +75,7 @@ four_bytes : (z : ℤ) → any z → length (to_be_bytes w32 (cast_unsigned w32 
 four_bytes z short = omega arith
 
 partition_tags_write : WritesTags partition_tags any 0 1
-partition_tags_write = tag_writes 0 (pos 0) (int_eq (pos 0)) (plain (signed w8)) any (same_number (pos 0)) (λ z fits. (signed_writes w8).writes z fits tt) one_byte
+partition_tags_write = tag_writes 0 (pos 0) (int_eq (pos 0)) (plain (signed_number w8)) any (same_number (pos 0)) (λ z fits. (signed_writes w8).writes z fits tt) one_byte
 
 partition_writes : Writes partition any
 partition_writes = mapped_writes _ _ _ any
@@ -92,10 +92,10 @@ ints_tag_writes : (number : ℕ) → WritesTags (ints_tag number) short_ints num
 ints_tag_writes number = tag_writes number None is_none (plain nullable_ints) short_ints no_value (λ value fits. ints_writes.writes value fits tt) (λ value short. short)
 
 leader_tag_writes : WritesTags leader_tag any 1 2
-leader_tag_writes = tag_writes 1 (negsuc 1) (int_eq (negsuc 1)) (plain (signed w32)) any (same_number (negsuc 1)) (λ z fits. (signed_writes w32).writes z fits tt) four_bytes
+leader_tag_writes = tag_writes 1 (negsuc 1) (int_eq (negsuc 1)) (plain (signed_number w32)) any (same_number (negsuc 1)) (λ z fits. (signed_writes w32).writes z fits tt) four_bytes
 
 stated_recovery_tag_writes : WritesTags stated_recovery_tag any 5 6
-stated_recovery_tag_writes = tag_writes 5 (negsuc 0) (int_eq (negsuc 0)) (plain (signed w8)) any (same_number (negsuc 0)) (λ z fits. (signed_writes w8).writes z fits tt) one_byte
+stated_recovery_tag_writes = tag_writes 5 (negsuc 0) (int_eq (negsuc 0)) (plain (signed_number w8)) any (same_number (negsuc 0)) (λ z fits. (signed_writes w8).writes z fits tt) one_byte
 
 abbrev short_change : Option (List ℤ) × (ℤ × (Option (List ℤ) × (Option (List ℤ) × (Option (List ℤ) × ℤ)))) → Type 0
 short_change s = short_ints s.0 × (any s.1.0 × (short_ints s.1.1.0 × (short_ints s.1.1.1.0 × (short_ints s.1.1.1.1.0 × any s.1.1.1.1.1))))
@@ -161,7 +161,7 @@ value_spells key version form x known stated is =
     ∙ ap (λ b. uvarint.written 1 ++ b) (append_assoc (uvarint.written key) (uvarint.written version) (form.written x)) in
     (uvarint.written 1, uvarint.written key, uvarint.written version, form.written x, whole, uvarint_spells 1 (omega arith), uvarint_spells key known, uvarint_spells version stated, is)
 
-pub written_is_spelled : (m : MetaRecord) → Fits m → LengthsFit m → Spells m (written m)
+pub written_is_spelled : (m : MetaRecord) → Fits m → LengthsFit m → Spells m (bytes_of_record m)
 written_is_spelled (RegisterBroker x) fits lengths = value_spells 0 2 register_broker x (omega arith) (omega arith) (register_broker_writes.writes x fits tt)
 written_is_spelled (Topic x) fits lengths = value_spells 2 0 topic x (omega arith) (omega arith) (topic_writes.writes x fits tt)
 written_is_spelled (Partition x) fits lengths = value_spells 3 0 partition x (omega arith) (omega arith) (partition_writes.writes x fits tt)
@@ -181,5 +181,5 @@ written_is_spelled (BeginTransaction x) fits lengths = value_spells 23 0 tagged_
 written_is_spelled EndTransaction fits lengths = value_spells 24 0 no_fields tt (omega arith) (omega arith) (no_fields_writes.writes tt tt tt)
 written_is_spelled (AbortTransaction x) fits lengths = value_spells 25 0 tagged_text x (omega arith) (omega arith) (tagged_text_writes.writes x fits lengths)
 
-pub written_is_read : (m : MetaRecord) → Fits m → LengthsFit m → record_of (written m) ≡ Ok m
-written_is_read m fits lengths = spelled_is_read m (written m) (written_is_spelled m fits lengths)
+pub written_is_read : (m : MetaRecord) → Fits m → LengthsFit m → record_of (bytes_of_record m) ≡ Ok m
+written_is_read m fits lengths = spelled_is_read m (bytes_of_record m) (written_is_spelled m fits lengths)

@@ -2,9 +2,9 @@
 //! functions here are never run: what they go over is what their contracts say.
 ghost use Rattle.std.specs.Prelude.{◌≡◌, ◌<◌, ◌^◌, length, option_map, Ok, Some};
 ghost use Rattle.std.specs.Int.{w8, w32};
-ghost use Rattle.kz_spec_values.specs.Fields.{AreInts, counted};
+ghost use Rattle.kz_spec_values.specs.Fields.{AreInts, items_with_count};
 ghost use Rattle.kz_spec_values.specs.Forms.{AllFit, nullable_ints, plain, text_content, list_of};
-ghost use Rattle.kz_spec_values.specs.Records.{Spells, Fits, LengthsFit, written, record_of, int8, int16, uint16, int32, int64, uuid, string, nullable_string, bytes, ints, endpoint, feature, register_broker, topic, partition, config, partition_change, user_scram_credential, quota_entity, quota_entities, client_quota, producer_ids, access_control_entry, id_alone, state_alone, name_and_mechanism, tagged_text, IsShort, IsShortOrNull, IsFew, FieldFits, ShortEndpoint, ShortFeature, ShortEntity, ShortRegistration, ShortPartition, ShortConfig, ShortChange, ShortCredential, ShortQuota, ShortEntry};
+ghost use Rattle.kz_spec_values.specs.Records.{Spells, Fits, LengthsFit, bytes_of_record, record_of, int8, int16, uint16, int32, int64, uuid, string, nullable_string, bytes, ints, endpoint, feature, register_broker, topic, partition, config, partition_change, user_scram_credential, quota_entity, quota_entities, client_quota, producer_ids, access_control_entry, id_alone, state_alone, name_and_mechanism, tagged_text, IsShort, IsShortOrNull, IsFew, FieldFits, ShortEndpoint, ShortFeature, ShortEntity, ShortRegistration, ShortPartition, ShortConfig, ShortChange, ShortCredential, ShortQuota, ShortEntry};
 
 use kz_types::{
     AccessControlEntryRecord, ClientQuotaRecord, ConfigRecord, Endpoint, Feature, Id, MetaRecord,
@@ -295,8 +295,8 @@ fn record(r: &MetaRecord)
 pub fn held_record_is_spelled(r: &MetaRecord)
     requires { LengthsFit r.now }
     ensures fits { Fits r.now }
-    ensures spelled { Spells r.now (written r.now) }
-    ensures accepted { record_of (written r.now) ≡ Ok r.now }
+    ensures spelled { Spells r.now (bytes_of_record r.now) }
+    ensures accepted { record_of (bytes_of_record r.now) ≡ Ok r.now }
 {
     record(r);
 }

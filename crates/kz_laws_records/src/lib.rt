@@ -12,9 +12,9 @@ ghost use Rattle.std.specs.Int.RustNames.{FitsSigned};
 ghost use Rattle.std.specs.List.{All};
 ghost use Rattle.kz_types.specs.declared.record.ByteFault.{ByteFault};
 ghost use Rattle.kz_types.specs.declared.record.MetaRecord.{MetaRecord};
-ghost use Rattle.kz_spec_values.specs.Fields.{Reading, front, unsigned, signed, id, uvarint, varint, varlong, counted, nullable_bytes, nullable_text};
+ghost use Rattle.kz_spec_values.specs.Fields.{Reading, front, unsigned_number, signed_number, id, uvarint, varint, varlong, items_with_count, nullable_bytes, nullable_text};
 ghost use Rattle.kz_spec_values.specs.Forms.{present, flag, nullable_ints};
-ghost use Rattle.kz_spec_values.specs.Records.{Spells, Fits, LengthsFit, written, record_of};
+ghost use Rattle.kz_spec_values.specs.Records.{Spells, Fits, LengthsFit, bytes_of_record, record_of};
 ghost use Rattle.kz_spec_values.specs.Batches.{BatchContents, IsBatch, BatchFits, batch_of, batch_written};
 ghost use Rattle.kz_laws_records.specs.Texts.{AreBytes};
 ghost use Rattle.kz_laws_records.specs.FieldLaws.{ReadsSpellings, ReadsWritten};
@@ -29,17 +29,17 @@ pub use fits::held_record_is_spelled;
 /// that were passed; and bytes spell at most one value.
 pub fn fields_are_spelled()
     ensures part { (n : ℕ) → ReadsSpellings (front n) }
-    ensures i8 { ReadsSpellings (signed w8) }
-    ensures i16 { ReadsSpellings (signed w16) }
-    ensures u16 { ReadsSpellings (unsigned w16) }
-    ensures i32 { ReadsSpellings (signed w32) }
-    ensures i64 { ReadsSpellings (signed w64) }
+    ensures i8 { ReadsSpellings (signed_number w8) }
+    ensures i16 { ReadsSpellings (signed_number w16) }
+    ensures u16 { ReadsSpellings (unsigned_number w16) }
+    ensures i32 { ReadsSpellings (signed_number w32) }
+    ensures i64 { ReadsSpellings (signed_number w64) }
     ensures id { ReadsSpellings id }
     ensures flag { ReadsSpellings flag }
     ensures uvarint { ReadsSpellings uvarint }
     ensures varint { ReadsSpellings varint }
     ensures varlong { ReadsSpellings varlong }
-    ensures counted { (size : ℕ) → ReadsSpellings (counted size) }
+    ensures counted { (size : ℕ) → ReadsSpellings (items_with_count size) }
     ensures nullable_bytes { ReadsSpellings nullable_bytes }
     ensures byte_field { ReadsSpellings (present nullable_bytes) }
     ensures nullable_text { ReadsSpellings nullable_text }
@@ -51,17 +51,17 @@ pub fn fields_are_spelled()
 /// What is written for a field whose value fits, whatever follows, is read as it, and the reader stands after it.
 pub fn written_fields_are_read()
     ensures part { (n : ℕ) → ReadsWritten (front n) }
-    ensures i8 { ReadsWritten (signed w8) }
-    ensures i16 { ReadsWritten (signed w16) }
-    ensures u16 { ReadsWritten (unsigned w16) }
-    ensures i32 { ReadsWritten (signed w32) }
-    ensures i64 { ReadsWritten (signed w64) }
+    ensures i8 { ReadsWritten (signed_number w8) }
+    ensures i16 { ReadsWritten (signed_number w16) }
+    ensures u16 { ReadsWritten (unsigned_number w16) }
+    ensures i32 { ReadsWritten (signed_number w32) }
+    ensures i64 { ReadsWritten (signed_number w64) }
     ensures id { ReadsWritten id }
     ensures flag { ReadsWritten flag }
     ensures uvarint { ReadsWritten uvarint }
     ensures varint { ReadsWritten varint }
     ensures varlong { ReadsWritten varlong }
-    ensures counted { (size : ℕ) → ReadsWritten (counted size) }
+    ensures counted { (size : ℕ) → ReadsWritten (items_with_count size) }
     ensures nullable_bytes { ReadsWritten nullable_bytes }
     ensures byte_field { ReadsWritten (present nullable_bytes) }
     ensures nullable_text { ReadsWritten nullable_text }
@@ -75,16 +75,16 @@ pub fn written_fields_are_read()
 /// A text is judged once its bytes are taken, so a cut one is too short whatever its bytes.
 pub fn fault_is_the_first_byte()
     ensures part { (n : ℕ) → FaultsAreFirst (front n) }
-    ensures i8 { FaultsAreFirst (signed w8) }
-    ensures i16 { FaultsAreFirst (signed w16) }
-    ensures u16 { FaultsAreFirst (unsigned w16) }
-    ensures i32 { FaultsAreFirst (signed w32) }
-    ensures i64 { FaultsAreFirst (signed w64) }
+    ensures i8 { FaultsAreFirst (signed_number w8) }
+    ensures i16 { FaultsAreFirst (signed_number w16) }
+    ensures u16 { FaultsAreFirst (unsigned_number w16) }
+    ensures i32 { FaultsAreFirst (signed_number w32) }
+    ensures i64 { FaultsAreFirst (signed_number w64) }
     ensures id { FaultsAreFirst id }
     ensures uvarint { FaultsAreFirst uvarint }
     ensures varint { FaultsAreFirst varint }
     ensures varlong { FaultsAreFirst varlong }
-    ensures counted { (size : ℕ) → FaultsAreFirst (counted size) }
+    ensures counted { (size : ℕ) → FaultsAreFirst (items_with_count size) }
     ensures nullable_text { (r : Reading) (fault : ByteFault) → AreBytes r.left → nullable_text.read r ≡ Err fault → IsFirstTextFault r fault }
 {}
 
@@ -106,8 +106,8 @@ pub fn no_spelling_is_a_prefix()
 
 /// What is written for a record spells it and is read as it. `LengthsFit` counts the fields of tags, which `Fits` doesn't.
 pub fn written_is_spelled()
-    ensures spelled { (meta : MetaRecord) → Fits meta → LengthsFit meta → Spells meta (written meta) }
-    ensures accepted { (meta : MetaRecord) → Fits meta → LengthsFit meta → record_of (written meta) ≡ Ok meta }
+    ensures spelled { (meta : MetaRecord) → Fits meta → LengthsFit meta → Spells meta (bytes_of_record meta) }
+    ensures accepted { (meta : MetaRecord) → Fits meta → LengthsFit meta → record_of (bytes_of_record meta) ≡ Ok meta }
 {}
 
 /// Bytes that are a batch are read as it, and bytes that are read as a batch are it.

@@ -14,7 +14,7 @@ use Rattle.kz_types.specs.declared.image.QuotaEntry.{QuotaEntry}
 use Rattle.kz_types.specs.declared.image.AclEntry.{AclEntry}
 use Rattle.kz_types.specs.Numbers.{canonical}
 use Rattle.kz_types.specs.PathRule.{is_part, is_shown}
-use Rattle.kz_types.specs.Paths.{roots, base_paths, is_among, path_of, key_of, is_legal, sanitised, part_or_default, resource_type_name, is_pattern, is_resource_type}
+use Rattle.kz_types.specs.Paths.{roots, base_paths, is_among, path_of, key_of, is_legal, part_for_name, part_or_default, resource_type_name, is_pattern, is_resource_type}
 use Rattle.kz_types.proofs.KeyLemmas.{path_of_key_of}
 use Rattle.kz_ordered.proofs.Order.{bytes_order}
 use Rattle.kz_ordered.proofs.Lookup.{found_is_contained, key_of_found}
@@ -61,11 +61,11 @@ above_broker i b = below_root i (codes "/config/brokers") (part_or_default signe
 
 above_client : (i : Image) (client : Option (List ℕ)) → Above i (parent_of (path_of (key.Client client)))
 unfolding path_of roots
-above_client i client = below_root i (codes "/config/clients") (part_or_default sanitised client) refl (sanitised_has_none client)
+above_client i client = below_root i (codes "/config/clients") (part_or_default part_for_name client) refl (sanitised_has_none client)
 
 above_user : (i : Image) (user : Option (List ℕ)) → Above i (parent_of (path_of (key.User user)))
 unfolding path_of roots
-above_user i user = below_root i (codes "/config/users") (part_or_default sanitised user) refl (sanitised_has_none user)
+above_user i user = below_root i (codes "/config/users") (part_or_default part_for_name user) refl (sanitised_has_none user)
 
 above_ip : (i : Image) (address : Option (List ℕ)) → HasNoSlash (part_or_default (λ a. a) address) → Above i (parent_of (path_of (key.Ip address)))
 unfolding path_of roots
@@ -123,15 +123,15 @@ above_state i t p has within = subst (λ q. Above i (parent_of q)) (state_is_bel
 above_clients : (i : Image) (q : QuotaEntry) (user client : Option (List ℕ)) → Contains i.quotas q → key_of q.path ≡ Some (key.UserClient user client) → Above i (parent_of (path_of (key.User user) ++ codes "/clients"))
 above_clients i q user client has is = below_shown i (path_of (key.User user)) (codes "clients") (shows_user i q user client has is) (passed_has_none is_shown refl (codes "clients") refl)
 
-client_is_below : (user client : Option (List ℕ)) → (path_of (key.User user) ++ codes "/clients") ++ 47 ∷ part_or_default sanitised client ≡ path_of (key.UserClient user client)
+client_is_below : (user client : Option (List ℕ)) → (path_of (key.User user) ++ codes "/clients") ++ 47 ∷ part_or_default part_for_name client ≡ path_of (key.UserClient user client)
 unfolding path_of
 client_is_below user client =
-    append_assoc (codes "/config/users/" ++ part_or_default sanitised user) (codes "/clients") (codes "/" ++ part_or_default sanitised client)
-    ∙ append_assoc (codes "/config/users/") (part_or_default sanitised user) (codes "/clients/" ++ part_or_default sanitised client)
+    append_assoc (codes "/config/users/" ++ part_or_default part_for_name user) (codes "/clients") (codes "/" ++ part_or_default part_for_name client)
+    ∙ append_assoc (codes "/config/users/") (part_or_default part_for_name user) (codes "/clients/" ++ part_or_default part_for_name client)
 
 above_user_client : (i : Image) (q : QuotaEntry) (user client : Option (List ℕ)) → Contains i.quotas q → key_of q.path ≡ Some (key.UserClient user client) → Above i (parent_of (path_of (key.UserClient user client)))
 above_user_client i q user client has is = subst (λ p. Above i (parent_of p)) (client_is_below user client)
-    (below_shown i (path_of (key.User user) ++ codes "/clients") (part_or_default sanitised client) (shows_clients i q user client has is) (sanitised_has_none client))
+    (below_shown i (path_of (key.User user) ++ codes "/clients") (part_or_default part_for_name client) (shows_clients i q user client has is) (sanitised_has_none client))
 
 -- ---- quotas
 

@@ -7,7 +7,7 @@ use Rattle.kz_types.specs.declared.tree.Rendered.{Rendered}
 use Rattle.kz_types.specs.Paths.{is_migrated}
 use Rattle.kz_ordered.specs.Order.{bytes_cmp}
 use Rattle.kz_ordered.specs.Ordered.{find, Rises}
-use Rattle.kz_ordered.specs.Difference.{Edit, drop_key, make, alter, edited}
+use Rattle.kz_ordered.specs.Difference.{Edit, drop_key, make, alter, after_edit}
 use Rattle.kz_ordered.specs.Edits.{edit_key}
 use Rattle.kz_ordered.proofs.Order.{bytes_order}
 use Rattle.kz_ordered.proofs.Lookup.{find-put_same, find-put_other, find-without_same, find-without_other, key_of_found, same_items}
@@ -90,7 +90,7 @@ abbrev pub edit_path : Edit Rendered (List ℕ) → List ℕ
 edit_path = edit_key path_of_rendered
 
 abbrev pub area_edited : Edit Rendered (List ℕ) → List Rendered → List Rendered
-area_edited = edited bytes_cmp path_of_rendered
+area_edited = after_edit bytes_cmp path_of_rendered
 
 pub path_of_edit : (e : Edit Rendered (List ℕ)) → path_of_op (op_of e) ≡ edit_path e
 path_of_edit (drop_key p) = refl

@@ -13,11 +13,11 @@ use Rattle.kz_ordered.proofs.Order.{bytes_order}
 use Rattle.kz_ordered.proofs.Lookup.{find-put_other, find-without_other, key_of_found, same_items}
 use Rattle.kz_ordered.proofs.Maps.{Rises-filter, find-filter_absent, find-filter_found}
 use Rattle.kz_spec_values.specs.Control.{control_path, epoch_path, migration_path, recorded_of, written_control, written_recorded}
-use Rattle.kz_spec_stores.specs.Tree.{Tree, path_of_row, row_at, parent_of, touched, after_set, set_row, created_row, after_op, set_refusal, multi, migrated_rows, area, recorded, has_offset, is_later, unclosed}
+use Rattle.kz_spec_stores.specs.Tree.{Tree, path_of_row, row_at, parent_of, with_child_change, after_set, set_row, created_row, after_op, set_refusal, multi, migrated_rows, area, migration_record, has_offset, is_later, unclosed_path}
 use Rattle.kz_spec_stores.specs.Image.{Image}
 use Rattle.kz_spec_znodes.specs.Rendering.{render}
 use Rattle.kz_spec_znodes.specs.Difference.{diff, chunk}
-use Rattle.kz_spec_machine.specs.Driver.{Driver, epoch_or_zero, views_migrated, epoch_op, control_ops, migration_ops, base_op, base_ops, unrecorded, claim_ops, is_last_write, record_ops, write_ops}
+use Rattle.kz_spec_machine.specs.Driver.{Driver, epoch_or_zero, views_migrated, epoch_op, control_ops, migration_ops, base_op, base_ops, record_before_offsets, claim_ops, is_last_write, record_ops, write_ops}
 use Rattle.kz_spec_machine.specs.Sound.{TreeShape}
 use Rattle.kz_laws_trees.specs.TreeLaws.{path_of_op, Left}
 use Rattle.kz_laws_trees.proofs.Rows.{still, op_rises, set_found, created_found}
@@ -29,7 +29,7 @@ use Rattle.kz_laws_trees.proofs.Claim.{Others, base_avoids, control_avoids_path,
 
 -- ---- znodes that stay whole
 
-touched_far : (zxid : ℤ) (p q : List ℕ) (rows : List Row) (m : Option Row) → row_at q rows ≡ m → p ≢ q → row_at p (touched zxid m rows) ≡ row_at p rows
+touched_far : (zxid : ℤ) (p q : List ℕ) (rows : List Row) (m : Option Row) → row_at q rows ≡ m → p ≢ q → row_at p (with_child_change zxid m rows) ≡ row_at p rows
 touched_far zxid p q rows None is far = refl
 touched_far zxid p q rows (Some r) is far =
     find-put_other bytes_order path_of_row (record r { pzxid = zxid }) rows p (λ e. far (e ∙ key_of_found bytes_order path_of_row q rows r is))
@@ -41,10 +41,10 @@ set_far zxid p q body rows (Some r) is far = find-put_other bytes_order path_of_
 -- a path that is neither the operation's nor its parent's
 far_kept : (zxid : ℤ) (o : Op) (p : List ℕ) (rows : List Row) → p ≢ path_of_op o → p ≢ parent_of (path_of_op o) → row_at p (after_op zxid o rows) ≡ row_at p rows
 far_kept zxid (Create path body owner) p rows far up =
-    find-put_other bytes_order path_of_row (created_row zxid path body owner) (touched zxid (row_at (parent_of path) rows) rows) p far ∙ touched_far zxid p (parent_of path) rows (row_at (parent_of path) rows) refl up
+    find-put_other bytes_order path_of_row (created_row zxid path body owner) (with_child_change zxid (row_at (parent_of path) rows) rows) p far ∙ touched_far zxid p (parent_of path) rows (row_at (parent_of path) rows) refl up
 far_kept zxid (Set path body version) p rows far up = set_far zxid p path body rows (row_at path rows) refl far
 far_kept zxid (Delete path version) p rows far up =
-    find-without_other bytes_order path_of_row path (touched zxid (row_at (parent_of path) rows) rows) p far ∙ touched_far zxid p (parent_of path) rows (row_at (parent_of path) rows) refl up
+    find-without_other bytes_order path_of_row path (with_child_change zxid (row_at (parent_of path) rows) rows) p far ∙ touched_far zxid p (parent_of path) rows (row_at (parent_of path) rows) refl up
 far_kept zxid (Check path version) p rows far up = refl
 
 abbrev in_area : Row → Bool
@@ -142,10 +142,10 @@ migration_beside false seen body is = absurd (cc)
 claim_beside : (seen : ClaimSeen) (d : Driver) (now : ℤ) → views_migrated d ≡ true → AllBeside (claim_ops seen d now)
 claim_beside seen d now migrated =
     let body = written_control d.id (epoch_or_zero d.epoch) now in
-    let recording = migration_ops (views_migrated d) seen.migration (written_recorded (unrecorded d)) in (
+    let recording = migration_ops (views_migrated d) seen.migration (written_recorded (record_before_offsets d)) in (
       epoch_beside seen.epoch,
       beside_append (control_ops seen.control body) (recording ++ base_ops seen.bases base_paths) (control_beside seen.control body)
-          (beside_append recording (base_ops seen.bases base_paths) (migration_beside (views_migrated d) seen.migration (written_recorded (unrecorded d)) migrated) (base_beside seen.bases base_paths bases_aside)),
+          (beside_append recording (base_ops seen.bases base_paths) (migration_beside (views_migrated d) seen.migration (written_recorded (record_before_offsets d)) migrated) (base_beside seen.bases base_paths bases_aside)),
     )
 
 all_outside : (os : List Op) → AllBeside os → Outside os
@@ -165,10 +165,10 @@ nothing_recorded false seen body is = absurd (cc)
 pub claim_avoids : (seen : ClaimSeen) (d : Driver) (now : ℤ) → views_migrated d ≡ true → Avoids migration_path (claim_ops seen d now)
 claim_avoids seen d now migrated =
     let body = written_control d.id (epoch_or_zero d.epoch) now in
-    let recording = migration_ops (views_migrated d) seen.migration (written_recorded (unrecorded d)) in (
+    let recording = migration_ops (views_migrated d) seen.migration (written_recorded (record_before_offsets d)) in (
       epoch_avoids seen.epoch,
       avoids_append migration_path (control_ops seen.control body) (recording ++ base_ops seen.bases base_paths) (control_avoids_path migration_path seen.control body (differ migration_path control_path refl))
-          (avoids_append migration_path recording (base_ops seen.bases base_paths) (nothing_recorded (views_migrated d) seen.migration (written_recorded (unrecorded d)) migrated) (base_avoids migration_path seen.bases base_paths migration_no_base)),
+          (avoids_append migration_path recording (base_ops seen.bases base_paths) (nothing_recorded (views_migrated d) seen.migration (written_recorded (record_before_offsets d)) migrated) (base_avoids migration_path seen.bases base_paths migration_no_base)),
     )
 
 pub recorded_still : (m : Option Row) → option_and_then (λ (r : Row). recorded_of r.body) (option_map still m) ≡ option_and_then (λ (r : Row). recorded_of r.body) m
@@ -178,12 +178,12 @@ recorded_still (Some r) = refl
 pub migration_alike : (t new : Tree) (ops : List Op) → Ran t new ops → Avoids migration_path ops → option_map still (row_at migration_path new.rows) ≡ option_map still (row_at migration_path t.rows)
 migration_alike t new ops m avoids = ap (λ rows. option_map still (row_at migration_path rows)) m.rows ∙ ran_keeps (t.zxid +ℤ pos 1) migration_path ops t.rows avoids
 
-recorded_kept : (t new : Tree) (ops : List Op) → Ran t new ops → Avoids migration_path ops → recorded new ≡ recorded t
+recorded_kept : (t new : Tree) (ops : List Op) → Ran t new ops → Avoids migration_path ops → migration_record new ≡ migration_record t
 recorded_kept t new ops m avoids =
     sym (recorded_still (row_at migration_path new.rows)) ∙ ap (option_and_then (λ (r : Row). recorded_of r.body)) (migration_alike t new ops m avoids) ∙ recorded_still (row_at migration_path t.rows)
 
 -- a tree that is closed afterwards was closed before
-was_closed : (t new : Tree) → option_map still (row_at migration_path new.rows) ≡ option_map still (row_at migration_path t.rows) → migrated_rows new ≡ migrated_rows t → unclosed new ≡ None → unclosed t ≡ None
+was_closed : (t new : Tree) → option_map still (row_at migration_path new.rows) ≡ option_map still (row_at migration_path t.rows) → migrated_rows new ≡ migrated_rows t → unclosed_path new ≡ None → unclosed_path t ≡ None
 was_closed t new alike rows closed =
     let c = closed_is new closed in
     let old = same_alike c.row (row_at migration_path t.rows) t.rows refl (ap (option_map still) (sym c.found) ∙ alike) in
@@ -218,12 +218,12 @@ recorded_by sessions zxid false (Some x) body rows is passes =
     let old = was_there body migration_path (negsuc 0) rows (row_at migration_path rows) refl passes.0 in
     ap (option_and_then (λ (r : Row). recorded_of r.body)) (set_found zxid migration_path body (negsuc 0) rows old.0 old.1)
 
-pub claim_records : (t new : Tree) (seen : ClaimSeen) (d : Driver) (now : ℤ) → views_migrated d ≡ false → multi t (claim_ops seen d now) ≡ Ok new → recorded new ≡ recorded_of (written_recorded (unrecorded d))
+pub claim_records : (t new : Tree) (seen : ClaimSeen) (d : Driver) (now : ℤ) → views_migrated d ≡ false → multi t (claim_ops seen d now) ≡ Ok new → migration_record new ≡ recorded_of (written_recorded (record_before_offsets d))
 claim_records t new seen d now unmigrated is =
     let zxid = t.zxid +ℤ pos 1 in
     let m = multi_ran t new (claim_ops seen d now) is in
     let controls = control_ops seen.control (written_control d.id (epoch_or_zero d.epoch) now) in
-    let body = written_recorded (unrecorded d) in
+    let body = written_recorded (record_before_offsets d) in
     let recording = migration_ops (views_migrated d) seen.migration body in
     let bases = base_ops seen.bases base_paths in
     let first = after_op zxid (epoch_op seen.epoch) t.rows in
@@ -238,7 +238,7 @@ claim_records t new seen d now unmigrated is =
 
 -- ---- a write that isn't the last leaves what is recorded
 
-pub write_keeps_recorded : (t new : Tree) (i : Image) (claim : ℤ) (target : Recorded) → is_last_write (diff (area t) (render i)) ≡ false → multi t (write_ops claim (diff (area t) (render i)) target) ≡ Ok new → recorded new ≡ recorded t
+pub write_keeps_recorded : (t new : Tree) (i : Image) (claim : ℤ) (target : Recorded) → is_last_write (diff (area t) (render i)) ≡ false → multi t (write_ops claim (diff (area t) (render i)) target) ≡ Ok new → migration_record new ≡ migration_record t
 write_keeps_recorded t new i claim target more is =
     let ops = chunk (diff (area t) (render i)) ++ record_ops (is_last_write (diff (area t) (render i))) target in
     let avoids : Avoids migration_path ops = subst (Avoids migration_path) (sym (nothing_more (is_last_write (diff (area t) (render i))) target (chunk (diff (area t) (render i))) more)) (chunk_avoids t i migration_path migration_outside) in

@@ -20,7 +20,7 @@ use Rattle.kz_spec_znodes.specs.Rendering.{render}
 use Rattle.kz_spec_znodes.specs.Difference.{diff}
 use Rattle.kz_laws_values.specs.Ranges.{IsLong, IsEpoch}
 use Rattle.kz_laws_values.proofs.Control.{control_is_read}
-use Rattle.kz_spec_machine.specs.Driver.{Driver, epoch_or_zero, views_migrated, epoch_op, epoch_number, control_ops, migration_ops, base_op, base_ops, unrecorded, claimed_version, claim_ops, shown_by, write_ops}
+use Rattle.kz_spec_machine.specs.Driver.{Driver, epoch_or_zero, views_migrated, epoch_op, epoch_number, control_ops, migration_ops, base_op, base_ops, record_before_offsets, claimed_version, claim_ops, shown_by, write_ops}
 use Rattle.kz_spec_machine.specs.Sound.{claim_version, shown_in}
 use Rattle.kz_laws_trees.specs.TreeLaws.{path_of_op, KeepsShape}
 use Rattle.kz_laws_trees.proofs.Rows.{still, set_found, created_found}
@@ -112,7 +112,7 @@ claim_gives_version t new seen d now low is =
     let m = multi_ran t new (claim_ops seen d now) is in
     let zxid = t.zxid +ℤ pos 1 in
     let control = written_control d.id (epoch_or_zero d.epoch) now in
-    let recorded = written_recorded (unrecorded d) in
+    let recorded = written_recorded (record_before_offsets d) in
     ap version_in m.rows
     ∙ version_after zxid (control_ops seen.control control ++ (migration_ops (views_migrated d) seen.migration recorded ++ base_ops seen.bases base_paths)) (after_op zxid (epoch_op seen.epoch) t.rows) (rest_avoids seen (views_migrated d) control recorded)
     ∙ first_op t.sessions zxid seen.epoch t.rows low m.passes.0
@@ -168,11 +168,11 @@ base_keeps (b ∷ bs) (p ∷ ps) at = All-append KeepsShape (base_op b p) (base_
 pub claim_keeps_shape : (seen : ClaimSeen) (d : Driver) (now : ℤ) → All KeepsShape (claim_ops seen d now)
 claim_keeps_shape seen d now =
     let body = written_control d.id (epoch_or_zero d.epoch) now in
-    let recording = migration_ops (views_migrated d) seen.migration (written_recorded (unrecorded d)) in
+    let recording = migration_ops (views_migrated d) seen.migration (written_recorded (record_before_offsets d)) in
     let bases = base_ops seen.bases base_paths in
     All-cons KeepsShape (epoch_op seen.epoch) (control_ops seen.control body ++ (recording ++ bases)) (epoch_keeps seen.epoch)
     (All-append KeepsShape (control_ops seen.control body) (recording ++ bases) (control_keeps seen.control body)
-    (All-append KeepsShape recording bases (migration_keeps (views_migrated d) seen.migration (written_recorded (unrecorded d))) (base_keeps seen.bases base_paths bases_standable)))
+    (All-append KeepsShape recording bases (migration_keeps (views_migrated d) seen.migration (written_recorded (record_before_offsets d))) (base_keeps seen.bases base_paths bases_standable)))
 
 -- ---- what `/controller` shows
 
@@ -190,7 +190,7 @@ claim_shows t new seen d now id epoch time is =
     let m = multi_ran t new (claim_ops seen d now) is in
     let zxid = t.zxid +ℤ pos 1 in
     let body = written_control d.id (epoch_or_zero d.epoch) now in
-    let recorded = written_recorded (unrecorded d) in
+    let recorded = written_recorded (record_before_offsets d) in
     let controls = control_ops seen.control body in
     let rest = migration_ops (views_migrated d) seen.migration recorded ++ base_ops seen.bases base_paths in
     let first = after_op zxid (epoch_op seen.epoch) t.rows in

@@ -15,7 +15,7 @@ use Rattle.kz_types.specs.PathRule.{is_path, has_path_form}
 use Rattle.kz_ordered.specs.Order.{bytes_cmp}
 use Rattle.kz_ordered.specs.Ordered.{Rises}
 use Rattle.kz_spec_values.specs.Control.{control_path, epoch_path, migration_path, shown_epoch}
-use Rattle.kz_spec_stores.specs.Tree.{Tree, path_of_row, row_at, is_root, after_op, multi, recorded}
+use Rattle.kz_spec_stores.specs.Tree.{Tree, path_of_row, row_at, is_root, after_op, multi, migration_record}
 use Rattle.kz_spec_machine.specs.Driver.{shown_by}
 use Rattle.kz_spec_machine.specs.Machine.{first_of, is_reserved, is_held_path, is_held, is_held_tree, first_told, client_refusal}
 use Rattle.kz_spec_machine.specs.Sound.{TreeShape, shown_in, IsLawfulOp}
@@ -161,7 +161,7 @@ spares_migration (Check path version) is = tt
 pub migration_spared : (t new : Tree) (ops : List Op) → Ran t new ops → client_refusal t ops ≡ None → Alike t.rows new.rows migration_path
 migration_spared t new ops m none = alike_after t new migration_path ops m (All-weaker (λ o. is_reserved o ≡ false) (Spares migration_path) spares_migration ops (none_reserved t ops none))
 
-pub client_leaves_recorded : (t new : Tree) (ops : List Op) → multi t ops ≡ Ok new → client_refusal t ops ≡ None → recorded new ≡ recorded t
+pub client_leaves_recorded : (t new : Tree) (ops : List Op) → multi t ops ≡ Ok new → client_refusal t ops ≡ None → migration_record new ≡ migration_record t
 client_leaves_recorded t new ops is none = recorded_alike t new (migration_spared t new ops (multi_ran t new ops is) none)
 
 -- ---- a tree that a KRaft controller holds

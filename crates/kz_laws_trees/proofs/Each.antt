@@ -8,7 +8,7 @@ use Rattle.kz_types.specs.declared.tree.Op.{Op}
 use Rattle.kz_types.specs.declared.tree.Op.TheVariants.{Create, Set, Delete, Check}
 use Rattle.kz_ordered.proofs.Order.{bytes_order}
 use Rattle.kz_ordered.proofs.Lookup.{Contains-put_cases, Contains-without, found_is_contained, key_of_found}
-use Rattle.kz_spec_stores.specs.Tree.{path_of_row, row_at, put_row, without_row, parent_of, create_refusal, set_refusal, op_refusal, created_row, set_row, touched, after_set, after_op, is_later}
+use Rattle.kz_spec_stores.specs.Tree.{path_of_row, row_at, put_row, without_row, parent_of, create_refusal, set_refusal, op_refusal, created_row, set_row, with_child_change, after_set, after_op, is_later}
 use Rattle.kz_laws_trees.specs.TreeLaws.{KeepsShape}
 use Rattle.kz_laws_trees.proofs.Runs.{ran, Passes}
 
@@ -32,7 +32,7 @@ pub record Keeps (P : Row → Type 0) (sessions : List ℤ) (zxid : ℤ) : Type 
   pub set : (path body : List ℕ) (version : ℤ) (r : Row) → set_refusal body version (Some r) ≡ None → KeepsShape (Set path body version) → r.path ≡ path → P r → P (set_row zxid body r)
   pub touched : (r : Row) → P r → P (record r { pzxid = zxid })
 
-all_touched : (P : Row → Type 0) (zxid : ℤ) (q : List ℕ) (rows : List Row) (m : Option Row) → row_at q rows ≡ m → ((r : Row) → P r → P (record r { pzxid = zxid })) → All P rows → All P (touched zxid m rows)
+all_touched : (P : Row → Type 0) (zxid : ℤ) (q : List ℕ) (rows : List Row) (m : Option Row) → row_at q rows ≡ m → ((r : Row) → P r → P (record r { pzxid = zxid })) → All P rows → All P (with_child_change zxid m rows)
 all_touched P zxid q rows None is touch all = all
 all_touched P zxid q rows (Some r) is touch all = all_put P (record r { pzxid = zxid }) rows (touch r (All-contains P rows r all (found_is_contained bytes_order path_of_row q rows r is))) all
 
@@ -44,11 +44,11 @@ all_set P sessions zxid path body version rows (Some r) is pass shaped keeps all
 
 all_after_op : (P : Row → Type 0) (sessions : List ℤ) (zxid : ℤ) (o : Op) (rows : List Row) → op_refusal sessions o rows ≡ None → KeepsShape o → Keeps P sessions zxid → All P rows → All P (after_op zxid o rows)
 all_after_op P sessions zxid (Create path body owner) rows pass shaped keeps all =
-    all_put P (created_row zxid path body owner) (touched zxid (row_at (parent_of path) rows) rows) (keeps.made path body owner rows pass shaped)
+    all_put P (created_row zxid path body owner) (with_child_change zxid (row_at (parent_of path) rows) rows) (keeps.made path body owner rows pass shaped)
     (all_touched P zxid (parent_of path) rows (row_at (parent_of path) rows) refl keeps.touched all)
 all_after_op P sessions zxid (Set path body version) rows pass shaped keeps all = all_set P sessions zxid path body version rows (row_at path rows) refl pass shaped keeps all
 all_after_op P sessions zxid (Delete path version) rows pass shaped keeps all =
-    all_without P path (touched zxid (row_at (parent_of path) rows) rows) (all_touched P zxid (parent_of path) rows (row_at (parent_of path) rows) refl keeps.touched all)
+    all_without P path (with_child_change zxid (row_at (parent_of path) rows) rows) (all_touched P zxid (parent_of path) rows (row_at (parent_of path) rows) refl keeps.touched all)
 all_after_op P sessions zxid (Check path version) rows pass shaped keeps all = all
 
 pub all_ran : (P : Row → Type 0) (sessions : List ℤ) (zxid : ℤ) (os : List Op) (rows : List Row) → Passes sessions zxid os rows → All KeepsShape os → Keeps P sessions zxid → All P rows → All P (ran zxid os rows)

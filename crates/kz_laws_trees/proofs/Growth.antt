@@ -9,7 +9,7 @@ use Rattle.kz_types.specs.declared.limits.TheConstants.{MAX_LONG, MAX_RECORDS}
 use Rattle.kz_types.specs.declared.log.BatchRow.{BatchRow}
 use Rattle.kz_types.specs.declared.record.MetaRecord.{MetaRecord}
 use Rattle.kz_types.specs.declared.fault.LogFault.TheVariants as log_fault
-use Rattle.kz_spec_stores.specs.Log.{Log, View, end_of, image_at, is_migrated_log, new_batch, with_batch, record_count, full_log, added, append, last_epoch, begins_after, read_view}
+use Rattle.kz_spec_stores.specs.Log.{Log, View, end_of, image_at, is_migrated_log, new_batch, with_batch, record_count, full_log, log_unless_limit, append, last_epoch, begins_after, read_view}
 use Rattle.kz_spec_stores.specs.Image.{is_migrated_state}
 use Rattle.kz_spec_machine.specs.Driver.{commit_records}
 use Rattle.kz_spec_machine.specs.Sound.{IsEpochOrNone, LogShape, IsBatchEnd, Views}
@@ -97,7 +97,7 @@ pub record Appended (l : Log) (epoch now : ℤ) (items : List MetaRecord) (new :
   pub made : with_batch l epoch now items ≡ new
   pub same : epoch ≡ l.epoch
 
-appended_by : (l : Log) (epoch now : ℤ) (items : List MetaRecord) (new : Log) (r : Option ℕ) → full_log l items ≡ r → epoch ≡ l.epoch → added r (with_batch l epoch now items) ≡ Ok new → LogShape l → Appended l epoch now items new
+appended_by : (l : Log) (epoch now : ℤ) (items : List MetaRecord) (new : Log) (r : Option ℕ) → full_log l items ≡ r → epoch ≡ l.epoch → log_unless_limit r (with_batch l epoch now items) ≡ Ok new → LogShape l → Appended l epoch now items new
 appended_by l epoch now items new (Some number) room same is shape = absurd (cc)
 appended_by l epoch now items new None room same is shape =
     let made : with_batch l epoch now items ≡ new = cc in
@@ -111,7 +111,7 @@ appended_by l epoch now items new None room same is shape =
 pub append_appends : (l : Log) (epoch now : ℤ) (items : List MetaRecord) (new : Log) → append l epoch now items ≡ Ok new → LogShape l → Appended l epoch now items new
 append_appends l epoch now items new is shape = by_epoch (int_eq epoch l.epoch) refl is
   where
-    by_epoch : (b : Bool) → int_eq epoch l.epoch ≡ b → (if b then added (full_log l items) (with_batch l epoch now items) else Err (log_fault.Stale l.epoch)) ≡ Ok new → Appended l epoch now items new
+    by_epoch : (b : Bool) → int_eq epoch l.epoch ≡ b → (if b then log_unless_limit (full_log l items) (with_batch l epoch now items) else Err (log_fault.Stale l.epoch)) ≡ Ok new → Appended l epoch now items new
     by_epoch true same is = appended_by l epoch now items new (full_log l items) refl ((Decides-int_eq epoch l.epoch).0 same) is shape
     by_epoch false same is = absurd (cc)
 

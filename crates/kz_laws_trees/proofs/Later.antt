@@ -20,7 +20,7 @@ use Rattle.kz_ordered.proofs.Edits.{each_is_due}
 use Rattle.kz_ordered.proofs.Lookup.{found_is_contained, key_of_found, find-put_same, find-without_other, Contains-head}
 use Rattle.kz_ordered.proofs.Maps.{find-filter_found}
 use Rattle.kz_spec_values.specs.Control.{migration_path, recorded_of}
-use Rattle.kz_spec_stores.specs.Tree.{Tree, path_of_row, row_at, put_row, without_row, parent_of, is_root, delete_refusal, set_refusal, op_refusal, created_row, set_row, touched, after_op, multi, migrated_rows, area, has_offset, is_later, first_path, unclosed_below, unclosed, path_of_rendered}
+use Rattle.kz_spec_stores.specs.Tree.{Tree, path_of_row, row_at, put_row, without_row, parent_of, is_root, delete_refusal, set_refusal, op_refusal, created_row, set_row, with_child_change, after_op, multi, migrated_rows, area, has_offset, is_later, first_path, unclosed_below, unclosed_path, path_of_rendered}
 use Rattle.kz_spec_stores.specs.Image.{Image}
 use Rattle.kz_spec_znodes.specs.Rendering.{render}
 use Rattle.kz_spec_znodes.specs.Difference.{same_body, op_of, diff, chunk}
@@ -73,7 +73,7 @@ edit_touches sessions zxid (drop_key p) rows have inside up pass =
     let key : old.0.path ≡ q = key_of_found bytes_order path_of_row q rows old.0 old.1 in
     let new : Row = record old.0 { pzxid = zxid } in
     let found : row_at q (after_op zxid (Delete p (negsuc 0)) rows) ≡ Some new =
-    ap (λ m. row_at q (without_row p (touched zxid m rows))) old.1
+    ap (λ m. row_at q (without_row p (with_child_change zxid m rows))) old.1
     ∙ find-without_other bytes_order path_of_row p (put_row new rows) q (parent_differs p inside)
     ∙ ap (λ x. row_at x (put_row new rows)) (sym key) ∙ find-put_same bytes_order path_of_row new rows in
     touched_at zxid q (after_op zxid (Delete p (negsuc 0)) rows) new found key inside-up (inr refl)
@@ -134,7 +134,7 @@ closed_by : (t : Tree) (m : Option Row) → row_at migration_path t.rows ≡ m �
 closed_by t None found is = absurd (cc)
 closed_by t (Some m) found is = closed_parts t m (has_offset (recorded_of m.body)) refl found is
 
-pub closed_is : (t : Tree) → unclosed t ≡ None → Closed t
+pub closed_is : (t : Tree) → unclosed_path t ≡ None → Closed t
 closed_is t is = closed_by t (row_at migration_path t.rows) refl is
 
 -- ---- the last edit of a write that isn't the last
@@ -195,7 +195,7 @@ pub same_alike : (m : Row) (old : Option Row) (rows : List Row) → row_at migra
 same_alike m None rows is alike = absurd (cc)
 same_alike m (Some r) rows is alike = let e : still m ≡ still r = cc in (r, is, ap (λ (x : Row). x.mzxid) e, ap (λ (x : Row). x.body) e)
 
-pub not_last_unclosed : (t new : Tree) (i : Image) (claim : ℤ) (target : Recorded) → TreeShape t → TreeShape new → is_last_write (diff (area t) (render i)) ≡ false → multi t (write_ops claim (diff (area t) (render i)) target) ≡ Ok new → unclosed new ≢ None
+pub not_last_unclosed : (t new : Tree) (i : Image) (claim : ℤ) (target : Recorded) → TreeShape t → TreeShape new → is_last_write (diff (area t) (render i)) ≡ false → multi t (write_ops claim (diff (area t) (render i)) target) ≡ Ok new → unclosed_path new ≢ None
 not_last_unclosed t new i claim target shape after more is closed =
     let m = multi_ran t new (write_ops claim (diff (area t) (render i)) target) is in
     let c = closed_is new closed in

@@ -14,7 +14,7 @@ use Rattle.kz_ordered.specs.Order.{bytes_cmp}
 use Rattle.kz_ordered.specs.Ordered.{Rises}
 use Rattle.kz_ordered.proofs.Order.{bytes_order, below, equal, above, place, cmp_equal, cmp_greater, is_eq_same, is_eq_other, less_differs, less_differs_back}
 use Rattle.kz_ordered.proofs.Lookup.{some_is_none, key_of_found, find_skip, find_below_first, rest_rises}
-use Rattle.kz_spec_stores.specs.Tree.{path_of_row, row_at, put_row, without_row, parent_of, has_parent, is_ephemeral, may_own, fits_version, count_beside, limit_beside, Refusal, code, limit, create_refusal, set_refusal, op_refusal, created_row, set_row, touched, after_set, after_op}
+use Rattle.kz_spec_stores.specs.Tree.{path_of_row, row_at, put_row, without_row, parent_of, has_parent, is_ephemeral, may_own, fits_version, count_beside, limit_beside, Refusal, code, limit, create_refusal, set_refusal, op_refusal, created_row, set_row, with_child_change, after_set, after_op}
 use Rattle.kz_spec_machine.specs.Sound.{IsSmall}
 use Rattle.kz_laws_trees.proofs.Rows.{op_rises}
 use Rattle.kz_laws_trees.proofs.Runs.{ran, Passes}
@@ -131,7 +131,7 @@ many_map p f (r ∷ rows) same = ap (λ q. cond (p q) 1 0 + many p (map f rows))
 
 -- ---- one operation
 
-many_touched : (p : List ℕ → Bool) (zxid : ℤ) (q : List ℕ) (rows : List Row) (m : Option Row) → row_at q rows ≡ m → Rises bytes_cmp path_of_row rows → many p (touched zxid m rows) ≤ many p rows
+many_touched : (p : List ℕ → Bool) (zxid : ℤ) (q : List ℕ) (rows : List Row) (m : Option Row) → row_at q rows ≡ m → Rises bytes_cmp path_of_row rows → many p (with_child_change zxid m rows) ≤ many p rows
 many_touched p zxid q rows None is rise = not_less (many p rows)
 many_touched p zxid q rows (Some r) is rise = many_again p (record r { pzxid = zxid }) r rows rise (ap (λ x. row_at x rows) (key_of_found bytes_order path_of_row q rows r is) ∙ is)
 
@@ -167,13 +167,13 @@ chain a b c x y = omega arith
 
 op_few : (b : Bool) (sessions : List ℤ) (zxid : ℤ) (o : Op) (rows : List Row) → op_refusal sessions o rows ≡ None → Rises bytes_cmp path_of_row rows → many (side b) rows ≤ MAX_ZNODES → many (side b) (after_op zxid o rows) ≤ MAX_ZNODES
 op_few b sessions zxid (Create path body owner) rows pass rise few =
-    let between = touched zxid (row_at (parent_of path) rows) rows in
+    let between = with_child_change zxid (row_at (parent_of path) rows) rows in
     created_few b (side b path) path rows between (after_op zxid (Create path body owner) rows) refl (created_roomy sessions path body owner rows pass).few
     (many_put (side b) (created_row zxid path body owner) between) (many_touched (side b) zxid (parent_of path) rows (row_at (parent_of path) rows) refl rise) few
 op_few b sessions zxid (Set path body version) rows pass rise few =
     chain (many (side b) (after_op zxid (Set path body version) rows)) (many (side b) rows) MAX_ZNODES (many_set (side b) zxid path body rows (row_at path rows) refl rise) few
 op_few b sessions zxid (Delete path version) rows pass rise few =
-    let between = touched zxid (row_at (parent_of path) rows) rows in
+    let between = with_child_change zxid (row_at (parent_of path) rows) rows in
     chain (many (side b) (without_row path between)) (many (side b) between) MAX_ZNODES (many_without (side b) path between)
     (chain (many (side b) between) (many (side b) rows) MAX_ZNODES (many_touched (side b) zxid (parent_of path) rows (row_at (parent_of path) rows) refl rise) few)
 op_few b sessions zxid (Check path version) rows pass rise few = few

@@ -8,8 +8,8 @@ use Rattle.std.proofs.lemmas.List.Concat.{flat_map-append}
 use Rattle.kz_types.specs.declared.log.BatchRow.{BatchRow}
 use Rattle.kz_types.specs.declared.log.Entry.{Entry}
 use Rattle.kz_types.specs.declared.record.MetaRecord.{MetaRecord}
-use Rattle.kz_spec_stores.specs.Settlement.{is_begin, is_end, closes, is_marker, is_closed_between, is_inside, first_close, is_ended_by, is_counted, counted}
-use Rattle.kz_spec_stores.specs.Log.{Log, last_of, last_end, end_of, numbered, entries_of_batch, entries, all_entries_applied, image_at, new_batch, with_batch}
+use Rattle.kz_spec_stores.specs.Settlement.{is_begin, is_end, closes, is_marker, is_closed_between, is_inside, first_close, is_ended_by, is_counted, counting_records}
+use Rattle.kz_spec_stores.specs.Log.{Log, last_of, last_end, end_of, entries_at_offsets, entries_of_batch, entries, all_entries_applied, image_at, new_batch, with_batch}
 
 -- ---- records after an offset
 
@@ -103,16 +103,16 @@ late : (early marker inside ended : Bool) → early ≡ false → counts_where e
 late true marker inside ended is = absurd (cc)
 late false marker inside ended is = refl
 
-pub counted_same : (at : ℤ) (es new : List Entry) → AllAfter at new → counted (es ++ new) at ≡ counted es at
+pub counted_same : (at : ℤ) (es new : List Entry) → AllAfter at new → counting_records (es ++ new) at ≡ counting_records es at
 counted_same at es new after =
     filter_agree (is_counted (es ++ new) at) (is_counted es at) (λ e. counted_one at es new e after) (es ++ new)
     ∙ filter-append (is_counted es at) es new
-    ∙ ap (λ l. counted es at ++ l) (filter_none at (is_counted es at) new (λ e later. late (int_le e.offset at) (is_marker e.item) (is_inside es e.offset) (is_ended_by at (first_close es e.offset)) (not_at_most at e.offset later)) after)
-    ∙ append-nil (counted es at)
+    ∙ ap (λ l. counting_records es at ++ l) (filter_none at (is_counted es at) new (λ e later. late (int_le e.offset at) (is_marker e.item) (is_inside es e.offset) (is_ended_by at (first_close es e.offset)) (not_at_most at e.offset later)) after)
+    ∙ append-nil (counting_records es at)
 
 -- ---- the image
 
-pub numbered_after : (at offset epoch : ℤ) (items : List MetaRecord) → at <ℤ offset → AllAfter at (numbered offset epoch items)
+pub numbered_after : (at offset epoch : ℤ) (items : List MetaRecord) → at <ℤ offset → AllAfter at (entries_at_offsets offset epoch items)
 numbered_after at offset epoch [] later = tt
 numbered_after at offset epoch (r ∷ rs) later = (later, numbered_after at (offset +ℤ pos 1) epoch rs (omega (arith, ints)))
 
@@ -121,7 +121,7 @@ unfolding image_at
 image_kept l epoch now items at low =
     let b = new_batch l epoch now items in
     let more : entries (l.batches ++ b ∷ []) ≡ entries l.batches ++ entries_of_batch b = flat_map-append entries_of_batch l.batches (b ∷ []) ∙ ap (λ es. entries l.batches ++ es) (append-nil (entries_of_batch b)) in
-    ap (λ es. all_entries_applied (counted es at) l.base_image) more
+    ap (λ es. all_entries_applied (counting_records es at) l.base_image) more
     ∙ ap (λ es. all_entries_applied es l.base_image) (counted_same at (entries l.batches) (entries_of_batch b) (numbered_after at b.first epoch items (omega (arith, ints))))
 
 last_more : (from : ℤ) (bs : List BatchRow) (b : BatchRow) → last_end from (bs ++ b ∷ []) ≡ last_of b

@@ -13,9 +13,9 @@ use Rattle.kz_types.specs.declared.record.MetaRecord.TheVariants as meta
 use Rattle.kz_types.specs.declared.image_fault.ImageRule.{ImageRule}
 use Rattle.kz_spec_stores.specs.Metadata.{Image, topic_named, is_migrated_state}
 use Rattle.kz_spec_stores.specs.ImageRules.{broken}
-use Rattle.kz_spec_stores.specs.Image.{with_changed, topic_configured, configured, effect, unless_broken, applied}
-use Rattle.kz_spec_stores.specs.Settlement.{is_end, closes, is_marker, is_inside, first_close, is_ended_by, is_counted, counted}
-use Rattle.kz_spec_stores.specs.Log.{Log, last_of, last_end, end_of, numbered, entries_of_batch, entries, record_count, all_entries_applied, image_at, image_of, is_migrated_log, new_batch, with_batch}
+use Rattle.kz_spec_stores.specs.Image.{with_changed, topic_configured, configurations_after, effect, unless_broken, image_with}
+use Rattle.kz_spec_stores.specs.Settlement.{is_end, closes, is_marker, is_inside, first_close, is_ended_by, is_counted, counting_records}
+use Rattle.kz_spec_stores.specs.Log.{Log, last_of, last_end, end_of, entries_at_offsets, entries_of_batch, entries, record_count, all_entries_applied, image_at, image_of, is_migrated_log, new_batch, with_batch}
 use Rattle.kz_spec_machine.specs.Driver.{commit_records}
 use Rattle.kz_spec_machine.specs.Sound.{Follows, LogShape}
 use Rattle.kz_laws_trees.specs.LogLaws.{IsPlain, IsUncommitted}
@@ -32,7 +32,7 @@ up_to_append : (at : ℤ) (xs ys : List Entry) → AllUpTo at xs → AllUpTo at 
 up_to_append at [] ys a b = b
 up_to_append at (x ∷ xs) ys a b = (a.0, up_to_append at xs ys a.1 b)
 
-numbered_up_to : (at first epoch : ℤ) (items : List MetaRecord) → ((first +ℤ pos (length items)) -ℤ pos 1) ≤ℤ at → AllUpTo at (numbered first epoch items)
+numbered_up_to : (at first epoch : ℤ) (items : List MetaRecord) → ((first +ℤ pos (length items)) -ℤ pos 1) ≤ℤ at → AllUpTo at (entries_at_offsets first epoch items)
 numbered_up_to at first epoch [] low = tt
 numbered_up_to at first epoch (r ∷ rs) low = (here first (length rs) low, numbered_up_to at (first +ℤ pos 1) epoch rs (later first (length rs) low))
   where
@@ -67,7 +67,7 @@ either_state false i j k one other = other
 effect_leaves : (epoch : ℤ) (r : MetaRecord) (i : Image) → IsPlain r → (effect epoch r i).state ≡ i.state
 effect_leaves epoch (meta.Config c) i plain = either_state (int_eq c.resource_type (pos 2)) i
     (record i { topics = with_changed (topic_configured c) (topic_named c.resource_name i) i.topics })
-    (record i { broker_configs = configured c i.broker_configs })
+    (record i { broker_configs = configurations_after c i.broker_configs })
     refl refl
 effect_leaves epoch (meta.ZkMigrationState s) i plain = absurd plain
 effect_leaves epoch meta.EndTransaction i plain = absurd plain
@@ -78,14 +78,14 @@ unless_broken_leaves : (b : Option ImageRule) (made i : Image) → made.state �
 unless_broken_leaves None made i same = same
 unless_broken_leaves (Some rule) made i same = refl
 
-state_left : (epoch : ℤ) (r : MetaRecord) (i : Image) → IsPlain r → (applied epoch r i).state ≡ i.state
+state_left : (epoch : ℤ) (r : MetaRecord) (i : Image) → IsPlain r → (image_with epoch r i).state ≡ i.state
 state_left epoch r i plain = unless_broken_leaves (broken i r) (effect epoch r i) i (effect_leaves epoch r i plain)
 
 abbrev AllPlain : List Entry → Type 0
 AllPlain [] = ⊤
 AllPlain (e ∷ es) = IsPlain e.item × AllPlain es
 
-numbered_plain : (offset epoch : ℤ) (items : List MetaRecord) → All IsPlain items → AllPlain (numbered offset epoch items)
+numbered_plain : (offset epoch : ℤ) (items : List MetaRecord) → All IsPlain items → AllPlain (entries_at_offsets offset epoch items)
 numbered_plain offset epoch [] all = tt
 numbered_plain offset epoch (r ∷ rs) all = (All-head IsPlain r rs all, numbered_plain (offset +ℤ pos 1) epoch rs (All-tail IsPlain r rs all))
 
@@ -99,11 +99,11 @@ filter_plain p (e ∷ es) all = kept_plain e (p e) (filter p es) all.0 (filter_p
 
 applied_append : (xs ys : List Entry) (i : Image) → all_entries_applied (xs ++ ys) i ≡ all_entries_applied ys (all_entries_applied xs i)
 applied_append [] ys i = refl
-applied_append (x ∷ xs) ys i = applied_append xs ys (applied x.epoch x.item i)
+applied_append (x ∷ xs) ys i = applied_append xs ys (image_with x.epoch x.item i)
 
 plain_state : (es : List Entry) (i : Image) → AllPlain es → (all_entries_applied es i).state ≡ i.state
 plain_state [] i all = refl
-plain_state (e ∷ es) i all = plain_state es (applied e.epoch e.item i) all.1 ∙ state_left e.epoch e.item i all.0
+plain_state (e ∷ es) i all = plain_state es (image_with e.epoch e.item i) all.1 ∙ state_left e.epoch e.item i all.0
 
 and_first : (a b : Bool) → a ≡ false → (a && b) ≡ false
 and_first true b is = absurd (cc)
@@ -145,7 +145,7 @@ filter_same at p q [] up_to same = refl
 filter_same at p q (e ∷ es) up_to same = ap (λ b. cond b (e ∷ filter p es) (filter p es)) (same e up_to.0) ∙ ap (λ l. cond (q e) (e ∷ l) l) (filter_same at p q es up_to.1 same)
 
 -- the entries of a log with one batch more
-entries_more : (l : Log) (epoch now : ℤ) (items : List MetaRecord) → entries (with_batch l epoch now items).batches ≡ entries l.batches ++ numbered (end_of l +ℤ pos 1) epoch items
+entries_more : (l : Log) (epoch now : ℤ) (items : List MetaRecord) → entries (with_batch l epoch now items).batches ≡ entries l.batches ++ entries_at_offsets (end_of l +ℤ pos 1) epoch items
 entries_more l epoch now items =
     let b = new_batch l epoch now items in
     flat_map-append entries_of_batch l.batches (b ∷ []) ∙ ap (λ es. entries l.batches ++ es) (append-nil (entries_of_batch b))
@@ -158,7 +158,7 @@ not_before e n k is = omega (arith, ints)
 
 -- the entries of a batch after the log's end
 abbrev next_entries : Log → ℤ → List MetaRecord → List Entry
-next_entries l epoch items = numbered (end_of l +ℤ pos 1) epoch items
+next_entries l epoch items = entries_at_offsets (end_of l +ℤ pos 1) epoch items
 
 -- those of them that count then
 abbrev next_counted : Log → ℤ → ℤ → List MetaRecord → List Entry
@@ -176,7 +176,7 @@ more_applied l epoch now items shape none =
     let after = numbered_after at (end_of l +ℤ pos 1) epoch items (omega (arith, ints)) in
     let more = not_before at later (length items) (end_more l epoch now items) in
     let test = is_counted (es ++ new) later in
-    ap (λ xs. all_entries_applied (counted xs later) l.base_image) (entries_more l epoch now items)
+    ap (λ xs. all_entries_applied (counting_records xs later) l.base_image) (entries_more l epoch now items)
     ∙ ap (λ xs. all_entries_applied xs l.base_image) (filter-append test es new)
     ∙ applied_append (filter test es) (filter test new) l.base_image
     ∙ ap (λ xs. all_entries_applied (filter test new) (all_entries_applied xs l.base_image)) (filter_same at test (is_counted es at) es up_to (λ e low. counted_as_before at later es new e more up_to after none low))
@@ -198,7 +198,7 @@ abbrev AllUncommitted : List Entry → Type 0
 AllUncommitted [] = ⊤
 AllUncommitted (e ∷ es) = IsUncommitted e.item × AllUncommitted es
 
-numbered_uncommitted : (offset epoch : ℤ) (items : List MetaRecord) → All IsUncommitted items → AllUncommitted (numbered offset epoch items)
+numbered_uncommitted : (offset epoch : ℤ) (items : List MetaRecord) → All IsUncommitted items → AllUncommitted (entries_at_offsets offset epoch items)
 numbered_uncommitted offset epoch [] all = tt
 numbered_uncommitted offset epoch (r ∷ rs) all = (All-head IsUncommitted r rs all, numbered_uncommitted (offset +ℤ pos 1) epoch rs (All-tail IsUncommitted r rs all))
 
@@ -227,18 +227,18 @@ state_unbroken : (s : ℤ) (i : Image) → broken i (meta.ZkMigrationState s) �
 unfolding broken
 state_unbroken s i = refl
 
-state_applied : (epoch s : ℤ) (i : Image) → applied epoch (meta.ZkMigrationState s) i ≡ effect epoch (meta.ZkMigrationState s) i
+state_applied : (epoch s : ℤ) (i : Image) → image_with epoch (meta.ZkMigrationState s) i ≡ effect epoch (meta.ZkMigrationState s) i
 state_applied epoch s i = ap (λ b. unless_broken b (effect epoch (meta.ZkMigrationState s) i) i) (state_unbroken s i)
 
-one_uncommitted : (epoch : ℤ) (r : MetaRecord) (i : Image) → IsUncommitted r → is_migrated_state i.state ≡ false → is_migrated_state (applied epoch r i).state ≡ false
+one_uncommitted : (epoch : ℤ) (r : MetaRecord) (i : Image) → IsUncommitted r → is_migrated_state i.state ≡ false → is_migrated_state (image_with epoch r i).state ≡ false
 one_uncommitted epoch r i (inl plain) before = ap is_migrated_state (state_left epoch r i plain) ∙ before
-one_uncommitted epoch r i (inr state) before = ap (λ x. is_migrated_state (applied epoch x i).state) state.1
+one_uncommitted epoch r i (inr state) before = ap (λ x. is_migrated_state (image_with epoch x i).state) state.1
     ∙ ap (λ (j : Image). is_migrated_state j.state) (state_applied epoch state.0 i)
     ∙ state_or_before (int_le (pos 0) state.0 && int_le state.0 (pos 3)) state.0 i state.2 before
 
 all_uncommitted : (es : List Entry) (i : Image) → AllUncommitted es → is_migrated_state i.state ≡ false → is_migrated_state (all_entries_applied es i).state ≡ false
 all_uncommitted [] i all before = before
-all_uncommitted (e ∷ es) i all before = all_uncommitted es (applied e.epoch e.item i) all.1 (one_uncommitted e.epoch e.item i all.0 before)
+all_uncommitted (e ∷ es) i all before = all_uncommitted es (image_with e.epoch e.item i) all.1 (one_uncommitted e.epoch e.item i all.0 before)
 
 pub uncommitted_stays : (l : Log) (epoch now : ℤ) (items : List MetaRecord) → LogShape l → All IsUncommitted items → is_migrated_log l ≡ false → is_migrated_log (with_batch l epoch now items) ≡ false
 uncommitted_stays l epoch now items shape all before =
@@ -264,11 +264,11 @@ find_after at from (e ∷ es) new low up_to =
 
 -- the record of the state counts, as its transaction is ended after it
 commit_counts : (at from later : ℤ) (epoch : ℤ) (es : List Entry) → at ≤ℤ from → AllUpTo at es → (from +ℤ pos 1) ≤ℤ later
-    → is_counted (es ++ numbered from epoch commit_records) later (record { offset = from; epoch = epoch; item = meta.ZkMigrationState (pos 2) }) ≡ true
+    → is_counted (es ++ entries_at_offsets from epoch commit_records) later (record { offset = from; epoch = epoch; item = meta.ZkMigrationState (pos 2) }) ≡ true
 commit_counts at from later epoch es low up_to high =
-    let all = es ++ numbered from epoch commit_records in
+    let all = es ++ entries_at_offsets from epoch commit_records in
     let close : Option Entry = Some (record { offset = from +ℤ pos 1; epoch = epoch; item = meta.EndTransaction }) in
-    let first : first_close all from ≡ close = find_after at from es (numbered from epoch commit_records) low up_to ∙ ap (λ b. cond b close None) (next_less from) in
+    let first : first_close all from ≡ close = find_after at from es (entries_at_offsets from epoch commit_records) low up_to ∙ ap (λ b. cond b close None) (next_less from) in
     ap (λ b. b && true && (not (is_inside all from) || is_ended_by later (first_close all from))) (not_after from later (omega (arith, ints)))
     ∙ ap (λ m. not (is_inside all from) || is_ended_by later m) first
     ∙ ap (λ b. not (is_inside all from) || b) (not_after (from +ℤ pos 1) later high)
@@ -294,12 +294,12 @@ commit_migrates l epoch now shape =
     let es = entries l.batches in
     let from = end_of l +ℤ pos 1 in
     let later = end_of (with_batch l epoch now commit_records) in
-    let all = es ++ numbered from epoch commit_records in
+    let all = es ++ entries_at_offsets from epoch commit_records in
     let test = is_counted all later in
     let x : Entry = record { offset = from; epoch = epoch; item = meta.ZkMigrationState (pos 2) } in
     let y : Entry = record { offset = from +ℤ pos 1; epoch = epoch; item = meta.EndTransaction } in
     let counts = commit_counts (end_of l) from later epoch es (omega (arith, ints)) (up_to_end l shape) (two_more (end_of l) later (end_more l epoch now commit_records)) in
-    ap (λ xs. (all_entries_applied (counted xs later) l.base_image).state) (entries_more l epoch now commit_records)
+    ap (λ xs. (all_entries_applied (counting_records xs later) l.base_image).state) (entries_more l epoch now commit_records)
     ∙ ap (λ xs. (all_entries_applied xs l.base_image).state) (filter-append test es (x ∷ y ∷ []) ∙ ap (λ l. filter test es ++ l) (marker_left test x y counts (no_marker (int_le y.offset later) (not (is_inside all y.offset) || is_ended_by later (first_close all y.offset)))))
     ∙ ap (λ (i : Image). i.state) (applied_append (filter test es) (x ∷ []) l.base_image)
     ∙ ap (λ (i : Image). i.state) (state_applied epoch (pos 2) (all_entries_applied (filter test es) l.base_image))

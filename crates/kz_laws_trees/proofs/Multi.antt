@@ -23,7 +23,7 @@ use Rattle.kz_ordered.specs.Difference.{Edit, drop_key, make, alter, all_edited,
 use Rattle.kz_ordered.proofs.Order.{bytes_order}
 use Rattle.kz_ordered.proofs.Difference.{difference_leads, prefix_leaves_rest}
 use Rattle.kz_spec_values.specs.Control.{control_path, epoch_path, migration_path, shown_epoch, recorded_of, written_recorded}
-use Rattle.kz_spec_stores.specs.Tree.{Tree, path_of_row, row_at, op_refusal, set_refusal, set_row, with_zxid, after_ops, multi, migrated_rows, area, has_offset, is_later, first_path, unclosed_below, unclosed, path_of_rendered}
+use Rattle.kz_spec_stores.specs.Tree.{Tree, path_of_row, row_at, op_refusal, set_refusal, set_row, with_zxid, after_ops, multi, migrated_rows, area, has_offset, is_later, first_path, unclosed_below, unclosed_path, path_of_rendered}
 use Rattle.kz_spec_stores.specs.Image.{Image}
 use Rattle.kz_spec_znodes.specs.Rendering.{render}
 use Rattle.kz_spec_znodes.specs.Difference.{same_body, op_of, diff, chunk}
@@ -266,7 +266,7 @@ found_by : (body : List ℕ) (rows : List Row) (m : Option Row) → row_at migra
 found_by body rows None is pass = absurd (cc)
 found_by body rows (Some r) is pass = (r, is)
 
-pub closed_by : (t : Tree) (m : Row) (rows : List Row) → row_at migration_path t.rows ≡ Some m → has_offset (recorded_of m.body) ≡ true → filter (is_later m.mzxid) (migrated_rows t) ≡ [] → unclosed t ≡ None
+pub closed_by : (t : Tree) (m : Row) (rows : List Row) → row_at migration_path t.rows ≡ Some m → has_offset (recorded_of m.body) ≡ true → filter (is_later m.mzxid) (migrated_rows t) ≡ [] → unclosed_path t ≡ None
 closed_by t m rows is offset none =
     ap (λ x. unclosed_below x (migrated_rows t)) is
     ∙ ap (λ (b : Bool). if b then first_path (filter (is_later m.mzxid) (migrated_rows t)) else Some migration_path) offset

@@ -18,7 +18,7 @@ use Rattle.kz_ordered.specs.Difference.{Edit, all_edited, difference}
 use Rattle.kz_ordered.proofs.Order.{bytes_order}
 use Rattle.kz_ordered.proofs.Difference.{prefix_leaves_rest}
 use Rattle.kz_spec_values.specs.Control.{migration_path, epoch_path, written_recorded}
-use Rattle.kz_spec_stores.specs.Tree.{Tree, row_at, fits_version, Refusal, code, limit, check_refusal, op_refusal, after_op, refused, after_ops, with_zxid, multi, area, path_of_rendered}
+use Rattle.kz_spec_stores.specs.Tree.{Tree, row_at, fits_version, Refusal, code, limit, check_refusal, op_refusal, after_op, rows_unless_refused, after_ops, with_zxid, multi, area, path_of_rendered}
 use Rattle.kz_spec_stores.specs.Image.{Image}
 use Rattle.kz_spec_stores.specs.InOrder.{IsInOrder}
 use Rattle.kz_spec_znodes.specs.Rendering.{render}
@@ -75,7 +75,7 @@ record Follow (sessions : List ℤ) (zxid : ℤ) (rest : List Op) (K : List Row 
   keeps : (o : Op) (rows : List Row) → is_migrated (path_of_op o) ≡ true → K rows → K (after_op zxid o rows)
   taken : (at index : ℕ) (c : ℤ) (rows : List Row) → K rows → after_ops sessions zxid at rest rows ≢ Err (fault.Refused index c)
 
-one_taken : (at index : ℕ) (c : ℤ) (m : Option Refusal) (rest : Result (List Row) TreeFault) → Taken m → (m ≡ None → rest ≢ Err (fault.Refused index c)) → refused at m rest ≢ Err (fault.Refused index c)
+one_taken : (at index : ℕ) (c : ℤ) (m : Option Refusal) (rest : Result (List Row) TreeFault) → Taken m → (m ≡ None → rest ≢ Err (fault.Refused index c)) → rows_unless_refused at m rest ≢ Err (fault.Refused index c)
 one_taken at index c None rest taken later = later refl
 one_taken at index c (Some (code x)) rest taken later = absurd taken
 one_taken at index c (Some (limit n)) rest taken later = λ is. cc
@@ -164,7 +164,7 @@ write_taken t i claim target index c shape bases order current there =
 same_error : {A : Type 0} (e f : TreeFault) → ◌≡◌ {A = Result A TreeFault} (Err e) (Err f) → e ≡ f
 same_error e f is = cc
 
-refused_fails : (index : ℕ) (m : Option Refusal) (rest : Result (List Row) TreeFault) (f : TreeFault) → refused index m rest ≡ Err f → (rest ≡ Err f → IsOfOperation f) → IsOfOperation f
+refused_fails : (index : ℕ) (m : Option Refusal) (rest : Result (List Row) TreeFault) (f : TreeFault) → rows_unless_refused index m rest ≡ Err f → (rest ≡ Err f → IsOfOperation f) → IsOfOperation f
 refused_fails index None rest f is later = later is
 refused_fails index (Some (code c)) rest f is later = subst IsOfOperation (same_error (fault.Refused index c) f is) tt
 refused_fails index (Some (limit n)) rest f is later = subst IsOfOperation (same_error (fault.Limit index n) f is) tt

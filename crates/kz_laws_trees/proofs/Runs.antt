@@ -9,7 +9,7 @@ use Rattle.kz_types.specs.Paths.{is_migrated}
 use Rattle.kz_ordered.specs.Order.{bytes_cmp}
 use Rattle.kz_ordered.specs.Ordered.{Rises}
 use Rattle.kz_ordered.specs.Difference.{Edit, drop_key, make, alter, all_edited}
-use Rattle.kz_spec_stores.specs.Tree.{path_of_row, row_at, after_op, after_ops, refused, Refusal, code, limit, op_refusal, path_of_rendered}
+use Rattle.kz_spec_stores.specs.Tree.{path_of_row, row_at, after_op, after_ops, rows_unless_refused, Refusal, code, limit, op_refusal, path_of_rendered}
 use Rattle.kz_spec_znodes.specs.Difference.{op_of}
 use Rattle.kz_laws_trees.specs.TreeLaws.{path_of_op}
 use Rattle.kz_laws_trees.proofs.Rows.{still, others_kept, op_rises}
@@ -25,7 +25,7 @@ abbrev pub Passes : List ℤ → ℤ → List Op → List Row → Type 0
 Passes sessions zxid [] rows = ⊤
 Passes sessions zxid (o ∷ os) rows = (op_refusal sessions o rows ≡ None) × Passes sessions zxid os (after_op zxid o rows)
 
-not_refused : (index : ℕ) (r : Option Refusal) (rest : Result (List Row) TreeFault) (new : List Row) → refused index r rest ≡ Ok new → (r ≡ None) × (rest ≡ Ok new)
+not_refused : (index : ℕ) (r : Option Refusal) (rest : Result (List Row) TreeFault) (new : List Row) → rows_unless_refused index r rest ≡ Ok new → (r ≡ None) × (rest ≡ Ok new)
 not_refused index None rest new is = (refl, is)
 not_refused index (Some (code c)) rest new is = absurd (cc)
 not_refused index (Some (limit n)) rest new is = absurd (cc)

@@ -17,7 +17,7 @@ use Rattle.kz_spec_stores.specs.Tree.{Tree, path_of_row, row_at, after_set, afte
 use Rattle.kz_spec_stores.specs.Image.{Image}
 use Rattle.kz_spec_znodes.specs.Rendering.{render}
 use Rattle.kz_spec_znodes.specs.Difference.{diff, chunk}
-use Rattle.kz_spec_machine.specs.Driver.{Driver, shown_by, epoch_or_zero, views_migrated, unrecorded, is_last_write, record_ops, write_ops, epoch_op, control_ops, migration_ops, base_ops, claim_ops}
+use Rattle.kz_spec_machine.specs.Driver.{Driver, shown_by, epoch_or_zero, views_migrated, record_before_offsets, is_last_write, record_ops, write_ops, epoch_op, control_ops, migration_ops, base_ops, claim_ops}
 use Rattle.kz_spec_machine.specs.Machine.{is_reserved, is_held_tree, client_refusal}
 use Rattle.kz_spec_machine.specs.Sound.{TreeShape, shown_in}
 use Rattle.kz_laws_trees.specs.RefusalLaws.{HasMigration, HeldHasMigration}
@@ -52,7 +52,7 @@ claim_makes : (t new : Tree) (seen : ClaimSeen) (d : Driver) (now : ℤ) → vie
 claim_makes t new seen d now unmigrated m =
     let zxid = t.zxid +ℤ pos 1 in
     let controls = control_ops seen.control (written_control d.id (epoch_or_zero d.epoch) now) in
-    let recording = migration_ops (views_migrated d) seen.migration (written_recorded (unrecorded d)) in
+    let recording = migration_ops (views_migrated d) seen.migration (written_recorded (record_before_offsets d)) in
     let bases = base_ops seen.bases base_paths in
     let first = after_op zxid (epoch_op seen.epoch) t.rows in
     let second = ran zxid controls first in
@@ -60,7 +60,7 @@ claim_makes t new seen d now unmigrated m =
     let passes = passes_left t.sessions zxid recording bases second (passes_right t.sessions zxid controls (recording ++ bases) first m.passes.1) in
     ap (λ rows. is_some (row_at migration_path rows)) (m.rows ∙ ran_append zxid controls (recording ++ bases) first ∙ ran_append zxid recording bases second)
     ∙ some_alike (row_at migration_path (ran zxid bases third)) (row_at migration_path third) (ran_keeps zxid migration_path bases third (base_avoids migration_path seen.bases base_paths migration_no_base))
-    ∙ recording_makes t.sessions zxid (views_migrated d) seen.migration (written_recorded (unrecorded d)) second unmigrated passes
+    ∙ recording_makes t.sessions zxid (views_migrated d) seen.migration (written_recorded (record_before_offsets d)) second unmigrated passes
 
 claim_by : (t new : Tree) (seen : ClaimSeen) (d : Driver) (now : ℤ) (b : Bool) → views_migrated d ≡ b → Ran t new (claim_ops seen d now) → (b ≡ true → HasMigration t) → HasMigration new
 claim_by t new seen d now true is m there = stays_alike t new (migration_alike t new (claim_ops seen d now) m (claim_avoids seen d now is)) (there refl)

@@ -20,7 +20,7 @@ use Rattle.kz_types.specs.Paths.{kind_of, key_of}
 use Rattle.kz_spec_values.specs.Bodies.{read_body, are_some_of}
 use Rattle.kz_spec_stores.specs.Image.{empty_image, all_applied}
 use Rattle.kz_spec_znodes.specs.Rendering.{Excess, excess}
-use Rattle.kz_spec_znodes.specs.Translation.{Translated, RowRecords, row_of, leader_of, partition_record, is_taken, topic_records, records_of_topic, assigned, may_lead, records_of_state, records_if_assigned, broker_name, config_record, config_records, records_of_config, records_if_there, quota_record, scram_record, scram_records, records_of_quotas, acl_record, acl_records, count_of_entries, records_of_acls, max_block_end, records_of_producer, records_of, entity_records, records_by_kind, row_records, joined, records_after, all_records, further_records, bounded, within_limits, translate}
+use Rattle.kz_spec_znodes.specs.Translation.{Translated, RowRecords, row_of, leader_of, partition_record, is_taken, topic_records, records_of_topic, assignment_at, may_lead, records_of_state, records_if_assigned, broker_name, config_record, config_records, records_of_config, records_if_there, quota_record, scram_record, scram_records, records_of_quotas, acl_record, acl_records, count_of_entries, records_of_acls, max_block_end, records_of_producer, records_of, entity_records, records_by_kind, row_records, records_then, records_after, all_records, further_records, records_unless_excess, within_limits, translate}
 use Rattle.kz_spec_machine.specs.Sound.{IsTranslated}
 
 abbrev Gives : {E : Type 0} → Result (List MetaRecord) E → Type 0
@@ -134,7 +134,7 @@ producer_gives (Ok body.Blank) = nothing
 
 key_gives : (rows earlier : List Row) (k : EntityKey) (read : Result Body BodyFault) → Gives (records_of rows earlier k read)
 key_gives rows earlier (key.Topic name) read = topic_gives rows earlier name read
-key_gives rows earlier (key.Partition topic number) read = assigned_gives (assigned topic number rows) read
+key_gives rows earlier (key.Partition topic number) read = assigned_gives (assignment_at topic number rows) read
 key_gives rows earlier (key.TopicConfig name) read = there_gives (row_of (key.Topic name) rows) name read
 key_gives rows earlier (key.BrokerConfig broker) read = config_gives (pos 4) (broker_name broker) read
 key_gives rows earlier (key.Client client) read = quotas_give (key.Client client) read
@@ -159,7 +159,7 @@ kind_gives rows earlier kind.Control r = nothing
 kind_gives rows earlier kind.Reserved r = nothing
 kind_gives rows earlier kind.Outside r = nothing
 
-joined_gives : (path : List ℕ) (r : RowRecords) (rest : Translated) → Gives r → Gives rest → Gives (joined path r rest)
+joined_gives : (path : List ℕ) (r : RowRecords) (rest : Translated) → Gives r → Gives rest → Gives (records_then path r rest)
 joined_gives path (Err w) rest first second = tt
 joined_gives path (Ok rs) (Ok more) first second = All-append IsTranslated rs more first second
 joined_gives path (Ok rs) (Err e) first second = tt
@@ -168,7 +168,7 @@ after_gives : (rows earlier rest : List Row) → Gives (records_after rows earli
 after_gives rows earlier [] = nothing
 after_gives rows earlier (r ∷ rest) = joined_gives r.path (row_records rows earlier r) (records_after rows (earlier ++ r ∷ []) rest) (kind_gives rows earlier (kind_of r.path) r) (after_gives rows (earlier ++ r ∷ []) rest)
 
-bounded_gives : (x : Option Excess) (rs : List MetaRecord) → All IsTranslated rs → Gives (bounded x rs)
+bounded_gives : (x : Option Excess) (rs : List MetaRecord) → All IsTranslated rs → Gives (records_unless_excess x rs)
 bounded_gives (Some e) rs all = tt
 bounded_gives None rs all = unless_true (nat_lt MAX_RECORDS (length rs + further_records)) (Ok rs) _ all
 

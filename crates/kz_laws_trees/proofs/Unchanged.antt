@@ -3,7 +3,7 @@ use Rattle.std.proofs.Common.{◌≡◌, ℕ, List, Option, Some, None, option_m
 use Rattle.std.specs.Prelude.{option_and_then}
 use Rattle.kz_types.specs.declared.tree.Row.{Row}
 use Rattle.kz_spec_values.specs.Control.{epoch_path, migration_path, recorded_of}
-use Rattle.kz_spec_stores.specs.Tree.{Tree, row_at, migrated_rows, recorded, unclosed_below}
+use Rattle.kz_spec_stores.specs.Tree.{Tree, row_at, migrated_rows, migration_record, unclosed_below}
 use Rattle.kz_spec_machine.specs.Sound.{shown_in}
 use Rattle.kz_laws_trees.specs.TreeLaws.{Unchanged}
 use Rattle.kz_laws_trees.proofs.Rows.{still}
@@ -14,7 +14,7 @@ use Rattle.kz_laws_trees.proofs.Beside.{recorded_still}
 abbrev pub Alike : List Row → List Row → List ℕ → Type 0
 Alike old new p = option_map still (row_at p new) ≡ option_map still (row_at p old)
 
-pub recorded_alike : (t new : Tree) → Alike t.rows new.rows migration_path → recorded new ≡ recorded t
+pub recorded_alike : (t new : Tree) → Alike t.rows new.rows migration_path → migration_record new ≡ migration_record t
 recorded_alike t new alike = sym (recorded_still (row_at migration_path new.rows)) ∙ ap (option_and_then (λ (r : Row). recorded_of r.body)) alike ∙ recorded_still (row_at migration_path t.rows)
 
 unclosed_still : (m : Option Row) (rows : List Row) → unclosed_below (option_map still m) rows ≡ unclosed_below m rows

@@ -11,11 +11,11 @@ use Rattle.kz_types.specs.Paths.{is_migrated}
 use Rattle.kz_ordered.specs.Order.{bytes_cmp}
 use Rattle.kz_ordered.specs.Difference.{all_edited, difference}
 use Rattle.kz_spec_values.specs.Control.{control_path, shown_epoch, recorded_of, written_recorded}
-use Rattle.kz_spec_stores.specs.Tree.{Tree, created_row, multi, begin_session, end_session, migrated_rows, area, recorded, has_offset, unclosed, path_of_rendered}
+use Rattle.kz_spec_stores.specs.Tree.{Tree, created_row, multi, begin_session, end_session, migrated_rows, area, migration_record, has_offset, unclosed_path, path_of_rendered}
 use Rattle.kz_spec_stores.specs.Image.{Image}
 use Rattle.kz_spec_znodes.specs.Rendering.{render}
 use Rattle.kz_spec_znodes.specs.Difference.{same_body, diff}
-use Rattle.kz_spec_machine.specs.Driver.{Driver, epoch_or_zero, views_migrated, unrecorded, is_last_write, write_ops, claimed_version, claim_ops}
+use Rattle.kz_spec_machine.specs.Driver.{Driver, epoch_or_zero, views_migrated, record_before_offsets, is_last_write, write_ops, claimed_version, claim_ops}
 use Rattle.kz_spec_machine.specs.Machine.{is_held_tree, client_refusal}
 use Rattle.kz_spec_machine.specs.Sound.{IsNotRoot, IsUnreserved, Lasts, TreeShape, claim_version, shown_in, IsSession, IsLawfulOp}
 use Rattle.kz_laws_values.specs.Ranges.{IsLong, IsEpoch}
@@ -87,8 +87,8 @@ WriteKeepsShown = (t new : Tree) (i : Image) (claim : ℤ) (target : Recorded) �
 -- The area is what the image renders, what is recorded is what this body says, and if that is an offset the tree is closed.
 pub record Completed (new : Tree) (i : Image) (body : List ℕ) : Type 0 where
   pub area : area new ≡ render i
-  pub recorded : recorded new ≡ recorded_of body
-  pub closed : has_offset (recorded_of body) ≡ true → unclosed new ≡ None
+  pub recorded : migration_record new ≡ recorded_of body
+  pub closed : has_offset (recorded_of body) ≡ true → unclosed_path new ≡ None
 
 -- The last write completes the area.
 abbrev pub LastWriteCompletes : Type 0
@@ -98,7 +98,7 @@ LastWriteCompletes = (t new : Tree) (i : Image) (claim : ℤ) (target : Recorded
 -- A write that isn't the last leaves what is recorded, and the tree unclosed.
 abbrev pub EarlierWriteUnclosed : Type 0
 EarlierWriteUnclosed = (t new : Tree) (i : Image) (claim : ℤ) (target : Recorded) → TreeShape t → is_last_write (diff (area t) (render i)) ≡ false → IsWritten t new i claim target
-    → (recorded new ≡ recorded t) × (unclosed new ≢ None)
+    → (migration_record new ≡ migration_record t) × (unclosed_path new ≢ None)
 
 -- ---- a claim
 
@@ -114,9 +114,9 @@ ClaimShowsEpoch = (t new : Tree) (seen : ClaimSeen) (d : Driver) (now : ℤ) →
 
 -- What is recorded and the migrated area stay, and a tree that is closed then was closed before.
 pub record Left (t new : Tree) : Type 0 where
-  pub recorded : recorded new ≡ recorded t
+  pub recorded : migration_record new ≡ migration_record t
   pub area : area new ≡ area t
-  pub closed : unclosed new ≡ None → unclosed t ≡ None
+  pub closed : unclosed_path new ≡ None → unclosed_path t ≡ None
 
 -- A claim of a driver that knows a migrated log leaves the area and what is recorded.
 abbrev pub ClaimLeavesArea : Type 0
@@ -124,7 +124,7 @@ ClaimLeavesArea = (t new : Tree) (seen : ClaimSeen) (d : Driver) (now : ℤ) →
 
 -- Every other claim records that there is no offset yet.
 abbrev pub ClaimRecordsNone : Type 0
-ClaimRecordsNone = (t new : Tree) (seen : ClaimSeen) (d : Driver) (now : ℤ) → views_migrated d ≡ false → multi t (claim_ops seen d now) ≡ Ok new → recorded new ≡ recorded_of (written_recorded (unrecorded d))
+ClaimRecordsNone = (t new : Tree) (seen : ClaimSeen) (d : Driver) (now : ℤ) → views_migrated d ≡ false → multi t (claim_ops seen d now) ≡ Ok new → migration_record new ≡ recorded_of (written_recorded (record_before_offsets d))
 
 -- ---- ZooKeeper clients
 
@@ -132,8 +132,8 @@ ClaimRecordsNone = (t new : Tree) (seen : ClaimSeen) (d : Driver) (now : ℤ) �
 -- version of `/controller_epoch`, and the epoch that `/controller` shows.
 pub record Unchanged (t new : Tree) : Type 0 where
   pub rows : migrated_rows new ≡ migrated_rows t
-  pub recorded : recorded new ≡ recorded t
-  pub unclosed : unclosed new ≡ unclosed t
+  pub recorded : migration_record new ≡ migration_record t
+  pub unclosed : unclosed_path new ≡ unclosed_path t
   pub version : claim_version new ≡ claim_version t
   pub shown : shown_in new ≡ shown_in t
 
@@ -151,7 +151,7 @@ ClientKeepsShape = (t new : Tree) (ops : List Op) → multi t ops ≡ Ok new →
 
 -- It leaves what is recorded.
 abbrev pub ClientLeavesRecorded : Type 0
-ClientLeavesRecorded = (t new : Tree) (ops : List Op) → multi t ops ≡ Ok new → client_refusal t ops ≡ None → recorded new ≡ recorded t
+ClientLeavesRecorded = (t new : Tree) (ops : List Op) → multi t ops ≡ Ok new → client_refusal t ops ≡ None → migration_record new ≡ migration_record t
 
 -- While a KRaft controller holds the tree, it leaves all that a driver rests on.
 abbrev pub ClientLeavesHeld : Type 0

@@ -8,13 +8,13 @@ use Rattle.kz_ordered.specs.Order.{TotalOrder}
 use Rattle.kz_ordered.specs.Ordered.{Rises, AllBelow}
 use Rattle.kz_ordered.proofs.Append.{below_split}
 use Rattle.kz_spec_stores.specs.Metadata.{Image}
-use Rattle.kz_spec_stores.specs.Image.{effect, unless_broken, applied, all_applied}
-use Rattle.kz_spec_stores.specs.ImageRules.{is_misnamed, lacks, repeats, is_misvalued, is_kept_back, broken, refused}
+use Rattle.kz_spec_stores.specs.Image.{effect, unless_broken, image_with, all_applied}
+use Rattle.kz_spec_stores.specs.ImageRules.{is_misnamed, lacks, repeats, is_misvalued, is_kept_back, broken, rule_against}
 
 -- each of these records is accepted, in batches of this epoch
 abbrev pub Accepted : ℤ → List MetaRecord → Image → Type 0
 Accepted epoch [] i = ⊤
-Accepted epoch (r ∷ rs) i = (refused i r ≡ None) × Accepted epoch rs (applied epoch r i)
+Accepted epoch (r ∷ rs) i = (rule_against i r ≡ None) × Accepted epoch rs (image_with epoch r i)
 
 -- Each of these records is accepted, and together they make the second metadata of the first.
 pub record Leads (epoch : ℤ) (rs : List MetaRecord) (i j : Image) : Type 0 where
@@ -33,7 +33,7 @@ unbroken : (i : Image) (r : MetaRecord) → Keeps i r → broken i r ≡ None
 unfolding broken
 unbroken i r k = rw (k.named, k.there, k.new, k.valued) refl
 
-unrefused : (i : Image) (r : MetaRecord) → Keeps i r → refused i r ≡ None
+unrefused : (i : Image) (r : MetaRecord) → Keeps i r → rule_against i r ≡ None
 unrefused i r k = ap (λ b. if b then Some NotAllowed else broken i r) k.plain ∙ unbroken i r k
 
 pub leads_one : (epoch : ℤ) (i : Image) (r : MetaRecord) → Keeps i r → Leads epoch (r ∷ []) i (effect epoch r i)
@@ -44,11 +44,11 @@ leads_none epoch i = record { accepted = tt; made = refl }
 
 applied_append : (epoch : ℤ) (rs ss : List MetaRecord) (i : Image) → all_applied epoch (rs ++ ss) i ≡ all_applied epoch ss (all_applied epoch rs i)
 applied_append epoch [] ss i = refl
-applied_append epoch (r ∷ rs) ss i = applied_append epoch rs ss (applied epoch r i)
+applied_append epoch (r ∷ rs) ss i = applied_append epoch rs ss (image_with epoch r i)
 
 accepted_append : (epoch : ℤ) (rs ss : List MetaRecord) (i : Image) → Accepted epoch rs i → Accepted epoch ss (all_applied epoch rs i) → Accepted epoch (rs ++ ss) i
 accepted_append epoch [] ss i a b = b
-accepted_append epoch (r ∷ rs) ss i a b = (a.0, accepted_append epoch rs ss (applied epoch r i) a.1 b)
+accepted_append epoch (r ∷ rs) ss i a b = (a.0, accepted_append epoch rs ss (image_with epoch r i) a.1 b)
 
 pub leads_append : (epoch : ℤ) (rs ss : List MetaRecord) (i j k : Image) → Leads epoch rs i j → Leads epoch ss j k → Leads epoch (rs ++ ss) i k
 leads_append epoch rs ss i j k a b = record {

@@ -39,7 +39,7 @@ use Rattle.kz_spec_stores.specs.ImageRules.{is_empty, is_epoch}
 use Rattle.kz_spec_stores.specs.InOrder.{IsInOrder}
 use Rattle.kz_spec_stores.specs.Legal.{IsMember, IsConfiguration}
 use Rattle.kz_spec_znodes.specs.Rendering.{topic_znode, assignment_of, state_body, quotas_of_user, acl_key, render}
-use Rattle.kz_spec_znodes.specs.Translation.{row_of, body_of_row, is_topic_with, is_taken, topic_records, number_of_assignment, assignments_in, assigned, may_lead, leader_of, records_if_assigned, config_record, config_records, records_if_there, scram_records, quota_record, bad_field, max_block_end, records_of_producer, broker_name, acl_records, count_of_entries, records_of, entity_records, records_by_kind, row_records, joined, records_after, all_records}
+use Rattle.kz_spec_znodes.specs.Translation.{row_of, body_of_row, is_topic_with, is_taken, topic_records, number_of_assignment, assignments_in, assignment_at, may_lead, leader_of, records_if_assigned, config_record, config_records, records_if_there, scram_records, quota_record, bad_field, max_block_end, records_of_producer, broker_name, acl_records, count_of_entries, records_of, entity_records, records_by_kind, row_records, records_then, records_after, all_records}
 use Rattle.kz_laws_bodies.specs.Readable.{AreBrokers}
 use Rattle.kz_laws_znodes.specs.RoundTrip.{new_znode, znodes_of, IsWritable, HasRoom, MayReturn}
 use Rattle.kz_laws_znodes.proofs.Within.{from_map}
@@ -130,7 +130,7 @@ all_ok rows earlier [] whole h = ([], refl)
 all_ok rows earlier (r ∷ todo) whole h =
     let one = h earlier r todo whole in
     let rest = all_ok rows (earlier ++ r ∷ []) todo (whole ∙ sym (append_assoc earlier (r ∷ []) todo)) h in
-    (one.0 ++ rest.0, (λ j. joined r.path (one.1 j) (rest.1 j)))
+    (one.0 ++ rest.0, (λ j. records_then r.path (one.1 j) (rest.1 j)))
 
 module _ (i : Image) (o : IsInOrder i) (w : IsWritable i) (m : MayReturn i) where
   abbrev rows : List Row
@@ -224,11 +224,11 @@ module _ (i : Image) (o : IsInOrder i) (w : IsWritable i) (m : MayReturn i) wher
         ap (λ z. is_topic_with t.id (body_of_row z)) x.is
         ∙ other_id t has x.source x.shows (λ e. earlier_differs y here (ap (λ (z : Row). z.path) x.is ∙ e ∙ sym at)))
 
-    state_ok : (t : TopicEntry) (p : PartitionEntry) → Contains i.topics t → Contains t.partitions p → records_if_assigned (assigned t.name p.number rows) (Ok (state_body p.row)) ≡ Ok []
+    state_ok : (t : TopicEntry) (p : PartitionEntry) → Contains i.topics t → Contains t.partitions p → records_if_assigned (assignment_at t.name p.number rows) (Ok (state_body p.row)) ≡ Ok []
     state_ok t p has within =
         let f = partition_facts i o w t p has within in
         let g : RowFacts p.row = facts p f in
-        let there : assigned t.name p.number rows ≡ Some (assignment_of p) =
+        let there : assignment_at t.name p.number rows ≡ Some (assignment_of p) =
         ap (λ y. find int_cmp number_of_assignment p.number (assignments_in (option_and_then body_of_row y))) (topic_row t has)
         ∙ ap (λ b. find int_cmp number_of_assignment p.number (assignments_in b)) (body_of_held (topic_znode t) (key.Topic t.name) (body.Topic t.id (map assignment_of t.partitions)) (topic_held i o w t has))
         ∙ find-map int_cmp number_of_partition number_of_assignment assignment_of (λ q. refl) p.number t.partitions

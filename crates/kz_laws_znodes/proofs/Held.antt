@@ -30,7 +30,7 @@ use Rattle.kz_ordered.specs.Order.{bytes_cmp}
 use Rattle.kz_ordered.specs.Ordered.{find, Rises}
 use Rattle.kz_ordered.proofs.Order.{bytes_order}
 use Rattle.kz_ordered.proofs.Lookup.{found_is_contained, key_of_found, Contains-head, Contains-tail}
-use Rattle.kz_spec_values.specs.Bodies.{read_body, empty_body, written, is_of_kind}
+use Rattle.kz_spec_values.specs.Bodies.{read_body, empty_body, text_of_body, is_of_kind}
 use Rattle.kz_spec_stores.specs.Metadata.{Image, path_of_quotas, mechanism_of_pair}
 use Rattle.kz_spec_stores.specs.Image.{quotas_in}
 use Rattle.kz_spec_stores.specs.ImageRules.{is_broker_name}
@@ -64,7 +64,7 @@ pub record IsHeld (r : Rendered) (k : EntityKey) (b : Body) : Type 0 where
   pub read : read_body k r.body ≡ Ok b
 
 -- the znode of a key that may not be too long
-held : (k : EntityKey) (b : Body) → IsGoodKey k → (may_be_long k ≡ true → has_path k ≡ true) → read_body k (written b) ≡ Ok b → IsHeld (znode k b) k b
+held : (k : EntityKey) (b : Body) → IsGoodKey k → (may_be_long k ≡ true → has_path k ≡ true) → read_body k (text_of_body b) ≡ Ok b → IsHeld (znode k b) k b
 held k b good fits read = record { keyed = path_holds k good.0 good.1; placed = refl; good = good; fits = λ long. inl (fits long); read = read }
 
 never_long : (k : EntityKey) → may_be_long k ≡ false → may_be_long k ≡ true → has_path k ≡ true

@@ -19,7 +19,7 @@ use Rattle.kz_ordered.specs.Ordered.{find, put, all_put, Rises}
 use Rattle.kz_ordered.proofs.Order.{bytes_order}
 use Rattle.kz_ordered.proofs.Lookup.{some_is_none, found_is_contained, key_of_found, find-put_other, same_items, Contains-head, Contains-tail, Contains-nil, Contains-cons_cases}
 use Rattle.kz_ordered.proofs.Puts.{Rises-all_put, all_put-append}
-use Rattle.kz_spec_values.specs.Bodies.{written}
+use Rattle.kz_spec_values.specs.Bodies.{text_of_body}
 use Rattle.kz_spec_stores.specs.Tree.{path_of_rendered}
 use Rattle.kz_spec_stores.specs.Metadata.{Image}
 use Rattle.kz_spec_stores.specs.InOrder.{IsInOrder}
@@ -70,7 +70,7 @@ module _ {A K : Type 0} {cmp : K → K → Ordering} (o : TotalOrder cmp) (key :
 
 -- the znode of the entries of a resource
 abbrev resource_znode : List AclEntry → List ℕ → Rendered
-resource_znode acls path = record { path = path; body = written (body.Acls (rows_on acls path)) }
+resource_znode acls path = record { path = path; body = text_of_body (body.Acls (rows_on acls path)) }
 
 path_of_znode : (acls : List AclEntry) (a : AclEntry) → acl_znode acls a ≡ resource_znode acls (path_of (acl_key a.row))
 path_of_znode acls a = refl
@@ -105,7 +105,7 @@ entries_alike one other same base rise = same_items bytes_order path_of_rendered
         → ((a : AclEntry) × Contains other a × (path_of (acl_key a.row) ≡ path)) ⊎ ((a : AclEntry) → Contains other a → path_of (acl_key a.row) ≢ path)
         → find bytes_cmp path_of_rendered path (all_put bytes_cmp path_of_rendered (map (acl_znode one) one) base) ≡ find bytes_cmp path_of_rendered path (all_put bytes_cmp path_of_rendered (map (acl_znode other) other) base)
     by path (inl a) (inl b) =
-        resource_found one base path a.0 a.1 a.2 ∙ ap (λ es. Some (record { path = path; body = written (body.Acls es) })) (on path a.0.row a.2) ∙ sym (resource_found other base path b.0 b.1 b.2)
+        resource_found one base path a.0 a.1 a.2 ∙ ap (λ es. Some (record { path = path; body = text_of_body (body.Acls es) })) (on path a.0.row a.2) ∙ sym (resource_found other base path b.0 b.1 b.2)
     by path (inl a) (inr none) = absurd (let b = one_on path other (λ e. some_on path one a.0 a.1 a.2 (on path a.0.row a.2 ∙ e)) in none b.0 b.1 b.2)
     by path (inr none) (inl b) = absurd (let a = one_on path one (λ e. some_on path other b.0 b.1 b.2 (sym (on path b.0.row b.2) ∙ e)) in none a.0 a.1 a.2)
     by path (inr none) (inr others) = resource_missing one base path none ∙ sym (resource_missing other base path others)

@@ -6,12 +6,12 @@ use Rattle.kz_types.specs.declared.limits.TheConstants.{MAX_CHUNK}
 use Rattle.kz_types.specs.declared.tree.Rendered.{Rendered}
 use Rattle.kz_ordered.specs.Order.{bytes_cmp}
 use Rattle.kz_ordered.specs.Ordered.{Rises}
-use Rattle.kz_ordered.specs.Difference.{DecidesEqual, Edit, drop_key, make, alter, edited, all_edited, difference}
+use Rattle.kz_ordered.specs.Difference.{DecidesEqual, Edit, drop_key, make, alter, after_edit, all_edited, difference}
 use Rattle.kz_ordered.proofs.Order.{bytes_order}
 use Rattle.kz_ordered.proofs.Difference.{difference_leads, prefix_leaves_rest}
 use Rattle.kz_spec_stores.specs.Tree.{path_of_rendered}
 use Rattle.kz_spec_znodes.specs.Difference.{same_body, op_of, diff, chunk}
-use Rattle.kz_laws_znodes.specs.Operations.{made, all_made}
+use Rattle.kz_laws_znodes.specs.Operations.{after_operation, all_made}
 
 decides_body : DecidesEqual path_of_rendered same_body
 decides_body = record {
@@ -31,14 +31,14 @@ apply = all_edited bytes_cmp path_of_rendered
 abbrev between : List Rendered → List Rendered → Edits
 between = difference bytes_cmp path_of_rendered same_body
 
-edit_is_made : (e : Edit Rendered (List ℕ)) (znodes : List Rendered) → made (op_of e) znodes ≡ edited bytes_cmp path_of_rendered e znodes
+edit_is_made : (e : Edit Rendered (List ℕ)) (znodes : List Rendered) → after_operation (op_of e) znodes ≡ after_edit bytes_cmp path_of_rendered e znodes
 edit_is_made (drop_key path) znodes = refl
 edit_is_made (make r) znodes = refl
 edit_is_made (alter r) znodes = refl
 
 edits_are_made : (es : Edits) (znodes : List Rendered) → all_made (map op_of es) znodes ≡ apply es znodes
 edits_are_made [] znodes = refl
-edits_are_made (e ∷ es) znodes = ap (all_made (map op_of es)) (edit_is_made e znodes) ∙ edits_are_made es (edited bytes_cmp path_of_rendered e znodes)
+edits_are_made (e ∷ es) znodes = ap (all_made (map op_of es)) (edit_is_made e znodes) ∙ edits_are_made es (after_edit bytes_cmp path_of_rendered e znodes)
 
 pub difference_is_made : (have want : List Rendered) → Rises bytes_cmp path_of_rendered have → Rises bytes_cmp path_of_rendered want → all_made (diff have want) have ≡ want
 unfolding diff

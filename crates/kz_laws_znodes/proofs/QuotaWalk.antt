@@ -17,7 +17,7 @@ use Rattle.kz_types.specs.declared.key.EntityKey.TheVariants as key
 use Rattle.kz_types.specs.declared.record.MetaRecord.{MetaRecord}
 use Rattle.kz_types.specs.declared.record.RegisterBrokerRecord.{RegisterBrokerRecord}
 use Rattle.kz_types.specs.PathRule.{is_path, parts, is_part}
-use Rattle.kz_types.specs.Paths.{is_legal, has_path, key_of, path_of, sanitised, restored}
+use Rattle.kz_types.specs.Paths.{is_legal, has_path, key_of, path_of, part_for_name, name_of_part}
 use Rattle.kz_types.proofs.PathRules.{parts_are_legal}
 use Rattle.kz_types.proofs.NumberLemmas.{bytes_eq-true}
 use Rattle.kz_ordered.specs.Order.{bytes_cmp}
@@ -51,12 +51,12 @@ all_allowed k fits (q ∷ qs) h = All-cons (IsAllowed k) q qs (record { named = 
 no_quotas : (quotas : List QuotaRow) (scrams : List ScramPair) → ◌≡◌ {A = Result Body BodyFault} (Ok (body.Quota quotas scrams)) (Ok (body.Quota [] [])) → (quotas ≡ []) × (scrams ≡ [])
 no_quotas quotas scrams e = (cc, cc)
 
-user_part : (name other : List ℕ) → path_of (key.User (Some name)) ≡ path_of (key.User (Some other)) → sanitised name ≡ sanitised other
+user_part : (name other : List ℕ) → path_of (key.User (Some name)) ≡ path_of (key.User (Some other)) → part_for_name name ≡ part_for_name other
 unfolding path_of
-user_part name other e = same_after (codes "/config/users/") (sanitised name) (sanitised other) e
+user_part name other e = same_after (codes "/config/users/") (part_for_name name) (part_for_name other) e
 
 pub same_user : (name other : List ℕ) → is_utf8 name ≡ true → is_utf8 other ≡ true → path_of (key.User (Some name)) ≡ path_of (key.User (Some other)) → name ≡ other
-same_user name other text also e = same_some name other (sym (name_is_read name text) ∙ ap restored (user_part name other e) ∙ name_is_read other also)
+same_user name other text also e = same_some name other (sym (name_is_read name text) ∙ ap name_of_part (user_part name other e) ∙ name_is_read other also)
 
 user_is_named : (name : List ℕ) → IsGoodKey (key.User (Some name)) → is_empty name ≡ false
 unfolding is_legal
@@ -69,7 +69,7 @@ user_fits name h = h
 
 -- no part of a path is one of dots
 no_dots : (name : List ℕ) → is_path (path_of (key.User (Some name))) ≡ true → is_dots name ≡ false
-unfolding path_of sanitised
+unfolding path_of part_for_name
 no_dots name rule = by (bytes_eq name (codes ".")) (bytes_eq name (codes "..")) refl refl
   where
     by : (one two : Bool) → bytes_eq name (codes ".") ≡ one → bytes_eq name (codes "..") ≡ two → one || two ≡ false

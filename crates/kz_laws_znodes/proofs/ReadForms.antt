@@ -6,7 +6,7 @@ use Rattle.std.proofs.lemmas.Int.{ints}
 use Rattle.serde_json.specs.Data.{Data, null, boolean, number, string, array, object, Items, no_items, item, Members, no_members, member}
 use Rattle.serde_json.specs.Find.{get, as_number, as_i64, as_array, as_str}
 use Rattle.kz_types.specs.declared.fault.BodyFault.{BodyFault}
-use Rattle.kz_spec_values.specs.Bodies.{then_read, of_form, required, optional, field, greatest, within, whole, brokers_in, brokers_of, texts_in, texts_of, pairs_of}
+use Rattle.kz_spec_values.specs.Bodies.{then_read, of_form, required_member, optional, field, greatest, within, whole, brokers_in, brokers_of, texts_in, texts_of, pairs_of}
 use Rattle.kz_laws_values.specs.Ranges.{IsBetween}
 use Rattle.kz_laws_bodies.specs.Readable.{IsWhole, AreBrokers, IsBelow, AreRising}
 use Rattle.kz_laws_bodies.proofs.Members.{Rise, IsUnder}
@@ -31,7 +31,7 @@ form_holds : {A : Type 0} (P : A → Type 0) (name : List ℕ) (o : Option A) �
 form_holds P name None h = tt
 form_holds P name (Some a) h = h
 
-required_holds : {A : Type 0} (P : A → Type 0) (name : List ℕ) (form : Data → Option A) (o : Option Data) → ((d : Data) → IsSorted d → IfSome (form d) P) → IfSome o IsSorted → Holds P (required name form o)
+required_holds : {A : Type 0} (P : A → Type 0) (name : List ℕ) (form : Data → Option A) (o : Option Data) → ((d : Data) → IsSorted d → IfSome (form d) P) → IfSome o IsSorted → Holds P (required_member name form o)
 required_holds P name form None so s = tt
 required_holds P name form (Some d) so s = form_holds P name (form d) (so d s)
 

@@ -9,7 +9,7 @@ use Rattle.std.proofs.lemmas.Option.{IfSome_then}
 use Rattle.std.proofs.lemmas.Int.{ints}
 use Rattle.kz_types.specs.Numbers.{canonical}
 use Rattle.kz_types.specs.Quotas.{is_quota}
-use Rattle.kz_spec_quotas.specs.Quotas.{Numeral, numeral_of, digits_of, scale_of, scaled, quota_of_millionths, quota_of_numeral, quota_of}
+use Rattle.kz_spec_quotas.specs.Quotas.{Numeral, numeral_of, digits_of, scale_of, in_millionths, quota_of_millionths, quota_of_numeral, quota_of}
 use Rattle.kz_types.proofs.NumberLemmas.{bytes_eq-true}
 use Rattle.kz_types.specs.declared.row.QuotaValue.{QuotaValue}
 use Rattle.kz_types.specs.declared.row.ScramRow.{ScramRow}
@@ -25,7 +25,7 @@ use Rattle.kz_types.specs.declared.key.EntityKey.TheVariants as key
 use Rattle.kz_ordered.specs.Order.{bytes_cmp}
 use Rattle.kz_ordered.specs.Ordered.{Rises, RisesAbove}
 use Rattle.kz_ordered.proofs.Order.{bytes_order}
-use Rattle.kz_spec_values.specs.Credentials.{Entries, quota_keys, mechanism_of, mechanism_name, credential_key, value_of, bytes_of, credential_of, iterations_of, credential_of_pieces, credential_entry, quota_entry, entry_by, entry_of, joined, both, entries_of}
+use Rattle.kz_spec_values.specs.Credentials.{Entries, quota_keys, mechanism_of, mechanism_name, credential_key, value_of, bytes_of, credential_of, iterations_of, credential_of_pieces, credential_entry, quota_entry, entry_by, entry_of, entries_of_both, both, entries_of}
 use Rattle.kz_types.specs.Paths.{is_among}
 use Rattle.kz_spec_stores.specs.Metadata.{key_of_quota, mechanism_of_pair}
 use Rattle.kz_laws_bodies.specs.Readable.{IsBelow, AreRising}
@@ -90,7 +90,7 @@ millionths_hold (Some n) = by (nat_le (n / 1000000) 9223372036854775807)
 
 numeral_holds : (r : Result Numeral ℕ) → Holds (λ v. is_quota v ≡ true) (quota_of_numeral r)
 numeral_holds (Err at) = tt
-numeral_holds (Ok n) = millionths_hold (scaled (digits_of n) (scale_of n))
+numeral_holds (Ok n) = millionths_hold (in_millionths (digits_of n) (scale_of n))
 
 quota_holds : (text : List ℕ) → Holds (λ v. is_quota v ≡ true) (quota_of text)
 unfolding quota_of
@@ -180,8 +180,8 @@ mechanisms_rise m n (inl a) (inr b) less = ap (λ x. int_cmp x n) a ∙ ap (int_
 mechanisms_rise m n (inr a) (inl b) less = absurd (falls (subst (λ x. bytes_cmp (mechanism_name x) (codes "SCRAM-SHA-256") ≡ Less) a (subst (λ x. bytes_cmp (mechanism_name m) (mechanism_name x) ≡ Less) b less)))
 mechanisms_rise m n (inr a) (inr b) less = absurd (same_key (codes "SCRAM-SHA-512") (subst (λ x. bytes_cmp (mechanism_name x) (codes "SCRAM-SHA-512") ≡ Less) a (subst (λ x. bytes_cmp (mechanism_name m) (mechanism_name x) ≡ Less) b less)))
 
-joined_holds : (k : EntityKey) (pair : Pair) (pairs : List Pair) (a b : Entries) → IsBelow pair.name pairs → IsEntryOf k pair a → AreEntriesOf k pairs b → AreEntriesOf k (pair ∷ pairs) (joined a b)
-joined_holds k pair pairs a b below (inl (q, is, named, h)) rest = subst (λ x. AreEntriesOf k (pair ∷ pairs) (joined x b)) (sym is) (record {
+joined_holds : (k : EntityKey) (pair : Pair) (pairs : List Pair) (a b : Entries) → IsBelow pair.name pairs → IsEntryOf k pair a → AreEntriesOf k pairs b → AreEntriesOf k (pair ∷ pairs) (entries_of_both a b)
+joined_holds k pair pairs a b below (inl (q, is, named, h)) rest = subst (λ x. AreEntriesOf k (pair ∷ pairs) (entries_of_both x b)) (sym is) (record {
   body = record {
     quotas_are = (h, rest.body.quotas_are);
     scrams_are = rest.body.scrams_are;
@@ -191,7 +191,7 @@ joined_holds k pair pairs a b below (inl (q, is, named, h)) rest = subst (λ x. 
   quotas_above = λ name under. (subst (λ n. bytes_cmp name n ≡ Less) (sym named) under.0, rest.quotas_above q.key (subst (λ n. IsBelow n pairs) (sym named) below));
   scrams_above = λ m is under. rest.scrams_above m is under.1;
 })
-joined_holds k pair pairs a b below (inr (s, is, named, h)) rest = subst (λ x. AreEntriesOf k (pair ∷ pairs) (joined x b)) (sym is) (record {
+joined_holds k pair pairs a b below (inr (s, is, named, h)) rest = subst (λ x. AreEntriesOf k (pair ∷ pairs) (entries_of_both x b)) (sym is) (record {
   body = record {
     quotas_are = rest.body.quotas_are;
     scrams_are = (h, rest.body.scrams_are);
@@ -202,7 +202,7 @@ joined_holds k pair pairs a b below (inr (s, is, named, h)) rest = subst (λ x. 
   scrams_above = λ m is under. (mechanisms_rise m s.mechanism is h.mechanism (subst (λ n. bytes_cmp (mechanism_name m) n ≡ Less) (sym named) under.0), rest.scrams_above s.mechanism h.mechanism (subst (λ n. IsBelow n pairs) (sym named) below));
 })
 
-both_hold : (P Q R : Entries → Type 0) (r s : Result Entries BodyFault) → ((a b : Entries) → P a → Q b → R (joined a b)) → Holds P r → Holds Q s → Holds R (both r s)
+both_hold : (P Q R : Entries → Type 0) (r s : Result Entries BodyFault) → ((a b : Entries) → P a → Q b → R (entries_of_both a b)) → Holds P r → Holds Q s → Holds R (both r s)
 both_hold P Q R (Err e) s so h k = tt
 both_hold P Q R (Ok a) (Err e) so h k = tt
 both_hold P Q R (Ok a) (Ok b) so h k = so a b h k

@@ -10,7 +10,7 @@ use Rattle.kz_spec_stores.specs.Metadata.{Image, empty_image}
 use Rattle.kz_spec_stores.specs.Image.{all_applied}
 use Rattle.kz_spec_stores.specs.InOrder.{IsInOrder}
 use Rattle.kz_spec_znodes.specs.Rendering.{excess_of, excess}
-use Rattle.kz_spec_znodes.specs.Translation.{Translated, all_records, further_records, bounded, within_limits, translate}
+use Rattle.kz_spec_znodes.specs.Translation.{Translated, all_records, further_records, records_unless_excess, within_limits, translate}
 use Rattle.kz_laws_znodes.specs.RoundTrip.{znodes_of, topic_without_epochs, IsWritable, MayReturn, IsSameBut}
 use Rattle.kz_laws_znodes.proofs.Again.{are_rows, records_again}
 use Rattle.kz_laws_znodes.proofs.SameTopics.{returned_same, topics_return, configs_return}
@@ -64,7 +64,7 @@ module _ (i : Image) (o : IsInOrder i) (w : IsWritable i) (m : MayReturn i) wher
 
   translated : translate rows ≡ Ok records
   unfolding translate
-  translated = ap within_limits are_records ∙ ap (λ x. bounded x records) within
+  translated = ap within_limits are_records ∙ ap (λ x. records_unless_excess x records) within
       ∙ ap (λ t. if◌then◌else◌ {A = Translated} t (Err (record { path = codes "/brokers/topics"; why = why.Over 7 })) (Ok records)) not_over
 
   pub returns : (records : List MetaRecord) × (translate (znodes_of i) ≡ Ok records) × ((epoch : ℤ) → IsSameBut i (all_applied epoch records empty_image))

@@ -7,7 +7,7 @@ use Rattle.kz_types.specs.declared.key.EntityKey.TheVariants as key
 use Rattle.kz_types.specs.declared.kind.Kind.TheVariants as kind
 use Rattle.kz_types.specs.Numbers.{canonical}
 use Rattle.kz_types.specs.PathRule.{parts}
-use Rattle.kz_types.specs.Paths.{roots, is_among, is_topic_name, is_not_negative, sanitised, part_or_default, key_of, key_of_parts, is_scaffold_of_parts, kind_of, is_migrated, path_of}
+use Rattle.kz_types.specs.Paths.{roots, is_among, is_topic_name, is_not_negative, part_for_name, part_or_default, key_of, key_of_parts, is_scaffold_of_parts, kind_of, is_migrated, path_of}
 use Rattle.kz_spec_znodes.specs.Rendering.{partitions_path, number_path}
 use Rattle.kz_laws_paths.specs.TextKeys.{IsText, IsSmall}
 use Rattle.kz_laws_paths.proofs.Parts.{split_part, split_last, topic_has_none, number_has_none, number_is_read, sanitised_has_none, named_is_read}
@@ -60,9 +60,9 @@ number_scaffold name number h low small = record {
 abbrev pub clients_path : Option (List ℕ) → List ℕ
 clients_path user = path_of (key.User user) ++ codes "/clients"
 
-clients_parts : (user : Option (List ℕ)) → parts (clients_path user) ≡ codes "config" ∷ codes "users" ∷ part_or_default sanitised user ∷ codes "clients" ∷ []
+clients_parts : (user : Option (List ℕ)) → parts (clients_path user) ≡ codes "config" ∷ codes "users" ∷ part_or_default part_for_name user ∷ codes "clients" ∷ []
 unfolding path_of
-clients_parts user = ap (λ ps. codes "config" ∷ codes "users" ∷ ps) (split_part (part_or_default sanitised user) (codes "clients") (sanitised_has_none user))
+clients_parts user = ap (λ ps. codes "config" ∷ codes "users" ∷ ps) (split_part (part_or_default part_for_name user) (codes "clients") (sanitised_has_none user))
 
 pub clients_scaffold : (user : Option (List ℕ)) → IfSome user IsText → IsScaffold (clients_path user)
 unfolding key_of

@@ -25,7 +25,7 @@ use Rattle.kz_ordered.proofs.Maps.{Rises-map}
 use Rattle.kz_spec_values.specs.Bodies.{read_body}
 use Rattle.kz_spec_stores.specs.ImageRules.{is_epoch}
 use Rattle.kz_spec_stores.specs.Tree.{path_of_row, row_at}
-use Rattle.kz_spec_znodes.specs.Translation.{row_of, body_of_row, partition_by, partition_with, topic_records, number_of_assignment, assignments_in, assigned, records_of_state, records_if_assigned}
+use Rattle.kz_spec_znodes.specs.Translation.{row_of, body_of_row, partition_by, partition_with, topic_records, number_of_assignment, assignments_in, assignment_at, records_of_state, records_if_assigned}
 use Rattle.kz_laws_paths.specs.TextKeys.{IsText}
 use Rattle.kz_laws_paths.proofs.Legal.{IsGoodKey}
 use Rattle.kz_laws_paths.proofs.Keys.{path_holds}
@@ -93,7 +93,7 @@ module _ (rows earlier : List Row) (r : Row) (rest : List Row) (whole : rows ≡
   pub placed : path_of (key.Topic name) ≡ r.path
   placed = path_of_here rows earlier r rest whole z (key.Topic name) holds
 
-  is_assigned : (a : AssignmentRow) → Contains ps a → assigned name a.number rows ≡ Some a
+  is_assigned : (a : AssignmentRow) → Contains ps a → assignment_at name a.number rows ≡ Some a
   is_assigned a has =
       ap (λ o. find int_cmp number_of_assignment a.number (assignments_in (option_and_then body_of_row o))) (ap (λ p. row_at p rows) placed ∙ found_here rows earlier r rest whole z)
       ∙ ap (λ o. find int_cmp number_of_assignment a.number (assignments_in o)) (body_is r (key.Topic name) (body.Topic id ps) holds is)

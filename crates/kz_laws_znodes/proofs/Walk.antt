@@ -20,7 +20,7 @@ use Rattle.kz_ordered.proofs.Append.{below_split, find_all_below, find-append, R
 use Rattle.kz_spec_values.specs.Bodies.{read_body}
 use Rattle.kz_spec_stores.specs.Tree.{path_of_row, row_at}
 use Rattle.kz_spec_stores.specs.ImageRules.{is_epoch}
-use Rattle.kz_spec_znodes.specs.Translation.{Translated, RowRecords, records_of, entity_records, records_by_kind, row_records, joined, records_after}
+use Rattle.kz_spec_znodes.specs.Translation.{Translated, RowRecords, records_of, entity_records, records_by_kind, row_records, records_then, records_after}
 use Rattle.kz_laws_paths.proofs.Legal.{IsGoodKey}
 use Rattle.kz_laws_paths.proofs.Texts.{key_good}
 use Rattle.kz_laws_znodes.specs.Translations.{AreZnodes}
@@ -86,7 +86,7 @@ split_at_found {A} o key k (y ∷ ys) x e = elim (place o k (key y)) [
 
 -- ---- the records of each znode
 
-both_ok : (path : List ℕ) (r : RowRecords) (more : Translated) (rs : List MetaRecord) → joined path r more ≡ Ok rs
+both_ok : (path : List ℕ) (r : RowRecords) (more : Translated) (rs : List MetaRecord) → records_then path r more ≡ Ok rs
     → (one : List MetaRecord) × (rest : List MetaRecord) × (r ≡ Ok one) × (more ≡ Ok rest) × (one ++ rest ≡ rs)
 both_ok path (Err w) more rs e = absurd (cc)
 both_ok path (Ok one) (Err u) rs e = absurd (cc)

@@ -27,9 +27,9 @@ use Rattle.kz_types.specs.Paths.{key_of}
 use Rattle.kz_ordered.specs.Order.{bytes_cmp}
 use Rattle.kz_spec_values.specs.Bodies.{read_body, are_some_of}
 use Rattle.kz_spec_stores.specs.Metadata.{Image, empty_image, id_of_acl}
-use Rattle.kz_spec_stores.specs.Image.{applied, all_applied, unless_bad, first_bad}
+use Rattle.kz_spec_stores.specs.Image.{image_with, all_applied, unless_bad, first_bad}
 use Rattle.kz_spec_znodes.specs.Rendering.{Excess, excess}
-use Rattle.kz_spec_znodes.specs.Translation.{RowRecords, Translated, topic_records, records_of_topic, is_taken, assigned, may_lead, leader_of, bad_field, records_of_state, records_if_assigned, scram_records, quota_record, records_of_quotas, migrated_id, acl_records, entries_in, count_of_entries, body_of_row, records_of_acls, max_block_end, records_of_producer, records_of, row_records, records_after, all_records, further_records, bounded, within_limits, translate}
+use Rattle.kz_spec_znodes.specs.Translation.{RowRecords, Translated, topic_records, records_of_topic, is_taken, assignment_at, may_lead, leader_of, bad_field, records_of_state, records_if_assigned, scram_records, quota_record, records_of_quotas, migrated_id, acl_records, entries_in, count_of_entries, body_of_row, records_of_acls, max_block_end, records_of_producer, records_of, row_records, records_after, all_records, further_records, records_unless_excess, within_limits, translate}
 use Rattle.kz_laws_bodies.specs.Readable.{IsBlock}
 use Rattle.kz_laws_znodes.specs.Translations.{AreZnodes, bare_image}
 use Rattle.kz_laws_znodes.proofs.ReadQuotas.{IsQuotaBodyRead}
@@ -216,7 +216,7 @@ module _ (epoch : ℤ) (rows : List Row) (brokers : List RegisterBrokerRecord) (
   at_key : (k : EntityKey) → key_of r.path ≡ Some k → records_of rows earlier k (read_body k r.body) ≡ Ok one → Done
   unfolding Done
   at_key (key.Topic name) holds e = at_topic name holds (read_body (key.Topic name) r.body) refl e
-  at_key (key.Partition topic number) holds e = silent (assigned_records (assigned topic number rows) (read_body (key.Partition topic number) r.body) e) (state_silent topic number holds (read_body (key.Partition topic number) r.body) refl)
+  at_key (key.Partition topic number) holds e = silent (assigned_records (assignment_at topic number rows) (read_body (key.Partition topic number) r.body) e) (state_silent topic number holds (read_body (key.Partition topic number) r.body) refl)
   at_key (key.TopicConfig name) holds e = topic_config_step epoch rows brokers state earlier r rest i whole z all s name holds one e
   at_key (key.BrokerConfig broker) holds e = broker_config_step epoch rows brokers state earlier r rest i whole z s broker holds one e
   at_key (key.Client client) holds e = quotas_of_read (key.Client client) (client_form client)
@@ -349,7 +349,7 @@ translated rows records e = by (all_records rows) refl e
         let same : rs ≡ records = cc in
         record { all = is ∙ ap (λ x. Ok x) same; few = subst (λ x. length x + further_records ≤ MAX_RECORDS) same (ltb-false MAX_RECORDS (length rs + further_records) over) }
 
-    limited : (rs : List MetaRecord) → all_records rows ≡ Ok rs → (x : Option Excess) → bounded x rs ≡ Ok records → IsTranslated rows records
+    limited : (rs : List MetaRecord) → all_records rows ≡ Ok rs → (x : Option Excess) → records_unless_excess x rs ≡ Ok records → IsTranslated rows records
     limited rs is (Some x) h = absurd (cc)
     limited rs is None h = counted rs is (nat_lt MAX_RECORDS (length rs + further_records)) refl h
 
@@ -365,7 +365,7 @@ translation_leads epoch rows brokers state records z all few =
 
 none_bad : (index : ℕ) (rs : List MetaRecord) (i : Image) → Accepted (pos 0) rs i → first_bad index rs i ≡ None
 none_bad index [] i a = refl
-none_bad index (r ∷ rs) i a = ap (λ o. unless_bad index o (first_bad (index + 1) rs (applied (pos 0) r i))) a.0 ∙ none_bad (index + 1) rs (applied (pos 0) r i) a.1
+none_bad index (r ∷ rs) i a = ap (λ o. unless_bad index o (first_bad (index + 1) rs (image_with (pos 0) r i))) a.0 ∙ none_bad (index + 1) rs (image_with (pos 0) r i) a.1
 
 pub translated_is_accepted : (rows : List Row) (records : List MetaRecord) → AreZnodes rows → translate rows ≡ Ok records → (brokers : List RegisterBrokerRecord) (state : ℤ)
     → first_bad 0 records (bare_image brokers state) ≡ None

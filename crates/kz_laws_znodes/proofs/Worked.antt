@@ -10,12 +10,12 @@ use Rattle.kz_spec_stores.specs.Legal.{IsMember, IsPartition, IsTopic, IsConfigu
 use Rattle.kz_spec_stores.specs.InOrder.{IsTopicInOrder, IsFilled, IsQuotaFilled, IsUserFilled, IsInOrder}
 use Rattle.kz_spec_znodes.proofs.OnLiterals.{znodes_on_literals}
 use Rattle.kz_laws_znodes.specs.RoundTrip.{FitsInt, IsPartitionWritable, IsMemberWritable, IsTopicWritable, IsConfigWritable, IsQuotaWritable, AreQuotasWritable, IsScramWritable, IsUserWritable, IsAclWritable, IsWritable}
-use Rattle.kz_laws_znodes.specs.RoundTripExamples.{worked}
+use Rattle.kz_laws_znodes.specs.RoundTripExamples.{example_image}
 
 one : {A : Type 0} (P : A → Type 0) (x : A) → P x → All P (x ∷ [])
 one P x h = All-from_recursion P (x ∷ []) (h, tt)
 
-pub in_order : IsInOrder worked
+pub in_order : IsInOrder example_image
 unfolding znodes_on_literals
 in_order = record {
   topics = record { rising = tt; within = one IsTopicInOrder _ (tt, tt) };
@@ -44,7 +44,7 @@ bytes_are [] h i = omega arith
 bytes_are (b ∷ bs) h zero = ltb-true b 256 (and_parts (nat_lt b 256) (list_all (λ b. nat_lt b 256) bs) h).0
 bytes_are (b ∷ bs) h (suc i) = bytes_are bs (and_parts (nat_lt b 256) (list_all (λ b. nat_lt b 256) bs) h).1 i
 
-pub writable : IsWritable worked
+pub writable : IsWritable example_image
 unfolding znodes_on_literals
 writable = record {
   topics = one IsTopicWritable _ (record {

@@ -15,16 +15,16 @@ with_data path body znodes = put bytes_cmp path_of_rendered (record { path = pat
 
 -- What an operation that isn't refused makes of the paths and data of znodes: a create and a set put the data at the path, a
 -- delete takes the path out, a check leaves all.
-abbrev pub made : Op → List Rendered → List Rendered
-made (Create path body owner) znodes = with_data path body znodes
-made (Set path body version) znodes = with_data path body znodes
-made (Delete path version) znodes = without bytes_cmp path_of_rendered path znodes
-made (Check path version) znodes = znodes
+abbrev pub after_operation : Op → List Rendered → List Rendered
+after_operation (Create path body owner) znodes = with_data path body znodes
+after_operation (Set path body version) znodes = with_data path body znodes
+after_operation (Delete path version) znodes = without bytes_cmp path_of_rendered path znodes
+after_operation (Check path version) znodes = znodes
 
 -- what operations make of them, one after another
 abbrev pub all_made : List Op → List Rendered → List Rendered
 all_made [] znodes = znodes
-all_made (op ∷ ops) znodes = all_made ops (made op znodes)
+all_made (op ∷ ops) znodes = all_made ops (after_operation op znodes)
 
 -- The operations of a difference make the second rendering of the first.
 abbrev pub DifferenceIsMade : Type 0

@@ -4,8 +4,8 @@ use Rattle.kz_spec_stores.specs.Metadata.{Image}
 
 -- a topic of one partition with its configuration, the configuration of a broker, a quota of a user's client, a credential of
 -- the user, an access control entry, and a next producer id
-abbrev pub worked : Image
-worked = record {
+abbrev pub example_image : Image
+example_image = record {
   topics = record {
     name = codes "t";
     id = record { bytes = replicate 15 0 ++ 7 ∷ [] };

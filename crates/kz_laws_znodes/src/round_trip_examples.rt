@@ -5,11 +5,11 @@ ghost use Rattle.std.specs.Prelude.{◌≡◌, None};
 ghost use Rattle.kz_spec_stores.specs.InOrder.{IsInOrder};
 ghost use Rattle.kz_spec_znodes.specs.Rendering.{excess};
 ghost use Rattle.kz_laws_znodes.specs.RoundTrip.{IsWritable, MayReturn, grown};
-ghost use Rattle.kz_laws_znodes.specs.RoundTripExamples.{worked};
+ghost use Rattle.kz_laws_znodes.specs.RoundTripExamples.{example_image};
 
 /// Worked metadata meets what the law asks for.
 pub fn worked_metadata()
-    ensures order { IsInOrder worked }
-    ensures writable { IsWritable worked }
-    ensures returns { MayReturn worked }
+    ensures order { IsInOrder example_image }
+    ensures writable { IsWritable example_image }
+    ensures returns { MayReturn example_image }
 {}

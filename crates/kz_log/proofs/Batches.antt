@@ -12,10 +12,10 @@ use Rattle.kz_types.specs.Limits.{number_of_limit}
 use Rattle.kz_types.specs.declared.log.BatchRow.{BatchRow}
 use Rattle.kz_types.specs.declared.log.Entry.{Entry}
 use Rattle.kz_types.specs.declared.record.MetaRecord.{MetaRecord}
-use Rattle.kz_spec_stores.specs.Log.{Log, IsLog, Follow, Climb, begins_after, end_of, image_at, full_log, with_batch, last_of, last_end, record_count, numbered, entries, all_entries_applied}
-use Rattle.kz_spec_stores.specs.Settlement.{counted, closes, is_end, is_ended_by}
-use Rattle.kz_settle.specs.Settling.{closes_entry, opened, passed, ends_by}
-use Rattle.kz_settle.proofs.Passing.{counted_is_passed}
+use Rattle.kz_spec_stores.specs.Log.{Log, IsLog, Follow, Climb, begins_after, end_of, image_at, full_log, with_batch, last_of, last_end, record_count, entries_at_offsets, entries, all_entries_applied}
+use Rattle.kz_spec_stores.specs.Settlement.{counting_records, closes, is_end, is_ended_by}
+use Rattle.kz_settle.specs.Settling.{closes_entry, is_open_after, records_of_pass, ends_by}
+use Rattle.kz_settle.proofs.Passing.{counted_is_pass}
 use Rattle.kz_log.specs.Reading.{entries_after, unread_entries, image_after}
 use Rattle.kz_log.proofs.Offsets.{Consecutive, numbered_consecutive, consecutive_rises, last_of_is, last_end-append, of_lt, not_lt, of_not_lt, of_le}
 
@@ -46,8 +46,8 @@ Climb-push least most more (x ∷ bs) b h rise low above high =
 pub entries_by_offset : (from : ℤ) (bs : List BatchRow) → Follow from bs → entries bs ≡ entries_after from bs
 entries_by_offset from [] h = refl
 entries_by_offset from (b ∷ bs) h =
-    ap (λ es. numbered b.first b.epoch b.items ++ es) (entries_by_offset (last_of b) bs h.2 ∙ ap (λ o. entries_after o bs) (last_of_is from b h.0))
-    ∙ ap (λ o. numbered o b.epoch b.items ++ entries_after (from +ℤ pos (length b.items)) bs) h.0
+    ap (λ es. entries_at_offsets b.first b.epoch b.items ++ es) (entries_by_offset (last_of b) bs h.2 ∙ ap (λ o. entries_after o bs) (last_of_is from b h.0))
+    ∙ ap (λ o. entries_at_offsets o b.epoch b.items ++ entries_after (from +ℤ pos (length b.items)) bs) h.0
 
 pub entries_after_consecutive : (from : ℤ) (bs : List BatchRow) → Consecutive from (entries_after from bs)
 entries_after_consecutive from [] = tt
@@ -79,9 +79,9 @@ module _ (at : ℤ) where
   pub within : (from : ℤ) (e : Entry) → e.offset ≡ from +ℤ pos 1 → from <ℤ at → int_le e.offset at ≡ true
   within from e h under = grind (arith, ints)
 
-  pub passed_none : (from : ℤ) (inside : Bool) (es : List Entry) → Consecutive from es → at ≤ℤ from → passed at inside es ≡ []
-  passed_none from inside [] h over = refl
-  passed_none from inside (e ∷ es) h over = rw (past from e h.0 over) (passed_none (from +ℤ pos 1) (opened inside e.item) es h.1 (omega (arith, ints, over)))
+  pub pass_none : (from : ℤ) (inside : Bool) (es : List Entry) → Consecutive from es → at ≤ℤ from → records_of_pass at inside es ≡ []
+  pass_none from inside [] h over = refl
+  pass_none from inside (e ∷ es) h over = rw (past from e h.0 over) (pass_none (from +ℤ pos 1) (is_open_after inside e.item) es h.1 (omega (arith, ints, over)))
 
   ends_none_by : (b : Bool) (from : ℤ) (e : Entry) (es : List Entry) → e.offset ≡ from +ℤ pos 1 → at ≤ℤ from → ends_by at es ≡ false → is_ended_by at (cond b (Some e) (find closes_entry es)) ≡ false
   ends_none_by true from e es h over rest = rw (past from e h over) (and_false (is_end e.item))
@@ -120,9 +120,9 @@ count_fits l k = let high = end_high l k in let base = k.base in omega (arith, i
 pub image_at_is : (l : Log) → IsLog l → (at : ℤ) → image_at l at ≡ image_after at false (entries_after l.base l.batches) l.base_image
 unfolding image_at
 image_at_is l k at =
-    ap (λ es. all_entries_applied (counted es at) l.base_image) (entries_by_offset l.base l.batches k.follow)
+    ap (λ es. all_entries_applied (counting_records es at) l.base_image) (entries_by_offset l.base l.batches k.follow)
     ∙ ap (λ es. all_entries_applied es l.base_image)
-    (counted_is_passed (entries_after l.base l.batches) at (consecutive_rises l.base (entries_after l.base l.batches) (entries_after_consecutive l.base l.batches)))
+    (counted_is_pass (entries_after l.base l.batches) at (consecutive_rises l.base (entries_after l.base l.batches) (entries_after_consecutive l.base l.batches)))
 
 -- ---- a batch more
 

@@ -10,8 +10,8 @@ use Rattle.kz_ordered.specs.Ordered.{Rises}
 use Rattle.kz_ordered.proofs.Order.{int_order}
 use Rattle.kz_ordered.proofs.Append.{Rises_left}
 use Rattle.kz_spec_stores.specs.Image.{Image}
-use Rattle.kz_spec_stores.specs.Log.{Log, View, Follow, IsLog, IsAt, IsViewOf, begins_after, last_of, last_end, last_epoch, end_of, numbered, entries_of_batch, entries, entries_by, image_at, all_entries_applied, fed, feed_from, read_epoch, read_view}
-use Rattle.kz_spec_stores.specs.Settlement.{counted, begun, kept}
+use Rattle.kz_spec_stores.specs.Log.{Log, View, Follow, IsLog, IsAt, IsViewOf, begins_after, last_of, last_end, last_epoch, end_of, entries_at_offsets, entries_of_batch, entries, entries_by, image_at, all_entries_applied, log_with_feed, feed_from, read_epoch, read_view}
+use Rattle.kz_spec_stores.specs.Settlement.{counting_records, open_begin, records_of_open}
 use Rattle.kz_settle.specs.Settling.{offset_of}
 use Rattle.kz_settle.specs.Stands.{Settling, Stands, AllBy}
 use Rattle.kz_settle.proofs.Bounds.{counted_same}
@@ -70,12 +70,12 @@ took_push e out old new mid stands settled image position epoch = record {
 
 -- ---- the records of a batch, and batches
 
-numbered-append : (offset epoch : ℤ) (xs ys : List MetaRecord) → numbered offset epoch (xs ++ ys) ≡ numbered offset epoch xs ++ numbered (offset +ℤ pos (length xs)) epoch ys
-numbered-append offset epoch [] ys = let same : offset ≡ offset +ℤ pos 0 = omega (arith, ints) in ap (λ o. numbered o epoch ys) same
+numbered-append : (offset epoch : ℤ) (xs ys : List MetaRecord) → entries_at_offsets offset epoch (xs ++ ys) ≡ entries_at_offsets offset epoch xs ++ entries_at_offsets (offset +ℤ pos (length xs)) epoch ys
+numbered-append offset epoch [] ys = let same : offset ≡ offset +ℤ pos 0 = omega (arith, ints) in ap (λ o. entries_at_offsets o epoch ys) same
 numbered-append offset epoch (x ∷ xs) ys =
     let e : Entry = record { offset = offset; epoch = epoch; item = x } in
     let same : (offset +ℤ pos 1) +ℤ pos (length xs) ≡ offset +ℤ pos (length (x ∷ xs)) = omega (arith, ints) in
-    ap (λ es. e ∷ es) (numbered-append (offset +ℤ pos 1) epoch xs ys) ∙ ap (λ o. e ∷ (numbered (offset +ℤ pos 1) epoch xs ++ numbered o epoch ys)) same
+    ap (λ es. e ∷ es) (numbered-append (offset +ℤ pos 1) epoch xs ys) ∙ ap (λ o. e ∷ (entries_at_offsets (offset +ℤ pos 1) epoch xs ++ entries_at_offsets o epoch ys)) same
 
 last_epoch-push : (epoch : ℤ) (bs : List BatchRow) (b : BatchRow) → last_epoch epoch (bs ++ b ∷ []) ≡ b.epoch
 last_epoch-push epoch [] b = refl
@@ -99,26 +99,26 @@ took_next position offset put writer epoch now item old mid new is same by h mad
 
 -- one record more of a batch
 pub batch_more : (b : BatchRow) (old mid new : Building) (done : List MetaRecord) (x : MetaRecord) (writer : ℤ) → b.first ≡ old.position +ℤ pos 1 → writer ≡ b.epoch
-    → Took (numbered b.first b.epoch done) (old.position +ℤ pos (length done)) b.epoch old mid
+    → Took (entries_at_offsets b.first b.epoch done) (old.position +ℤ pos (length done)) b.epoch old mid
     → Took (record { offset = mid.position +ℤ pos 1; epoch = writer; item = x } ∷ []) (mid.position +ℤ pos 1) mid.epoch mid new
-    → Took (numbered b.first b.epoch (done ++ x ∷ [])) (old.position +ℤ pos (length (done ++ x ∷ []))) b.epoch old new
+    → Took (entries_at_offsets b.first b.epoch (done ++ x ∷ [])) (old.position +ℤ pos (length (done ++ x ∷ []))) b.epoch old new
 batch_more b old mid new done x writer first by h next =
     let row : ℤ → ℤ → Entry = λ o e. record { offset = o; epoch = e; item = x } in
     let at = h.position in
     let count : length (done ++ x ∷ []) ≡ length done + 1 = length-append done (x ∷ []) in
     let here : mid.position +ℤ pos 1 ≡ b.first +ℤ pos (length done) = omega (arith, ints, at, first) in
     let last : mid.position +ℤ pos 1 ≡ old.position +ℤ pos (length (done ++ x ∷ [])) = omega (arith, ints, at, count) in
-    took_to (numbered b.first b.epoch done ++ row (mid.position +ℤ pos 1) writer ∷ []) (numbered b.first b.epoch (done ++ x ∷ []))
+    took_to (entries_at_offsets b.first b.epoch done ++ row (mid.position +ℤ pos 1) writer ∷ []) (entries_at_offsets b.first b.epoch (done ++ x ∷ []))
     (mid.position +ℤ pos 1) (old.position +ℤ pos (length (done ++ x ∷ []))) mid.epoch b.epoch old new
-    (ap (λ o. numbered b.first b.epoch done ++ row o writer ∷ []) here ∙ ap (λ e. numbered b.first b.epoch done ++ row (b.first +ℤ pos (length done)) e ∷ []) by
+    (ap (λ o. entries_at_offsets b.first b.epoch done ++ row o writer ∷ []) here ∙ ap (λ e. entries_at_offsets b.first b.epoch done ++ row (b.first +ℤ pos (length done)) e ∷ []) by
     ∙ sym (numbered-append b.first b.epoch done (x ∷ []))) last h.epoch
-    (took_then (numbered b.first b.epoch done) (row (mid.position +ℤ pos 1) writer ∷ []) old mid new (old.position +ℤ pos (length done)) (mid.position +ℤ pos 1) b.epoch mid.epoch h next)
+    (took_then (entries_at_offsets b.first b.epoch done) (row (mid.position +ℤ pos 1) writer ∷ []) old mid new (old.position +ℤ pos (length done)) (mid.position +ℤ pos 1) b.epoch mid.epoch h next)
 
 pub batch_done : (b : BatchRow) (old new : Building) (done : List MetaRecord) → b.first ≡ old.position +ℤ pos 1 → done ≡ b.items
-    → Took (numbered b.first b.epoch done) (old.position +ℤ pos (length done)) b.epoch old new → Took (entries_of_batch b) (last_of b) b.epoch old new
+    → Took (entries_at_offsets b.first b.epoch done) (old.position +ℤ pos (length done)) b.epoch old new → Took (entries_of_batch b) (last_of b) b.epoch old new
 batch_done b old new done first all h =
     let count : length done ≡ length b.items = ap length all in
-    took_to (numbered b.first b.epoch done) (entries_of_batch b) (old.position +ℤ pos (length done)) (last_of b) b.epoch b.epoch old new (ap (numbered b.first b.epoch) all) (omega (arith, ints, first, count)) refl h
+    took_to (entries_at_offsets b.first b.epoch done) (entries_of_batch b) (old.position +ℤ pos (length done)) (last_of b) b.epoch b.epoch old new (ap (entries_at_offsets b.first b.epoch) all) (omega (arith, ints, first, count)) refl h
 
 pub nothing_left : {A : Type 0} (xs : List A) → length xs ≡ 0 → xs ≡ []
 nothing_left [] h = refl
@@ -157,7 +157,7 @@ built_is_at : (l : Log) (b : Building) (given : List Entry) → Chain l.base l.b
     → b.image ≡ all_entries_applied given l.base_image → IsAt l (view_of b)
 built_is_at l b given chain at popped s image =
     let by : AllBy b.position (entries l.batches) = subst (λ p. AllBy p (entries l.batches)) (sym at) (entries_end l.base l.batches chain) in
-    let all : given ≡ counted (entries l.batches) b.position = sym (append-nil given) ∙ ap (λ r. given ++ r) (sym popped) ∙ s.counted b.position by in
+    let all : given ≡ counting_records (entries l.batches) b.position = sym (append-nil given) ∙ ap (λ r. given ++ r) (sym popped) ∙ s.counted b.position by in
     of_cut l (view_of b) chain (record {
       bs = l.batches;
       cs = [];
@@ -168,25 +168,25 @@ built_is_at l b given chain at popped s image =
       kept = s.kept;
     })
 
-stands_at : (l : Log) (v : View) → Chain l.base l.batches → IsAt l v → end_of l ≡ v.position → Stands (entries l.batches) (counted (entries l.batches) v.position) (building_of v).settling
+stands_at : (l : Log) (v : View) → Chain l.base l.batches → IsAt l v → end_of l ≡ v.position → Stands (entries l.batches) (counting_records (entries l.batches) v.position) (building_of v).settling
 stands_at l v chain is at =
     let all : entries_by v.position (entries l.batches) ≡ entries l.batches = by_here l v.position l.batches [] (sym (append-nil l.batches)) at chain in
     let by : AllBy v.position (entries l.batches) = subst (λ p. AllBy p (entries l.batches)) at (entries_end l.base l.batches chain) in
     record {
-      begun = is.begun ∙ ap begun all;
-      kept = is.kept ∙ ap kept all;
-      counted = λ to k. append-nil (counted (entries l.batches) v.position) ∙ counted_same v.position to (entries l.batches) (entries_rise l.base l.batches chain) by k;
+      begun = is.begun ∙ ap open_begin all;
+      kept = is.kept ∙ ap records_of_open all;
+      counted = λ to k. append-nil (counting_records (entries l.batches) v.position) ∙ counted_same v.position to (entries l.batches) (entries_rise l.base l.batches chain) by k;
     }
 
 is_at_of : (l : Log) (v : View) (base : Option (ℤ × Image)) (batches : List BatchRow) (b : Building) (epoch : ℤ) → GoesOn l v base → Follow (start_of v base) batches
-    → Took (entries batches) (last_end (start_of v base) batches) epoch (building_from base v) b → IsAt (fed l base batches) (view_of b)
+    → Took (entries batches) (last_end (start_of v base) batches) epoch (building_from base v) b → IsAt (log_with_feed l base batches) (view_of b)
 unfolding image_at
 is_at_of l v None batches b epoch on follow took =
     let old = chain_of l.base l.batches on.0 in
     let at = on.2 in
-    let whole = fed l None batches in
+    let whole = log_with_feed l None batches in
     let chain : Chain l.base (l.batches ++ batches) = Chain-append l.base l.batches batches old (subst (λ p. Chain p batches) (sym at) (chain_of v.position batches follow)) in
-    let given = counted (entries l.batches) v.position in
+    let given = counting_records (entries l.batches) v.position in
     let joined = entries-append l.batches batches in
     let rises = subst (λ es. Rises int_cmp offset_of es) joined (entries_rise l.base (l.batches ++ batches) chain) in
     let t = took.takes (entries l.batches) given rises (stands_at l v old on.1 at) in
@@ -196,7 +196,7 @@ is_at_of l v None batches b epoch on follow took =
 is_at_of l v (Some base) batches b epoch on follow took =
     let chain = chain_of base.0 batches follow in
     let t = took.takes [] [] (entries_rise base.0 batches chain) stands_new in
-    built_is_at (fed l (Some base) batches) b t.0 chain took.position took.popped t.1 t.2
+    built_is_at (log_with_feed l (Some base) batches) b t.0 chain took.position took.popped t.1 t.2
 
 -- ---- the log's end
 
@@ -208,16 +208,16 @@ read_is l v n k is at epoch =
     ap (λ p. made p n.epoch n.image n.begun n.kept) at
     ∙ ap (λ e. made (end_of l) e n.image n.begun n.kept) epoch
     ∙ ap (λ i. made (end_of l) (read_epoch l v) i n.begun n.kept) (is.image ∙ ap (image_at l) at)
-    ∙ ap (λ b. made (end_of l) (read_epoch l v) (image_at l (end_of l)) b n.kept) (is.begun ∙ ap begun all)
-    ∙ ap (made (end_of l) (read_epoch l v) (image_at l (end_of l)) (begun (entries l.batches))) (is.kept ∙ ap kept all)
+    ∙ ap (λ b. made (end_of l) (read_epoch l v) (image_at l (end_of l)) b n.kept) (is.begun ∙ ap open_begin all)
+    ∙ ap (made (end_of l) (read_epoch l v) (image_at l (end_of l)) (open_begin (entries l.batches))) (is.kept ∙ ap records_of_open all)
 
 reads_by : (l : Log) (v n : View) (f : Feed) → IsLog l → IsViewOf l v → IsFeed (feed_from l v.position) f
-    → ((m : Log) → GoesOn m v f.base → IsAt (fed m f.base f.batches) n) → n.position ≡ f.end → n.epoch ≡ last_epoch (known_epoch f.base v.epoch) f.batches
+    → ((m : Log) → GoesOn m v f.base → IsAt (log_with_feed m f.base f.batches) n) → n.position ≡ f.end → n.epoch ≡ last_epoch (known_epoch f.base v.epoch) f.batches
     → (t : Bool) → int_lt v.position l.base ≡ t → n ≡ read_view l v
 reads_by l v n f k is read at position epoch true below =
     let base = based (int_lt v.position l.base) l f.base read.base below in
     let batches : f.batches ≡ l.batches = read.batches ∙ after_base l v.position k (le_of_lt v.position l.base below) in
-    let whole : fed l f.base f.batches ≡ l = ap (λ b. fed l b f.batches) base ∙ ap (fed l (Some (l.base, l.base_image))) batches in
+    let whole : log_with_feed l f.base f.batches ≡ l = ap (λ b. log_with_feed l b f.batches) base ∙ ap (log_with_feed l (Some (l.base, l.base_image))) batches in
     read_is l v n k (subst (λ m. IsAt m n) whole (at l (subst (GoesOn l v) (sym base) tt))) (position ∙ read.end)
     (epoch ∙ ap (λ b. last_epoch (known_epoch b v.epoch) f.batches) base ∙ ap (last_epoch (pos 0)) read.batches
     ∙ ap (λ t. last_epoch (cond t (pos 0) v.epoch) (filter (begins_after v.position) l.batches)) (sym below))
@@ -229,13 +229,13 @@ reads_by l v n f k is read at position epoch false passed =
     let follow : Follow l.base c.bs = Follow-left l.base c.bs c.cs (subst (Follow l.base) c.whole k.follow) in
     let here : IsAt m v = of_cut m v (chain_of l.base c.bs follow) (record { bs = c.bs; cs = []; whole = sym (append-nil c.bs); at = c.at; image = c.image; begun = c.begun; kept = c.kept }) in
     let batches : f.batches ≡ c.cs = read.batches ∙ after_cut l v c k in
-    let whole : fed m f.base f.batches ≡ l = ap (λ b. fed m b f.batches) base ∙ ap (fed m None) batches ∙ ap (λ bs. record l { batches = bs }) (sym c.whole) in
+    let whole : log_with_feed m f.base f.batches ≡ l = ap (λ b. log_with_feed m b f.batches) base ∙ ap (log_with_feed m None) batches ∙ ap (λ bs. record l { batches = bs }) (sym c.whole) in
     read_is l v n k (subst (λ x. IsAt x n) whole (at m (subst (GoesOn m v) (sym base) (follow, here, c.at)))) (position ∙ read.end)
     (epoch ∙ ap (λ b. last_epoch (known_epoch b v.epoch) f.batches) base ∙ ap (last_epoch v.epoch) read.batches
     ∙ ap (λ t. last_epoch (cond t (pos 0) v.epoch) (filter (begins_after v.position) l.batches)) (sym passed))
 
 -- what is read after a view of a log makes it the view of the log's end
-pub reads_of : (v n : View) (f : Feed) → ((m : Log) → GoesOn m v f.base → IsAt (fed m f.base f.batches) n) → n.position ≡ f.end → n.epoch ≡ last_epoch (known_epoch f.base v.epoch) f.batches
+pub reads_of : (v n : View) (f : Feed) → ((m : Log) → GoesOn m v f.base → IsAt (log_with_feed m f.base f.batches) n) → n.position ≡ f.end → n.epoch ≡ last_epoch (known_epoch f.base v.epoch) f.batches
     → (l : Log) → IsLog l → IsViewOf l v → IsFeed (feed_from l v.position) f → n ≡ read_view l v
 reads_of v n f at position epoch l k is read = reads_by l v n f k is read at position epoch (int_lt v.position l.base) refl
 
@@ -243,17 +243,17 @@ reads_of v n f at position epoch l k is read = reads_by l v n f k is read at pos
 
 -- what was built of a view and a feed is a view of the log after it
 pub advanced : (v n : View) (f : Feed) (b : Building) → Fits v f → Took (entries f.batches) f.end (last_epoch (known_epoch f.base v.epoch) f.batches) (building_from f.base v) b → n ≡ view_of b
-    → (l : Log) → GoesOn l v f.base → IsAt (fed l f.base f.batches) n
+    → (l : Log) → GoesOn l v f.base → IsAt (log_with_feed l f.base f.batches) n
 advanced v n f b fits took is l on =
     let epoch = last_epoch (known_epoch f.base v.epoch) f.batches in
-    subst (λ x. IsAt (fed l f.base f.batches) x) (sym is) (is_at_of l v f.base f.batches b epoch on fits.follow
+    subst (λ x. IsAt (log_with_feed l f.base f.batches) x) (sym is) (is_at_of l v f.base f.batches b epoch on fits.follow
     (took_to (entries f.batches) (entries f.batches) f.end (last_end (start_of v f.base) f.batches) epoch epoch (building_from f.base v) b refl fits.end refl took))
 
 -- so is the view itself where nothing was read
-pub still : (v : View) (f : Feed) → f.base ≡ None → f.batches ≡ [] → (l : Log) → GoesOn l v f.base → IsAt (fed l f.base f.batches) v
+pub still : (v : View) (f : Feed) → f.base ≡ None → f.batches ≡ [] → (l : Log) → GoesOn l v f.base → IsAt (log_with_feed l f.base f.batches) v
 still v f base none l on =
     let goes : GoesOn l v None = subst (GoesOn l v) base on in
-    let whole : fed l f.base f.batches ≡ l = ap (λ b. fed l b f.batches) base ∙ ap (fed l None) none ∙ ap (λ bs. record l { batches = bs }) (append-nil l.batches) in
+    let whole : log_with_feed l f.base f.batches ≡ l = ap (λ b. log_with_feed l b f.batches) base ∙ ap (log_with_feed l None) none ∙ ap (λ bs. record l { batches = bs }) (append-nil l.batches) in
     subst (λ x. IsAt x v) (sym whole) goes.1
 
 pub still_reads : (v : View) (f : Feed) → Fits v f → f.base ≡ None → f.batches ≡ [] → (l : Log) → IsLog l → IsViewOf l v → IsFeed (feed_from l v.position) f → v ≡ read_view l v

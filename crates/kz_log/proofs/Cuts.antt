@@ -7,8 +7,8 @@ use Rattle.kz_types.specs.declared.log.BatchRow.{BatchRow}
 use Rattle.kz_types.specs.declared.log.Entry.{Entry}
 use Rattle.kz_types.specs.declared.record.MetaRecord.{MetaRecord}
 use Rattle.kz_ordered.specs.Ordered.{Rises}
-use Rattle.kz_spec_stores.specs.Log.{Log, View, Follow, IsAt, begins_after, last_of, last_end, batch_ends, numbered, entries_of_batch, entries, entries_by, image_at, all_entries_applied}
-use Rattle.kz_spec_stores.specs.Settlement.{counted, begun, kept}
+use Rattle.kz_spec_stores.specs.Log.{Log, View, Follow, IsAt, begins_after, last_of, last_end, batch_ends, entries_at_offsets, entries_of_batch, entries, entries_by, image_at, all_entries_applied}
+use Rattle.kz_spec_stores.specs.Settlement.{counting_records, open_begin, records_of_open}
 use Rattle.kz_settle.specs.Settling.{offset_of}
 use Rattle.kz_settle.specs.Stands.{AllBy}
 use Rattle.kz_settle.proofs.Bounds.{AllLater, counted_before, by_split}
@@ -52,7 +52,7 @@ entries_consecutive from [] h = tt
 entries_consecutive from (b ∷ bs) h =
     numbered_consecutive from b.first b.epoch b.items (entries bs) h.0 (subst (λ n. Consecutive n (entries bs)) (last_of_is from b h.0) (entries_consecutive (last_of b) bs h.1))
 
-length-numbered : (offset epoch : ℤ) (items : List MetaRecord) (es : List Entry) → length (numbered offset epoch items ++ es) ≡ length items + length es
+length-numbered : (offset epoch : ℤ) (items : List MetaRecord) (es : List Entry) → length (entries_at_offsets offset epoch items ++ es) ≡ length items + length es
 length-numbered offset epoch [] es = omega arith
 length-numbered offset epoch (x ∷ items) es = omega (arith, length-numbered (offset +ℤ pos 1) epoch items es)
 
@@ -114,9 +114,9 @@ pub record Cut (l : Log) (v : View) : Type 0 where
   pub cs : List BatchRow
   pub whole : l.batches ≡ bs ++ cs
   pub at : last_end l.base bs ≡ v.position
-  pub image : v.image ≡ all_entries_applied (counted (entries bs) v.position) l.base_image
-  pub begun : v.begun ≡ begun (entries bs)
-  pub kept : v.kept ≡ kept (entries bs)
+  pub image : v.image ≡ all_entries_applied (counting_records (entries bs) v.position) l.base_image
+  pub begun : v.begun ≡ open_begin (entries bs)
+  pub kept : v.kept ≡ records_of_open (entries bs)
 
 module _ (l : Log) (position : ℤ) (bs cs : List BatchRow) (whole : l.batches ≡ bs ++ cs) (at : last_end l.base bs ≡ position) (chain : Chain l.base l.batches) where
   chained : Chain l.base (bs ++ cs)
@@ -135,8 +135,8 @@ module _ (l : Log) (position : ℤ) (bs cs : List BatchRow) (whole : l.batches �
   split : entries l.batches ≡ entries bs ++ entries cs
   split = ap entries whole ∙ entries-append bs cs
 
-  counted_here : counted (entries l.batches) position ≡ counted (entries bs) position
-  counted_here = ap (λ es. counted es position) split ∙ counted_before position (entries bs) (entries cs) rises following
+  counted_here : counting_records (entries l.batches) position ≡ counting_records (entries bs) position
+  counted_here = ap (λ es. counting_records es position) split ∙ counted_before position (entries bs) (entries cs) rises following
 
   pub by_here : entries_by position (entries l.batches) ≡ entries bs
   by_here = ap (entries_by position) split ∙ by_split position (entries bs) (entries cs) by following
@@ -157,8 +157,8 @@ cut_of l v chain is =
       whole = c.2;
       at = c.3;
       image = is.image ∙ ap (λ es. all_entries_applied es l.base_image) (counted_here l v.position c.0 c.1 c.2 c.3 chain);
-      begun = is.begun ∙ ap begun same;
-      kept = is.kept ∙ ap kept same;
+      begun = is.begun ∙ ap open_begin same;
+      kept = is.kept ∙ ap records_of_open same;
     }
 
 pub of_cut : (l : Log) (v : View) → Chain l.base l.batches → Cut l v → IsAt l v
@@ -168,8 +168,8 @@ of_cut l v chain c =
     record {
       end = ends_here l v.position c.bs c.cs c.whole c.at chain;
       image = c.image ∙ ap (λ es. all_entries_applied es l.base_image) (sym (counted_here l v.position c.bs c.cs c.whole c.at chain));
-      begun = c.begun ∙ ap begun (sym same);
-      kept = c.kept ∙ ap kept (sym same);
+      begun = c.begun ∙ ap open_begin (sym same);
+      kept = c.kept ∙ ap records_of_open (sym same);
     }
 
 -- ---- the batches after an offset

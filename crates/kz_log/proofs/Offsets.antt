@@ -5,7 +5,7 @@ use Rattle.kz_types.specs.declared.log.BatchRow.{BatchRow}
 use Rattle.kz_types.specs.declared.log.Entry.{Entry}
 use Rattle.kz_types.specs.declared.record.MetaRecord.{MetaRecord}
 use Rattle.kz_ordered.specs.Ordered.{Rises, RisesAbove}
-use Rattle.kz_spec_stores.specs.Log.{last_of, last_end, numbered}
+use Rattle.kz_spec_stores.specs.Log.{last_of, last_end, entries_at_offsets}
 use Rattle.kz_settle.specs.Settling.{offset_of}
 
 -- ---- orders of numbers as tests
@@ -51,7 +51,7 @@ Consecutive from [] = Unit {0}
 Consecutive from (e ∷ es) = (e.offset ≡ from +ℤ pos 1) × Consecutive (from +ℤ pos 1) es
 
 pub numbered_consecutive : (from offset epoch : ℤ) (items : List MetaRecord) (es : List Entry) → offset ≡ from +ℤ pos 1 → Consecutive (from +ℤ pos (length items)) es
-    → Consecutive from (numbered offset epoch items ++ es)
+    → Consecutive from (entries_at_offsets offset epoch items ++ es)
 numbered_consecutive from offset epoch [] es at h = let same : from +ℤ pos 0 ≡ from = omega (arith, ints) in subst (λ n. Consecutive n es) same h
 numbered_consecutive from offset epoch (x ∷ items) es at h =
     let same : from +ℤ pos (length (x ∷ items)) ≡ (from +ℤ pos 1) +ℤ pos (length items) = omega (arith, ints) in

@@ -8,7 +8,7 @@ use Rattle.kz_types.specs.declared.record.MetaRecord.{MetaRecord}
 use Rattle.kz_types.specs.declared.fault.LogFault.{LogFault}
 use Rattle.kz_image.specs.declared.feed.Feed.{Feed}
 use Rattle.kz_spec_stores.specs.Image.{Image}
-use Rattle.kz_spec_stores.specs.Log.{Log, View, new_view, Follow, IsLog, IsAt, IsViewOf, read_view, feed_from, begins_after, last_end, end_of, entries, image_at, new_batch, with_batch, with_next_epoch, added, full_log}
+use Rattle.kz_spec_stores.specs.Log.{Log, View, new_view, Follow, IsLog, IsAt, IsViewOf, read_view, feed_from, begins_after, last_end, end_of, entries, image_at, new_batch, with_batch, with_next_epoch, log_unless_limit, full_log}
 use Rattle.kz_settle.proofs.Passing.{is_inside_after}
 use Rattle.kz_settle.proofs.Stepping.{is_begun}
 use Rattle.kz_log.specs.Requests.{IsFeed}
@@ -57,11 +57,11 @@ batch_leaves l v epoch now items k (inr at) =
       kept = c.kept;
     }))
 
-added_ok : (refused : Option ℕ) (l new : Log) → added refused l ≡ Ok new → l ≡ new
+added_ok : (refused : Option ℕ) (l new : Log) → log_unless_limit refused l ≡ Ok new → l ≡ new
 added_ok (Some number) l new h = cc
 added_ok None l new h = cc
 
-append_by : (t : Bool) (refused : Option ℕ) (l new : Log) (e : LogFault) → cond t (added refused l) (Err e) ≡ Ok new → l ≡ new
+append_by : (t : Bool) (refused : Option ℕ) (l new : Log) (e : LogFault) → cond t (log_unless_limit refused l) (Err e) ≡ Ok new → l ≡ new
 append_by true refused l new e h = added_ok refused l new h
 append_by false refused l new e h = cc
 

@@ -4,17 +4,17 @@ use Rattle.kz_types.specs.declared.log.BatchRow.{BatchRow}
 use Rattle.kz_types.specs.declared.log.Entry.{Entry}
 use Rattle.kz_types.specs.declared.record.MetaRecord.{MetaRecord}
 use Rattle.kz_spec_stores.specs.Image.{Image}
-use Rattle.kz_spec_stores.specs.Log.{numbered, record_count, all_entries_applied}
-use Rattle.kz_settle.specs.Settling.{passed, ends_by}
+use Rattle.kz_spec_stores.specs.Log.{entries_at_offsets, record_count, all_entries_applied}
+use Rattle.kz_settle.specs.Settling.{records_of_pass, ends_by}
 
 -- the records of batches, with the offsets after this one
 abbrev pub entries_after : ℤ → List BatchRow → List Entry
 entries_after following [] = []
-entries_after following (b ∷ bs) = numbered (following +ℤ pos 1) b.epoch b.items ++ entries_after (following +ℤ pos (length b.items)) bs
+entries_after following (b ∷ bs) = entries_at_offsets (following +ℤ pos 1) b.epoch b.items ++ entries_after (following +ℤ pos (length b.items)) bs
 
 -- the records after an offset: those that are left of a batch of this epoch, and those of the batches after it
 abbrev pub unread_entries : ℤ → ℤ → List MetaRecord → List BatchRow → List Entry
-unread_entries following epoch items rest = numbered (following +ℤ pos 1) epoch items ++ entries_after (following +ℤ pos (length items)) rest
+unread_entries following epoch items rest = entries_at_offsets (following +ℤ pos 1) epoch items ++ entries_after (following +ℤ pos (length items)) rest
 
 -- how many they are
 abbrev pub unread_count : List MetaRecord → List BatchRow → ℕ
@@ -27,4 +27,4 @@ Knows at (Some ends) es = ends ≡ ends_by at es
 
 -- the metadata, after these records too
 abbrev pub image_after : ℤ → Bool → List Entry → Image → Image
-image_after at inside es i = all_entries_applied (passed at inside es) i
+image_after at inside es i = all_entries_applied (records_of_pass at inside es) i

@@ -1,9 +1,9 @@
 //! Building the view that a feed leads to.
 ghost use Rattle.std.specs.Prelude.{◌≡◌, ◌≤ℤ◌, ◌+ℤ◌, pos, [], ◌∷◌, ◌++◌, OnOk};
 ghost use Rattle.kz_types.specs.declared.limits.TheConstants.{MAX_LONG};
-ghost use Rattle.kz_spec_stores.specs.Image.{applied};
+ghost use Rattle.kz_spec_stores.specs.Image.{image_with};
 ghost use Rattle.kz_spec_stores.specs.Log.{Follow, all_entries_applied, entries, entries_of_batch, last_of, last_end, last_epoch};
-ghost use Rattle.kz_settle.specs.Stands.{LeavesNone, handed};
+ghost use Rattle.kz_settle.specs.Stands.{LeavesNone, entries_of_answer};
 ghost use Rattle.kz_log.specs.Building.{Building, Took};
 
 use kz_image::Image;
@@ -39,7 +39,7 @@ fn forget(_e: Entry) {}
 
 impl Builder {
     fn apply(&mut self, e: &Entry) -> Result<(), NoMemory>
-        ensures { OnOk result (self.new ≡ record self.old { image = applied e.now.epoch e.now.item self.old.image }) }
+        ensures { OnOk result (self.new ≡ record self.old { image = image_with e.now.epoch e.now.item self.old.image }) }
     {
         self.image.apply(e.epoch, &e.item)
     }
@@ -57,7 +57,7 @@ impl Builder {
     // Applies what an answer of the settler makes count.
     fn apply_settled(&mut self, settled: Settled) -> Result<(), NoMemory>
         requires { LeavesNone settled self.old.settling }
-        ensures { OnOk result (self.new ≡ record self.old { image = all_entries_applied (handed settled ++ self.old.settling.released) self.old.image; settling = record self.old.settling { released = [] } }) }
+        ensures { OnOk result (self.new ≡ record self.old { image = all_entries_applied (entries_of_answer settled ++ self.old.settling.released) self.old.image; settling = record self.old.settling { released = [] } }) }
     {
         match settled {
             Settled::Now(e) => {

@@ -1,4 +1,5 @@
-//! A committed metadata log, in memory or after a trait of stores, and what a controller knows of it.
+//! The committed metadata log: the trait of stores that hold one, the store in memory, and a connection to a store that may lose
+//! requests. A view is what a controller knows of a log.
 #![tactic(auto)]
 
 mod builder;

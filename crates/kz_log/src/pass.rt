@@ -3,7 +3,7 @@ ghost use Rattle.std.specs.Prelude.{◌≡◌, ◌+ℤ◌, ◌≤ℤ◌, ◌∷�
 ghost use Rattle.kz_types.specs.declared.limits.TheConstants.{MAX_LONG};
 ghost use Rattle.kz_types.specs.declared.log.Entry.{Entry};
 ghost use Rattle.kz_spec_stores.specs.Log.{record_count};
-ghost use Rattle.kz_settle.specs.Settling.{opened, ends_by};
+ghost use Rattle.kz_settle.specs.Settling.{is_open_after, ends_by};
 ghost use Rattle.kz_log.specs.Reading.{entries_after, unread_entries, unread_count, Knows, image_after};
 
 use crate::cursor::{Cursor, read, start};
@@ -45,7 +45,7 @@ fn take(
     requires { (next.position +ℤ pos (unread_count next.items.now next.rest.now)) ≤ℤ MAX_LONG }
     ensures { IfOk result (λ then. (es : List Entry) (e : Entry) → es ≡ unread_entries next.entry.position next.entry.epoch next.entry.items.now next.entry.rest.now
         → e.epoch ≡ epoch → e.item ≡ item.now → int_le e.offset at ≡ true → Knows at known (e ∷ es)
-        → Knows at then es × (is_some then ≡ opened (is_some known) e.item) × (image_after at (is_some known) (e ∷ es) image.old ≡ image_after at (is_some then) es image.new)) }
+        → Knows at then es × (is_some then ≡ is_open_after (is_some known) e.item) × (image_after at (is_some known) (e ∷ es) image.old ≡ image_after at (is_some then) es image.new)) }
 {
     if is_begin(item) {
         match known {

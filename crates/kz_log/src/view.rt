@@ -1,6 +1,6 @@
 //! What a controller knows of a log.
 ghost use Rattle.std.specs.Prelude.{◌≡◌, [], OnOk, OnErr, IfOk};
-ghost use Rattle.kz_spec_stores.specs.Log.{Log, new_view, IsLog, IsAt, IsViewOf, entries, fed, feed_from, last_epoch, read_view};
+ghost use Rattle.kz_spec_stores.specs.Log.{Log, new_view, IsLog, IsAt, IsViewOf, entries, log_with_feed, feed_from, last_epoch, read_view};
 ghost use Rattle.kz_log.specs.Building.{building_from, view_of, Took};
 ghost use Rattle.kz_log.specs.Requests.{IsFeed};
 ghost use Rattle.kz_log.specs.Views.{Fits, GoesOn, known_epoch};
@@ -85,7 +85,7 @@ impl View {
 
         // A view of a log's end becomes one of the log with these batches after it, and with a base it becomes one of the
         // log from that base on.
-        ensures is_at { OnOk result ((l : Log) → GoesOn l self.old feed.base → IsAt (fed l feed.base feed.batches) self.new) }
+        ensures is_at { OnOk result ((l : Log) → GoesOn l self.old feed.base → IsAt (log_with_feed l feed.base feed.batches) self.new) }
 
         // What is read after a view of a log makes it the view of the log's end.
         ensures reads { OnOk result ((l : Log) → IsLog l → IsViewOf l self.old → IsFeed (feed_from l self.old.position) feed → self.new ≡ read_view l self.old) }

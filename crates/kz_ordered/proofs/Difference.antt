@@ -2,7 +2,7 @@
 use Rattle.std.proofs.Common.{◌≡◌, ◌≢◌, ◌⊎◌, ◌↔◌, ℕ, zero, suc, Bool, true, false, cond, List, [], ◌∷◌, ◌++◌, Option, Some, None, Ordering, Less, Contains, take, drop, refl, sym, ap, ◌∙◌, subst, inl, inr}
 use Rattle.kz_ordered.specs.Order.{TotalOrder}
 use Rattle.kz_ordered.specs.Ordered.{find, put, without, Rises}
-use Rattle.kz_ordered.specs.Difference.{DecidesEqual, Edit, drop_key, make, alter, edited, all_edited, drop_unless, drops, make_or_alter, makes, difference}
+use Rattle.kz_ordered.specs.Difference.{DecidesEqual, Edit, drop_key, make, alter, after_edit, all_edited, drop_unless, drops, make_or_alter, makes, difference}
 use Rattle.kz_ordered.proofs.Order.{less_differs, less_differs_back}
 use Rattle.kz_ordered.proofs.Lookup.{some_is_none, find_head, find_skip, key_of_found, find-put_same, find-put_other, rest_rises, found_above, Rises-put, without_here, without_skip, Rises-without, find-without_other, same_items, found_is_contained, contained_is_above, contained_is_found, Contains-head, Contains-tail, Contains-nil, Contains-cons_cases, Contains-put_cases}
 
@@ -17,18 +17,18 @@ empty_right (x ∷ xs) ys e = absurd (let no : x ∷ (xs ++ ys) ≡ [] = e in cc
 module _ {A K : Type 0} {cmp : K → K → Ordering} (o : TotalOrder cmp) (key : A → K) where
   -- ---- edits keep a list in order
 
-  pub Rises-edited : (e : Edit A K) (xs : List A) → Rises cmp key xs → Rises cmp key (edited cmp key e xs)
+  pub Rises-edited : (e : Edit A K) (xs : List A) → Rises cmp key xs → Rises cmp key (after_edit cmp key e xs)
   Rises-edited (drop_key k) xs h = Rises-without o key k xs h
   Rises-edited (make x) xs h = Rises-put o key x xs h
   Rises-edited (alter x) xs h = Rises-put o key x xs h
 
   pub Rises-all_edited : (es : List (Edit A K)) (xs : List A) → Rises cmp key xs → Rises cmp key (all_edited cmp key es xs)
   Rises-all_edited [] xs h = h
-  Rises-all_edited (e ∷ es) xs h = Rises-all_edited es (edited cmp key e xs) (Rises-edited e xs h)
+  Rises-all_edited (e ∷ es) xs h = Rises-all_edited es (after_edit cmp key e xs) (Rises-edited e xs h)
 
   pub all_edited-append : (es fs : List (Edit A K)) (xs : List A) → all_edited cmp key (es ++ fs) xs ≡ all_edited cmp key fs (all_edited cmp key es xs)
   all_edited-append [] fs xs = refl
-  all_edited-append (e ∷ es) fs xs = all_edited-append es fs (edited cmp key e xs)
+  all_edited-append (e ∷ es) fs xs = all_edited-append es fs (after_edit cmp key e xs)
 
   -- ---- where there are no drops
 
@@ -111,7 +111,7 @@ module _ {A K : Type 0} {cmp : K → K → Ordering} (o : TotalOrder cmp) (key :
     -- an item of the second list is put, or there is nothing to do
     pub data Made (x : A) (r : Option A) : Type 0 where
       as_it_is : make_or_alter {K = K} same x r ≡ [] → Made x r
-      is_put : (e : Edit A K) → make_or_alter same x r ≡ e ∷ [] → ((ys : List A) → edited cmp key e ys ≡ put cmp key x ys) → Made x r
+      is_put : (e : Edit A K) → make_or_alter same x r ≡ e ∷ [] → ((ys : List A) → after_edit cmp key e ys ≡ put cmp key x ys) → Made x r
 
     made_by : (x y : A) (b : Bool) → same y x ≡ b → Made x (Some y)
     made_by x y true e = as_it_is (rw e)
@@ -148,7 +148,7 @@ module _ {A K : Type 0} {cmp : K → K → Ordering} (o : TotalOrder cmp) (key :
 
       record FirstMake (a b : List A) (e : Edit A K) (es : List (Edit A K)) : Type 0 where
         x : A
-        acts : (ys : List A) → edited cmp key e ys ≡ put cmp key x ys
+        acts : (ys : List A) → after_edit cmp key e ys ≡ put cmp key x ys
         here : find cmp key (key x) b ≡ Some x
         rest : makes cmp key same (put cmp key x a) b ≡ es
 
@@ -171,7 +171,7 @@ module _ {A K : Type 0} {cmp : K → K → Ordering} (o : TotalOrder cmp) (key :
           let apart = makes_agree a (put cmp key x a) b (λ z has. find-put_other o key x a (key z) (less_differs_back o (key z) (key x) (contained_is_above o key (key x) b z h has))) in
           record {
             x = x;
-            acts = λ ys. ap (λ g. edited cmp key g ys) (sym head) ∙ acts ys;
+            acts = λ ys. ap (λ g. after_edit cmp key g ys) (sym head) ∙ acts ys;
             here = find_head o key x b;
             rest = rw first (apart ∙ tail);
           }
@@ -186,32 +186,32 @@ module _ {A K : Type 0} {cmp : K → K → Ordering} (o : TotalOrder cmp) (key :
       has_key a b x z none here (inl is) = subst (λ y. find cmp key (key y) b ≢ None) is (λ gone. some_is_none (sym here ∙ gone))
       has_key a b x z none here (inr has) = no_drops a b z none has
 
-      after_make : (a b : List A) (e : Edit A K) (es : List (Edit A K)) → drops cmp key a b ≡ [] → FirstMake a b e es → difference cmp key same (edited cmp key e a) b ≡ es
+      after_make : (a b : List A) (e : Edit A K) (es : List (Edit A K)) → drops cmp key a b ≡ [] → FirstMake a b e es → difference cmp key same (after_edit cmp key e a) b ≡ es
       after_make a b e es none r =
           let undropped = no_drops_from (put cmp key r.x a) b (λ z has. has_key a b r.x z none r.here (Contains-put_cases o key r.x a z has)) in
           ap (λ zs. difference cmp key same zs b) (r.acts a) ∙ ap (λ fs. fs ++ makes cmp key same (put cmp key r.x a) b) undropped ∙ r.rest
 
-      after_drop : (a b : List A) (e : Edit A K) (es : List (Edit A K)) → Rises cmp key b → FirstDrop a b e es → difference cmp key same (edited cmp key e a) b ≡ es ++ makes cmp key same a b
+      after_drop : (a b : List A) (e : Edit A K) (es : List (Edit A K)) → Rises cmp key b → FirstDrop a b e es → difference cmp key same (after_edit cmp key e a) b ≡ es ++ makes cmp key same a b
       after_drop a b e es h r =
           let apart = makes_agree a (without cmp key r.k a) b (λ z has. find-without_other o key r.k a (key z) (λ is. some_is_none (sym (contained_is_found o key b z h has) ∙ ap (λ q. find cmp key q b) is ∙ r.absent))) in
-          ap (λ f. difference cmp key same (edited cmp key f a) b) r.is ∙ ap (λ fs. fs ++ makes cmp key same (without cmp key r.k a) b) r.rest ∙ ap (λ fs. es ++ fs) apart
+          ap (λ f. difference cmp key same (after_edit cmp key f a) b) r.is ∙ ap (λ fs. fs ++ makes cmp key same (without cmp key r.k a) b) r.rest ∙ ap (λ fs. es ++ fs) apart
 
-      one_edit_by : (a b : List A) (e : Edit A K) (es fs : List (Edit A K)) → Rises cmp key a → Rises cmp key b → drops cmp key a b ≡ fs → fs ++ makes cmp key same a b ≡ e ∷ es → difference cmp key same (edited cmp key e a) b ≡ es
+      one_edit_by : (a b : List A) (e : Edit A K) (es fs : List (Edit A K)) → Rises cmp key a → Rises cmp key b → drops cmp key a b ≡ fs → fs ++ makes cmp key same a b ≡ e ∷ es → difference cmp key same (after_edit cmp key e a) b ≡ es
       one_edit_by a b e es [] ha hb none whole = after_make a b e es none (first_make a b e es hb whole)
       one_edit_by a b e es (f ∷ fs) ha hb eq whole =
           let both : f ∷ (fs ++ makes cmp key same a b) ≡ e ∷ es = whole in
           let head : f ≡ e = cc in
           let tail : fs ++ makes cmp key same a b ≡ es = cc in
-          ap (λ g. difference cmp key same (edited cmp key g a) b) (sym head) ∙ after_drop a b f fs hb (first_drop a b f fs ha eq) ∙ tail
+          ap (λ g. difference cmp key same (after_edit cmp key g a) b) (sym head) ∙ after_drop a b f fs hb (first_drop a b f fs ha eq) ∙ tail
 
       -- once its first edit is applied, the difference is what is left of it
-      pub one_edit : (a b : List A) (e : Edit A K) (es : List (Edit A K)) → Rises cmp key a → Rises cmp key b → difference cmp key same a b ≡ e ∷ es → difference cmp key same (edited cmp key e a) b ≡ es
+      pub one_edit : (a b : List A) (e : Edit A K) (es : List (Edit A K)) → Rises cmp key a → Rises cmp key b → difference cmp key same a b ≡ e ∷ es → difference cmp key same (after_edit cmp key e a) b ≡ es
       one_edit a b e es ha hb whole = one_edit_by a b e es (drops cmp key a b) ha hb refl whole
 
       part_applied : (n : ℕ) (a b : List A) (es : List (Edit A K)) → Rises cmp key a → Rises cmp key b → difference cmp key same a b ≡ es → difference cmp key same (all_edited cmp key (take n es) a) b ≡ drop n es
       part_applied zero a b es ha hb whole = whole
       part_applied (suc n) a b [] ha hb whole = whole
-      part_applied (suc n) a b (e ∷ es) ha hb whole = part_applied n (edited cmp key e a) b es (Rises-edited e a ha) hb (one_edit a b e es ha hb whole)
+      part_applied (suc n) a b (e ∷ es) ha hb whole = part_applied n (after_edit cmp key e a) b es (Rises-edited e a ha) hb (one_edit a b e es ha hb whole)
 
       -- once the first n edits are applied, the difference is what is left of it
       pub prefix_leaves_rest : (n : ℕ) (a b : List A) → Rises cmp key a → Rises cmp key b → difference cmp key same (all_edited cmp key (take n (difference cmp key same a b)) a) b ≡ drop n (difference cmp key same a b)
@@ -247,7 +247,7 @@ module _ {A K : Type 0} {cmp : K → K → Ordering} (o : TotalOrder cmp) (key :
 
       all_applied : (es : List (Edit A K)) (a b : List A) → Rises cmp key a → Rises cmp key b → difference cmp key same a b ≡ es → all_edited cmp key es a ≡ b
       all_applied [] a b ha hb none = equal_from_no_difference a b ha hb none
-      all_applied (e ∷ es) a b ha hb whole = all_applied es (edited cmp key e a) b (Rises-edited e a ha) hb (one_edit a b e es ha hb whole)
+      all_applied (e ∷ es) a b ha hb whole = all_applied es (after_edit cmp key e a) b (Rises-edited e a ha) hb (one_edit a b e es ha hb whole)
 
       pub difference_leads : (a b : List A) → Rises cmp key a → Rises cmp key b → all_edited cmp key (difference cmp key same a b) a ≡ b
       difference_leads a b ha hb = all_applied (difference cmp key same a b) a b ha hb refl

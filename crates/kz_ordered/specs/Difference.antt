@@ -15,15 +15,15 @@ pub data Edit (A K : Type 0) : Type 0 where
   alter : A → Edit A K
 
 -- what an edit makes of a list
-abbrev pub edited : {A K : Type 0} → (K → K → Ordering) → (A → K) → Edit A K → List A → List A
-edited cmp key (drop_key k) xs = without cmp key k xs
-edited cmp key (make x) xs = put cmp key x xs
-edited cmp key (alter x) xs = put cmp key x xs
+abbrev pub after_edit : {A K : Type 0} → (K → K → Ordering) → (A → K) → Edit A K → List A → List A
+after_edit cmp key (drop_key k) xs = without cmp key k xs
+after_edit cmp key (make x) xs = put cmp key x xs
+after_edit cmp key (alter x) xs = put cmp key x xs
 
 -- what edits make of a list, one after another
 abbrev pub all_edited : {A K : Type 0} → (K → K → Ordering) → (A → K) → List (Edit A K) → List A → List A
 all_edited cmp key [] xs = xs
-all_edited cmp key (e ∷ es) xs = all_edited cmp key es (edited cmp key e xs)
+all_edited cmp key (e ∷ es) xs = all_edited cmp key es (after_edit cmp key e xs)
 
 -- a drop of the key, unless an item was found under it
 abbrev pub drop_unless : {A K : Type 0} → K → Option A → List (Edit A K)

@@ -1,7 +1,7 @@
 //! Whether a path holds an entity.
 ghost use Rattle.std.specs.Prelude.{◌≡◌, ◌≤◌, length, is_some, option_map};
 ghost use Rattle.kz_types.specs.Numbers.{number_in};
-ghost use Rattle.kz_types.specs.Paths.{key_of, key_of_three, key_of_four, key_of_five, key_of_six, topic_of, address_of, restored, default_or};
+ghost use Rattle.kz_types.specs.Paths.{key_of, key_of_three, key_of_four, key_of_five, key_of_six, topic_of, address_of, name_of_part, default_or};
 
 use crate::cut::{Parts, cut};
 use crate::keys::{DEFAULT, are, broker_of, resource_type_of};
@@ -11,7 +11,7 @@ use kz_types::{MAX_PATH_BYTES, ZPath, may_be_part, may_be_topic, number_in};
 /// Whether a part is the default's or a name's.
 pub fn holds_name(part: &str) -> bool
     requires { length part.now ≤ MAX_PATH_BYTES }
-    ensures { result ≡ is_some (default_or restored part.now) }
+    ensures { result ≡ is_some (default_or name_of_part part.now) }
 {
     if part == DEFAULT {
         return true;

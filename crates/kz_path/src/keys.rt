@@ -2,7 +2,7 @@
 ghost use Rattle.std.specs.Prelude.{◌≡◌, ℤ, pos, List, ℕ, Bool, Option, Some, IfSome, IfOk, option_map, option_and_then};
 ghost use Rattle.kz_types.specs.Numbers.{number_in};
 ghost use Rattle.kz_types.specs.declared.key.EntityKey.TheVariants.{Topic, Partition, TopicConfig, BrokerConfig, Client, User, UserClient, Ip, Acl};
-ghost use Rattle.kz_types.specs.Paths.{path_of, key_of, key_of_three, key_of_four, key_of_five, key_of_six, topic_of, address_of, resource_type_of, restored, default_or, are};
+ghost use Rattle.kz_types.specs.Paths.{path_of, key_of, key_of_three, key_of_four, key_of_five, key_of_six, topic_of, address_of, resource_type_of, name_of_part, default_or, are};
 
 use crate::cut::{Parts, cut};
 use crate::names::restore;
@@ -44,7 +44,7 @@ pub fn broker_of(part: &str) -> Option<Option<i32>>
 
 /// The default, or the name that is written as this part.
 pub fn name_of(alloc: Global, part: &str) -> Result<Option<Option<Text>>, NoMemory>
-    ensures { IfOk result (λ name. name ≡ default_or restored part.now) }
+    ensures { IfOk result (λ name. name ≡ default_or name_of_part part.now) }
 {
     if part == DEFAULT {
         return Ok(Some(None));
@@ -114,7 +114,7 @@ fn broker_config_key(part: &str) -> Option<EntityKey>
 
 /// A client id.
 fn client_key(alloc: Global, part: &str) -> Result<Option<EntityKey>, NoMemory>
-    ensures { IfOk result (λ key. key ≡ option_map (λ client. Client client) (default_or restored part.now)) }
+    ensures { IfOk result (λ key. key ≡ option_map (λ client. Client client) (default_or name_of_part part.now)) }
 {
     match name_of(alloc, part)? {
         Some(client) => Ok(Some(EntityKey::Client { client })),
@@ -124,7 +124,7 @@ fn client_key(alloc: Global, part: &str) -> Result<Option<EntityKey>, NoMemory>
 
 /// A user.
 fn user_key(alloc: Global, part: &str) -> Result<Option<EntityKey>, NoMemory>
-    ensures { IfOk result (λ key. key ≡ option_map (λ user. User user) (default_or restored part.now)) }
+    ensures { IfOk result (λ key. key ≡ option_map (λ user. User user) (default_or name_of_part part.now)) }
 {
     match name_of(alloc, part)? {
         Some(user) => Ok(Some(EntityKey::User { user })),
@@ -216,7 +216,7 @@ fn key_of_four(
 
 /// The client id of a user.
 fn user_client_key(alloc: Global, user: &str, client: &str) -> Result<Option<EntityKey>, NoMemory>
-    ensures { IfOk result (λ key. key ≡ option_and_then (λ u. option_map (λ c. UserClient u c) (default_or restored client.now)) (default_or restored user.now)) }
+    ensures { IfOk result (λ key. key ≡ option_and_then (λ u. option_map (λ c. UserClient u c) (default_or name_of_part client.now)) (default_or name_of_part user.now)) }
 {
     match name_of(alloc, user)? {
         Some(user) => match name_of(alloc, client)? {

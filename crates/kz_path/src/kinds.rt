@@ -1,7 +1,7 @@
 //! What a path is to the migration.
 ghost use Rattle.std.specs.Prelude.{◌≡◌, ◌≤◌, ◌||◌, ◌&&◌, bytes_eq, is_some, codes, length, false};
 ghost use Rattle.kz_types.specs.Numbers.{canonical};
-ghost use Rattle.kz_types.specs.Paths.{are, default_or, restored, is_topic_name, is_scaffold_of_parts, kind_of, key_of};
+ghost use Rattle.kz_types.specs.Paths.{are, default_or, name_of_part, is_topic_name, is_scaffold_of_parts, kind_of, key_of};
 ghost use Rattle.kz_types.specs.PathRule.{parts};
 
 use crate::cut::{Parts, cut};
@@ -14,7 +14,7 @@ use kz_types::{Kind, MAX_PATH_BYTES, ZPath, canonical, may_be_topic};
 fn is_scaffold_of_four(a: &str, b: &str, c: &str, d: &str) -> bool
     requires { length c.now ≤ MAX_PATH_BYTES }
     ensures { result ≡ (are a.now b.now (codes "brokers") (codes "topics") && is_topic_name c.now && bytes_eq d.now (codes "partitions"))
-        || (are a.now b.now (codes "config") (codes "users") && is_some (default_or restored c.now) && bytes_eq d.now (codes "clients")) }
+        || (are a.now b.now (codes "config") (codes "users") && is_some (default_or name_of_part c.now) && bytes_eq d.now (codes "clients")) }
 {
     if are(a, b, "brokers", "topics") && may_be_topic(c.as_bytes()) && d == "partitions" {
         return true;

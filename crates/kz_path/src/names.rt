@@ -1,7 +1,7 @@
 //! Client ids and names of users as parts of a path.
 ghost use Rattle.std.specs.Prelude.{◌≡◌, ◌++◌, ◌&&◌, ◌<◌, ◌≤◌, [], true, false, IfOk, OnOk, length, bytes_eq, is_some};
 ghost use Rattle.std.specs.Str.{is_utf8};
-ghost use Rattle.kz_types.specs.Paths.{hex_digit, hex_value, sanitised_byte, sanitised, is_plain, unescaped, restored};
+ghost use Rattle.kz_types.specs.Paths.{hex_digit, hex_value, sanitised_byte, part_for_name, is_plain, bytes_of_part, name_of_part};
 
 use kz_path_buffer::PathBuffer;
 use kz_types::{MAX_PATH_BYTES, NoMemory, Text, is_text};
@@ -54,7 +54,7 @@ fn push_sanitised(out: &mut Vec<u8>, byte: u8) -> Result<(), NoMemory>
 
 /// The part that the bytes of a name are written as.
 fn sanitise_bytes(alloc: Global, name: &[u8]) -> Result<Vec<u8>, NoMemory>
-    ensures { IfOk result (λ part. part.items ≡ sanitised name.now) }
+    ensures { IfOk result (λ part. part.items ≡ part_for_name name.now) }
 {
     let mut part = Vec::new(alloc);
     for at in 0..name.len() {
@@ -65,7 +65,7 @@ fn sanitise_bytes(alloc: Global, name: &[u8]) -> Result<Vec<u8>, NoMemory>
 
 /// The bytes that a part's plain bytes and escapes stand for.
 fn unescape(alloc: Global, part: &[u8]) -> Result<Vec<u8>, NoMemory>
-    ensures { IfOk result (λ bytes. bytes.items ≡ unescaped part.now) }
+    ensures { IfOk result (λ bytes. bytes.items ≡ bytes_of_part part.now) }
 {
     let mut bytes = Vec::new(alloc);
     let mut at = 0;
@@ -84,7 +84,7 @@ fn unescape(alloc: Global, part: &[u8]) -> Result<Vec<u8>, NoMemory>
 /// The part of a path that a client id or a user's name is written as: each byte that isn't a letter, a digit, `.`,
 /// `_`, `-` or `~` is `%` and two upper-case hexadecimal digits.
 pub fn sanitise(alloc: Global, name: &Text) -> Result<Vec<u8>, NoMemory>
-    ensures { IfOk result (λ part. part.items ≡ sanitised name.now) }
+    ensures { IfOk result (λ part. part.items ≡ part_for_name name.now) }
 {
     sanitise_bytes(alloc, name.bytes())
 }
@@ -93,8 +93,8 @@ pub fn sanitise(alloc: Global, name: &Text) -> Result<Vec<u8>, NoMemory>
 /// has.
 fn unescape_into(buffer: &mut PathBuffer, part: &[u8]) -> bool
     requires { buffer.old ≡ [] }
-    ensures put { result ≡ true → buffer.new ≡ unescaped part.now }
-    ensures too_long { result ≡ false → MAX_PATH_BYTES < length (unescaped part.now) }
+    ensures put { result ≡ true → buffer.new ≡ bytes_of_part part.now }
+    ensures too_long { result ≡ false → MAX_PATH_BYTES < length (bytes_of_part part.now) }
 {
     let mut at = 0;
     while at < part.len() {
@@ -116,7 +116,7 @@ fn unescape_into(buffer: &mut PathBuffer, part: &[u8]) -> bool
 /// Whether the name of these bytes is written as this part.
 fn is_written_as(bytes: &[u8], part: &[u8]) -> bool
     requires { length part.now ≤ MAX_PATH_BYTES }
-    ensures { result ≡ bytes_eq (sanitised bytes.now) part.now }
+    ensures { result ≡ bytes_eq (part_for_name bytes.now) part.now }
 {
     let mut again = PathBuffer::new();
     if !again.push_sanitised(bytes) {
@@ -126,10 +126,10 @@ fn is_written_as(bytes: &[u8], part: &[u8]) -> bool
 }
 
 /// Whether a name is written as this part, which is at most as long as a path. It takes no memory.
-#[tactic(auto, unfolding(kz_types::specs::Paths::restored))]
+#[tactic(auto, unfolding(kz_types::specs::Paths::name_of_part))]
 pub fn may_be_name(part: &[u8]) -> bool
     requires { length part.now ≤ MAX_PATH_BYTES }
-    ensures { result ≡ is_some (restored part.now) }
+    ensures { result ≡ is_some (name_of_part part.now) }
 {
     let mut bytes = PathBuffer::new();
     if !unescape_into(&mut bytes, part) {
@@ -141,7 +141,7 @@ pub fn may_be_name(part: &[u8]) -> bool
 /// The name that is written as this part. `None` exactly where no name is: an escape of a plain byte, in lower case or
 /// cut, a byte that needs an escape, and bytes that aren't UTF-8.
 pub fn restore(alloc: Global, part: &[u8]) -> Result<Option<Text>, NoMemory>
-    ensures { IfOk result (λ name. name ≡ restored part.now) }
+    ensures { IfOk result (λ name. name ≡ name_of_part part.now) }
 {
     let bytes = unescape(alloc, part)?;
     let again = sanitise_bytes(alloc, &bytes)?;

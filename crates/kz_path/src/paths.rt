@@ -3,15 +3,16 @@ ghost use Rattle.std.specs.Prelude.{◌≡◌, ◌++◌, ℤ, List, ℕ, Option,
 ghost use Rattle.std.specs.Ordering.{int_eq};
 ghost use Rattle.std.specs.Fmt.{signed_decimal};
 ghost use Rattle.kz_types.specs.PathRule.{is_path, IsPathFault};
-ghost use Rattle.kz_types.specs.Paths.{path_of, is_legal, part_or_default, sanitised, resource_type_name};
+ghost use Rattle.kz_types.specs.Paths.{path_of, is_legal, part_or_default, part_for_name, resource_type_name};
 
 use crate::names::sanitise;
+use kz_paths::PRODUCER_TEXT;
 use kz_types::{EntityKey, NoMemory, PathFault, Text, ZPath};
 use std::alloc::Global;
 
 /// The part of the default, or of a name.
 fn part_of_name(alloc: Global, name: &Option<Text>) -> Result<Vec<u8>, NoMemory>
-    ensures { IfOk result (λ part. part.items ≡ part_or_default sanitised name.now) }
+    ensures { IfOk result (λ part. part.items ≡ part_or_default part_for_name name.now) }
 {
     match name {
         Some(name) => sanitise(alloc, name),
@@ -90,7 +91,7 @@ fn user_client_text(
     user: &Option<Text>,
     client: &Option<Text>,
 ) -> Result<Vec<u8>, NoMemory>
-    ensures { IfOk result (λ text. text.items ≡ codes "/config/users/" ++ (part_or_default sanitised user.now ++ (codes "/clients/" ++ part_or_default sanitised client.now))) }
+    ensures { IfOk result (λ text. text.items ≡ codes "/config/users/" ++ (part_or_default part_for_name user.now ++ (codes "/clients/" ++ part_or_default part_for_name client.now))) }
 {
     let user = part_of_name(alloc, user)?;
     let client = part_of_name(alloc, client)?;
@@ -157,7 +158,7 @@ fn text_of(alloc: Global, key: &EntityKey) -> Result<Vec<u8>, NoMemory>
             kind,
             name,
         } => acl_text(alloc, *pattern, *kind, name.bytes()),
-        EntityKey::Producer => Ok(b"/latest_producer_id_block".to_vec(alloc)?),
+        EntityKey::Producer => Ok(PRODUCER_TEXT.as_bytes().to_vec(alloc)?),
     }
 }
 

@@ -4,7 +4,7 @@ use Rattle.std.proofs.lemmas.Bool.{lt-leb, and_right}
 use Rattle.std.proofs.lemmas.Fmt.{decimal_digit, decimal_step}
 use Rattle.std.proofs.lemmas.List.{append_assoc, append-nil}
 use Rattle.kz_types.specs.PathRule.{is_path, has_path_form}
-use Rattle.kz_types.specs.Paths.{sanitised, sanitised_byte}
+use Rattle.kz_types.specs.Paths.{part_for_name, sanitised_byte}
 use Rattle.kz_types.proofs.NameLemmas.{sanitised_more, sanitised_end}
 
 -- one part after another
@@ -33,26 +33,26 @@ length-decimal_more number le small = ap length (decimal_step number le small) �
 -- ---- sanitised names
 
 -- one byte more
-pub sanitised_next : (old name part more : List ℕ) (at : ℕ) → at < length name → part ++ sanitised (drop at name) ≡ old ++ sanitised name
-    → more ≡ part ++ sanitised_byte (get_or name at 0) → more ++ sanitised (drop (at + 1) name) ≡ old ++ sanitised name
+pub sanitised_next : (old name part more : List ℕ) (at : ℕ) → at < length name → part ++ part_for_name (drop at name) ≡ old ++ part_for_name name
+    → more ≡ part ++ sanitised_byte (get_or name at 0) → more ++ part_for_name (drop (at + 1) name) ≡ old ++ part_for_name name
 sanitised_next old name part more at lt so_far is =
-    ap (λ m. m ++ sanitised (drop (at + 1) name)) is ∙ append_assoc part (sanitised_byte (get_or name at 0)) (sanitised (drop (at + 1) name))
+    ap (λ m. m ++ part_for_name (drop (at + 1) name)) is ∙ append_assoc part (sanitised_byte (get_or name at 0)) (part_for_name (drop (at + 1) name))
     ∙ ap (λ r. part ++ r) (sym (sanitised_more name at lt)) ∙ so_far
 
 -- no byte more
-pub sanitised_last : (old name part : List ℕ) (at : ℕ) → length name ≤ at → part ++ sanitised (drop at name) ≡ old ++ sanitised name → part ≡ old ++ sanitised name
+pub sanitised_last : (old name part : List ℕ) (at : ℕ) → length name ≤ at → part ++ part_for_name (drop at name) ≡ old ++ part_for_name name → part ≡ old ++ part_for_name name
 sanitised_last old name part at end so_far = sym (append-nil part) ∙ ap (λ r. part ++ r) (sym (sanitised_end name at end)) ∙ so_far
 
 -- a byte too many
-pub sanitised_long : (old name part : List ℕ) (at : ℕ) → at < length name → part ++ sanitised (drop at name) ≡ old ++ sanitised name
-    → 1024 < length part + length (sanitised_byte (get_or name at 0)) → 1024 < length old + length (sanitised name)
+pub sanitised_long : (old name part : List ℕ) (at : ℕ) → at < length name → part ++ part_for_name (drop at name) ≡ old ++ part_for_name name
+    → 1024 < length part + length (sanitised_byte (get_or name at 0)) → 1024 < length old + length (part_for_name name)
 sanitised_long old name part at lt so_far long =
     omega (
       arith,
       long,
       ap length so_far,
-      length-append part (sanitised (drop at name)),
-      length-append old (sanitised name),
+      length-append part (part_for_name (drop at name)),
+      length-append old (part_for_name name),
       ap length (sanitised_more name at lt),
-      length-append (sanitised_byte (get_or name at 0)) (sanitised (drop (at + 1) name)),
+      length-append (sanitised_byte (get_or name at 0)) (part_for_name (drop (at + 1) name)),
     )

@@ -4,7 +4,7 @@
 ghost use Rattle.std.specs.Prelude.{◌≡◌, ◌+◌, ◌<◌, ◌≤◌, ◌*◌, ◌/◌, ◌%◌, ℕ, ℤ, pos, ◌≤ℤ◌, true, false, List, [], ◌∷◌, ◌++◌, length, if◌then◌else◌, codes, decimal};
 ghost use Rattle.std.specs.Fmt.{signed_decimal};
 ghost use Rattle.std.specs.Ordering.{int_eq};
-ghost use Rattle.kz_types.specs.Paths.{hex_digit, is_plain, sanitised_byte, sanitised, part_or_default, resource_type_name, is_absent_or, is_not_negative, is_legal, path_of, has_path};
+ghost use Rattle.kz_types.specs.Paths.{hex_digit, is_plain, sanitised_byte, part_for_name, part_or_default, resource_type_name, is_absent_or, is_not_negative, is_legal, path_of, has_path};
 
 use kz_types::{EntityKey, MAX_PATH_BYTES, Text, keeps_rule};
 use std::marker::Model;
@@ -92,8 +92,8 @@ impl PathBuffer {
 
     /// Adds the part that a name is written as.
     pub fn push_sanitised(&mut self, name: &[u8]) -> bool
-        ensures added { result ≡ true → self.new ≡ self.old ++ sanitised name.now }
-        ensures too_long { result ≡ false → MAX_PATH_BYTES < length self.old + length (sanitised name.now) }
+        ensures added { result ≡ true → self.new ≡ self.old ++ part_for_name name.now }
+        ensures too_long { result ≡ false → MAX_PATH_BYTES < length self.old + length (part_for_name name.now) }
     {
         for at in 0..name.len() {
             if !self.push_sanitised_byte(name[at]) {
@@ -105,8 +105,8 @@ impl PathBuffer {
 
     /// Adds the part of the default, or of a name.
     pub fn push_name(&mut self, name: &Option<Text>) -> bool
-        ensures added { result ≡ true → self.new ≡ self.old ++ part_or_default sanitised name.now }
-        ensures too_long { result ≡ false → MAX_PATH_BYTES < length self.old + length (part_or_default sanitised name.now) }
+        ensures added { result ≡ true → self.new ≡ self.old ++ part_or_default part_for_name name.now }
+        ensures too_long { result ≡ false → MAX_PATH_BYTES < length self.old + length (part_or_default part_for_name name.now) }
     {
         match name {
             Some(name) => self.push_sanitised(name.bytes()),
@@ -166,8 +166,8 @@ impl PathBuffer {
 
     /// Adds the parts of a user and of its client id.
     fn push_user_client(&mut self, user: &Option<Text>, client: &Option<Text>) -> bool
-        ensures added { result ≡ true → self.new ≡ self.old ++ (part_or_default sanitised user.now ++ (codes "/clients/" ++ part_or_default sanitised client.now)) }
-        ensures too_long { result ≡ false → MAX_PATH_BYTES < length self.old + length (part_or_default sanitised user.now ++ (codes "/clients/" ++ part_or_default sanitised client.now)) }
+        ensures added { result ≡ true → self.new ≡ self.old ++ (part_or_default part_for_name user.now ++ (codes "/clients/" ++ part_or_default part_for_name client.now)) }
+        ensures too_long { result ≡ false → MAX_PATH_BYTES < length self.old + length (part_or_default part_for_name user.now ++ (codes "/clients/" ++ part_or_default part_for_name client.now)) }
     {
         self.push_name(user) && self.push(b"/clients/") && self.push_name(client)
     }

@@ -1,7 +1,9 @@
 //! Each public call with ample memory.
 use crate::{
-    CONTROL_TEXT, EPOCH_TEXT, MIGRATION_TEXT, base_paths, control_path, control_paths, epoch_path,
-    is_base, is_below_control, is_control, is_migrated, is_root, migration_path, root_paths,
+    BROKER_IDS_TEXT, CONTROL_TEXT, EPOCH_TEXT, MIGRATION_TEXT, PRODUCER_TEXT, TOPICS_TEXT,
+    base_paths, control_and_base_paths, control_path, control_paths, epoch_path, is_base,
+    is_below_control, is_broker_ids_path, is_control, is_controller_path, is_epoch_path,
+    is_migrated, is_migration_path, is_root, migration_path, root_paths, topics_path,
 };
 use std::test::Fail;
 
@@ -30,6 +32,16 @@ fn predicates(rt: HostRuntime) {
 }
 
 #[test]
+fn single_paths(rt: HostRuntime) {
+    assert!(rt; is_controller_path(b"/controller") && !is_controller_path(b"/controller_epoch"));
+    assert!(rt; is_epoch_path(b"/controller_epoch") && !is_epoch_path(b"/controller"));
+    assert!(rt; is_migration_path(b"/migration") && !is_migration_path(b"/migrations"));
+    assert!(rt; is_broker_ids_path(b"/brokers/ids") && !is_broker_ids_path(b"/brokers/ids/1"));
+    assert!(rt; is_broker_ids_path(BROKER_IDS_TEXT.as_bytes()));
+    assert!(rt; is_root(PRODUCER_TEXT.as_bytes()));
+}
+
+#[test]
 fn lists(rt: HostRuntime) -> Result<(), Fail> {
     for path in &root_paths(rt.alloc())? {
         assert!(rt; is_root(path.bytes()));
@@ -40,8 +52,12 @@ fn lists(rt: HostRuntime) -> Result<(), Fail> {
     for path in &control_paths(rt.alloc())? {
         assert!(rt; is_control(path.bytes()));
     }
+    for path in &control_and_base_paths(rt.alloc())? {
+        assert!(rt; is_control(path.bytes()) || is_base(path.bytes()));
+    }
     assert!(rt; control_path(rt.alloc())?.as_str() == CONTROL_TEXT);
     assert!(rt; epoch_path(rt.alloc())?.as_str() == EPOCH_TEXT);
     assert!(rt; migration_path(rt.alloc())?.as_str() == MIGRATION_TEXT);
+    assert!(rt; topics_path(rt.alloc())?.as_str() == TOPICS_TEXT);
     Ok(())
 }

@@ -5,7 +5,7 @@ ghost use Rattle.std.specs.Prelude.{◌≡◌, ◌+◌, ◌*◌, ◌-◌, ◌^�
 ghost use Rattle.std.specs.List.{list_all, prefix_len};
 ghost use Rattle.kz_types.specs.Numbers.{is_digit, number_of};
 ghost use Rattle.kz_types.specs.Quotas.{is_quota};
-ghost use Rattle.kz_spec_quotas.specs.Quotas.{digits_at, after_digits, exponent_of, after_letter, after_decimals, after_whole, numeral_of, scaled, quota_of_millionths, quota_of_numeral, quota_of, without_end_zeros, last_digits, quota_text};
+ghost use Rattle.kz_spec_quotas.specs.Quotas.{digits_at, after_digits, exponent_of, after_letter, after_decimals, after_whole, numeral_of, in_millionths, quota_of_millionths, quota_of_numeral, quota_of, without_end_zeros, last_digits, quota_text};
 
 use kz_types::{MAX_LONG, NoMemory, QuotaFault, QuotaValue, Text};
 use std::alloc::Global;
@@ -340,7 +340,7 @@ impl Significant {
         ensures { (digits : List ℕ) → list_all is_digit digits ≡ true
             → self.number ≡ min (number_of (without_end_zeros digits)) MOST_MILLIONTHS
             → length (without_end_zeros digits) + self.zeros ≡ length digits
-            → result ≡ option_map (λ n. min n MOST_MILLIONTHS) (scaled (number_of digits) (pos up -ℤ pos down)) }
+            → result ≡ option_map (λ n. min n MOST_MILLIONTHS) (in_millionths (number_of digits) (pos up -ℤ pos down)) }
     {
         if self.number == 0 {
             return Some(0);

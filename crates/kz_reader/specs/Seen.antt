@@ -11,7 +11,7 @@ use Rattle.kz_types.specs.declared.kind.Kind.{Kind}
 use Rattle.kz_types.specs.declared.kind.Kind.TheVariants as kind
 use Rattle.kz_types.specs.declared.fault.ReadWhy.TheVariants as why
 use Rattle.kz_ordered.specs.Order.{bytes_cmp}
-use Rattle.kz_spec_znodes.specs.Translation.{RowRecords, assigned, is_taken, entries_in, count_of_entries}
+use Rattle.kz_spec_znodes.specs.Translation.{RowRecords, assignment_at, is_taken, entries_in, count_of_entries}
 use Rattle.kz_spec_stores.specs.Metadata.{same_id}
 use Rattle.kz_reader.specs.declared.assignments.Assignments.{Assignments}
 use Rattle.kz_reader.specs.declared.seen.Note.{Note}
@@ -19,7 +19,7 @@ use Rattle.kz_reader.specs.declared.seen.Seen.{Seen}
 
 -- these are the assignments of their topic
 abbrev pub IsOf : List Row → Assignments → Type 0
-IsOf rows a = (number : ℤ) → get int_cmp a.rows number ≡ assigned a.topic number rows
+IsOf rows a = (number : ℤ) → get int_cmp a.rows number ≡ assignment_at a.topic number rows
 
 -- where there are assignments, they are those of their topic
 abbrev pub IsOfIfAny : List Row → Option Assignments → Type 0

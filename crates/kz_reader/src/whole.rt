@@ -6,7 +6,7 @@ ghost use Rattle.kz_ordered.specs.Ordered.{Rises};
 ghost use Rattle.kz_spec_stores.specs.Tree.{path_of_row};
 ghost use Rattle.kz_spec_stores.specs.Image.{all_applied, empty_image};
 ghost use Rattle.kz_spec_znodes.specs.Rendering.{render, excess};
-ghost use Rattle.kz_spec_znodes.specs.Translation.{bounded, translate};
+ghost use Rattle.kz_spec_znodes.specs.Translation.{records_unless_excess, translate};
 ghost use Rattle.kz_types.specs.declared.fault.ReadWhy.TheVariants.{Over};
 ghost use Rattle.kz_reader.specs.Faults.{IsReadFault};
 
@@ -33,8 +33,8 @@ fn rendered(alloc: Global, records: &[MetaRecord]) -> Result<Vec<Rendered>, NoMe
 #[tactic(auto, unfolding(kz_spec_znodes::specs::Rendering::render))]
 fn passed_limit(alloc: Global, records: &[MetaRecord]) -> Result<Option<Excess>, NoMemory>
     ensures { IfOk result (λ told. MatchOption told
-        (bounded (excess (all_applied MAX_EPOCH records.now empty_image)) records.now ≡ Ok records.now)
-        (λ e. bounded (excess (all_applied MAX_EPOCH records.now empty_image)) records.now ≡ Err (record { path = e.path; why = Over e.number }))) }
+        (records_unless_excess (excess (all_applied MAX_EPOCH records.now empty_image)) records.now ≡ Ok records.now)
+        (λ e. records_unless_excess (excess (all_applied MAX_EPOCH records.now empty_image)) records.now ≡ Err (record { path = e.path; why = Over e.number }))) }
 {
     let znodes = rendered(alloc, records)?;
     match first_excess(alloc, &znodes)? {

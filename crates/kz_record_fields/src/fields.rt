@@ -4,7 +4,7 @@ ghost use Rattle.base64.specs.Engines.{standard};
 ghost use Rattle.base64.specs.GeneralPurpose.{decoded_of};
 ghost use Rattle.serde_json.specs.View.{view, items_view};
 ghost use Rattle.kz_spec_lines.specs.Json.{text_or_null};
-ghost use Rattle.kz_spec_lines.specs.Fields.{int8, int16, uint16, int32, int64, uuid, bytes, all_of, ints, ints_or_null, field, tagged, tagged_count};
+ghost use Rattle.kz_spec_lines.specs.Fields.{int8, int16, uint16, int32, int64, uuid, bytes, all_of, ints, ints_or_null, field, tagged_member, tagged_count};
 
 use crate::members::text_or_null;
 use base64::DecodeAllocError;
@@ -191,7 +191,7 @@ pub fn tagged_ints(
     value: &Value,
     name: &str,
 ) -> Result<Option<Option<Sequence<i32>>>, NoMemory>
-    ensures { IfOk result (λ made. made ≡ tagged name.now None ints_or_null (view value.now)) }
+    ensures { IfOk result (λ made. made ≡ tagged_member name.now None ints_or_null (view value.now)) }
 {
     match value.get(name) {
         Some(member) => ints_or_null(alloc, member),
@@ -201,7 +201,7 @@ pub fn tagged_ints(
 
 /// A tagged whole number of 8 bits, and what it is by default.
 pub fn tagged_int8(value: &Value, name: &str, default: i8) -> Option<i8>
-    ensures { result ≡ tagged name.now default int8 (view value.now) }
+    ensures { result ≡ tagged_member name.now default int8 (view value.now) }
 {
     match value.get(name) {
         Some(member) => int8(member),
@@ -211,7 +211,7 @@ pub fn tagged_int8(value: &Value, name: &str, default: i8) -> Option<i8>
 
 /// A tagged whole number of 32 bits, and what it is by default.
 pub fn tagged_int32(value: &Value, name: &str, default: i32) -> Option<i32>
-    ensures { result ≡ tagged name.now default int32 (view value.now) }
+    ensures { result ≡ tagged_member name.now default int32 (view value.now) }
 {
     match value.get(name) {
         Some(member) => int32(member),
@@ -221,7 +221,7 @@ pub fn tagged_int32(value: &Value, name: &str, default: i32) -> Option<i32>
 
 /// A tagged text, by default null.
 pub fn tagged_text<'a>(value: &'a Value, name: &str) -> Option<Option<&'a str>>
-    ensures { option_map (λ o. option_map (λ t. t.now) o) result ≡ tagged name.now None text_or_null (view value.now) }
+    ensures { option_map (λ o. option_map (λ t. t.now) o) result ≡ tagged_member name.now None text_or_null (view value.now) }
 {
     match value.get(name) {
         Some(member) => text_or_null(member),

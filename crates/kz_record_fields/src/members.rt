@@ -16,7 +16,7 @@ pub fn member_count(value: &Value) -> usize
     }
 }
 
-// A text or null.
+/// The text that a value is, or that it is null; `None` where it is neither.
 pub fn text_or_null(value: &Value) -> Option<Option<&str>>
     ensures { option_map (λ o. option_map (λ t. t.now) o) result ≡ text_or_null (view value.now) }
 {

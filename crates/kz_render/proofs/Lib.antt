@@ -1,3 +1,4 @@
+pub mod BareRoots
 pub mod BrokerPaths
 pub mod PathForms
 pub mod QuotaLists

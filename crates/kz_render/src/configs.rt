@@ -1,7 +1,7 @@
 //! The znodes of brokers' configurations.
 ghost use Rattle.std.specs.Prelude.{◌≡◌, ◌∷◌, ◌++◌, [], map, IfOk, OnOk};
 ghost use Rattle.kz_types.specs.Paths.{path_of};
-ghost use Rattle.kz_spec_values.specs.Bodies.{written};
+ghost use Rattle.kz_spec_values.specs.Bodies.{text_of_body};
 ghost use Rattle.kz_spec_znodes.specs.Rendering.{broker_key, config_znode};
 
 use crate::paths::entity_path;
@@ -35,7 +35,7 @@ fn config_path(alloc: Global, name: &Text) -> Result<ZPath, NoMemory>
 }
 
 // Adds the znode of a broker's configuration.
-#[tactic(auto, unfolding(kz_spec_values::specs::Bodies::written))]
+#[tactic(auto, unfolding(kz_spec_values::specs::Bodies::text_of_body))]
 fn push_config(
     alloc: Global,
     znodes: &mut Vec<Rendered>,

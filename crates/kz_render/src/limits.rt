@@ -1,16 +1,16 @@
 //! Whether a rendering keeps the limits.
-ghost use Rattle.std.specs.Prelude.{◌≡◌, length, IfOk, IfErr, OnOk, None, nat_lt, option_map, codes, true};
+ghost use Rattle.std.specs.Prelude.{◌≡◌, length, IfOk, IfErr, OnOk, None, nat_lt, option_map, codes};
 ghost use Rattle.std.specs.List.{find, sum_by};
 ghost use Rattle.kz_types.specs.declared.limits.TheConstants.{MAX_BODIES_BYTES};
-ghost use Rattle.kz_types.specs.PathRule.{is_path};
 ghost use Rattle.kz_types.specs.declared.tree.Rendered.{Rendered as RenderedValue};
 ghost use Rattle.kz_spec_znodes.specs.Rendering.{is_long, excess_of, excess};
 ghost use Rattle.kz_render.specs.Limits.{excess_of_told, IsExcess};
 
 use crate::znodes::render;
 use kz_image::Image;
+use kz_paths::topics_path;
 use kz_types::{
-    Duplicate, MAX_BODIES_BYTES, MAX_BODY_BYTES, MAX_ZNODES, NoMemory, Rendered, Text, ZPath,
+    Duplicate, MAX_BODIES_BYTES, MAX_BODY_BYTES, MAX_ZNODES, NoMemory, Rendered, ZPath,
 };
 use std::alloc::Global;
 
@@ -48,11 +48,10 @@ fn are_bodies_long(znodes: &[Rendered]) -> bool
 }
 
 /// The path at which is told that a limit of all znodes together is passed.
-#[tactic(auto, unfolding(kz_types::proofs::OnLiterals::values_on_literals))]
 pub fn whole_path(alloc: Global) -> Result<ZPath, NoMemory>
     ensures { IfOk result (λ path. path ≡ codes "/brokers/topics") }
 {
-    Ok(ZPath::from_text(Text::from_str(alloc, "/brokers/topics")?))
+    topics_path(alloc)
 }
 
 /// The first limit that znodes pass, if any: the bytes of one znode's data, the number of znodes, the bytes of all data.

@@ -1,7 +1,7 @@
 //! The data of quotas and credentials.
 ghost use Rattle.std.specs.Prelude.{◌≡◌, true, IfOk};
 ghost use Rattle.kz_types.specs.declared.bodies.Body.TheVariants as body;
-ghost use Rattle.kz_spec_values.specs.Bodies.{written};
+ghost use Rattle.kz_spec_values.specs.Bodies.{text_of_body};
 ghost use Rattle.kz_json.specs.Entries.{are_quotas};
 
 use kz_json::write_body;
@@ -16,7 +16,7 @@ pub fn quota_text(
     scrams: &[ScramPair],
 ) -> Result<Vec<u8>, NoMemory>
     requires { are_quotas quotas.now ≡ true }
-    ensures { IfOk result (λ text. text.items ≡ written (body.Quota quotas.now scrams.now)) }
+    ensures { IfOk result (λ text. text.items ≡ text_of_body (body.Quota quotas.now scrams.now)) }
 {
     let body = Body::Quota {
         quotas: Sequence::from_vec(copy_all(alloc, quotas)?),

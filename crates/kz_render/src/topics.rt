@@ -3,7 +3,7 @@ ghost use Rattle.std.specs.Prelude.{◌≡◌, ◌∷◌, ◌++◌, [], All, IfO
 ghost use Rattle.std.specs.List.{flat_map};
 ghost use Rattle.kz_types.specs.Paths.{is_topic_name, is_not_negative};
 ghost use Rattle.kz_types.specs.declared.bodies.Body.TheVariants as body;
-ghost use Rattle.kz_spec_values.specs.Bodies.{written};
+ghost use Rattle.kz_spec_values.specs.Bodies.{text_of_body};
 ghost use Rattle.kz_spec_stores.specs.Legal.{IsPartition, IsTopic};
 ghost use Rattle.kz_spec_znodes.specs.Rendering.{bare, assignment_of, topic_znode, partitions_path, state_body, partition_znodes, topic_config_znodes, topic_znodes};
 
@@ -43,18 +43,18 @@ fn assignments_of(
 }
 
 // The text of a topic's body.
-#[tactic(auto, unfolding(kz_spec_values::specs::Bodies::written))]
+#[tactic(auto, unfolding(kz_spec_values::specs::Bodies::text_of_body))]
 fn topic_body(alloc: Global, topic: &TopicEntry) -> Result<String, NoMemory>
-    ensures { IfOk result (λ text. string_bytes text ≡ written (body.Topic topic.now.id (map assignment_of topic.now.partitions))) }
+    ensures { IfOk result (λ text. string_bytes text ≡ text_of_body (body.Topic topic.now.id (map assignment_of topic.now.partitions))) }
 {
     let rows = assignments_of(alloc, topic.partitions.as_slice())?;
     topic_text(alloc, &topic.id, &rows)
 }
 
 // The text of the body of a partition's state.
-#[tactic(auto, unfolding(kz_spec_values::specs::Bodies::written))]
+#[tactic(auto, unfolding(kz_spec_values::specs::Bodies::text_of_body))]
 fn state_body(alloc: Global, row: &PartitionRow) -> Result<String, NoMemory>
-    ensures { IfOk result (λ text. string_bytes text ≡ written (state_body row.now)) }
+    ensures { IfOk result (λ text. string_bytes text ≡ text_of_body (state_body row.now)) }
 {
     state_text(
         alloc,
@@ -124,7 +124,7 @@ fn push_partitions(
 }
 
 // Adds the znode of a topic's configuration, where it isn't empty.
-#[tactic(auto, unfolding(kz_spec_values::specs::Bodies::written))]
+#[tactic(auto, unfolding(kz_spec_values::specs::Bodies::text_of_body))]
 fn push_topic_config(
     alloc: Global,
     znodes: &mut Vec<Rendered>,

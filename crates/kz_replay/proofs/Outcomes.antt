@@ -8,7 +8,7 @@ use Rattle.kz_types.specs.declared.outside.Status.{Status}
 use Rattle.kz_types.specs.declared.outside.Status.TheVariants as status
 use Rattle.kz_spec_lines.specs.Lines.{Item, line, long, much, is_passed_over}
 use Rattle.kz_spec_lines.specs.Events.{line_event}
-use Rattle.kz_spec_runs.specs.Output.{Outcome, Place, outcome, after, ended, unless_ended, on_event, passed, summary, written, nothing_if_ended, written_on_event}
+use Rattle.kz_spec_runs.specs.Output.{Outcome, Place, outcome, after, end_of_run, unless_ended, on_event, place_after_line, summary, lines_of_items, nothing_if_ended, written_on_event}
 use Rattle.kz_spec_runs.specs.Endings.{IsFront}
 use Rattle.kz_replay.specs.declared.ending.Next.{Next}
 use Rattle.kz_replay.specs.declared.ending.Next.TheVariants as next_is
@@ -18,7 +18,7 @@ use Rattle.kz_replay.specs.Lines.{Effect, effect_by, effect_of_line, Prints}
 -- ---- the first line
 
 by_line : (b : Bool) (o : Option Event) (p : Place) (go : Place → Outcome)
-    → (if b then go (passed p) else on_event p o go) ≡ after (effect_by p b o).text (unless_ended (effect_by p b o).end (go (effect_by p b o).place))
+    → (if b then go (place_after_line p) else on_event p o go) ≡ after (effect_by p b o).text (unless_ended (effect_by p b o).end (go (effect_by p b o).place))
 by_line true o p go = refl
 by_line false None p go = refl
 by_line false (Some e) p go = refl
@@ -29,15 +29,15 @@ unfolding outcome
 outcome_line p l more = by_line (is_passed_over l) (line_event l) p (λ q. outcome q more)
 
 lines_by_line : (b : Bool) (o : Option Event) (p : Place) (go : Place → List ℕ)
-    → (if b then go (passed p) else written_on_event p o go) ≡ (effect_by p b o).text ++ nothing_if_ended (effect_by p b o).end (go (effect_by p b o).place)
+    → (if b then go (place_after_line p) else written_on_event p o go) ≡ (effect_by p b o).text ++ nothing_if_ended (effect_by p b o).end (go (effect_by p b o).place)
 lines_by_line true o p go = refl
 lines_by_line false None p go = refl
 lines_by_line false (Some e) p go = refl
 
 written_line : (p : Place) (l : List ℕ) (more : List Item)
-    → written p (line l ∷ more) ≡ (effect_of_line p l).text ++ nothing_if_ended (effect_of_line p l).end (written (effect_of_line p l).place more)
-unfolding written
-written_line p l more = lines_by_line (is_passed_over l) (line_event l) p (λ q. written q more)
+    → lines_of_items p (line l ∷ more) ≡ (effect_of_line p l).text ++ nothing_if_ended (effect_of_line p l).end (lines_of_items (effect_of_line p l).place more)
+unfolding lines_of_items
+written_line p l more = lines_by_line (is_passed_over l) (line_event l) p (λ q. lines_of_items q more)
 
 -- ---- no line
 
@@ -45,15 +45,15 @@ pub outcome_end : (p : Place) → outcome p [] ≡ record { text = summary p; st
 unfolding outcome
 outcome_end p = refl
 
-pub written_end : (p : Place) → written p [] ≡ []
-unfolding written
+pub written_end : (p : Place) → lines_of_items p [] ≡ []
+unfolding lines_of_items
 written_end p = refl
 
-pub outcome_long : (p : Place) (more : List Item) → outcome p (long ∷ more) ≡ ended (status.Limit (number_of_limit limits.LineBytes) MAX_LINE_BYTES)
+pub outcome_long : (p : Place) (more : List Item) → outcome p (long ∷ more) ≡ end_of_run (status.Limit (number_of_limit limits.LineBytes) MAX_LINE_BYTES)
 unfolding outcome
 outcome_long p more = refl
 
-pub outcome_much : (p : Place) (more : List Item) → outcome p (much ∷ more) ≡ ended (status.Limit (number_of_limit limits.InputBytes) MAX_INPUT_BYTES)
+pub outcome_much : (p : Place) (more : List Item) → outcome p (much ∷ more) ≡ end_of_run (status.Limit (number_of_limit limits.InputBytes) MAX_INPUT_BYTES)
 unfolding outcome
 outcome_much p more = refl
 
@@ -87,9 +87,9 @@ pub begins_line : (p q : Place) (l text : List ℕ) (what : Next) → Prints (ef
 begins_line p q l text what h more = begins_by (effect_of_line p l) text what q (outcome p (line l ∷ more)) (λ r. outcome r more) h (outcome_line p l more)
 
 pub lines_of_line : (p q : Place) (l text : List ℕ) (what : Next) → Prints (effect_of_line p l) text what q → what ≡ next_is.GoesOn
-    → (more : List Item) → written p (line l ∷ more) ≡ text ++ written q more
+    → (more : List Item) → lines_of_items p (line l ∷ more) ≡ text ++ lines_of_items q more
 lines_of_line p q l text what h goes more =
-    went_on (λ t u. t ++ u) nothing_if_ended (effect_of_line p l) text q (written p (line l ∷ more)) (λ r. written r more) (subst (λ (n : Next). Prints (effect_of_line p l) text n q) goes h) (written_line p l more)
+    went_on (λ t u. t ++ u) nothing_if_ended (effect_of_line p l) text q (lines_of_items p (line l ∷ more)) (λ r. lines_of_items r more) (subst (λ (n : Next). Prints (effect_of_line p l) text n q) goes h) (written_line p l more)
 
 -- all of it is printed
 pub prints_all : (e : Effect) (text : List ℕ) (what : Next) (q : Place) → text ≡ e.text → IsNext what e.end → q ≡ e.place → Prints e text what q
@@ -98,7 +98,7 @@ prints_all e text (next_is.Ends why) q t n p = (t, n)
 prints_all e text next_is.NoMemory q t n p = absurd n
 
 -- a line that is passed over, one that is no event, and one that is
-pub effect_passed : (p : Place) (l : List ℕ) → is_passed_over l ≡ true → effect_of_line p l ≡ record { text = []; end = None; place = passed p }
+pub effect_passed : (p : Place) (l : List ℕ) → is_passed_over l ≡ true → effect_of_line p l ≡ record { text = []; end = None; place = place_after_line p }
 effect_passed p l h = rw h refl
 
 pub effect_of_other : (p : Place) (l : List ℕ) (o : Option Event) → is_passed_over l ≡ false → line_event l ≡ o → effect_of_line p l ≡ effect_by p false o

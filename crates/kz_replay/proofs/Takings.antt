@@ -2,7 +2,7 @@
 use Rattle.std.proofs.Common.{◌≡◌, ℕ, ◌+◌, ◌<◌, List, [], ◌∷◌, ◌++◌, refl, sym, ap, ◌∙◌, subst, append-nil}
 use Rattle.kz_types.specs.declared.limits.TheConstants.{MAX_INPUT_BYTES}
 use Rattle.kz_types.specs.declared.outside.Status.TheVariants as status
-use Rattle.kz_spec_runs.specs.Output.{Outcome, Place, after, ended, outcome, summary, whole_lines}
+use Rattle.kz_spec_runs.specs.Output.{Outcome, Place, after, end_of_run, outcome, summary, whole_lines}
 use Rattle.kz_replay.specs.declared.ending.Ending.{Ending}
 use Rattle.kz_replay.specs.declared.ending.Next.{Next}
 use Rattle.kz_replay.specs.declared.ending.Next.TheVariants as next_is
@@ -19,7 +19,7 @@ ends_not : (e : Ending) → next_is.Ends e ≡ next_is.GoesOn → ⊥
 ends_not e is = cc
 
 -- the run ends at this byte, and nothing is printed
-pub ends_here : (s : State) (b : ℕ) (text : List ℕ) (what : Next) (e : Ending) → text ≡ [] → what ≡ next_is.Ends e → ((rest : List ℕ) → pending s (b ∷ rest) ≡ ended (status_of e))
+pub ends_here : (s : State) (b : ℕ) (text : List ℕ) (what : Next) (e : Ending) → text ≡ [] → what ≡ next_is.Ends e → ((rest : List ℕ) → pending s (b ∷ rest) ≡ end_of_run (status_of e))
     → Takes s s (b ∷ []) text what
 ends_here s b text what e none is h =
     subst (λ (t : List ℕ). Takes s s (b ∷ []) t what) (sym none)
@@ -45,5 +45,5 @@ line_ends p q l text t what more h = record {
 }
 
 -- the summary at the end of the input
-pub summary_begins : (text all : List ℕ) (what : Next) (o : Outcome) (p : Place) → what ≡ next_is.GoesOn → all ≡ text ++ summary p → Begins text what o (outcome p []) → o ≡ after all (ended status.Done)
+pub summary_begins : (text all : List ℕ) (what : Next) (o : Outcome) (p : Place) → what ≡ next_is.GoesOn → all ≡ text ++ summary p → Begins text what o (outcome p []) → o ≡ after all (end_of_run status.Done)
 summary_begins text all what o p goes is h = begins_none text what o (outcome p []) goes h ∙ ap (after text) (outcome_end p) ∙ ap with_status (sym is ∙ sym (append-nil all))

@@ -5,7 +5,7 @@ use Rattle.kz_types.specs.declared.outside.Status.{Status}
 use Rattle.kz_types.specs.declared.outside.Status.TheVariants as status
 use Rattle.kz_spec_runs.specs.Endings.{Agrees, EndsAs, EndsAtFailure, IsReplay}
 use Rattle.kz_spec_runs.specs.InStep.{StaysInStep, script_events}
-use Rattle.kz_spec_runs.specs.Output.{opening, replayed}
+use Rattle.kz_spec_runs.specs.Output.{opening, outcome_of_replay}
 use Rattle.kz_laws_machine.proofs.Lawful.{script_lawful}
 use Rattle.kz_laws_machine.proofs.Steady.{stays_in_step}
 use Rattle.kz_replay.specs.Pending.{State, pending, pending_lines}
@@ -16,7 +16,7 @@ use Rattle.kz_replay.proofs.Runs.{always}
 -- a run that began at the first byte
 agrees : (s : State) → s ≡ state opening [] 0 → (script taken sent : List ℕ) (result : Status) → EndsAs (pending s script) (pending_lines s taken) sent result → Agrees script taken sent result
 agrees s is script taken sent result h =
-    subst (λ (t : List ℕ). EndsAs (replayed script) t sent result) (sym (lines_at_start opening 0 taken)) (subst (λ (x : State). EndsAs (pending x script) (pending_lines x taken) sent result) is h)
+    subst (λ (t : List ℕ). EndsAs (outcome_of_replay script) t sent result) (sym (lines_at_start opening 0 taken)) (subst (λ (x : State). EndsAs (pending x script) (pending_lines x taken) sent result) is h)
 
 -- what is told of a run from this state on
 abbrev pub Told : State → Side → Side → Side → Side → Status → List ℕ → Type 0

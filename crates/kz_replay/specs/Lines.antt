@@ -6,7 +6,7 @@ use Rattle.kz_types.specs.declared.outside.Status.TheVariants as status
 use Rattle.kz_spec_lines.specs.Lines.{is_passed_over}
 use Rattle.kz_spec_lines.specs.Events.{line_event}
 use Rattle.kz_spec_machine.specs.Machine.{next}
-use Rattle.kz_spec_runs.specs.Output.{Place, passed, served, written_for, ending}
+use Rattle.kz_spec_runs.specs.Output.{Place, place_after_line, place_after_event, written_for, ending}
 use Rattle.kz_spec_runs.specs.Endings.{IsFront}
 use Rattle.kz_replay.specs.declared.ending.Next.{Next}
 use Rattle.kz_replay.specs.declared.ending.Next.TheVariants as next_is
@@ -19,11 +19,11 @@ pub record Effect : Type 0 where
   pub place : Place
 
 abbrev pub effect_of_event : Place → Event → Effect
-effect_of_event p e = record { text = written_for p e; end = ending (next p.world e).1; place = served p e }
+effect_of_event p e = record { text = written_for p e; end = ending (next p.world e).1; place = place_after_event p e }
 
 -- of a line that is passed over or isn't, and of the event that it is
 abbrev pub effect_by : Place → Bool → Option Event → Effect
-effect_by p true e = record { text = []; end = None; place = passed p }
+effect_by p true e = record { text = []; end = None; place = place_after_line p }
 effect_by p false None = record { text = []; end = Some (status.Script (p.lines + 1)); place = p }
 effect_by p false (Some e) = effect_of_event p e
 

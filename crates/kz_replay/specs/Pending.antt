@@ -2,7 +2,7 @@
 use Rattle.std.specs.Prelude.{◌≡◌, ℕ, ◌+◌, ◌-◌, List, [], ◌++◌, length, if◌then◌else◌}
 use Rattle.kz_types.specs.declared.limits.TheConstants.{MAX_INPUT_BYTES, MAX_LINE_BYTES}
 use Rattle.kz_spec_lines.specs.Lines.{Item, with_front, items_from}
-use Rattle.kz_spec_runs.specs.Output.{Outcome, Place, outcome, has_line_end, whole_lines, written}
+use Rattle.kz_spec_runs.specs.Output.{Outcome, Place, outcome, has_line_end, whole_lines, lines_of_items}
 use Rattle.kz_replay.specs.declared.ending.Next.{Next}
 use Rattle.kz_replay.specs.declared.ending.Next.TheVariants as next_is
 use Rattle.kz_replay.specs.Endings.{Begins}
@@ -23,7 +23,7 @@ pending s rest = outcome s.place (coming s rest)
 
 -- what is written for the lines that have ended, once these bytes are taken, too
 abbrev pub pending_lines : State → List ℕ → List ℕ
-pending_lines s rest = if has_line_end rest then written s.place (coming s (whole_lines rest)) else []
+pending_lines s rest = if has_line_end rest then lines_of_items s.place (coming s (whole_lines rest)) else []
 
 -- From one state to another the run took these bytes, printed this, and then goes on or ends.
 pub record Takes (old new : State) (bytes text : List ℕ) (what : Next) : Type 0 where

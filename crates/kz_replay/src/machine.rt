@@ -6,7 +6,7 @@ ghost use Rattle.kz_spec_machine.specs.Sound.{IsLawful};
 ghost use Rattle.kz_spec_machine.specs.Failures.{is_failure, IsLeft};
 ghost use Rattle.kz_spec_runs.specs.Output.{recorded_offset};
 ghost use Rattle.kz_replay.specs.Failures.{FailsByNoDisk};
-ghost use Rattle.kz_world.specs.Worlds.{seen};
+ghost use Rattle.kz_world.specs.Worlds.{plain_world};
 
 use kz_log::{MemoryLog, MetaLog};
 use kz_session::MemoryTree;
@@ -47,7 +47,7 @@ pub trait Machine: Drop + Sized {
 }
 
 impl Machine for World<MemoryTree, MemoryLog> {
-    ghost world = { λ w. seen ⟦<MemoryTree as ZTree>⟧.tree ⟦<MemoryLog as MetaLog>⟧.log w };
+    ghost world = { λ w. plain_world ⟦<MemoryTree as ZTree>⟧.tree ⟦<MemoryLog as MetaLog>⟧.log w };
 
     fn new(alloc: Global) -> Result<Self, NoMemory> {
         Ok(World::new(alloc, MemoryTree::new(alloc), MemoryLog::new(alloc)))

@@ -5,7 +5,7 @@ ghost use Rattle.kz_types.specs.declared.limits.TheConstants.{MAX_INPUT_BYTES, M
 ghost use Rattle.kz_types.specs.declared.outside.Status.TheVariants as status;
 ghost use Rattle.kz_spec_lines.specs.Lines.{with_front};
 ghost use Rattle.kz_spec_machine.specs.Machine.{empty_world};
-ghost use Rattle.kz_spec_runs.specs.Output.{Outcome, opening, ended, outcome};
+ghost use Rattle.kz_spec_runs.specs.Output.{Outcome, opening, end_of_run, outcome};
 ghost use Rattle.kz_replay.specs.Endings.{Begins, Stops, StopsAtSink};
 ghost use Rattle.kz_replay.specs.Kept.{IsKept};
 ghost use Rattle.kz_replay.specs.Pending.{State, pending, Takes, GoesOn};
@@ -75,7 +75,7 @@ fn with_summary<M: Machine>(
     place: &Place<M>,
     printed: Printed,
 ) -> Result<Printed, NoMemory>
-    ensures { IfOk result (λ p. (o : Outcome) → Begins printed.text.items printed.next o (outcome place.now []) → Begins p.text.items p.next o (ended status.Done)) }
+    ensures { IfOk result (λ p. (o : Outcome) → Begins printed.text.items printed.next o (outcome place.now []) → Begins p.text.items p.next o (end_of_run status.Done)) }
 {
     let Next::GoesOn = printed.next else {
         return Ok(printed);
@@ -186,7 +186,7 @@ impl<M: Machine> Stream<M> {
 
     // What is printed for the rest of the last line, and the summary.
     fn close(self) -> Result<Printed, NoMemory>
-        ensures { IfOk result (λ p. Begins p.text.items p.next (pending self []) (ended status.Done)) }
+        ensures { IfOk result (λ p. Begins p.text.items p.next (pending self []) (end_of_run status.Done)) }
     {
         let Stream {
             alloc,

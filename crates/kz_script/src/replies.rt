@@ -2,7 +2,7 @@
 ghost use Rattle.std.specs.Prelude.{◌≡◌, ◌++◌, IfOk, OnOk, option_map, string_bytes, true};
 ghost use Rattle.std.specs.List.{flat_map};
 ghost use Rattle.json.specs.Print.{quoted};
-ghost use Rattle.kz_spec_lines.specs.Replies.{named, state_name, body_text, why_text, reply_text, verdict_text, is_client_answer, answer_text, reply_line, reply_lines, offset_or_none, summary_line};
+ghost use Rattle.kz_spec_lines.specs.Replies.{word_and_text, state_name, body_text, why_text, reply_text, verdict_text, is_client_answer, answer_text, reply_line, reply_lines, offset_or_none, summary_line};
 
 use kz_types::{Answer, BodyFault, DriverState, NoMemory, ReadWhy, Reply, Verdict, ZPath};
 use serde_json::Value;
@@ -132,7 +132,7 @@ fn verdict_text(alloc: Global, verdict: &Verdict) -> Result<String, NoMemory>
 
 // A word and a path as a JSON string.
 fn named(alloc: Global, word: &str, path: &ZPath) -> Result<String, NoMemory>
-    ensures { IfOk result (λ made. string_bytes made ≡ named word.now path.now) }
+    ensures { IfOk result (λ made. string_bytes made ≡ word_and_text word.now path.now) }
 {
     let path = quoted(alloc, path.as_str())?;
     Ok(format!(in alloc; "{word} {path}")?)

@@ -42,7 +42,7 @@ impl ZTree for MemoryTree {
 
     ghost disk = { λ s. no_disk };
 
-    ghost length_with = { λ s change. None };
+    ghost length_with = { λ tree change length. length };
 
     ghost left = { λ s found. ⊥ };
 

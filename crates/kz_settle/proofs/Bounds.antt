@@ -7,10 +7,10 @@ use Rattle.kz_types.specs.declared.log.Entry.{Entry}
 use Rattle.kz_ordered.specs.Ordered.{Rises}
 use Rattle.kz_ordered.proofs.Order.{int_order}
 use Rattle.kz_ordered.proofs.Append.{Rises_left}
-use Rattle.kz_spec_stores.specs.Settlement.{closes, is_end, is_ended_by, counted}
-use Rattle.kz_settle.specs.Settling.{offset_of, closes_entry, opened, ends_by, passed}
+use Rattle.kz_spec_stores.specs.Settlement.{closes, is_end, is_ended_by, counting_records}
+use Rattle.kz_settle.specs.Settling.{offset_of, closes_entry, is_open_after, ends_by, records_of_pass}
 use Rattle.kz_settle.specs.Stands.{AllBy}
-use Rattle.kz_settle.proofs.Passing.{counted_is_passed, and_false}
+use Rattle.kz_settle.proofs.Passing.{counted_is_pass, and_false}
 
 -- Every entry stands after an offset.
 abbrev pub AllLater : ℤ → List Entry → Type 0
@@ -38,19 +38,19 @@ module _ (at : ℤ) where
   ends_before [] ys h = ends_after ys h
   ends_before (x ∷ xs) ys h = found_by (closes x.item) x xs ys (ends_before xs ys h)
 
-  passed_after : (inside : Bool) (es : List Entry) → AllLater at es → passed at inside es ≡ []
-  passed_after inside [] h = refl
-  passed_after inside (e ∷ es) h =
-      rw (All-head (λ (x : Entry). int_le x.offset at ≡ false) e es h) (passed_after (opened inside e.item) es (All-tail (λ (x : Entry). int_le x.offset at ≡ false) e es h))
+  pass_after : (inside : Bool) (es : List Entry) → AllLater at es → records_of_pass at inside es ≡ []
+  pass_after inside [] h = refl
+  pass_after inside (e ∷ es) h =
+      rw (All-head (λ (x : Entry). int_le x.offset at ≡ false) e es h) (pass_after (is_open_after inside e.item) es (All-tail (λ (x : Entry). int_le x.offset at ≡ false) e es h))
 
-  passed_before : (inside : Bool) (xs ys : List Entry) → AllLater at ys → passed at inside (xs ++ ys) ≡ passed at inside xs
-  passed_before inside [] ys h = passed_after inside ys h
-  passed_before inside (x ∷ xs) ys h = rw (ends_before xs ys h, passed_before (opened inside x.item) xs ys h) refl
+  pass_before : (inside : Bool) (xs ys : List Entry) → AllLater at ys → records_of_pass at inside (xs ++ ys) ≡ records_of_pass at inside xs
+  pass_before inside [] ys h = pass_after inside ys h
+  pass_before inside (x ∷ xs) ys h = rw (ends_before xs ys h, pass_before (is_open_after inside x.item) xs ys h) refl
 
   -- the records after an offset don't change what counts at it
-  pub counted_before : (xs ys : List Entry) → Rises int_cmp offset_of (xs ++ ys) → AllLater at ys → counted (xs ++ ys) at ≡ counted xs at
+  pub counted_before : (xs ys : List Entry) → Rises int_cmp offset_of (xs ++ ys) → AllLater at ys → counting_records (xs ++ ys) at ≡ counting_records xs at
   counted_before xs ys rises h =
-      counted_is_passed (xs ++ ys) at rises ∙ passed_before false xs ys h ∙ sym (counted_is_passed xs at (Rises_left int_order offset_of xs ys rises))
+      counted_is_pass (xs ++ ys) at rises ∙ pass_before false xs ys h ∙ sym (counted_is_pass xs at (Rises_left int_order offset_of xs ys rises))
 
   none_kept : (ys : List Entry) → AllLater at ys → filter (λ (e : Entry). int_le e.offset at) ys ≡ []
   none_kept [] h = refl
@@ -77,13 +77,13 @@ module _ (at to : ℤ) where
       ended_same (closes e.item) e es (All-head (λ (x : Entry). x.offset ≤ℤ at) e es h) (All-head (λ (x : Entry). x.offset ≤ℤ to) e es k)
       (ends_same es (All-tail (λ (x : Entry). x.offset ≤ℤ at) e es h) (All-tail (λ (x : Entry). x.offset ≤ℤ to) e es k))
 
-  passed_same : (inside : Bool) (es : List Entry) → AllBy at es → AllBy to es → passed at inside es ≡ passed to inside es
-  passed_same inside [] h k = refl
-  passed_same inside (e ∷ es) h k =
+  pass_same : (inside : Bool) (es : List Entry) → AllBy at es → AllBy to es → records_of_pass at inside es ≡ records_of_pass to inside es
+  pass_same inside [] h k = refl
+  pass_same inside (e ∷ es) h k =
       let later = All-tail (λ (x : Entry). x.offset ≤ℤ at) e es h in
       let after = All-tail (λ (x : Entry). x.offset ≤ℤ to) e es k in
-      rw (le_true e.offset at (All-head (λ (x : Entry). x.offset ≤ℤ at) e es h), le_true e.offset to (All-head (λ (x : Entry). x.offset ≤ℤ to) e es k), ends_same es later after, passed_same (opened inside e.item) es later after) refl
+      rw (le_true e.offset at (All-head (λ (x : Entry). x.offset ≤ℤ at) e es h), le_true e.offset to (All-head (λ (x : Entry). x.offset ≤ℤ to) e es k), ends_same es later after, pass_same (is_open_after inside e.item) es later after) refl
 
   -- at all offsets that no record is after, the same count
-  pub counted_same : (es : List Entry) → Rises int_cmp offset_of es → AllBy at es → AllBy to es → counted es at ≡ counted es to
-  counted_same es rises h k = counted_is_passed es at rises ∙ passed_same false es h k ∙ sym (counted_is_passed es to rises)
+  pub counted_same : (es : List Entry) → Rises int_cmp offset_of es → AllBy at es → AllBy to es → counting_records es at ≡ counting_records es to
+  counted_same es rises h k = counted_is_pass es at rises ∙ pass_same false es h k ∙ sym (counted_is_pass es to rises)

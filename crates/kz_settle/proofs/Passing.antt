@@ -7,8 +7,8 @@ use Rattle.kz_ordered.specs.Ordered.{Rises}
 use Rattle.kz_ordered.proofs.Order.{int_order, cmp_greater}
 use Rattle.kz_ordered.proofs.Append.{all_from_rises_above, below_split, above_split, Rises_left}
 use Rattle.kz_ordered.proofs.Lookup.{rest_rises}
-use Rattle.kz_spec_stores.specs.Settlement.{is_begin, closes, is_marker, is_closed_between, is_inside, first_close, is_ended_by, is_counted, counted}
-use Rattle.kz_settle.specs.Settling.{offset_of, closes_entry, opened, open_after, ends_by, passed}
+use Rattle.kz_spec_stores.specs.Settlement.{is_begin, closes, is_marker, is_closed_between, is_inside, first_close, is_ended_by, is_counted, counting_records}
+use Rattle.kz_settle.specs.Settling.{offset_of, closes_entry, is_open_after, is_open_at_end, ends_by, records_of_pass}
 
 -- ---- tests over lists
 
@@ -94,12 +94,12 @@ no_close_left true = refl
 no_close_left false = refl
 
 -- what is open before the records stays so where none of them closes it
-pub open_after_is : (inside : Bool) (es : List Entry) → open_after inside es ≡ (inside && not (any_close es)) || open_after false es
-open_after_is inside [] = no_close_left inside
-open_after_is inside (e ∷ es) =
-    open_after_is (opened inside e.item) es
-    ∙ opens_or_stays (is_begin e.item) (closes e.item) inside (any_close es) (open_after false es)
-    ∙ ap (λ x. (inside && not (closes e.item || any_close es)) || x) (sym (open_after_is (opened false e.item) es))
+pub is_open_at_end-is : (inside : Bool) (es : List Entry) → is_open_at_end inside es ≡ (inside && not (any_close es)) || is_open_at_end false es
+is_open_at_end-is inside [] = no_close_left inside
+is_open_at_end-is inside (e ∷ es) =
+    is_open_at_end-is (is_open_after inside e.item) es
+    ∙ opens_or_stays (is_begin e.item) (closes e.item) inside (any_close es) (is_open_at_end false es)
+    ∙ ap (λ x. (inside && not (closes e.item || any_close es)) || x) (sym (is_open_at_end-is (is_open_after false e.item) es))
 
 pub and_true : (a b : Bool) → b ≡ true → (a && b) ≡ a
 and_true true b h = h
@@ -124,7 +124,7 @@ begin_is true c closed = refl
 begin_is false true closed = refl
 begin_is false false closed = refl
 
-pub open_among_is : (es : List Entry) → Rises int_cmp offset_of es → open_among es ≡ open_after false es
+pub open_among_is : (es : List Entry) → Rises int_cmp offset_of es → open_among es ≡ is_open_at_end false es
 open_among_is [] h = refl
 open_among_is (x ∷ es) h =
     let above = all_from_rises_above int_order offset_of x.offset es h in
@@ -133,8 +133,8 @@ open_among_is (x ∷ es) h =
     (λ k d lt. ap (λ c. is_begin (get_or es k d).item && not c) (closed_after_later x es (get_or es k d) (above k d lt))) in
     ap (λ c. (is_begin x.item && not c) || list_any (λ (b : Entry). is_begin b.item && not (closed_after (x ∷ es) b.offset)) es) (closed_after_first x es above)
     ∙ ap (λ o. (is_begin x.item && not (any_close es)) || o) (later ∙ open_among_is es (rest_rises int_order offset_of x es h))
-    ∙ ap (λ b. b || open_after false es) (sym (begin_is (is_begin x.item) (closes x.item) (any_close es)))
-    ∙ sym (open_after_is (opened false x.item) es)
+    ∙ ap (λ b. b || is_open_at_end false es) (sym (begin_is (is_begin x.item) (closes x.item) (any_close es)))
+    ∙ sym (is_open_at_end-is (is_open_after false x.item) es)
 
 -- ---- one record of a log
 
@@ -160,7 +160,7 @@ module _ (done rest : List Entry) (off : ℤ) (before : All (λ (e : Entry). int
       any_left test done rest (λ k d lt. begins_after (get_or rest k d) (after k d lt))
       ∙ any_same test (λ (b : Entry). is_begin b.item && not (closed_after done b.offset)) done (λ k d lt. begins_before (get_or done k d) (before k d lt))
 
-  pub inside_is : Rises int_cmp offset_of done → is_inside (done ++ rest) off ≡ open_after false done
+  pub inside_is : Rises int_cmp offset_of done → is_inside (done ++ rest) off ≡ is_open_at_end false done
   inside_is h = inside_among ∙ open_among_is done h
 
 -- the first End or Abort after a record is the first of the records after it
@@ -173,7 +173,7 @@ first_close_is done e rest h =
     ∙ rw (and_false (closes e.item) (int_lt e.offset e.offset) (lt_itself e.offset))
     (find_same test closes_entry rest (λ k d lt. and_true (closes (get_or rest k d).item) _ (lt_from_less e.offset (get_or rest k d).offset (above k d lt))))
 
-pub record_inside : (done : List Entry) (e : Entry) (rest : List Entry) → Rises int_cmp offset_of (done ++ e ∷ rest) → is_inside (done ++ e ∷ rest) e.offset ≡ open_after false done
+pub record_inside : (done : List Entry) (e : Entry) (rest : List Entry) → Rises int_cmp offset_of (done ++ e ∷ rest) → is_inside (done ++ e ∷ rest) e.offset ≡ is_open_at_end false done
 record_inside done e rest h =
     let below = below_split int_order offset_of done e rest h in
     let above = all_from_rises_above int_order offset_of e.offset rest (above_split int_order offset_of done e rest h) in
@@ -181,30 +181,30 @@ record_inside done e rest h =
     (All-cons (λ (x : Entry). int_lt x.offset e.offset ≡ false) e rest (lt_itself e.offset) (λ k d lt. lt_back e.offset (get_or rest k d).offset (above k d lt)))
     (Rises_left int_order offset_of done (e ∷ rest) h)
 
-pub open_after-append : (inside : Bool) (xs ys : List Entry) → open_after inside (xs ++ ys) ≡ open_after (open_after inside xs) ys
-open_after-append inside [] ys = refl
-open_after-append inside (x ∷ xs) ys = open_after-append (opened inside x.item) xs ys
+pub is_open_at_end-append : (inside : Bool) (xs ys : List Entry) → is_open_at_end inside (xs ++ ys) ≡ is_open_at_end (is_open_at_end inside xs) ys
+is_open_at_end-append inside [] ys = refl
+is_open_at_end-append inside (x ∷ xs) ys = is_open_at_end-append (is_open_after inside x.item) xs ys
 
 -- ---- the pass
 
 counts_is : (at : ℤ) (whole done : List Entry) (e : Entry) (rest : List Entry) → whole ≡ done ++ e ∷ rest → Rises int_cmp offset_of whole
-    → is_counted whole at e ≡ int_le e.offset at && not (is_marker e.item) && (not (open_after false done) || ends_by at rest)
+    → is_counted whole at e ≡ int_le e.offset at && not (is_marker e.item) && (not (is_open_at_end false done) || ends_by at rest)
 counts_is at whole done e rest is h =
     let rising = subst (λ es. Rises int_cmp offset_of es) is h in
     ap (λ es. is_counted es at e) is
     ∙ ap (λ i. int_le e.offset at && not (is_marker e.item) && (not i || is_ended_by at (first_close (done ++ e ∷ rest) e.offset))) (record_inside done e rest rising)
-    ∙ ap (λ c. int_le e.offset at && not (is_marker e.item) && (not (open_after false done) || is_ended_by at c)) (first_close_is done e rest rising)
+    ∙ ap (λ c. int_le e.offset at && not (is_marker e.item) && (not (is_open_at_end false done) || is_ended_by at c)) (first_close_is done e rest rising)
 
-pass_from : (at : ℤ) (whole done rest : List Entry) → whole ≡ done ++ rest → Rises int_cmp offset_of whole → filter (is_counted whole at) rest ≡ passed at (open_after false done) rest
+pass_from : (at : ℤ) (whole done rest : List Entry) → whole ≡ done ++ rest → Rises int_cmp offset_of whole → filter (is_counted whole at) rest ≡ records_of_pass at (is_open_at_end false done) rest
 pass_from at whole done [] is h = refl
 pass_from at whole done (e ∷ rest) is h =
-    let next = pass_from at whole (done ++ e ∷ []) rest (is ∙ sym (append_assoc done (e ∷ []) rest)) h ∙ ap (λ o. passed at o rest) (open_after-append false done (e ∷ [])) in
+    let next = pass_from at whole (done ++ e ∷ []) rest (is ∙ sym (append_assoc done (e ∷ []) rest)) h ∙ ap (λ o. records_of_pass at o rest) (is_open_at_end-append false done (e ∷ [])) in
     rw (counts_is at whole done e rest is h, next) refl
 
-pub counted_is_passed : (es : List Entry) (at : ℤ) → Rises int_cmp offset_of es → counted es at ≡ passed at false es
-counted_is_passed es at h = pass_from at es [] es refl h
+pub counted_is_pass : (es : List Entry) (at : ℤ) → Rises int_cmp offset_of es → counting_records es at ≡ records_of_pass at false es
+counted_is_pass es at h = pass_from at es [] es refl h
 
 -- ---- what is open at the end
 
-pub is_inside_after : (es : List Entry) (off : ℤ) → Rises int_cmp offset_of es → All (λ (e : Entry). int_lt e.offset off ≡ true) es → is_inside es off ≡ open_after false es
+pub is_inside_after : (es : List Entry) (off : ℤ) → Rises int_cmp offset_of es → All (λ (e : Entry). int_lt e.offset off ≡ true) es → is_inside es off ≡ is_open_at_end false es
 is_inside_after es off h before = ap (λ xs. is_inside xs off) (sym (append-nil es)) ∙ inside_is es [] off before (All-nil (λ (e : Entry). int_lt e.offset off ≡ false)) h

@@ -8,17 +8,17 @@ use Rattle.kz_types.specs.declared.log.Entry.{Entry}
 use Rattle.kz_ordered.specs.Ordered.{Rises}
 use Rattle.kz_ordered.proofs.Order.{int_order}
 use Rattle.kz_ordered.proofs.Append.{all_from_rises_above, below_split, above_split, Rises_left}
-use Rattle.kz_spec_stores.specs.Settlement.{is_begin, is_end, closes, is_marker, is_inside, is_ended_by, begun, kept}
-use Rattle.kz_settle.specs.Settling.{offset_of, closes_entry, opened, open_after, ends_by, passed}
+use Rattle.kz_spec_stores.specs.Settlement.{is_begin, is_end, closes, is_marker, is_inside, is_ended_by, open_begin, records_of_open}
+use Rattle.kz_settle.specs.Settling.{offset_of, closes_entry, is_open_after, is_open_at_end, ends_by, records_of_pass}
 use Rattle.kz_types.specs.declared.record.MetaRecord.{MetaRecord}
 use Rattle.kz_types.specs.declared.record.MetaRecord.TheVariants as meta
 use Rattle.kz_settle.specs.declared.settled.Settled.{Settled}
 use Rattle.kz_settle.specs.declared.settled.Settled.TheVariants as settled
 use Rattle.kz_settle.specs.declared.marks.Marker.{Marker}
 use Rattle.kz_settle.specs.declared.marks.Marker.TheVariants as marker
-use Rattle.kz_settle.specs.Steps.{IsMarkerOf, finished, finished_answer, begun_at, kept_too, kept_answer, turned, turned_answer}
-use Rattle.kz_settle.specs.Stands.{Settling, Stands, AllBy, handed}
-use Rattle.kz_settle.proofs.Passing.{counted_is_passed, any_close, closed_after, open_among_is, open_after_is, record_inside, lt_from_less, lt_back, lt_itself, any_none, any_same, any-append, find_same, or_false, and_true, and_false, open_after-append}
+use Rattle.kz_settle.specs.Steps.{IsMarkerOf, after_close, answer_to_close, after_begin, after_plain, answer_to_plain, after_marker, answer_to_marker}
+use Rattle.kz_settle.specs.Stands.{Settling, Stands, AllBy, entries_of_answer}
+use Rattle.kz_settle.proofs.Passing.{counted_is_pass, any_close, closed_after, open_among_is, is_open_at_end-is, record_inside, lt_from_less, lt_back, lt_itself, any_none, any_same, any-append, find_same, or_false, and_true, and_false, is_open_at_end-append}
 
 -- ---- one more entry, and the first End or Abort
 
@@ -62,7 +62,7 @@ ends_without at (x ∷ xs) h = none_by (closes x.item) (any_close xs) at x (find
 pending : Bool → List Entry → List Entry
 pending inside [] = []
 pending inside (e ∷ es) =
-    cond (inside && not (is_marker e.item) && not (any_close es)) (e ∷ pending (opened inside e.item) es) (pending (opened inside e.item) es)
+    cond (inside && not (is_marker e.item) && not (any_close es)) (e ∷ pending (is_open_after inside e.item) es) (pending (is_open_after inside e.item) es)
 
 cond_append : (t : Bool) (x : Entry) (xs ys zs : List Entry) → xs ≡ ys ++ zs → cond t (x ∷ xs) xs ≡ cond t (x ∷ ys) ys ++ zs
 cond_append true x xs ys zs h = ap (λ es. x ∷ es) h
@@ -82,42 +82,42 @@ no_marker false m k h = refl
 no_marker true false k h = cc
 
 pending_plain : (inside : Bool) (xs : List Entry) (e : Entry) → closes e.item ≡ false
-    → pending inside (xs ++ e ∷ []) ≡ pending inside xs ++ cond (open_after inside xs && not (is_marker e.item)) (e ∷ []) []
+    → pending inside (xs ++ e ∷ []) ≡ pending inside xs ++ cond (is_open_at_end inside xs && not (is_marker e.item)) (e ∷ []) []
 unfolding pending
 pending_plain inside [] e h = ap (λ t. cond t (e ∷ []) []) (and_true (inside && not (is_marker e.item)) true refl)
 pending_plain inside (x ∷ xs) e h =
-    ap (λ a. cond (inside && not (is_marker x.item) && not a) (x ∷ pending (opened inside x.item) (xs ++ e ∷ [])) (pending (opened inside x.item) (xs ++ e ∷ []))) (any_plain xs e h)
-    ∙ cond_append (inside && not (is_marker x.item) && not (any_close xs)) x (pending (opened inside x.item) (xs ++ e ∷ [])) (pending (opened inside x.item) xs)
-    (cond (open_after (opened inside x.item) xs && not (is_marker e.item)) (e ∷ []) []) (pending_plain (opened inside x.item) xs e h)
+    ap (λ a. cond (inside && not (is_marker x.item) && not a) (x ∷ pending (is_open_after inside x.item) (xs ++ e ∷ [])) (pending (is_open_after inside x.item) (xs ++ e ∷ []))) (any_plain xs e h)
+    ∙ cond_append (inside && not (is_marker x.item) && not (any_close xs)) x (pending (is_open_after inside x.item) (xs ++ e ∷ [])) (pending (is_open_after inside x.item) xs)
+    (cond (is_open_at_end (is_open_after inside x.item) xs && not (is_marker e.item)) (e ∷ []) []) (pending_plain (is_open_after inside x.item) xs e h)
 
 pending_closing : (inside : Bool) (xs : List Entry) (e : Entry) → closes e.item ≡ true → pending inside (xs ++ e ∷ []) ≡ []
 unfolding pending
 pending_closing inside [] e h = cond_none (inside && not (is_marker e.item) && true) e [] (no_marker inside (is_marker e.item) true (marker_of_close (is_begin e.item) (closes e.item) h)) refl
 pending_closing inside (x ∷ xs) e h =
-    cond_none (inside && not (is_marker x.item) && not (any_close (xs ++ e ∷ []))) x (pending (opened inside x.item) (xs ++ e ∷ []))
-    (and_false (inside && not (is_marker x.item)) (not (any_close (xs ++ e ∷ []))) (ap not (any_closing xs e h))) (pending_closing (opened inside x.item) xs e h)
+    cond_none (inside && not (is_marker x.item) && not (any_close (xs ++ e ∷ []))) x (pending (is_open_after inside x.item) (xs ++ e ∷ []))
+    (and_false (inside && not (is_marker x.item)) (not (any_close (xs ++ e ∷ []))) (ap not (any_closing xs e h))) (pending_closing (is_open_after inside x.item) xs e h)
 
 -- ---- the records that count
 
-passed_plain : (at : ℤ) (inside : Bool) (xs : List Entry) (e : Entry) → closes e.item ≡ false
-    → passed at inside (xs ++ e ∷ []) ≡ passed at inside xs ++ cond (int_le e.offset at && not (is_marker e.item) && not (open_after inside xs)) (e ∷ []) []
-passed_plain at inside [] e h = ap (λ t. cond (int_le e.offset at && not (is_marker e.item) && t) (e ∷ []) []) (or_false (not inside))
-passed_plain at inside (x ∷ xs) e h =
-    ap (λ a. cond (int_le x.offset at && not (is_marker x.item) && (not inside || a)) (x ∷ passed at (opened inside x.item) (xs ++ e ∷ [])) (passed at (opened inside x.item) (xs ++ e ∷ []))) (ends_plain at xs e h)
-    ∙ cond_append (int_le x.offset at && not (is_marker x.item) && (not inside || ends_by at xs)) x (passed at (opened inside x.item) (xs ++ e ∷ [])) (passed at (opened inside x.item) xs)
-    (cond (int_le e.offset at && not (is_marker e.item) && not (open_after (opened inside x.item) xs)) (e ∷ []) []) (passed_plain at (opened inside x.item) xs e h)
+pass_plain : (at : ℤ) (inside : Bool) (xs : List Entry) (e : Entry) → closes e.item ≡ false
+    → records_of_pass at inside (xs ++ e ∷ []) ≡ records_of_pass at inside xs ++ cond (int_le e.offset at && not (is_marker e.item) && not (is_open_at_end inside xs)) (e ∷ []) []
+pass_plain at inside [] e h = ap (λ t. cond (int_le e.offset at && not (is_marker e.item) && t) (e ∷ []) []) (or_false (not inside))
+pass_plain at inside (x ∷ xs) e h =
+    ap (λ a. cond (int_le x.offset at && not (is_marker x.item) && (not inside || a)) (x ∷ records_of_pass at (is_open_after inside x.item) (xs ++ e ∷ [])) (records_of_pass at (is_open_after inside x.item) (xs ++ e ∷ []))) (ends_plain at xs e h)
+    ∙ cond_append (int_le x.offset at && not (is_marker x.item) && (not inside || ends_by at xs)) x (records_of_pass at (is_open_after inside x.item) (xs ++ e ∷ [])) (records_of_pass at (is_open_after inside x.item) xs)
+    (cond (int_le e.offset at && not (is_marker e.item) && not (is_open_at_end (is_open_after inside x.item) xs)) (e ∷ []) []) (pass_plain at (is_open_after inside x.item) xs e h)
 
 same_ends : (a ends : Bool) → (a ≡ false → ends ≡ false) → cond a ends false ≡ ends
 same_ends true ends h = refl
 same_ends false ends h = sym (h refl)
 
-passed_abort : (at : ℤ) (inside : Bool) (xs : List Entry) (e : Entry) → closes e.item ≡ true → is_end e.item ≡ false → int_le e.offset at ≡ true → passed at inside (xs ++ e ∷ []) ≡ passed at inside xs
-passed_abort at inside [] e h quiet under =
+pass_abort : (at : ℤ) (inside : Bool) (xs : List Entry) (e : Entry) → closes e.item ≡ true → is_end e.item ≡ false → int_le e.offset at ≡ true → records_of_pass at inside (xs ++ e ∷ []) ≡ records_of_pass at inside xs
+pass_abort at inside [] e h quiet under =
     cond_none (int_le e.offset at && not (is_marker e.item) && (not inside || false)) e [] (no_marker (int_le e.offset at) (is_marker e.item) (not inside || false) (marker_of_close (is_begin e.item) (closes e.item) h)) refl
-passed_abort at inside (x ∷ xs) e h quiet under =
+pass_abort at inside (x ∷ xs) e h quiet under =
     let ends : ends_by at (xs ++ e ∷ []) ≡ ends_by at xs =
     ends_closing at xs e h under ∙ ap (λ b. cond (any_close xs) (ends_by at xs) b) quiet ∙ same_ends (any_close xs) (ends_by at xs) (ends_without at xs) in
-    rw (ends, passed_abort at (opened inside x.item) xs e h quiet under) refl
+    rw (ends, pass_abort at (is_open_after inside x.item) xs e h quiet under) refl
 
 or_parts : (a b : Bool) → a || b ≡ false → (a ≡ false) × (b ≡ false)
 or_parts true b h = absurd (cc)
@@ -132,14 +132,14 @@ last_false : (a k : Bool) → k ≡ false → (a && k) ≡ false
 last_false a k h = and_false a k h
 
 -- inside a transaction that doesn't end nothing counts
-passed_unended : (at : ℤ) (xs : List Entry) → any_close xs ≡ false → passed at true xs ≡ []
-passed_unended at [] h = refl
-passed_unended at (x ∷ xs) h =
+pass_unended : (at : ℤ) (xs : List Entry) → any_close xs ≡ false → records_of_pass at true xs ≡ []
+pass_unended at [] h = refl
+pass_unended at (x ∷ xs) h =
     let parts = or_parts (closes x.item) (any_close xs) h in
-    let stays : opened true x.item ≡ true = stays_open (is_begin x.item) (closes x.item) parts.0 in
-    cond_none (int_le x.offset at && not (is_marker x.item) && ends_by at xs) x (passed at (opened true x.item) xs)
+    let stays : is_open_after true x.item ≡ true = stays_open (is_begin x.item) (closes x.item) parts.0 in
+    cond_none (int_le x.offset at && not (is_marker x.item) && ends_by at xs) x (records_of_pass at (is_open_after true x.item) xs)
     (last_false (int_le x.offset at && not (is_marker x.item)) (ends_by at xs) (ends_without at xs parts.1))
-    (ap (λ o. passed at o xs) stays ∙ passed_unended at xs parts.1)
+    (ap (λ o. records_of_pass at o xs) stays ∙ pass_unended at xs parts.1)
 
 -- the tests of one record at the End of a transaction: whether it counts then, counted before, and waited
 released_by : (inside m a ends : Bool) (x : Entry) (rest counts waits : List Entry) → rest ≡ counts ++ waits → (a ≡ false → ends ≡ false) → (inside ≡ true → m ≡ false → a ≡ false → counts ≡ [])
@@ -157,21 +157,21 @@ plain_stays : (b c : Bool) → b || c ≡ false → cond b true (cond c false tr
 plain_stays true c h = cc
 plain_stays false c h = stays_open false c h
 
-passed_end : (at : ℤ) (inside : Bool) (xs : List Entry) (e : Entry) → closes e.item ≡ true → is_end e.item ≡ true → int_le e.offset at ≡ true → All (λ (x : Entry). int_le x.offset at ≡ true) xs
-    → passed at inside (xs ++ e ∷ []) ≡ passed at inside xs ++ pending inside xs
+pass_end : (at : ℤ) (inside : Bool) (xs : List Entry) (e : Entry) → closes e.item ≡ true → is_end e.item ≡ true → int_le e.offset at ≡ true → All (λ (x : Entry). int_le x.offset at ≡ true) xs
+    → records_of_pass at inside (xs ++ e ∷ []) ≡ records_of_pass at inside xs ++ pending inside xs
 unfolding pending
-passed_end at inside [] e h ended under all =
+pass_end at inside [] e h ended under all =
     cond_none (int_le e.offset at && not (is_marker e.item) && (not inside || false)) e [] (no_marker (int_le e.offset at) (is_marker e.item) (not inside || false) (marker_of_close (is_begin e.item) (closes e.item) h)) refl
-passed_end at inside (x ∷ xs) e h ended under all =
-    let o = opened inside x.item in
+pass_end at inside (x ∷ xs) e h ended under all =
+    let o = is_open_after inside x.item in
     let ends : ends_by at (xs ++ e ∷ []) ≡ cond (any_close xs) (ends_by at xs) true = ends_closing at xs e h under ∙ ap (λ b. cond (any_close xs) (ends_by at xs) b) ended in
     let le = All-head (λ (y : Entry). int_le y.offset at ≡ true) x xs all in
-    ap (λ a. cond (int_le x.offset at && not (is_marker x.item) && (not inside || a)) (x ∷ passed at o (xs ++ e ∷ [])) (passed at o (xs ++ e ∷ []))) ends
-    ∙ ap (λ t. cond (t && not (is_marker x.item) && (not inside || cond (any_close xs) (ends_by at xs) true)) (x ∷ passed at o (xs ++ e ∷ [])) (passed at o (xs ++ e ∷ []))) le
-    ∙ released_by inside (is_marker x.item) (any_close xs) (ends_by at xs) x (passed at o (xs ++ e ∷ [])) (passed at o xs) (pending o xs)
-    (passed_end at o xs e h ended under (All-tail (λ (y : Entry). int_le y.offset at ≡ true) x xs all)) (ends_without at xs)
-    (λ i m a. ap (λ b. passed at (opened b x.item) xs) i ∙ ap (λ b. passed at b xs) (plain_stays (is_begin x.item) (closes x.item) m) ∙ passed_unended at xs a)
-    ∙ ap (λ t. cond (t && not (is_marker x.item) && (not inside || ends_by at xs)) (x ∷ passed at o xs) (passed at o xs) ++ cond (inside && not (is_marker x.item) && not (any_close xs)) (x ∷ pending o xs) (pending o xs)) (sym le)
+    ap (λ a. cond (int_le x.offset at && not (is_marker x.item) && (not inside || a)) (x ∷ records_of_pass at o (xs ++ e ∷ [])) (records_of_pass at o (xs ++ e ∷ []))) ends
+    ∙ ap (λ t. cond (t && not (is_marker x.item) && (not inside || cond (any_close xs) (ends_by at xs) true)) (x ∷ records_of_pass at o (xs ++ e ∷ [])) (records_of_pass at o (xs ++ e ∷ []))) le
+    ∙ released_by inside (is_marker x.item) (any_close xs) (ends_by at xs) x (records_of_pass at o (xs ++ e ∷ [])) (records_of_pass at o xs) (pending o xs)
+    (pass_end at o xs e h ended under (All-tail (λ (y : Entry). int_le y.offset at ≡ true) x xs all)) (ends_without at xs)
+    (λ i m a. ap (λ b. records_of_pass at (is_open_after b x.item) xs) i ∙ ap (λ b. records_of_pass at b xs) (plain_stays (is_begin x.item) (closes x.item) m) ∙ pass_unended at xs a)
+    ∙ ap (λ t. cond (t && not (is_marker x.item) && (not inside || ends_by at xs)) (x ∷ records_of_pass at o xs) (records_of_pass at o xs) ++ cond (inside && not (is_marker x.item) && not (any_close xs)) (x ∷ pending o xs) (pending o xs)) (sym le)
 
 -- ---- the records that wait, by offsets
 
@@ -187,17 +187,17 @@ closed_after_record done e rest h =
     ∙ any_same test closes_entry rest (λ k d lt. and_true (closes (get_or rest k d).item) _ (lt_from_less e.offset (get_or rest k d).offset (over k d lt)))
 
 kept_from : (whole done rest : List Entry) → whole ≡ done ++ rest → Rises int_cmp offset_of whole
-    → filter (λ (e : Entry). is_inside whole e.offset && not (is_marker e.item) && not (closed_after whole e.offset)) rest ≡ pending (open_after false done) rest
+    → filter (λ (e : Entry). is_inside whole e.offset && not (is_marker e.item) && not (closed_after whole e.offset)) rest ≡ pending (is_open_at_end false done) rest
 unfolding pending
 kept_from whole done [] is h = refl
 kept_from whole done (e ∷ rest) is h =
     let rising = subst (λ es. Rises int_cmp offset_of es) is h in
-    let inside : is_inside whole e.offset ≡ open_after false done = ap (λ es. is_inside es e.offset) is ∙ record_inside done e rest rising in
+    let inside : is_inside whole e.offset ≡ is_open_at_end false done = ap (λ es. is_inside es e.offset) is ∙ record_inside done e rest rising in
     let after : closed_after whole e.offset ≡ any_close rest = ap (λ es. closed_after es e.offset) is ∙ closed_after_record done e rest rising in
-    let next = kept_from whole (done ++ e ∷ []) rest (is ∙ sym (append_assoc done (e ∷ []) rest)) h ∙ ap (λ o. pending o rest) (open_after-append false done (e ∷ [])) in
+    let next = kept_from whole (done ++ e ∷ []) rest (is ∙ sym (append_assoc done (e ∷ []) rest)) h ∙ ap (λ o. pending o rest) (is_open_at_end-append false done (e ∷ [])) in
     rw (inside, after, next) refl
 
-kept_is_pending : (es : List Entry) → Rises int_cmp offset_of es → kept es ≡ pending false es
+kept_is_pending : (es : List Entry) → Rises int_cmp offset_of es → records_of_open es ≡ pending false es
 kept_is_pending es h = kept_from es [] es refl h
 
 -- ---- the Begin of the open transaction
@@ -214,7 +214,7 @@ is_some-map : (r : Option Entry) → is_some (option_map (λ (e : Entry). e.offs
 is_some-map None = refl
 is_some-map (Some e) = refl
 
-pub is_begun : (es : List Entry) → Rises int_cmp offset_of es → is_some (begun es) ≡ open_after false es
+pub is_begun : (es : List Entry) → Rises int_cmp offset_of es → is_some (open_begin es) ≡ is_open_at_end false es
 is_begun es h =
     let test : Entry → Bool = λ (b : Entry). is_begin b.item && not (closed_after es b.offset) in
     is_some-map (find test es) ∙ found_any test es ∙ open_among_is es h
@@ -249,7 +249,7 @@ begun_plain_found es e h =
     find_same (λ (b : Entry). is_begin b.item && not (closed_after (es ++ e ∷ []) b.offset)) (λ (b : Entry). is_begin b.item && not (closed_after es b.offset)) es
     (λ k d lt. ap (λ c. is_begin (get_or es k d).item && not c) (closed_more_plain es e (get_or es k d).offset h))
 
-pub begun_begin : (es : List Entry) (e : Entry) → Rises int_cmp offset_of (es ++ e ∷ []) → is_begin e.item ≡ true → closes e.item ≡ false → begun (es ++ e ∷ []) ≡ option_or (begun es) (Some e.offset)
+pub begun_begin : (es : List Entry) (e : Entry) → Rises int_cmp offset_of (es ++ e ∷ []) → is_begin e.item ≡ true → closes e.item ≡ false → open_begin (es ++ e ∷ []) ≡ option_or (open_begin es) (Some e.offset)
 begun_begin es e h begins plain =
     let test : Entry → Bool = λ (b : Entry). is_begin b.item && not (closed_after (es ++ e ∷ []) b.offset) in
     let old : Option Entry = find (λ (b : Entry). is_begin b.item && not (closed_after es b.offset)) es in
@@ -257,7 +257,7 @@ begun_begin es e h begins plain =
     ap (option_map (λ (x : Entry). x.offset)) (find_or test es e ∙ ap (λ r. option_or r (cond (test e) (Some e) None)) (begun_plain_found es e plain) ∙ ap (λ t. option_or old (cond t (Some e) None)) here)
     ∙ map_or old e
 
-pub begun_plain : (es : List Entry) (e : Entry) → is_begin e.item ≡ false → closes e.item ≡ false → begun (es ++ e ∷ []) ≡ begun es
+pub begun_plain : (es : List Entry) (e : Entry) → is_begin e.item ≡ false → closes e.item ≡ false → open_begin (es ++ e ∷ []) ≡ open_begin es
 begun_plain es e quiet plain =
     let test : Entry → Bool = λ (b : Entry). is_begin b.item && not (closed_after (es ++ e ∷ []) b.offset) in
     let here : test e ≡ false = ap (λ b. b && not (closed_after (es ++ e ∷ []) e.offset)) quiet in
@@ -269,7 +269,7 @@ find_none : (p : Entry → Bool) (xs : List Entry) → All (λ x. p x ≡ false)
 find_none p [] h = refl
 find_none p (x ∷ xs) h = rw (All-head (λ y. p y ≡ false) x xs h) (find_none p xs (All-tail (λ y. p y ≡ false) x xs h))
 
-pub begun_closing : (es : List Entry) (e : Entry) → Rises int_cmp offset_of (es ++ e ∷ []) → is_begin e.item ≡ false → closes e.item ≡ true → begun (es ++ e ∷ []) ≡ None
+pub begun_closing : (es : List Entry) (e : Entry) → Rises int_cmp offset_of (es ++ e ∷ []) → is_begin e.item ≡ false → closes e.item ≡ true → open_begin (es ++ e ∷ []) ≡ None
 begun_closing es e h quiet closing =
     let test : Entry → Bool = λ (b : Entry). is_begin b.item && not (closed_after (es ++ e ∷ []) b.offset) in
     let under = below_split int_order offset_of es e [] h in
@@ -301,13 +301,13 @@ shut_by true false false false later h = cc
 shut_by false b c a later h = refl
 
 -- where no transaction is open after the records, none waits
-pending_shut : (inside : Bool) (xs : List Entry) → open_after inside xs ≡ false → pending inside xs ≡ []
+pending_shut : (inside : Bool) (xs : List Entry) → is_open_at_end inside xs ≡ false → pending inside xs ≡ []
 unfolding pending
 pending_shut inside [] h = refl
 pending_shut inside (x ∷ xs) h =
-    cond_none (inside && not (is_marker x.item) && not (any_close xs)) x (pending (opened inside x.item) xs)
-    (shut_by inside (is_begin x.item) (closes x.item) (any_close xs) (open_after false (x ∷ xs)) (sym (open_after_is inside (x ∷ xs)) ∙ h))
-    (pending_shut (opened inside x.item) xs h)
+    cond_none (inside && not (is_marker x.item) && not (any_close xs)) x (pending (is_open_after inside x.item) xs)
+    (shut_by inside (is_begin x.item) (closes x.item) (any_close xs) (is_open_at_end false (x ∷ xs)) (sym (is_open_at_end-is inside (x ∷ xs)) ∙ h))
+    (pending_shut (is_open_after inside x.item) xs h)
 
 marker_plain : (b c : Bool) → b ≡ false → c ≡ false → b || c ≡ false
 marker_plain b c h k = rw h k
@@ -330,23 +330,23 @@ module _ (pushed given : List Entry) (e : Entry) (old : Settling) (h : Rises int
   rises : Rises int_cmp offset_of pushed
   rises = Rises_left int_order offset_of pushed (e ∷ []) h
 
-  inside : open_after false pushed ≡ is_some old.begun
+  inside : is_open_at_end false pushed ≡ is_some old.begun
   inside = sym (is_begun pushed rises) ∙ ap is_some (sym s.begun)
 
   waits : old.kept ≡ pending false pushed
   waits = s.kept ∙ kept_is_pending pushed rises
 
-  count : (at : ℤ) → AllBy at (pushed ++ e ∷ []) → given ≡ passed at false pushed
+  count : (at : ℤ) → AllBy at (pushed ++ e ∷ []) → given ≡ records_of_pass at false pushed
   count at by =
-      sym (append-nil given) ∙ ap (λ r. given ++ r) (sym popped) ∙ s.counted at (all_left (λ (x : Entry). x.offset ≤ℤ at) pushed (e ∷ []) by) ∙ counted_is_passed pushed at rises
+      sym (append-nil given) ∙ ap (λ r. given ++ r) (sym popped) ∙ s.counted at (all_left (λ (x : Entry). x.offset ≤ℤ at) pushed (e ∷ []) by) ∙ counted_is_pass pushed at rises
 
   -- from the records that wait and those that count, as one pass finds them
-  stands_by : (more : List Entry) (new : Settling) → new.begun ≡ begun (pushed ++ e ∷ []) → new.kept ≡ pending false (pushed ++ e ∷ [])
-      → ((at : ℤ) → AllBy at (pushed ++ e ∷ []) → (given ++ more) ++ new.released ≡ passed at false (pushed ++ e ∷ [])) → Stands (pushed ++ e ∷ []) (given ++ more) new
+  stands_by : (more : List Entry) (new : Settling) → new.begun ≡ open_begin (pushed ++ e ∷ []) → new.kept ≡ pending false (pushed ++ e ∷ [])
+      → ((at : ℤ) → AllBy at (pushed ++ e ∷ []) → (given ++ more) ++ new.released ≡ records_of_pass at false (pushed ++ e ∷ [])) → Stands (pushed ++ e ∷ []) (given ++ more) new
   stands_by more new b k c = record {
     begun = b;
     kept = k ∙ sym (kept_is_pending (pushed ++ e ∷ []) h);
-    counted = λ at by. c at by ∙ sym (counted_is_passed (pushed ++ e ∷ []) at h);
+    counted = λ at by. c at by ∙ sym (counted_is_pass (pushed ++ e ∷ []) at h);
   }
 
   nothing_more : (rest : List Entry) → (given ++ []) ++ rest ≡ given ++ rest
@@ -363,24 +363,24 @@ module _ (pushed given : List Entry) (e : Entry) (old : Settling) (h : Rises int
       let m = marker_of_begin (is_begin e.item) (closes e.item) begins in
       stands_by [] (record old { begun = option_or old.begun (Some e.offset) })
       (ap (λ r. option_or r (Some e.offset)) s.begun ∙ sym (begun_begin pushed e h begins plain))
-      (waits ∙ sym (pending_plain false pushed e plain ∙ none_added (open_after false pushed && not (is_marker e.item)) (pending false pushed) (marker_not (open_after false pushed) (is_marker e.item) m)))
+      (waits ∙ sym (pending_plain false pushed e plain ∙ none_added (is_open_at_end false pushed && not (is_marker e.item)) (pending false pushed) (marker_not (is_open_at_end false pushed) (is_marker e.item) m)))
       (λ at by. nothing_more old.released ∙ ap (λ r. given ++ r) popped ∙ append-nil given ∙ count at by
-      ∙ sym (passed_plain at false pushed e plain ∙ none_added (int_le e.offset at && not (is_marker e.item) && not (open_after false pushed)) (passed at false pushed)
-      (no_marker (int_le e.offset at) (is_marker e.item) (not (open_after false pushed)) m)))
+      ∙ sym (pass_plain at false pushed e plain ∙ none_added (int_le e.offset at && not (is_marker e.item) && not (is_open_at_end false pushed)) (records_of_pass at false pushed)
+      (no_marker (int_le e.offset at) (is_marker e.item) (not (is_open_at_end false pushed)) m)))
 
-  closing_passed : (at : ℤ) (t : Bool) → is_end e.item ≡ t → closes e.item ≡ true → AllBy at (pushed ++ e ∷ []) → passed at false (pushed ++ e ∷ []) ≡ passed at false pushed ++ cond t (pending false pushed) []
-  closing_passed at true ended closing by =
-      passed_end at false pushed e closing ended (le_test e.offset at (all_last (λ (x : Entry). x.offset ≤ℤ at) pushed e by))
+  closing_pass : (at : ℤ) (t : Bool) → is_end e.item ≡ t → closes e.item ≡ true → AllBy at (pushed ++ e ∷ []) → records_of_pass at false (pushed ++ e ∷ []) ≡ records_of_pass at false pushed ++ cond t (pending false pushed) []
+  closing_pass at true ended closing by =
+      pass_end at false pushed e closing ended (le_test e.offset at (all_last (λ (x : Entry). x.offset ≤ℤ at) pushed e by))
       (λ k d lt. le_test (get_or pushed k d).offset at (all_left (λ (x : Entry). x.offset ≤ℤ at) pushed (e ∷ []) by k d lt))
-  closing_passed at false ended closing by =
-      passed_abort at false pushed e closing ended (le_test e.offset at (all_last (λ (x : Entry). x.offset ≤ℤ at) pushed e by)) ∙ sym (append-nil (passed at false pushed))
+  closing_pass at false ended closing by =
+      pass_abort at false pushed e closing ended (le_test e.offset at (all_last (λ (x : Entry). x.offset ≤ℤ at) pushed e by)) ∙ sym (append-nil (records_of_pass at false pushed))
 
   -- an End or Abort of the open transaction
   pub stands_finish : (t : Bool) → is_begin e.item ≡ false → closes e.item ≡ true → is_end e.item ≡ t → Stands (pushed ++ e ∷ []) (given ++ []) (record { begun = None; kept = []; released = cond t old.kept [] })
   stands_finish t quiet closing ended =
       stands_by [] (record { begun = None; kept = []; released = cond t old.kept [] })
       (sym (begun_closing pushed e h quiet closing)) (sym (pending_closing false pushed e closing))
-      (λ at by. nothing_more (cond t old.kept []) ∙ ap (λ g. g ++ cond t old.kept []) (count at by) ∙ ap (λ w. passed at false pushed ++ cond t w []) waits ∙ sym (closing_passed at t ended closing by))
+      (λ at by. nothing_more (cond t old.kept []) ∙ ap (λ g. g ++ cond t old.kept []) (count at by) ∙ ap (λ w. records_of_pass at false pushed ++ cond t w []) waits ∙ sym (closing_pass at t ended closing by))
 
   -- one outside every transaction
   pub stands_outside : (t : Bool) → is_begin e.item ≡ false → closes e.item ≡ true → is_end e.item ≡ t → old.begun ≡ None → Stands (pushed ++ e ∷ []) (given ++ []) old
@@ -389,30 +389,30 @@ module _ (pushed given : List Entry) (e : Entry) (old : Settling) (h : Rises int
       stands_by [] old
       (none ∙ sym (begun_closing pushed e h quiet closing)) (waits ∙ shut ∙ sym (pending_closing false pushed e closing))
       (λ at by. nothing_more old.released ∙ ap (λ r. given ++ r) popped ∙ append-nil given ∙ count at by
-      ∙ sym (append-nil (passed at false pushed)) ∙ ap (λ w. passed at false pushed ++ w) (sym (cond_empty t)) ∙ ap (λ w. passed at false pushed ++ cond t w []) (sym shut) ∙ sym (closing_passed at t ended closing by))
+      ∙ sym (append-nil (records_of_pass at false pushed)) ∙ ap (λ w. records_of_pass at false pushed ++ w) (sym (cond_empty t)) ∙ ap (λ w. records_of_pass at false pushed ++ cond t w []) (sym shut) ∙ sym (closing_pass at t ended closing by))
 
   -- a record that is no marker
   pub stands_now : is_begin e.item ≡ false → closes e.item ≡ false → old.begun ≡ None → Stands (pushed ++ e ∷ []) (given ++ e ∷ []) old
   stands_now quiet plain none =
-      let shut : open_after false pushed ≡ false = inside ∙ ap is_some none in
+      let shut : is_open_at_end false pushed ≡ false = inside ∙ ap is_some none in
       stands_by (e ∷ []) old
       (s.begun ∙ sym (begun_plain pushed e quiet plain))
-      (waits ∙ sym (pending_plain false pushed e plain ∙ none_added (open_after false pushed && not (is_marker e.item)) (pending false pushed) (ap (λ o. o && not (is_marker e.item)) shut)))
+      (waits ∙ sym (pending_plain false pushed e plain ∙ none_added (is_open_at_end false pushed && not (is_marker e.item)) (pending false pushed) (ap (λ o. o && not (is_marker e.item)) shut)))
       (λ at by. ap (λ r. (given ++ e ∷ []) ++ r) popped ∙ append-nil (given ++ e ∷ []) ∙ ap (λ g. g ++ e ∷ []) (count at by)
-      ∙ ap (λ t. passed at false pushed ++ cond t (e ∷ []) []) (sym (counts_by (int_le e.offset at) (is_marker e.item) (open_after false pushed)
+      ∙ ap (λ t. records_of_pass at false pushed ++ cond t (e ∷ []) []) (sym (counts_by (int_le e.offset at) (is_marker e.item) (is_open_at_end false pushed)
       (le_test e.offset at (all_last (λ (x : Entry). x.offset ≤ℤ at) pushed e by)) (marker_plain (is_begin e.item) (closes e.item) quiet plain) shut))
-      ∙ sym (passed_plain at false pushed e plain))
+      ∙ sym (pass_plain at false pushed e plain))
 
   pub stands_kept : is_begin e.item ≡ false → closes e.item ≡ false → is_some old.begun ≡ true → Stands (pushed ++ e ∷ []) (given ++ []) (record old { kept = old.kept ++ e ∷ [] })
   stands_kept quiet plain some =
-      let still : open_after false pushed ≡ true = inside ∙ some in
+      let still : is_open_at_end false pushed ≡ true = inside ∙ some in
       stands_by [] (record old { kept = old.kept ++ e ∷ [] })
       (s.begun ∙ sym (begun_plain pushed e quiet plain))
-      (ap (λ w. w ++ e ∷ []) waits ∙ ap (λ t. pending false pushed ++ cond t (e ∷ []) []) (sym (waits_by (open_after false pushed) (is_marker e.item) still (marker_plain (is_begin e.item) (closes e.item) quiet plain)))
+      (ap (λ w. w ++ e ∷ []) waits ∙ ap (λ t. pending false pushed ++ cond t (e ∷ []) []) (sym (waits_by (is_open_at_end false pushed) (is_marker e.item) still (marker_plain (is_begin e.item) (closes e.item) quiet plain)))
       ∙ sym (pending_plain false pushed e plain))
       (λ at by. nothing_more old.released ∙ ap (λ r. given ++ r) popped ∙ append-nil given ∙ count at by
-      ∙ sym (passed_plain at false pushed e plain ∙ none_added (int_le e.offset at && not (is_marker e.item) && not (open_after false pushed)) (passed at false pushed)
-      (and_false (int_le e.offset at && not (is_marker e.item)) (not (open_after false pushed)) (ap not still))))
+      ∙ sym (pass_plain at false pushed e plain ∙ none_added (int_le e.offset at && not (is_marker e.item) && not (is_open_at_end false pushed)) (records_of_pass at false pushed)
+      (and_false (int_le e.offset at && not (is_marker e.item)) (not (is_open_at_end false pushed)) (ap not still))))
 
 -- ---- what the parts of the settler do
 
@@ -427,42 +427,42 @@ begin_does_not_close (meta.AbortTransaction reason) h = false_is_true h
 begin_does_not_close r h = refl
 
 module _ (pushed given : List Entry) (e : Entry) (old new : Settling) (a : Settled) (h : Rises int_cmp offset_of (pushed ++ e ∷ [])) (s : Stands pushed given old) (popped : old.released ≡ []) where
-  stands_same : (b : Settled) (n : Settling) → a ≡ b → new ≡ n → Stands (pushed ++ e ∷ []) (given ++ handed b) n → Stands (pushed ++ e ∷ []) (given ++ handed a) new
+  stands_same : (b : Settled) (n : Settling) → a ≡ b → new ≡ n → Stands (pushed ++ e ∷ []) (given ++ entries_of_answer b) n → Stands (pushed ++ e ∷ []) (given ++ entries_of_answer a) new
   stands_same b n is made t =
-      subst (λ x. Stands (pushed ++ e ∷ []) (given ++ handed x) new) (sym is) (subst (λ x. Stands (pushed ++ e ∷ []) (given ++ handed b) x) (sym made) t)
+      subst (λ x. Stands (pushed ++ e ∷ []) (given ++ entries_of_answer x) new) (sym is) (subst (λ x. Stands (pushed ++ e ∷ []) (given ++ entries_of_answer b) x) (sym made) t)
 
-  keep_by : (begun : Option ℤ) → old.begun ≡ begun → is_begin e.item ≡ false → closes e.item ≡ false → a ≡ kept_answer (is_some old.begun) e → new ≡ kept_too e old
-      → Stands (pushed ++ e ∷ []) (given ++ handed a) new
+  keep_by : (offset : Option ℤ) → old.begun ≡ offset → is_begin e.item ≡ false → closes e.item ≡ false → a ≡ answer_to_plain (is_some old.begun) e → new ≡ after_plain e old
+      → Stands (pushed ++ e ∷ []) (given ++ entries_of_answer a) new
   keep_by None was quiet plain is made =
       let i : is_some old.begun ≡ false = ap is_some was in
-      stands_same (settled.Now e) old (is ∙ ap (λ t. kept_answer t e) i) (made ∙ ap (λ t. cond t (record old { kept = old.kept ++ e ∷ [] }) old) i) (stands_now pushed given e old h s popped quiet plain was)
+      stands_same (settled.Now e) old (is ∙ ap (λ t. answer_to_plain t e) i) (made ∙ ap (λ t. cond t (record old { kept = old.kept ++ e ∷ [] }) old) i) (stands_now pushed given e old h s popped quiet plain was)
   keep_by (Some o) was quiet plain is made =
       let i : is_some old.begun ≡ true = ap is_some was in
       let n : Settling = record old { kept = old.kept ++ e ∷ [] } in
-      stands_same settled.Kept n (is ∙ ap (λ t. kept_answer t e) i) (made ∙ ap (λ t. cond t n old) i) (stands_kept pushed given e old h s popped quiet plain i)
+      stands_same settled.Kept n (is ∙ ap (λ t. answer_to_plain t e) i) (made ∙ ap (λ t. cond t n old) i) (stands_kept pushed given e old h s popped quiet plain i)
 
-  pub stands_keep : is_begin e.item ≡ false → closes e.item ≡ false → a ≡ kept_answer (is_some old.begun) e → new ≡ kept_too e old → Stands (pushed ++ e ∷ []) (given ++ handed a) new
+  pub stands_keep : is_begin e.item ≡ false → closes e.item ≡ false → a ≡ answer_to_plain (is_some old.begun) e → new ≡ after_plain e old → Stands (pushed ++ e ∷ []) (given ++ entries_of_answer a) new
   stands_keep = keep_by old.begun refl
 
-  handed_none : (t : Bool) → handed (cond t settled.Released settled.Dropped) ≡ []
-  handed_none true = refl
-  handed_none false = refl
+  none_of_answer : (t : Bool) → entries_of_answer (cond t settled.Released settled.Dropped) ≡ []
+  none_of_answer true = refl
+  none_of_answer false = refl
 
-  finish_by : (begun : Option ℤ) (t : Bool) → old.begun ≡ begun → is_begin e.item ≡ false → closes e.item ≡ true → is_end e.item ≡ t → a ≡ finished_answer (is_some old.begun) t → new ≡ finished t old
-      → Stands (pushed ++ e ∷ []) (given ++ handed a) new
+  finish_by : (offset : Option ℤ) (t : Bool) → old.begun ≡ offset → is_begin e.item ≡ false → closes e.item ≡ true → is_end e.item ≡ t → a ≡ answer_to_close (is_some old.begun) t → new ≡ after_close t old
+      → Stands (pushed ++ e ∷ []) (given ++ entries_of_answer a) new
   finish_by None t was quiet closing ended is made =
       let i : is_some old.begun ≡ false = ap is_some was in
-      stands_same settled.Dropped old (is ∙ ap (λ b. finished_answer b t) i) (made ∙ ap (λ b. cond b (record { begun = None; kept = []; released = cond t old.kept [] }) old) i)
+      stands_same settled.Dropped old (is ∙ ap (λ b. answer_to_close b t) i) (made ∙ ap (λ b. cond b (record { begun = None; kept = []; released = cond t old.kept [] }) old) i)
       (stands_outside pushed given e old h s popped t quiet closing ended was)
   finish_by (Some o) t was quiet closing ended is made =
       let i : is_some old.begun ≡ true = ap is_some was in
       let n : Settling = record { begun = None; kept = []; released = cond t old.kept [] } in
-      stands_same (finished_answer true t) n (is ∙ ap (λ b. finished_answer b t) i) (made ∙ ap (λ b. cond b n old) i)
-      (subst (λ g. Stands (pushed ++ e ∷ []) (given ++ g) n) (sym (handed_none t)) (stands_finish pushed given e old h s popped t quiet closing ended))
+      stands_same (answer_to_close true t) n (is ∙ ap (λ b. answer_to_close b t) i) (made ∙ ap (λ b. cond b n old) i)
+      (subst (λ g. Stands (pushed ++ e ∷ []) (given ++ g) n) (sym (none_of_answer t)) (stands_finish pushed given e old h s popped t quiet closing ended))
 
-  pub stands_turn : (m : Marker) (offset : ℤ) → offset ≡ e.offset → IsMarkerOf e.item (Some m) → a ≡ turned_answer m (is_some old.begun) → new ≡ turned m offset old → Stands (pushed ++ e ∷ []) (given ++ handed a) new
+  pub stands_turn : (m : Marker) (offset : ℤ) → offset ≡ e.offset → IsMarkerOf e.item (Some m) → a ≡ answer_to_marker m (is_some old.begun) → new ≡ after_marker m offset old → Stands (pushed ++ e ∷ []) (given ++ entries_of_answer a) new
   stands_turn marker.Begin offset at m is made =
-      stands_same settled.Kept (begun_at e.offset old) is (made ∙ ap (λ o. begun_at o old) at) (stands_begin pushed given e old h s popped m (begin_does_not_close e.item m))
+      stands_same settled.Kept (after_begin e.offset old) is (made ∙ ap (λ o. after_begin o old) at) (stands_begin pushed given e old h s popped m (begin_does_not_close e.item m))
   stands_turn marker.End offset at m is made = finish_by old.begun true refl m.0 m.1 m.2 is made
   stands_turn marker.Abort offset at m is made = finish_by old.begun false refl m.0 m.1 m.2 is made
 

@@ -1,7 +1,7 @@
 -- What a settler holds after entries were pushed.
 use Rattle.std.specs.Prelude.{◌≡◌, Bool, ◌&&◌, ℤ, ◌≤ℤ◌, List, [], ◌∷◌, ◌++◌, Option, All, ⊤, if◌then◌else◌}
 use Rattle.kz_types.specs.declared.log.Entry.{Entry}
-use Rattle.kz_spec_stores.specs.Settlement.{is_begin, is_end, closes, counted, begun, kept}
+use Rattle.kz_spec_stores.specs.Settlement.{is_begin, is_end, closes, counting_records, open_begin, records_of_open}
 use Rattle.kz_settle.specs.declared.settled.Settled.{Settled}
 use Rattle.kz_settle.specs.declared.settled.Settled.TheVariants as settled
 
@@ -19,16 +19,16 @@ AllBy at es = All (λ (e : Entry). e.offset ≤ℤ at) es
 -- After these entries were pushed, and these were handed out, a settler has this open transaction and these records of it,
 -- and the records that count are those handed out and then those still to be popped.
 pub record Stands (pushed given : List Entry) (s : Settling) : Type 0 where
-  pub begun : s.begun ≡ begun pushed
-  pub kept : s.kept ≡ kept pushed
-  pub counted : (at : ℤ) → AllBy at pushed → given ++ s.released ≡ counted pushed at
+  pub begun : s.begun ≡ open_begin pushed
+  pub kept : s.kept ≡ records_of_open pushed
+  pub counted : (at : ℤ) → AllBy at pushed → given ++ s.released ≡ counting_records pushed at
 
 -- the entries that an answer hands out
-abbrev pub handed : Settled → List Entry
-handed (settled.Now e) = e ∷ []
-handed settled.Kept = []
-handed settled.Released = []
-handed settled.Dropped = []
+abbrev pub entries_of_answer : Settled → List Entry
+entries_of_answer (settled.Now e) = e ∷ []
+entries_of_answer settled.Kept = []
+entries_of_answer settled.Released = []
+entries_of_answer settled.Dropped = []
 
 -- The answer to an entry, where a transaction is open or not.
 abbrev pub answer_to : Bool → Entry → Settled

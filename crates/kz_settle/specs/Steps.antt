@@ -18,31 +18,33 @@ IsMarkerOf r (Some marker.End) = (is_begin r ≡ false) × (closes r ≡ true) �
 IsMarkerOf r (Some marker.Abort) = (is_begin r ≡ false) × (closes r ≡ true) × (is_end r ≡ false)
 
 -- the settler after an End or Abort
-abbrev pub finished : Bool → Settling → Settling
-finished ends s = if is_some s.begun then record { begun = None; kept = []; released = if ends then s.kept else [] } else s
+abbrev pub after_close : Bool → Settling → Settling
+after_close ends s = if is_some s.begun then record { begun = None; kept = []; released = if ends then s.kept else [] } else s
 
 -- the answer to an End or Abort
-abbrev pub finished_answer : Bool → Bool → Settled
-finished_answer inside ends = if inside && ends then settled.Released else settled.Dropped
+abbrev pub answer_to_close : Bool → Bool → Settled
+answer_to_close inside ends = if inside && ends then settled.Released else settled.Dropped
 
 -- the settler after a Begin
-abbrev pub begun_at : ℤ → Settling → Settling
-begun_at offset s = record s { begun = option_or s.begun (Some offset) }
+abbrev pub after_begin : ℤ → Settling → Settling
+after_begin offset s = record s { begun = option_or s.begun (Some offset) }
 
 -- the settler after a record that is no marker
-abbrev pub kept_too : Entry → Settling → Settling
-kept_too e s = if is_some s.begun then record s { kept = s.kept ++ e ∷ [] } else s
+abbrev pub after_plain : Entry → Settling → Settling
+after_plain e s = if is_some s.begun then record s { kept = s.kept ++ e ∷ [] } else s
 
 -- the answer to a record that is no marker
-abbrev pub kept_answer : Bool → Entry → Settled
-kept_answer inside e = if inside then settled.Kept else settled.Now e
+abbrev pub answer_to_plain : Bool → Entry → Settled
+answer_to_plain inside e = if inside then settled.Kept else settled.Now e
 
-abbrev pub turned : Marker → ℤ → Settling → Settling
-turned marker.Begin offset s = begun_at offset s
-turned marker.End offset s = finished true s
-turned marker.Abort offset s = finished false s
+-- the settler after a marker at an offset
+abbrev pub after_marker : Marker → ℤ → Settling → Settling
+after_marker marker.Begin offset s = after_begin offset s
+after_marker marker.End offset s = after_close true s
+after_marker marker.Abort offset s = after_close false s
 
-abbrev pub turned_answer : Marker → Bool → Settled
-turned_answer marker.Begin inside = settled.Kept
-turned_answer marker.End inside = finished_answer inside true
-turned_answer marker.Abort inside = finished_answer inside false
+-- the answer to a marker
+abbrev pub answer_to_marker : Marker → Bool → Settled
+answer_to_marker marker.Begin inside = settled.Kept
+answer_to_marker marker.End inside = answer_to_close inside true
+answer_to_marker marker.Abort inside = answer_to_close inside false

@@ -3,10 +3,10 @@ ghost use Rattle.std.specs.Prelude.{◌≡◌, ℤ, List, false};
 ghost use Rattle.std.specs.Ordering.{int_cmp};
 ghost use Rattle.kz_types.specs.declared.log.Entry.{Entry};
 ghost use Rattle.kz_ordered.specs.Ordered.{Rises};
-ghost use Rattle.kz_spec_stores.specs.Settlement.{counted};
-ghost use Rattle.kz_settle.specs.Settling.{offset_of, passed};
+ghost use Rattle.kz_spec_stores.specs.Settlement.{counting_records};
+ghost use Rattle.kz_settle.specs.Settling.{offset_of, records_of_pass};
 
 /// Where offsets rise, one pass hands out exactly the records that count.
 pub fn one_pass()
-    ensures { (es : List Entry) (at : ℤ) → Rises int_cmp offset_of es → counted es at ≡ passed at false es }
+    ensures { (es : List Entry) (at : ℤ) → Rises int_cmp offset_of es → counting_records es at ≡ records_of_pass at false es }
 {}

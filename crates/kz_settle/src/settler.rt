@@ -4,8 +4,8 @@ ghost use Rattle.std.specs.Ordering.{int_cmp};
 ghost use Rattle.kz_ordered.specs.Ordered.{Rises};
 ghost use Rattle.kz_types.specs.declared.log.Entry.{Entry as EntryValue};
 ghost use Rattle.kz_settle.specs.Settling.{offset_of};
-ghost use Rattle.kz_settle.specs.Stands.{Settling, Stands, answer_to, handed, LeavesNone};
-ghost use Rattle.kz_settle.specs.Steps.{finished, finished_answer, begun_at, kept_too, kept_answer, turned, turned_answer};
+ghost use Rattle.kz_settle.specs.Stands.{Settling, Stands, answer_to, entries_of_answer, LeavesNone};
+ghost use Rattle.kz_settle.specs.Steps.{after_close, answer_to_close, after_begin, after_plain, answer_to_plain, after_marker, answer_to_marker};
 
 use crate::Settled;
 use crate::marker_of::marker_of;
@@ -74,7 +74,7 @@ impl Settler {
     }
 
     fn begin(&mut self, offset: i64)
-        ensures { self.new ≡ begun_at offset self.old }
+        ensures { self.new ≡ after_begin offset self.old }
     {
         if self.begun.is_none() {
             self.begun = Some(offset);
@@ -83,8 +83,8 @@ impl Settler {
 
     fn finish(&mut self, ends: bool) -> Settled
         requires { self.old.released ≡ [] }
-        ensures answer { result ≡ finished_answer (is_some self.old.begun) ends }
-        ensures value { self.new ≡ finished ends self.old }
+        ensures answer { result ≡ answer_to_close (is_some self.old.begun) ends }
+        ensures value { self.new ≡ after_close ends self.old }
         ensures none { LeavesNone result self.new }
     {
         if self.begun.is_none() {
@@ -101,8 +101,8 @@ impl Settler {
 
     fn keep(&mut self, e: Entry) -> Result<Settled, NoMemory>
         requires { self.old.released ≡ [] }
-        ensures answer { IfOk result (λ answer. answer ≡ kept_answer (is_some self.old.begun) e) }
-        ensures value { OnOk result (self.new ≡ kept_too e self.old) }
+        ensures answer { IfOk result (λ answer. answer ≡ answer_to_plain (is_some self.old.begun) e) }
+        ensures value { OnOk result (self.new ≡ after_plain e self.old) }
         ensures none { IfOk result (λ answer. LeavesNone answer self.new) }
         ensures err { OnErr result (self.new ≡ self.old) }
     {
@@ -115,8 +115,8 @@ impl Settler {
 
     fn turn(&mut self, marker: Marker, offset: i64) -> Settled
         requires { self.old.released ≡ [] }
-        ensures answer { result ≡ turned_answer marker (is_some self.old.begun) }
-        ensures value { self.new ≡ turned marker offset self.old }
+        ensures answer { result ≡ answer_to_marker marker (is_some self.old.begun) }
+        ensures value { self.new ≡ after_marker marker offset self.old }
         ensures none { LeavesNone result self.new }
     {
         match marker {
@@ -137,7 +137,7 @@ impl Settler {
 
         // What was handed out and what is still to be popped are together the records that count.
         ensures stands { IfOk result (λ answer. (pushed given : List EntryValue) → Rises int_cmp offset_of (pushed ++ e ∷ []) → Stands pushed given self.old
-            → Stands (pushed ++ e ∷ []) (given ++ handed answer) self.new) }
+            → Stands (pushed ++ e ∷ []) (given ++ entries_of_answer answer) self.new) }
         ensures none { IfOk result (λ answer. LeavesNone answer self.new) }
         ensures err { OnErr result (self.new ≡ self.old) }
     {

@@ -79,8 +79,8 @@ value_or default read None = Some default
 value_or default read (Some d) = read d
 
 -- a tagged field: the member of this name may be absent
-abbrev pub tagged : {A : Type 0} → List ℕ → A → (Data → Option A) → Data → Option A
-tagged name default read d = value_or default read (get name d)
+abbrev pub tagged_member : {A : Type 0} → List ℕ → A → (Data → Option A) → Data → Option A
+tagged_member name default read d = value_or default read (get name d)
 
 -- how many members there are with a tagged field, where there are so many others
 abbrev pub tagged_count : List ℕ → Data → ℕ → ℕ

@@ -4,7 +4,7 @@ use Rattle.serde_json.specs.Data.{Data}
 use Rattle.kz_types.specs.declared.record.MetaRecord.{MetaRecord}
 use Rattle.kz_types.specs.declared.record.MetaRecord.TheVariants.{NoOp, ZkMigrationState, BeginTransaction, EndTransaction, AbortTransaction}
 use Rattle.kz_spec_lines.specs.Json.{member_count, text_or_null}
-use Rattle.kz_spec_lines.specs.Fields.{◌>>=◌, int8, field, tagged, tagged_count}
+use Rattle.kz_spec_lines.specs.Fields.{◌>>=◌, int8, field, tagged_member, tagged_count}
 
 -- `kind` alone
 abbrev pub no_op_of : Data → Option MetaRecord
@@ -20,7 +20,7 @@ zk_migration_state_of d = if member_count d == 2
 -- `kind`, and `name`, a text or null, which may be absent, which is null
 abbrev pub begin_transaction_of : Data → Option MetaRecord
 begin_transaction_of d = if member_count d == tagged_count (codes "name") d 1
-    then (tagged (codes "name") None text_or_null d >>= λ name.
+    then (tagged_member (codes "name") None text_or_null d >>= λ name.
     Some (BeginTransaction name))
     else None
 
@@ -31,6 +31,6 @@ end_transaction_of d = if member_count d == 1 then Some EndTransaction else None
 -- `kind`, and `reason`, a text or null, which may be absent, which is null
 abbrev pub abort_transaction_of : Data → Option MetaRecord
 abort_transaction_of d = if member_count d == tagged_count (codes "reason") d 1
-    then (tagged (codes "reason") None text_or_null d >>= λ reason.
+    then (tagged_member (codes "reason") None text_or_null d >>= λ reason.
     Some (AbortTransaction reason))
     else None

@@ -17,16 +17,16 @@ use Rattle.kz_types.specs.declared.machine.Answer.{Answer}
 use Rattle.kz_types.specs.declared.machine.Answer.TheVariants as answer
 
 -- a word, a space and a number
-abbrev pub counted : List ℕ → ℕ → List ℕ
-counted word n = word ++ (codes " " ++ decimal n)
+abbrev pub word_and_count : List ℕ → ℕ → List ℕ
+word_and_count word n = word ++ (codes " " ++ decimal n)
 
 -- a word, a space and a signed number
-abbrev pub numbered : List ℕ → ℤ → List ℕ
-numbered word n = word ++ (codes " " ++ signed_decimal n)
+abbrev pub word_and_number : List ℕ → ℤ → List ℕ
+word_and_number word n = word ++ (codes " " ++ signed_decimal n)
 
 -- a word, a space and a text as a JSON string
-abbrev pub named : List ℕ → List ℕ → List ℕ
-named word text = word ++ (codes " " ++ quoted text)
+abbrev pub word_and_text : List ℕ → List ℕ → List ℕ
+word_and_text word text = word ++ (codes " " ++ quoted text)
 
 -- the name of a driver's state
 abbrev pub state_name : DriverState → List ℕ
@@ -43,10 +43,10 @@ state_name state.DualWrite = codes "DUAL_WRITE"
 -- why a body can't be read; running out of memory is no reason
 abbrev pub body_text : BodyFault → Option (List ℕ)
 body_text fault.NotJson = Some (codes "not-json")
-body_text (fault.Missing field) = Some (named (codes "missing") field)
-body_text (fault.BadField field) = Some (named (codes "bad-field") field)
+body_text (fault.Missing field) = Some (word_and_text (codes "missing") field)
+body_text (fault.BadField field) = Some (word_and_text (codes "bad-field") field)
 body_text fault.NoTopicId = Some (codes "no-topic-id")
-body_text (fault.UnknownKey name) = Some (named (codes "unknown-key") name)
+body_text (fault.UnknownKey name) = Some (word_and_text (codes "unknown-key") name)
 body_text fault.NoMemory = None
 
 -- why a path can't be translated
@@ -54,25 +54,25 @@ abbrev pub why_text : ReadWhy → Option (List ℕ)
 why_text why.Stray = Some (codes "stray")
 why_text (why.Body f) = body_text f
 why_text why.SameId = Some (codes "same-id")
-why_text (why.Over number) = Some (counted (codes "over") number)
+why_text (why.Over number) = Some (word_and_count (codes "over") number)
 
 -- what a step of a driver prints; a store that fails and running out of memory print nothing, and end the run
 abbrev pub reply_text : Reply → Option (List ℕ)
 reply_text reply.Idle = Some (codes "idle")
-reply_text (reply.WaitQuorum id) = Some (numbered (codes "wait-quorum") id)
-reply_text (reply.WaitBroker id) = Some (numbered (codes "wait-broker") id)
+reply_text (reply.WaitQuorum id) = Some (word_and_number (codes "wait-quorum") id)
+reply_text (reply.WaitBroker id) = Some (word_and_number (codes "wait-broker") id)
 reply_text (reply.Moved s) = Some (codes "moved " ++ state_name s)
 reply_text reply.Looked = Some (codes "looked")
-reply_text (reply.Claimed zk_epoch) = Some (numbered (codes "claimed") zk_epoch)
-reply_text (reply.Read rows) = Some (counted (codes "read") rows)
-reply_text (reply.Appended offset) = Some (numbered (codes "appended") offset)
-reply_text (reply.Wrote ops) = Some (counted (codes "wrote") ops)
-reply_text (reply.Recorded offset) = Some (numbered (codes "recorded") offset)
-reply_text (reply.FencedEpoch epoch) = Some (numbered (codes "fenced-epoch") epoch)
-reply_text (reply.FencedWrite claim) = Some (numbered (codes "fenced-write") claim)
-reply_text (reply.Stale epoch) = Some (numbered (codes "stale") epoch)
-reply_text (reply.Untranslatable path w) = option_map (λ text. named (codes "untranslatable") path ++ (codes " " ++ text)) (why_text w)
-reply_text (reply.Limit path) = Some (named (codes "limit") path)
+reply_text (reply.Claimed zk_epoch) = Some (word_and_number (codes "claimed") zk_epoch)
+reply_text (reply.Read rows) = Some (word_and_count (codes "read") rows)
+reply_text (reply.Appended offset) = Some (word_and_number (codes "appended") offset)
+reply_text (reply.Wrote ops) = Some (word_and_count (codes "wrote") ops)
+reply_text (reply.Recorded offset) = Some (word_and_number (codes "recorded") offset)
+reply_text (reply.FencedEpoch epoch) = Some (word_and_number (codes "fenced-epoch") epoch)
+reply_text (reply.FencedWrite claim) = Some (word_and_number (codes "fenced-write") claim)
+reply_text (reply.Stale epoch) = Some (word_and_number (codes "stale") epoch)
+reply_text (reply.Untranslatable path w) = option_map (λ text. word_and_text (codes "untranslatable") path ++ (codes " " ++ text)) (why_text w)
+reply_text (reply.Limit path) = Some (word_and_text (codes "limit") path)
 reply_text reply.Lost = Some (codes "lost")
 reply_text reply.Expired = Some (codes "expired")
 reply_text (reply.TreeFailed f) = None
@@ -83,9 +83,9 @@ reply_text reply.NoMemory = None
 abbrev pub verdict_text : Verdict → List ℕ
 verdict_text verdict.Unmigrated = codes "unmigrated"
 verdict_text verdict.Unrecorded = codes "unrecorded"
-verdict_text (verdict.Closed offset) = numbered (codes "closed") offset
-verdict_text (verdict.Ahead offset paths) = numbered (codes "ahead") offset ++ (codes " " ++ decimal (length paths))
-verdict_text (verdict.Disagrees path) = named (codes "disagrees") path
+verdict_text (verdict.Closed offset) = word_and_number (codes "closed") offset
+verdict_text (verdict.Ahead offset paths) = word_and_number (codes "ahead") offset ++ (codes " " ++ decimal (length paths))
+verdict_text (verdict.Disagrees path) = word_and_text (codes "disagrees") path
 
 -- an answer of a session or of a multi of a ZooKeeper client
 abbrev pub is_client_answer : Answer → Bool
@@ -99,44 +99,44 @@ is_client_answer a = false
 
 -- two numbers after a word
 abbrev pub numbers : List ℕ → ℤ → ℤ → List ℕ
-numbers word a b = numbered word a ++ (codes " " ++ signed_decimal b)
+numbers word a b = word_and_number word a ++ (codes " " ++ signed_decimal b)
 
 -- an index and a number after a word
-abbrev pub placed : List ℕ → ℕ → List ℕ → List ℕ
-placed word index rest = counted word index ++ (codes " " ++ rest)
+abbrev pub word_and_place : List ℕ → ℕ → List ℕ → List ℕ
+word_and_place word index rest = word_and_count word index ++ (codes " " ++ rest)
 
 -- what an event prints, where it prints one line; a turn prints a line for each step, and a store that fails and want of
 -- memory end the run
 abbrev pub answer_text : Answer → Option (List ℕ)
 answer_text answer.Done = Some (codes "done")
-answer_text (answer.DoneAt zxid) = Some (numbered (codes "done") zxid)
+answer_text (answer.DoneAt zxid) = Some (word_and_number (codes "done") zxid)
 answer_text (answer.Elected epoch offset) = Some (numbers (codes "elected") epoch offset)
 answer_text (answer.Step r) = reply_text r
 answer_text (answer.Turn replies) = None
-answer_text (answer.Appended offset) = Some (numbered (codes "appended") offset)
+answer_text (answer.Appended offset) = Some (word_and_number (codes "appended") offset)
 answer_text answer.RolledBack = Some (codes "rolled-back")
 answer_text (answer.Check v) = Some (verdict_text v)
-answer_text (answer.Running id) = Some (numbered (codes "running") id)
+answer_text (answer.Running id) = Some (word_and_number (codes "running") id)
 answer_text answer.UnknownController = Some (codes "unknown-controller")
 answer_text answer.AlreadyRunning = Some (codes "already-running")
 answer_text answer.NotRunning = Some (codes "not-running")
 answer_text answer.NotLeader = Some (codes "not-leader")
-answer_text (answer.Stale epoch) = Some (numbered (codes "stale") epoch)
-answer_text (answer.InTransaction offset) = Some (numbered (codes "in-transaction") offset)
+answer_text (answer.Stale epoch) = Some (word_and_number (codes "stale") epoch)
+answer_text (answer.InTransaction offset) = Some (word_and_number (codes "in-transaction") offset)
 answer_text answer.NotMigrated = Some (codes "not-migrated")
 answer_text answer.Finalised = Some (codes "finalised")
 answer_text (answer.NotDualWrite s) = Some (codes "not-dual-write " ++ state_name s)
-answer_text (answer.Unclosed path) = Some (named (codes "unclosed") path)
+answer_text (answer.Unclosed path) = Some (word_and_text (codes "unclosed") path)
 answer_text (answer.Behind recorded end) = Some (numbers (codes "behind") recorded end)
 answer_text answer.TooEarly = Some (codes "too-early")
-answer_text (answer.BadRecord index why) = Some (placed (codes "bad-record") index (decimal why))
-answer_text (answer.Over number) = Some (counted (codes "over") number)
+answer_text (answer.BadRecord index why) = Some (word_and_place (codes "bad-record") index (decimal why))
+answer_text (answer.Over number) = Some (word_and_count (codes "over") number)
 answer_text answer.Known = Some (codes "known")
 answer_text answer.Unknown = Some (codes "unknown")
-answer_text (answer.Reserved path) = Some (named (codes "reserved") path)
-answer_text (answer.KraftHolds path) = Some (named (codes "kraft-holds") path)
-answer_text (answer.Refused index code) = Some (placed (codes "refused") index (signed_decimal code))
-answer_text (answer.OverOp index number) = Some (placed (codes "over-op") index (decimal number))
+answer_text (answer.Reserved path) = Some (word_and_text (codes "reserved") path)
+answer_text (answer.KraftHolds path) = Some (word_and_text (codes "kraft-holds") path)
+answer_text (answer.Refused index code) = Some (word_and_place (codes "refused") index (signed_decimal code))
+answer_text (answer.OverOp index number) = Some (word_and_place (codes "over-op") index (decimal number))
 answer_text (answer.TreeFailed f) = None
 answer_text (answer.LogFailed f) = None
 answer_text answer.NoMemory = None

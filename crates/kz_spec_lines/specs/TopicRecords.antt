@@ -5,7 +5,7 @@ use Rattle.kz_types.specs.declared.id.Id.{Id}
 use Rattle.kz_types.specs.declared.record.MetaRecord.{MetaRecord}
 use Rattle.kz_types.specs.declared.record.MetaRecord.TheVariants.{Topic, Partition, PartitionChange, RemoveTopic}
 use Rattle.kz_spec_lines.specs.Json.{member_count, text_member}
-use Rattle.kz_spec_lines.specs.Fields.{◌>>=◌, int8, int32, uuid, ints, ints_or_null, field, tagged, tagged_count}
+use Rattle.kz_spec_lines.specs.Fields.{◌>>=◌, int8, int32, uuid, ints, ints_or_null, field, tagged_member, tagged_count}
 
 -- exactly `kind`, `name` and `topicId`
 abbrev pub topic_of : Data → Option MetaRecord
@@ -20,7 +20,7 @@ topic_of d = if member_count d == 3
 unfoldable pub partition_with : ℤ → Id → (replicas isr removing adding : List ℤ) → Data → Option MetaRecord
 partition_with partition topic replicas isr removing adding d =
     field (codes "leader") int32 d >>= λ leader.
-    tagged (codes "recovery") (pos 0) int8 d >>= λ recovery.
+    tagged_member (codes "recovery") (pos 0) int8 d >>= λ recovery.
     field (codes "leaderEpoch") int32 d >>= λ leader_epoch.
     field (codes "partitionEpoch") int32 d >>= λ partition_epoch.
     Some (Partition (record { partition_id = partition; topic_id = topic; replicas = replicas; isr = isr; removing = removing; adding = adding; leader = leader; recovery = recovery; leader_epoch = leader_epoch; partition_epoch = partition_epoch }))
@@ -43,12 +43,12 @@ abbrev pub partition_change_of : Data → Option MetaRecord
 partition_change_of d = if member_count d == tagged_count (codes "recovery") d (tagged_count (codes "adding") d (tagged_count (codes "removing") d (tagged_count (codes "replicas") d (tagged_count (codes "leader") d (tagged_count (codes "isr") d 3)))))
     then (field (codes "partitionId") int32 d >>= λ partition.
     field (codes "topicId") uuid d >>= λ topic.
-    tagged (codes "isr") None ints_or_null d >>= λ isr.
-    tagged (codes "leader") (negsuc 1) int32 d >>= λ leader.
-    tagged (codes "replicas") None ints_or_null d >>= λ replicas.
-    tagged (codes "removing") None ints_or_null d >>= λ removing.
-    tagged (codes "adding") None ints_or_null d >>= λ adding.
-    tagged (codes "recovery") (negsuc 0) int8 d >>= λ recovery.
+    tagged_member (codes "isr") None ints_or_null d >>= λ isr.
+    tagged_member (codes "leader") (negsuc 1) int32 d >>= λ leader.
+    tagged_member (codes "replicas") None ints_or_null d >>= λ replicas.
+    tagged_member (codes "removing") None ints_or_null d >>= λ removing.
+    tagged_member (codes "adding") None ints_or_null d >>= λ adding.
+    tagged_member (codes "recovery") (negsuc 0) int8 d >>= λ recovery.
     Some (PartitionChange (record { partition_id = partition; topic_id = topic; isr = isr; leader = leader; replicas = replicas; removing = removing; adding = adding; recovery = recovery })))
     else None
 

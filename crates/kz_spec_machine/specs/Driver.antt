@@ -89,8 +89,8 @@ abbrev pub at_stage : Stage → Driver → Driver
 at_stage s d = record d { stage = s }
 
 -- it has no epoch and no claim, and does nothing until it is elected anew
-abbrev pub resigned : Driver → Driver
-resigned d = record d { epoch = None; claim = None; stage = stage.Inactive }
+abbrev pub resigned_driver : Driver → Driver
+resigned_driver d = record d { epoch = None; claim = None; stage = stage.Inactive }
 
 -- it looks at the tree anew, without a claim
 abbrev pub begins_again : Driver → Driver
@@ -117,7 +117,7 @@ shown_by row = option_and_then (λ (r : Row). shown_epoch r.body) row
 
 abbrev pub unless_fenced : Option ℤ → Driver → Driver × Reply → Driver × Reply
 unless_fenced None d rest = rest
-unless_fenced (Some e) d rest = if int_lt (epoch_or_zero d.epoch) e then (resigned d, reply.FencedEpoch e) else rest
+unless_fenced (Some e) d rest = if int_lt (epoch_or_zero d.epoch) e then (resigned_driver d, reply.FencedEpoch e) else rest
 
 abbrev pub unless_full_epoch : Result ℤ BodyFault → ℤ → Driver → Driver × Reply → Driver × Reply
 unless_full_epoch (Err e) version d rest = (d, reply.Untranslatable epoch_path (why.Body e))
@@ -133,8 +133,8 @@ unless_full_record (Some r) d rest = if not (views_migrated d) && int_eq r.versi
 
 -- the driver after its look: another controller of a higher epoch fences it off; a number of `/controller_epoch` that can't
 -- be read or can't rise, or a znode that it couldn't set, stops it
-abbrev pub looked : ClaimSeen → Driver → Driver × Reply
-looked seen d =
+abbrev pub after_look : ClaimSeen → Driver → Driver × Reply
+after_look seen d =
     unless_fenced (shown_by seen.control) d (
     unless_bad_epoch seen.epoch d (
     unless_full_record seen.migration d (at_stage (stage.ClaimLeadership seen) d, reply.Looked)))
@@ -160,8 +160,8 @@ control_ops None body = op.Create control_path body None ∷ []
 control_ops (Some r) body = op.Delete control_path r.version ∷ op.Create control_path body None ∷ []
 
 -- before the first offset
-abbrev pub unrecorded : Driver → Recorded
-unrecorded d = record { id = d.id; controller_epoch = epoch_or_zero d.epoch; offset = negsuc 0; epoch = negsuc 0 }
+abbrev pub record_before_offsets : Driver → Recorded
+record_before_offsets d = record { id = d.id; controller_epoch = epoch_or_zero d.epoch; offset = negsuc 0; epoch = negsuc 0 }
 
 abbrev pub migration_ops : Bool → Option Row → List ℕ → List Op
 migration_ops true row body = []
@@ -184,7 +184,7 @@ abbrev pub claim_ops : ClaimSeen → Driver → ℤ → List Op
 claim_ops seen d now =
     epoch_op seen.epoch
     ∷ (control_ops seen.control (written_control d.id (epoch_or_zero d.epoch) now)
-    ++ (migration_ops (views_migrated d) seen.migration (written_recorded (unrecorded d))
+    ++ (migration_ops (views_migrated d) seen.migration (written_recorded (record_before_offsets d))
     ++ base_ops seen.bases base_paths))
 
 -- ---- the write
@@ -253,23 +253,23 @@ write_request None ops target = nothing
 write_request (Some claim) ops target = write (write_ops claim ops target)
 
 -- what a driver asks for, by its stage
-abbrev pub asked : Shared → ℤ → Driver → Stage → Request
-asked s now d stage.Uninitialized = nothing
-asked s now d stage.Inactive = nothing
-asked s now d stage.WaitForControllerQuorum = read_log
-asked s now d stage.WaitForBrokers = read_log
-asked s now d stage.ListBrokers = list_brokers
-asked s now d stage.ReadControlZnodes = look_up
-asked s now d (stage.ClaimLeadership seen) = write (claim_ops seen d now)
-asked s now d (stage.ScanForMigration rows) = read_page (last_path rows)
-asked s now d (stage.BeginMigration rows) = begin_request (translate rows)
-asked s now d (stage.AppendRecords records) = add (next_records records)
-asked s now d stage.ReadLogForResync = read_log
-asked s now d (stage.ScanForResync target rows) = read_page (last_path rows)
-asked s now d (stage.WriteResync target ops) = write_request d.claim (remaining_at s.tree s.log target.offset) target
-asked s now d stage.KraftControllerToBrokerComm = nothing
-asked s now d stage.DualWrite = read_log
-asked s now d (stage.WriteDelta target ops) = write_request d.claim (remaining_at s.tree s.log target.offset) target
+abbrev pub request_at : Shared → ℤ → Driver → Stage → Request
+request_at s now d stage.Uninitialized = nothing
+request_at s now d stage.Inactive = nothing
+request_at s now d stage.WaitForControllerQuorum = read_log
+request_at s now d stage.WaitForBrokers = read_log
+request_at s now d stage.ListBrokers = list_brokers
+request_at s now d stage.ReadControlZnodes = look_up
+request_at s now d (stage.ClaimLeadership seen) = write (claim_ops seen d now)
+request_at s now d (stage.ScanForMigration rows) = read_page (last_path rows)
+request_at s now d (stage.BeginMigration rows) = begin_request (translate rows)
+request_at s now d (stage.AppendRecords records) = add (next_records records)
+request_at s now d stage.ReadLogForResync = read_log
+request_at s now d (stage.ScanForResync target rows) = read_page (last_path rows)
+request_at s now d (stage.WriteResync target ops) = write_request d.claim (remaining_at s.tree s.log target.offset) target
+request_at s now d stage.KraftControllerToBrokerComm = nothing
+request_at s now d stage.DualWrite = read_log
+request_at s now d (stage.WriteDelta target ops) = write_request d.claim (remaining_at s.tree s.log target.offset) target
 
 -- ---- what a request makes of the tree and the log
 
@@ -282,14 +282,14 @@ with_log s (Ok l) = record s { log = l }
 with_log s (Err e) = s
 
 -- what is shared after a request of a driver of this epoch
-abbrev pub made : Shared → ℤ → ℤ → Request → Shared
-made s epoch now nothing = s
-made s epoch now read_log = s
-made s epoch now list_brokers = s
-made s epoch now look_up = s
-made s epoch now (read_page after) = s
-made s epoch now (write ops) = with_tree s (multi s.tree ops)
-made s epoch now (add records) = with_log s (append s.log epoch now records)
+abbrev pub shared_after : Shared → ℤ → ℤ → Request → Shared
+shared_after s epoch now nothing = s
+shared_after s epoch now read_log = s
+shared_after s epoch now list_brokers = s
+shared_after s epoch now look_up = s
+shared_after s epoch now (read_page after) = s
+shared_after s epoch now (write ops) = with_tree s (multi s.tree ops)
+shared_after s epoch now (add records) = with_log s (append s.log epoch now records)
 
 -- ---- the driver that gets its answer
 
@@ -324,7 +324,7 @@ having_read l d = record d { view = read_view l d.view }
 
 -- a driver that sees that the migration is over resigns
 abbrev pub unless_finalised : Driver → Driver × Reply → Driver × Reply
-unless_finalised d rest = if int_eq d.view.image.state POST_MIGRATION then (resigned d, reply.Moved state.Inactive) else rest
+unless_finalised d rest = if int_eq d.view.image.state POST_MIGRATION then (resigned_driver d, reply.Moved state.Inactive) else rest
 
 abbrev pub wait_or_move : Option ℤ → Driver → Driver × Reply
 wait_or_move (Some id) d = (d, reply.WaitQuorum id)
@@ -365,7 +365,7 @@ after_page rows page more last d = (at_stage (if nat_lt (length page) MAX_SCAN_R
 -- a driver that appends, and goes to a stage where its records are in the log
 abbrev pub after_append : Stage → Driver → Result Log LogFault → Driver × Reply
 after_append next d (Ok l) = (at_stage next d, reply.Appended (end_of l))
-after_append next d (Err (log_fault.Stale epoch)) = (resigned d, reply.Stale epoch)
+after_append next d (Err (log_fault.Stale epoch)) = (resigned_driver d, reply.Stale epoch)
 after_append next d (Err f) = (d, reply.LogFailed f)
 
 abbrev pub after_translation : Shared → ℤ → Driver → Result (List MetaRecord) Unreadable → Driver × Reply
@@ -389,7 +389,7 @@ is_claim_refused index code = nat_lt index 1 && (int_eq code BAD_VERSION || int_
 abbrev pub after_write : ℤ → List Op → Recorded → (List Op → Stage) → Stage → Driver → Result Tree TreeFault → Driver × Reply
 after_write claim ops target more last d (Ok t) = written_driver ops target more last d
 after_write claim ops target more last d (Err (tree_fault.Refused index code)) =
-    if is_claim_refused index code then (resigned d, reply.FencedWrite claim) else (begins_again d, reply.Moved state.BecomeController)
+    if is_claim_refused index code then (resigned_driver d, reply.FencedWrite claim) else (begins_again d, reply.Moved state.BecomeController)
 after_write claim ops target more last d (Err (tree_fault.Limit index number)) = (d, reply.Limit (path_at (write_ops claim ops target) index))
 after_write claim ops target more last d (Err f) = (d, reply.TreeFailed f)
 
@@ -413,23 +413,23 @@ after_rest before d = unless_finalised d (
     else (at_stage (stage.WriteDelta (target_of d) (diff (render before) (render d.view.image))) d, reply.Looked))
 
 -- The driver after the answer to its request, and what it replies, by its stage.
-abbrev pub answered : Shared → List ℤ → ℤ → Driver → Stage → Driver × Reply
-answered s running now d stage.Uninitialized = (at_stage stage.Inactive d, reply.Moved state.Inactive)
-answered s running now d stage.Inactive = (d, reply.Idle)
-answered s running now d stage.WaitForControllerQuorum = after_quorum s.declared running (having_read s.log d)
-answered s running now d stage.WaitForBrokers = unless_finalised (having_read s.log d) (at_stage stage.ListBrokers (having_read s.log d), reply.Looked)
-answered s running now d stage.ListBrokers = after_brokers (missing_broker (broker_ids s.tree) d.view.image) d
-answered s running now d stage.ReadControlZnodes = looked (seen_in s.tree) d
-answered s running now d (stage.ClaimLeadership seen) = after_claim seen d (claim_ops seen d now) (multi s.tree (claim_ops seen d now))
-answered s running now d (stage.ScanForMigration rows) = after_page rows (scan s.tree (last_path rows) MAX_SCAN_ROWS) (λ all. stage.ScanForMigration all) (λ all. stage.BeginMigration all) d
-answered s running now d (stage.BeginMigration rows) = after_translation s now d (translate rows)
-answered s running now d (stage.AppendRecords records) = after_append (after_records records) d (append s.log (epoch_or_zero d.epoch) now (next_records records))
-answered s running now d stage.ReadLogForResync = after_log (having_read s.log d)
-answered s running now d (stage.ScanForResync target rows) = after_page rows (scan s.tree (last_path rows) MAX_SCAN_ROWS) (λ all. stage.ScanForResync target all) (λ all. stage.WriteResync target (diff (map rendered_row all) (render d.view.image))) d
-answered s running now d (stage.WriteResync target ops) = writes s.tree d.claim (remaining_at s.tree s.log target.offset) target (λ rest. stage.WriteResync target rest) stage.KraftControllerToBrokerComm d
-answered s running now d stage.KraftControllerToBrokerComm = (at_stage stage.DualWrite d, reply.Moved state.DualWrite)
-answered s running now d stage.DualWrite = after_rest d.view.image (having_read s.log d)
-answered s running now d (stage.WriteDelta target ops) = writes s.tree d.claim (remaining_at s.tree s.log target.offset) target (λ rest. stage.WriteDelta target rest) stage.DualWrite d
+abbrev pub after_answer : Shared → List ℤ → ℤ → Driver → Stage → Driver × Reply
+after_answer s running now d stage.Uninitialized = (at_stage stage.Inactive d, reply.Moved state.Inactive)
+after_answer s running now d stage.Inactive = (d, reply.Idle)
+after_answer s running now d stage.WaitForControllerQuorum = after_quorum s.declared running (having_read s.log d)
+after_answer s running now d stage.WaitForBrokers = unless_finalised (having_read s.log d) (at_stage stage.ListBrokers (having_read s.log d), reply.Looked)
+after_answer s running now d stage.ListBrokers = after_brokers (missing_broker (broker_ids s.tree) d.view.image) d
+after_answer s running now d stage.ReadControlZnodes = after_look (seen_in s.tree) d
+after_answer s running now d (stage.ClaimLeadership seen) = after_claim seen d (claim_ops seen d now) (multi s.tree (claim_ops seen d now))
+after_answer s running now d (stage.ScanForMigration rows) = after_page rows (scan s.tree (last_path rows) MAX_SCAN_ROWS) (λ all. stage.ScanForMigration all) (λ all. stage.BeginMigration all) d
+after_answer s running now d (stage.BeginMigration rows) = after_translation s now d (translate rows)
+after_answer s running now d (stage.AppendRecords records) = after_append (after_records records) d (append s.log (epoch_or_zero d.epoch) now (next_records records))
+after_answer s running now d stage.ReadLogForResync = after_log (having_read s.log d)
+after_answer s running now d (stage.ScanForResync target rows) = after_page rows (scan s.tree (last_path rows) MAX_SCAN_ROWS) (λ all. stage.ScanForResync target all) (λ all. stage.WriteResync target (diff (map rendered_row all) (render d.view.image))) d
+after_answer s running now d (stage.WriteResync target ops) = writes s.tree d.claim (remaining_at s.tree s.log target.offset) target (λ rest. stage.WriteResync target rest) stage.KraftControllerToBrokerComm d
+after_answer s running now d stage.KraftControllerToBrokerComm = (at_stage stage.DualWrite d, reply.Moved state.DualWrite)
+after_answer s running now d stage.DualWrite = after_rest d.view.image (having_read s.log d)
+after_answer s running now d (stage.WriteDelta target ops) = writes s.tree d.claim (remaining_at s.tree s.log target.offset) target (λ rest. stage.WriteDelta target rest) stage.DualWrite d
 
 -- ---- the driver that gets no answer
 
@@ -442,7 +442,7 @@ without_answer list_brokers d = at_stage stage.WaitForBrokers d
 without_answer look_up d = begins_again d
 without_answer (read_page after) d = begins_again d
 without_answer (write ops) d = begins_again d
-without_answer (add records) d = resigned d
+without_answer (add records) d = resigned_driver d
 
 -- ---- one step
 
@@ -455,7 +455,7 @@ pub record Stepped : Type 0 where
 -- One step whose request is delivered: at most one request, and its answer.
 unfoldable pub step : Shared → List ℤ → ℤ → Driver → Stepped
 step s running now d = record {
-  shared = made s (epoch_or_zero d.epoch) now (asked s now d d.stage);
-  driver = (answered s running now d d.stage).0;
-  reply = (answered s running now d d.stage).1;
+  shared = shared_after s (epoch_or_zero d.epoch) now (request_at s now d d.stage);
+  driver = (after_answer s running now d d.stage).0;
+  reply = (after_answer s running now d d.stage).1;
 }

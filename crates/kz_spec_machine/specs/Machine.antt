@@ -32,7 +32,7 @@ use Rattle.kz_spec_stores.specs.Image.{empty_image, all_applied, is_migrated_sta
 use Rattle.kz_spec_stores.specs.Log.{Log, empty_log, end_of, begun_of, image_at, image_of, is_migrated_log, is_open_log, batch_ends, with_batch, with_next_epoch, full_log}
 use Rattle.kz_spec_znodes.specs.Rendering.{Excess, render, excess}
 use Rattle.kz_spec_znodes.specs.Translation.{Unreadable, translate}
-use Rattle.kz_spec_machine.specs.Driver.{Shared, Driver, new_driver, elected_driver, is_one_of, least, shown_by, path_of_op, Request, nothing, asked, Stepped, step}
+use Rattle.kz_spec_machine.specs.Driver.{Shared, Driver, new_driver, elected_driver, is_one_of, least, shown_by, path_of_op, Request, nothing, request_at, Stepped, step}
 use Rattle.kz_spec_machine.specs.Verdicts.{verdict}
 
 -- ---- worlds
@@ -75,7 +75,7 @@ pairs_after request s = pair_of s ∷ []
 
 -- the tree and the log after the request of a step, where it makes one
 abbrev pub step_pairs : Shared → List ℤ → ℤ → Driver → List Pair
-step_pairs s running now d = pairs_after (asked s now d d.stage) (step s running now d).shared
+step_pairs s running now d = pairs_after (request_at s now d d.stage) (step s running now d).shared
 
 -- ---- a turn
 
@@ -162,9 +162,9 @@ work s d = most_steps
 -- ---- events
 
 -- a refusal leaves the world as it was
-abbrev pub decided : World → Option Answer → World → Answer → World × Answer
-decided w (Some refusal) new reply = (w, refusal)
-decided w None new reply = (new, reply)
+abbrev pub outcome_unless : World → Option Answer → World → Answer → World × Answer
+outcome_unless w (Some refusal) new reply = (w, refusal)
+outcome_unless w None new reply = (new, reply)
 
 abbrev pub first_of : Option Answer → Option Answer → Option Answer
 first_of (Some a) rest = Some a
@@ -363,12 +363,12 @@ unless_refused w None rest = rest
 
 -- The world after an event, and the answer.
 unfoldable pub next : World → Event → World × Answer
-next w (event.Quorum ids) = decided w (quorum_refusal w) (declared_world w ids) answer.Done
-next w (event.Start id) = decided w (start_refusal w id) (started_world w id) answer.Done
-next w (event.Elect id now) = decided w (election_refusal w id) (elected_world w id now) (election_answer w now)
+next w (event.Quorum ids) = outcome_unless w (quorum_refusal w) (declared_world w ids) answer.Done
+next w (event.Start id) = outcome_unless w (start_refusal w id) (started_world w id) answer.Done
+next w (event.Elect id now) = outcome_unless w (election_refusal w id) (elected_world w id now) (election_answer w now)
 next w (event.Turn id now) = unless_refused w (running_refusal w id) (turn_result w now (driver_of id w.drivers))
-next w (event.Change id records now) = decided w (change_refusal w id records) (changed_world w records now) (answer.Appended (end_of (changed_log w.shared.log records now)))
-next w (event.Register id broker migrating now) = decided w (register_refusal w id (registration broker migrating)) (changed_world w (registration broker migrating) now) (answer.Appended (end_of (changed_log w.shared.log (registration broker migrating) now)))
+next w (event.Change id records now) = outcome_unless w (change_refusal w id records) (changed_world w records now) (answer.Appended (end_of (changed_log w.shared.log records now)))
+next w (event.Register id broker migrating now) = outcome_unless w (register_refusal w id (registration broker migrating)) (changed_world w (registration broker migrating) now) (answer.Appended (end_of (changed_log w.shared.log (registration broker migrating) now)))
 next w event.Check = (w, answer.Check (verdict w.shared.tree w.shared.log))
 next w (event.ZkOpen session) = moved_world w (begin_session w.shared.tree session)
 next w (event.ZkExpire session) = moved_world w (end_session w.shared.tree session)

@@ -20,7 +20,7 @@ use Rattle.kz_types.specs.Paths.{base_paths, control_paths, is_among, is_below, 
 use Rattle.kz_ordered.specs.Order.{bytes_cmp}
 use Rattle.kz_ordered.specs.Ordered.{Rises}
 use Rattle.kz_spec_values.specs.Control.{control_path, epoch_path, migration_path, shown_epoch}
-use Rattle.kz_spec_stores.specs.Tree.{Tree, row_at, parent_of, is_root, has_parent, is_ephemeral, may_own, path_of_row, migrated_rows, area, recorded, unclosed}
+use Rattle.kz_spec_stores.specs.Tree.{Tree, row_at, parent_of, is_root, has_parent, is_ephemeral, may_own, path_of_row, migrated_rows, area, migration_record, unclosed_path}
 use Rattle.kz_spec_stores.specs.Image.{empty_image, is_migrated_state}
 use Rattle.kz_spec_stores.specs.Log.{Log, View, last_of, end_of, batch_ends, record_count, image_at, is_migrated_log}
 use Rattle.kz_spec_znodes.specs.Rendering.{render}
@@ -151,9 +151,9 @@ pub record IsBatchEnd (l : Log) (offset : ℤ) : Type 0 where
 -- end, and where the tree is closed, its migrated area is the rendering of the metadata there.
 pub record Agreement (t : Tree) (l : Log) : Type 0 where
   pub holds : is_migrated_log l ≡ true → is_held_tree t ≡ true
-  pub held : (r : Recorded) → recorded t ≡ Some r → pos 0 ≤ℤ r.offset → is_held_tree t ≡ true
-  pub end : (r : Recorded) → recorded t ≡ Some r → pos 0 ≤ℤ r.offset → IsBatchEnd l r.offset
-  pub same : (r : Recorded) → recorded t ≡ Some r → unclosed t ≡ None → area t ≡ render (image_at l r.offset)
+  pub held : (r : Recorded) → migration_record t ≡ Some r → pos 0 ≤ℤ r.offset → is_held_tree t ≡ true
+  pub end : (r : Recorded) → migration_record t ≡ Some r → pos 0 ≤ℤ r.offset → IsBatchEnd l r.offset
+  pub same : (r : Recorded) → migration_record t ≡ Some r → unclosed_path t ≡ None → area t ≡ render (image_at l r.offset)
 
 pub record Kept (s : Shared) : Type 0 where
   pub tree : TreeShape s.tree
@@ -225,8 +225,8 @@ pub record Writes (t : Tree) (l : Log) (target : Recorded) (ops : List Op) : Typ
 
 -- A current driver that rests: the tree is closed, and what it recorded is what the driver recorded, where its view ends.
 pub record Rests (t : Tree) (v : View) (offset : Option ℤ) : Type 0 where
-  pub closed : unclosed t ≡ None
-  pub same : option_map (λ (r : Recorded). r.offset) (recorded t) ≡ offset
+  pub closed : unclosed_path t ≡ None
+  pub same : option_map (λ (r : Recorded). r.offset) (migration_record t) ≡ offset
   pub view : offset ≡ Some v.position
   pub migrated : is_migrated_state v.image.state ≡ true
 

@@ -8,7 +8,7 @@ use Rattle.kz_types.specs.declared.machine.Verdict.{Verdict}
 use Rattle.kz_types.specs.declared.machine.Verdict.TheVariants.{Unmigrated, Unrecorded, Closed, Ahead, Disagrees}
 use Rattle.kz_ordered.specs.Order.{bytes_cmp}
 use Rattle.kz_ordered.specs.Ordered.{all_put}
-use Rattle.kz_spec_stores.specs.Tree.{Tree, area, recorded, unclosed, path_of_rendered}
+use Rattle.kz_spec_stores.specs.Tree.{Tree, area, migration_record, unclosed_path, path_of_rendered}
 use Rattle.kz_spec_stores.specs.Log.{Log, batch_ends, image_at, is_migrated_log}
 use Rattle.kz_spec_znodes.specs.Rendering.{body_at, render}
 
@@ -53,8 +53,8 @@ verdict_at t l offset is_closed = unless_disagrees (find_by (disagrees t l offse
 
 abbrev pub verdict_of : Tree → Log → Option Recorded → Verdict
 verdict_of t l None = Unrecorded
-verdict_of t l (Some r) = if int_le (pos 0) r.offset then verdict_at t l r.offset (is_none (unclosed t)) else Unrecorded
+verdict_of t l (Some r) = if int_le (pos 0) r.offset then verdict_at t l r.offset (is_none (unclosed_path t)) else Unrecorded
 
 -- How the tree and the log agree: not migrated; nothing recorded; a path that disagrees; as recorded; or ahead of it.
 unfoldable pub verdict : Tree → Log → Verdict
-verdict t l = if is_migrated_log l then verdict_of t l (recorded t) else Unmigrated
+verdict t l = if is_migrated_log l then verdict_of t l (migration_record t) else Unmigrated

@@ -66,9 +66,9 @@ abbrev pub scale_of : Numeral → ℤ
 scale_of n = (n.exponent +ℤ pos 6) -ℤ pos (length n.decimals)
 
 -- a number of that scale in millionths, where it is a whole number of them
-abbrev pub scaled : ℕ → ℤ → Option ℕ
-scaled digits (pos n) = Some (digits * 10 ^ n)
-scaled digits (negsuc n) = if digits % 10 ^ suc n == 0 then Some (digits / 10 ^ suc n) else None
+abbrev pub in_millionths : ℕ → ℤ → Option ℕ
+in_millionths digits (pos n) = Some (digits * 10 ^ n)
+in_millionths digits (negsuc n) = if digits % 10 ^ suc n == 0 then Some (digits / 10 ^ suc n) else None
 
 -- the quota of so many millionths
 abbrev pub quota_of_millionths : Option ℕ → Result QuotaValue QuotaFault
@@ -80,7 +80,7 @@ quota_of_millionths (Some n) =
 
 abbrev pub quota_of_numeral : Result Numeral ℕ → Result QuotaValue QuotaFault
 quota_of_numeral (Err at) = Err (NotNumber at)
-quota_of_numeral (Ok n) = quota_of_millionths (scaled (digits_of n) (scale_of n))
+quota_of_numeral (Ok n) = quota_of_millionths (in_millionths (digits_of n) (scale_of n))
 
 -- the quota that a text is, or why it is none
 unfoldable pub quota_of : List ℕ → Result QuotaValue QuotaFault

@@ -4,7 +4,7 @@ use Rattle.std.specs.declared.alloc.Global.{Global}
 use Rattle.kz_types.specs.declared.outside.Status.{Status}
 use Rattle.kz_types.specs.declared.outside.Status.TheVariants as status
 use Rattle.kz_types.specs.Causes.{Rose}
-use Rattle.kz_spec_runs.specs.Output.{Outcome, replayed, written_so_far}
+use Rattle.kz_spec_runs.specs.Output.{Outcome, outcome_of_replay, written_so_far}
 
 -- a text that another begins with
 abbrev pub IsFront : List ℕ → List ℕ → Type 0
@@ -24,7 +24,7 @@ EndsAs o replies sent (status.Limit which number) = o ≡ record { text = sent; 
 
 -- A run on this script that has taken these bytes of it and written so much ended as the script asks for, with this status.
 abbrev pub Agrees : List ℕ → List ℕ → List ℕ → Status → Type 0
-Agrees script taken sent result = EndsAs (replayed script) (written_so_far taken) sent result
+Agrees script taken sent result = EndsAs (outcome_of_replay script) (written_so_far taken) sent result
 
 -- Each object of the outside has a result of its own. A run, or a part of it, ends with that result exactly where a call of the
 -- object failed, and that was the object's last call. With any other result no call of it has failed.

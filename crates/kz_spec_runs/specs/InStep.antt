@@ -8,7 +8,7 @@ use Rattle.kz_types.specs.declared.machine.Reply.{Reply}
 use Rattle.kz_types.specs.declared.machine.Reply.TheVariants as reply
 use Rattle.kz_spec_lines.specs.Lines.{Item, line, long, much, items, is_passed_over}
 use Rattle.kz_spec_lines.specs.Events.{line_event}
-use Rattle.kz_spec_stores.specs.Tree.{area, unclosed}
+use Rattle.kz_spec_stores.specs.Tree.{area, unclosed_path}
 use Rattle.kz_spec_stores.specs.Log.{image_of}
 use Rattle.kz_spec_znodes.specs.Rendering.{render}
 use Rattle.kz_spec_machine.specs.Driver.{Shared, Driver, state_of}
@@ -17,7 +17,7 @@ use Rattle.kz_spec_machine.specs.Machine.{World, empty_world, driver_of, next, a
 -- No znode of the migrated area was written after the offset was recorded, and the area is the rendering of the metadata
 -- at the log's end.
 pub record InStep (s : Shared) : Type 0 where
-  pub closed : unclosed s.tree ≡ None
+  pub closed : unclosed_path s.tree ≡ None
   pub same : area s.tree ≡ render (image_of s.log)
 
 abbrev pub last_reply : List Reply → Option Reply

@@ -5,7 +5,7 @@ use Rattle.kz_types.specs.declared.outside.Status.{Status}
 use Rattle.kz_spec_lines.specs.Lines.{Item, line, long, much, items, is_passed_over}
 use Rattle.kz_spec_lines.specs.Events.{line_event}
 use Rattle.kz_spec_machine.specs.Machine.{Pair, pair_of, next, event_pairs}
-use Rattle.kz_spec_runs.specs.Output.{Place, opening, passed, served, written_for, ending, summary}
+use Rattle.kz_spec_runs.specs.Output.{Place, opening, place_after_line, place_after_event, written_for, ending, summary}
 
 -- The lines that stand whole, the lines that are being written, of which some front may stand, and the tree and the log.
 pub record Moment : Type 0 where
@@ -26,13 +26,13 @@ abbrev pub moments_at : List ℕ → List Pair → List Moment
 moments_at reply [] = []
 moments_at reply (p ∷ ps) = moment_at reply p ∷ moments_at reply ps
 
-abbrev pub prefixed : List ℕ → Moment → Moment
-prefixed text m = record { text = text ++ m.text; reply = m.reply; pair = m.pair }
+abbrev pub moment_after : List ℕ → Moment → Moment
+moment_after text m = record { text = text ++ m.text; reply = m.reply; pair = m.pair }
 
 -- these moments, after a text
 abbrev pub later : List ℕ → List Moment → List Moment
 later text [] = []
-later text (m ∷ ms) = prefixed text m ∷ later text ms
+later text (m ∷ ms) = moment_after text m ∷ later text ms
 
 abbrev pub moments_unless : Option Status → Place → List Moment → List Moment
 moments_unless (Some s) p rest = moment_at [] (pair_of p.world.shared) ∷ []
@@ -41,7 +41,7 @@ moments_unless None p rest = rest
 abbrev pub moments_on : Place → Option Event → (Place → List Moment) → List Moment
 moments_on p None go = moment_at [] (pair_of p.world.shared) ∷ []
 moments_on p (Some e) go = moments_at (without_last (written_for p e)) (pair_of p.world.shared ∷ event_pairs p.world e)
-    ++ later (written_for p e) (moments_unless (ending (next p.world e).1) (served p e) (go (served p e)))
+    ++ later (written_for p e) (moments_unless (ending (next p.world e).1) (place_after_event p e) (go (place_after_event p e)))
 
 -- The moments of these lines from a place on. In an event, at each of its requests, a stop
 -- may find any front of the event's lines but all of them: these stand only where all its requests are made.
@@ -49,7 +49,7 @@ unfoldable pub moments : Place → List Item → List Moment
 moments p [] = moment_at (summary p) (pair_of p.world.shared) ∷ []
 moments p (long ∷ is) = moment_at [] (pair_of p.world.shared) ∷ []
 moments p (much ∷ is) = moment_at [] (pair_of p.world.shared) ∷ []
-moments p (line l ∷ is) = if is_passed_over l then moments (passed p) is else moments_on p (line_event l) (λ q. moments q is)
+moments p (line l ∷ is) = if is_passed_over l then moments (place_after_line p) is else moments_on p (line_event l) (λ q. moments q is)
 
 -- The moments of a replay of these bytes.
 abbrev pub replayed_moments : List ℕ → List Moment

@@ -17,7 +17,7 @@ use Rattle.kz_types.specs.declared.outside.Status.TheVariants as status
 use Rattle.kz_spec_lines.specs.Lines.{Item, line, long, much, items, is_passed_over}
 use Rattle.kz_spec_lines.specs.Events.{line_event}
 use Rattle.kz_spec_lines.specs.Replies.{reply_lines, summary_line}
-use Rattle.kz_spec_stores.specs.Tree.{Tree, recorded}
+use Rattle.kz_spec_stores.specs.Tree.{Tree, migration_record}
 use Rattle.kz_spec_stores.specs.Log.{end_of}
 use Rattle.kz_spec_machine.specs.Machine.{World, empty_world, next}
 
@@ -31,8 +31,8 @@ abbrev pub after : List ℕ → Outcome → Outcome
 after text o = record { text = text ++ o.text; status = o.status }
 
 -- the end of a run that writes nothing more
-abbrev pub ended : Status → Outcome
-ended s = record { text = []; status = s }
+abbrev pub end_of_run : Status → Outcome
+end_of_run s = record { text = []; status = s }
 
 -- ---- places
 
@@ -47,8 +47,8 @@ abbrev pub opening : Place
 opening = record { lines = 0; events = 0; steps = 0; world = empty_world }
 
 -- the place after a line that is passed over
-abbrev pub passed : Place → Place
-passed p = record p { lines = p.lines + 1 }
+abbrev pub place_after_line : Place → Place
+place_after_line p = record p { lines = p.lines + 1 }
 
 -- the steps that an event took
 abbrev pub steps_of : Answer → ℕ
@@ -56,8 +56,8 @@ steps_of (answer.Turn replies) = length replies
 steps_of a = 0
 
 -- the place after a line that is this event
-abbrev pub served : Place → Event → Place
-served p e = record { lines = p.lines + 1; events = p.events + 1; steps = p.steps + steps_of (next p.world e).1; world = (next p.world e).0 }
+abbrev pub place_after_event : Place → Event → Place
+place_after_event p e = record { lines = p.lines + 1; events = p.events + 1; steps = p.steps + steps_of (next p.world e).1; world = (next p.world e).0 }
 
 -- the lines that are written for it
 abbrev pub written_for : Place → Event → List ℕ
@@ -90,16 +90,16 @@ ending a = None
 -- ---- outcomes
 
 abbrev pub unless_ended : Option Status → Outcome → Outcome
-unless_ended (Some s) rest = ended s
+unless_ended (Some s) rest = end_of_run s
 unless_ended None rest = rest
 
 -- an event's lines and what follows them, or the end of the run where the line is no event
 abbrev pub on_event : Place → Option Event → (Place → Outcome) → Outcome
-on_event p None go = ended (status.Script (p.lines + 1))
-on_event p (Some e) go = after (written_for p e) (unless_ended (ending (next p.world e).1) (go (served p e)))
+on_event p None go = end_of_run (status.Script (p.lines + 1))
+on_event p (Some e) go = after (written_for p e) (unless_ended (ending (next p.world e).1) (go (place_after_event p e)))
 
 abbrev pub recorded_offset : Tree → Option ℤ
-recorded_offset t = option_map (λ (r : Recorded). r.offset) (recorded t)
+recorded_offset t = option_map (λ (r : Recorded). r.offset) (migration_record t)
 
 -- the last line of a run that reads its input to the end
 abbrev pub summary : Place → List ℕ
@@ -109,9 +109,9 @@ summary p = summary_line p.events p.steps p.world.shared.tree.zxid (end_of p.wor
 -- that ends the run, or a limit; and the summary at the end of the input.
 unfoldable pub outcome : Place → List Item → Outcome
 outcome p [] = record { text = summary p; status = status.Done }
-outcome p (long ∷ is) = ended (status.Limit (number_of_limit limits.LineBytes) MAX_LINE_BYTES)
-outcome p (much ∷ is) = ended (status.Limit (number_of_limit limits.InputBytes) MAX_INPUT_BYTES)
-outcome p (line l ∷ is) = if is_passed_over l then outcome (passed p) is else on_event p (line_event l) (λ q. outcome q is)
+outcome p (long ∷ is) = end_of_run (status.Limit (number_of_limit limits.LineBytes) MAX_LINE_BYTES)
+outcome p (much ∷ is) = end_of_run (status.Limit (number_of_limit limits.InputBytes) MAX_INPUT_BYTES)
+outcome p (line l ∷ is) = if is_passed_over l then outcome (place_after_line p) is else on_event p (line_event l) (λ q. outcome q is)
 
 -- ---- what is written while the input goes on
 
@@ -129,20 +129,20 @@ nothing_if_ended None text = text
 
 abbrev pub written_on_event : Place → Option Event → (Place → List ℕ) → List ℕ
 written_on_event p None go = []
-written_on_event p (Some e) go = written_for p e ++ nothing_if_ended (ending (next p.world e).1) (go (served p e))
+written_on_event p (Some e) go = written_for p e ++ nothing_if_ended (ending (next p.world e).1) (go (place_after_event p e))
 
 -- the lines that are written for these items from a place on, without the summary
-unfoldable pub written : Place → List Item → List ℕ
-written p [] = []
-written p (long ∷ is) = []
-written p (much ∷ is) = []
-written p (line l ∷ is) = if is_passed_over l then written (passed p) is else written_on_event p (line_event l) (λ q. written q is)
+unfoldable pub lines_of_items : Place → List Item → List ℕ
+lines_of_items p [] = []
+lines_of_items p (long ∷ is) = []
+lines_of_items p (much ∷ is) = []
+lines_of_items p (line l ∷ is) = if is_passed_over l then lines_of_items (place_after_line p) is else written_on_event p (line_event l) (λ q. lines_of_items q is)
 
 -- What a replay has written once it has taken these bytes, and before it knows what follows: all lines of the events whose
 -- lines have ended.
 abbrev pub written_so_far : List ℕ → List ℕ
-written_so_far bytes = written opening (items (whole_lines bytes))
+written_so_far bytes = lines_of_items opening (items (whole_lines bytes))
 
 -- What `replay` makes of its input.
-abbrev pub replayed : List ℕ → Outcome
-replayed bytes = outcome opening (items bytes)
+abbrev pub outcome_of_replay : List ℕ → Outcome
+outcome_of_replay bytes = outcome opening (items bytes)

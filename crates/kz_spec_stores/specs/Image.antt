@@ -28,7 +28,7 @@ use Rattle.kz_types.specs.Paths.{path_of}
 use Rattle.kz_ordered.specs.Order.{bytes_cmp}
 use Rattle.kz_ordered.specs.Ordered.{find, put, without}
 pub use Rattle.kz_spec_stores.specs.Metadata.{Image, empty_image, is_migrated_state, name_of_topic, number_of_partition, name_of_configuration, name_of_pair, path_of_quotas, key_of_quota, name_of_user, mechanism_of_pair, id_of_acl, id_of_broker, same_id, topic_named, topic_with, partition_at, pairs_at}
-pub use Rattle.kz_spec_stores.specs.ImageRules.{is_broker_config, rule_number, new_row, changed_row, quota_key, broken, refused}
+pub use Rattle.kz_spec_stores.specs.ImageRules.{is_broker_config, rule_number, new_row, changed_row, quota_key, broken, rule_against}
 
 -- ---- topics
 
@@ -71,8 +71,8 @@ abbrev pub with_pairs : List ℕ → List Pair → List Configuration → List C
 with_pairs name [] configs = without bytes_cmp name_of_configuration name configs
 with_pairs name (p ∷ ps) configs = put bytes_cmp name_of_configuration (record { name = name; pairs = p ∷ ps }) configs
 
-abbrev pub configured : ConfigRecord → List Configuration → List Configuration
-configured c configs = with_pairs c.resource_name (with_member c.name c.value (pairs_at c.resource_name configs)) configs
+abbrev pub configurations_after : ConfigRecord → List Configuration → List Configuration
+configurations_after c configs = with_pairs c.resource_name (with_member c.name c.value (pairs_at c.resource_name configs)) configs
 
 abbrev pub topic_configured : ConfigRecord → TopicEntry → TopicEntry
 topic_configured c t = record t { pairs = with_member c.name c.value t.pairs }
@@ -133,7 +133,7 @@ effect epoch (meta.Topic r) i = record i { topics = put_topic (new_topic r) i.to
 effect epoch (meta.Partition r) i = record i { topics = with_changed (put_partition r.partition_id (new_row epoch r)) (topic_with r.topic_id i) i.topics }
 effect epoch (meta.Config r) i =
     if int_eq r.resource_type (pos 2) then record i { topics = with_changed (topic_configured r) (topic_named r.resource_name i) i.topics }
-    else record i { broker_configs = configured r i.broker_configs }
+    else record i { broker_configs = configurations_after r i.broker_configs }
 effect epoch (meta.PartitionChange r) i = record i { topics = with_changed (partition_changed epoch r) (topic_with r.topic_id i) i.topics }
 effect epoch (meta.RemoveTopic id) i = record i { topics = without_topic id i.topics }
 effect epoch (meta.UserScramCredential r) i = record i { users = scram_set r i.users }
@@ -153,13 +153,13 @@ unless_broken None made i = made
 unless_broken (Some rule) made i = i
 
 -- The metadata after a record of a batch of this epoch; one that breaks a rule changes nothing.
-abbrev pub applied : ℤ → MetaRecord → Image → Image
-applied epoch r i = unless_broken (broken i r) (effect epoch r i) i
+abbrev pub image_with : ℤ → MetaRecord → Image → Image
+image_with epoch r i = unless_broken (broken i r) (effect epoch r i) i
 
 -- the metadata after these records, one after another
 abbrev pub all_applied : ℤ → List MetaRecord → Image → Image
 all_applied epoch [] i = i
-all_applied epoch (r ∷ rs) i = all_applied epoch rs (applied epoch r i)
+all_applied epoch (r ∷ rs) i = all_applied epoch rs (image_with epoch r i)
 
 -- ---- changes
 
@@ -176,4 +176,4 @@ unless_bad index (Some why) rest = Some (record { index = index; why = why })
 -- judged after those before it.
 abbrev pub first_bad : ℕ → List MetaRecord → Image → Option Bad
 first_bad index [] i = None
-first_bad index (r ∷ rs) i = unless_bad index (refused i r) (first_bad (index + 1) rs (applied (pos 0) r i))
+first_bad index (r ∷ rs) i = unless_bad index (rule_against i r) (first_bad (index + 1) rs (image_with (pos 0) r i))

@@ -133,9 +133,9 @@ is_recovery recovery = int_eq recovery (pos 0) || int_eq recovery (pos 1)
 abbrev pub new_row : ℤ → PartitionRecord → PartitionRow
 new_row epoch r = record { replicas = r.replicas; isr = r.isr; removing = r.removing; adding = r.adding; leader = r.leader; recovery = r.recovery; leader_epoch = r.leader_epoch; partition_epoch = r.partition_epoch; controller_epoch = epoch }
 
-abbrev pub stated : {A : Type 0} → Option A → A → A
-stated None before = before
-stated (Some a) before = a
+abbrev pub stated_or : {A : Type 0} → Option A → A → A
+stated_or None before = before
+stated_or (Some a) before = a
 
 -- a leader of -2 isn't stated
 abbrev pub states_leader : PartitionChangeRecord → Bool
@@ -145,10 +145,10 @@ states_leader r = not (int_eq r.leader (negsuc 1))
 -- partition epoch
 abbrev pub changed_row : ℤ → PartitionChangeRecord → PartitionRow → PartitionRow
 changed_row epoch r row = record {
-  replicas = stated r.replicas row.replicas;
-  isr = stated r.isr row.isr;
-  removing = stated r.removing row.removing;
-  adding = stated r.adding row.adding;
+  replicas = stated_or r.replicas row.replicas;
+  isr = stated_or r.isr row.isr;
+  removing = stated_or r.removing row.removing;
+  adding = stated_or r.adding row.adding;
   leader = if states_leader r then r.leader else row.leader;
   recovery = if int_eq r.recovery (negsuc 0) then row.recovery else r.recovery;
   leader_epoch = if states_leader r then row.leader_epoch +ℤ pos 1 else row.leader_epoch;
@@ -227,5 +227,5 @@ unfoldable pub broken : Image → MetaRecord → Option ImageRule
 broken i r = first_broken ((is_misnamed r, BadName) ∷ (lacks i r, Absent) ∷ (repeats i r, Exists) ∷ (is_misvalued i r, BadValue) ∷ [])
 
 -- The first rule that a record breaks which a controller is asked for.
-abbrev pub refused : Image → MetaRecord → Option ImageRule
-refused i r = if is_kept_back r then Some NotAllowed else broken i r
+abbrev pub rule_against : Image → MetaRecord → Option ImageRule
+rule_against i r = if is_kept_back r then Some NotAllowed else broken i r

@@ -10,8 +10,8 @@ use Rattle.kz_types.specs.declared.log.Entry.{Entry}
 use Rattle.kz_types.specs.declared.record.MetaRecord.{MetaRecord}
 use Rattle.kz_types.specs.declared.fault.LogFault.{LogFault}
 use Rattle.kz_types.specs.declared.fault.LogFault.TheVariants as fault
-use Rattle.kz_spec_stores.specs.Image.{Image, empty_image, applied, is_migrated_state}
-use Rattle.kz_spec_stores.specs.Settlement.{counted, is_open, begun, kept, commit}
+use Rattle.kz_spec_stores.specs.Image.{Image, empty_image, image_with, is_migrated_state}
+use Rattle.kz_spec_stores.specs.Settlement.{counting_records, is_open, open_begin, records_of_open, commit}
 
 -- ---- the log
 
@@ -68,12 +68,12 @@ pub record IsLog (l : Log) : Type 0 where
   pub end : end_of l ≤ℤ MAX_LONG
 
 -- records with the offsets from this one on
-abbrev pub numbered : ℤ → ℤ → List MetaRecord → List Entry
-numbered offset epoch [] = []
-numbered offset epoch (r ∷ rs) = record { offset = offset; epoch = epoch; item = r } ∷ numbered (offset +ℤ pos 1) epoch rs
+abbrev pub entries_at_offsets : ℤ → ℤ → List MetaRecord → List Entry
+entries_at_offsets offset epoch [] = []
+entries_at_offsets offset epoch (r ∷ rs) = record { offset = offset; epoch = epoch; item = r } ∷ entries_at_offsets (offset +ℤ pos 1) epoch rs
 
 abbrev pub entries_of_batch : BatchRow → List Entry
-entries_of_batch b = numbered b.first b.epoch b.items
+entries_of_batch b = entries_at_offsets b.first b.epoch b.items
 
 -- the records after the base, with their offsets and epochs
 abbrev pub entries : List BatchRow → List Entry
@@ -83,11 +83,11 @@ entries batches = flat_map entries_of_batch batches
 
 abbrev pub all_entries_applied : List Entry → Image → Image
 all_entries_applied [] i = i
-all_entries_applied (e ∷ es) i = all_entries_applied es (applied e.epoch e.item i)
+all_entries_applied (e ∷ es) i = all_entries_applied es (image_with e.epoch e.item i)
 
 -- The metadata at an offset: what the records that count there make of the base image.
 unfoldable pub image_at : Log → ℤ → Image
-image_at l at = all_entries_applied (counted (entries l.batches) at) l.base_image
+image_at l at = all_entries_applied (counting_records (entries l.batches) at) l.base_image
 
 -- the metadata at the log's end
 abbrev pub image_of : Log → Image
@@ -101,7 +101,7 @@ is_open_log l = is_open (entries l.batches) (end_of l)
 
 -- the offset of the Begin of the transaction that is open at the log's end
 abbrev pub begun_of : Log → Option ℤ
-begun_of l = begun (entries l.batches)
+begun_of l = open_begin (entries l.batches)
 
 abbrev pub commit_of : Log → Option ℤ
 commit_of l = commit (entries l.batches)
@@ -122,14 +122,14 @@ full_log l items =
     else (if int_lt MAX_LONG (end_of l +ℤ pos (length items)) then Some (number_of_limit limits.Long)
     else None)
 
-abbrev pub added : Option ℕ → Log → Result Log LogFault
-added (Some number) l = Err (fault.Limit number)
-added None l = Ok l
+abbrev pub log_unless_limit : Option ℕ → Log → Result Log LogFault
+log_unless_limit (Some number) l = Err (fault.Limit number)
+log_unless_limit None l = Ok l
 
 -- The log after an append by a controller of this epoch: one batch more, or why there is none.
 abbrev pub append : Log → ℤ → ℤ → List MetaRecord → Result Log LogFault
 append l epoch now items =
-    if int_eq epoch l.epoch then added (full_log l items) (with_batch l epoch now items)
+    if int_eq epoch l.epoch then log_unless_limit (full_log l items) (with_batch l epoch now items)
     else Err (fault.Stale l.epoch)
 
 -- the log with the next epoch
@@ -139,7 +139,7 @@ with_next_epoch l = record l { epoch = l.epoch +ℤ pos 1 }
 -- The log after an election: one batch of the next epoch, or why there is none.
 abbrev pub elect : Log → ℤ → List MetaRecord → Result Log LogFault
 elect l now items =
-    if int_lt l.epoch MAX_EPOCH then added (full_log l items) (with_batch (with_next_epoch l) (l.epoch +ℤ pos 1) now items)
+    if int_lt l.epoch MAX_EPOCH then log_unless_limit (full_log l items) (with_batch (with_next_epoch l) (l.epoch +ℤ pos 1) now items)
     else Err (fault.Limit (number_of_limit limits.Epoch))
 
 -- the log without its batches and without a base, whose epoch stays
@@ -168,8 +168,8 @@ entries_by at es = filter (λ (e : Entry). int_le e.offset at) es
 pub record IsAt (l : Log) (v : View) : Type 0 where
   pub end : (before after : List ℤ) × (batch_ends l ≡ before ++ v.position ∷ after)
   pub image : v.image ≡ image_at l v.position
-  pub begun : v.begun ≡ begun (entries_by v.position (entries l.batches))
-  pub kept : v.kept ≡ kept (entries_by v.position (entries l.batches))
+  pub begun : v.begun ≡ open_begin (entries_by v.position (entries l.batches))
+  pub kept : v.kept ≡ records_of_open (entries_by v.position (entries l.batches))
 
 -- A view of a log: it is what the log says at its position, or the log's base has passed it.
 abbrev pub IsViewOf : Log → View → Type 0
@@ -184,9 +184,9 @@ pub record Feed : Type 0 where
   pub end : ℤ
 
 -- the log that a reader of this log knows once it has taken a feed
-abbrev pub fed : Log → Option (ℤ × Image) → List BatchRow → Log
-fed l None batches = record l { batches = l.batches ++ batches }
-fed l (Some base) batches = record l { base = base.0; base_image = base.1; batches = batches }
+abbrev pub log_with_feed : Log → Option (ℤ × Image) → List BatchRow → Log
+log_with_feed l None batches = record l { batches = l.batches ++ batches }
+log_with_feed l (Some base) batches = record l { base = base.0; base_image = base.1; batches = batches }
 
 -- the epoch of the last batch, or this one where there is none
 abbrev pub last_epoch : ℤ → List BatchRow → ℤ
@@ -202,7 +202,7 @@ read_epoch l v = last_epoch (if int_lt v.position l.base then pos 0 else v.epoch
 
 -- the view that has read to the log's end
 abbrev pub read_view : Log → View → View
-read_view l v = record { position = end_of l; epoch = read_epoch l v; image = image_of l; begun = begun_of l; kept = kept (entries l.batches) }
+read_view l v = record { position = end_of l; epoch = read_epoch l v; image = image_of l; begun = begun_of l; kept = records_of_open (entries l.batches) }
 
 -- what is read of a log after an offset
 abbrev pub feed_from : Log → ℤ → Feed

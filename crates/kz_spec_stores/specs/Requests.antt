@@ -1,6 +1,6 @@
 -- What every store answers a request, what the request did to the store's disk, and what a stop may leave of the store:
 -- the value that is left, or None where what is left stands for none.
-use Rattle.std.specs.Prelude.{◌≡◌, ◌⊎◌, ◌<◌, ◌≤◌, ℕ, ℤ, Bool, true, false, List, Option, Some, None, Result, Ok, Err, ⊤}
+use Rattle.std.specs.Prelude.{◌≡◌, ◌⊎◌, ◌<◌, ◌≤◌, ℕ, ℤ, Bool, true, false, List, Option, Some, None, option_map, Result, Ok, Err, ⊤}
 use Rattle.kz_types.specs.declared.limits.TheConstants.{MAX_FILE_BYTES}
 use Rattle.kz_types.specs.declared.tree.Op.{Op}
 use Rattle.kz_types.specs.declared.record.MetaRecord.{MetaRecord}
@@ -34,6 +34,10 @@ pub data LogChange : Type 0 where
   Append : ℤ → ℤ → List MetaRecord → LogChange  -- the epoch, the time, the records
   Elect : ℤ → List MetaRecord → LogChange
   Reset : LogChange
+
+-- the length that a store's file would have after a change, where the store has a file
+abbrev pub file_with : (ℕ → ℕ) → Disk → Option ℕ
+file_with grown disk = option_map grown disk.length
 
 -- a file of this length keeps the limit; a store without a file always does
 abbrev pub Fits : Option ℕ → Type 0
@@ -83,16 +87,16 @@ IsTaken (Err e) = ⊥
 
 -- ---- what a request did to the disk
 
--- A request that changes the store and would leave a file of this length. The disk fails, and the file is full, only where
--- nothing refuses the request; the file has the new length where the request is done; and the store is down from the
--- request on whose call failed.
-abbrev pub ChangesDisk : Type 0 → Option ℕ → StoreAnswer → Disk → Disk → Type 0
-ChangesDisk taken file Done old new = (old.down ≡ false) × Fits file × (new ≡ record old { length = file })
-ChangesDisk taken file Refused old new = (old.down ≡ false) × (new ≡ old)
-ChangesDisk taken file NoMemory old new = new ≡ old
-ChangesDisk taken file Failed old new = (old.down ≡ false) × taken × Fits file × Rose old.faults new.faults × (new.down ≡ true)
-ChangesDisk taken file Down old new = (old.down ≡ true) × (new ≡ old)
-ChangesDisk taken file (Full length) old new = (old.down ≡ false) × taken × IsTooLong file length × (new ≡ old)
+-- A request that changes the store, after which a file of so many bytes would have `grown` of them. The disk fails, and the
+-- file is full, only where nothing refuses the request; the file has the new length where the request is done; and the store
+-- is down from the request on whose call failed.
+abbrev pub ChangesDisk : Type 0 → (ℕ → ℕ) → StoreAnswer → Disk → Disk → Type 0
+ChangesDisk taken grown Done old new = (old.down ≡ false) × Fits (file_with grown old) × (new ≡ record old { length = file_with grown old })
+ChangesDisk taken grown Refused old new = (old.down ≡ false) × (new ≡ old)
+ChangesDisk taken grown NoMemory old new = new ≡ old
+ChangesDisk taken grown Failed old new = (old.down ≡ false) × taken × Fits (file_with grown old) × Rose old.faults new.faults × (new.down ≡ true)
+ChangesDisk taken grown Down old new = (old.down ≡ true) × (new ≡ old)
+ChangesDisk taken grown (Full length) old new = (old.down ≡ false) × taken × IsTooLong (file_with grown old) length × (new ≡ old)
 
 -- A request that only reads: it makes no call of the disk.
 abbrev pub ReadsDisk : StoreAnswer → Disk → Disk → Type 0

@@ -48,21 +48,21 @@ abbrev pub is_counted : List Entry → ℤ → Entry → Bool
 is_counted es at e = int_le e.offset at && not (is_marker e.item) && (not (is_inside es e.offset) || is_ended_by at (first_close es e.offset))
 
 -- the records that count at an offset
-abbrev pub counted : List Entry → ℤ → List Entry
-counted es at = filter (is_counted es at) es
+abbrev pub counting_records : List Entry → ℤ → List Entry
+counting_records es at = filter (is_counted es at) es
 
 -- A transaction is open at an offset where a Begin at or before it has no End or Abort after it by then.
 abbrev pub is_open : List Entry → ℤ → Bool
 is_open es at = is_inside es (at +ℤ pos 1)
 
 -- The offset of the open transaction's Begin: the first with no End or Abort after it.
-abbrev pub begun : List Entry → Option ℤ
-begun es = option_map (λ (e : Entry). e.offset) (find (λ (b : Entry). is_begin b.item && not (list_any (λ (e : Entry). closes e.item && int_lt b.offset e.offset) es)) es)
+abbrev pub open_begin : List Entry → Option ℤ
+open_begin es = option_map (λ (e : Entry). e.offset) (find (λ (b : Entry). is_begin b.item && not (list_any (λ (e : Entry). closes e.item && int_lt b.offset e.offset) es)) es)
 
 -- The records of the open transaction: those that are no marker, stand inside a transaction, and have no End or Abort
 -- after them.
-abbrev pub kept : List Entry → List Entry
-kept es = filter (λ (e : Entry). is_inside es e.offset && not (is_marker e.item) && not (list_any (λ (c : Entry). closes c.item && int_lt e.offset c.offset) es)) es
+abbrev pub records_of_open : List Entry → List Entry
+records_of_open es = filter (λ (e : Entry). is_inside es e.offset && not (is_marker e.item) && not (list_any (λ (c : Entry). closes c.item && int_lt e.offset c.offset) es)) es
 
 -- ---- the commit of the migration
 

@@ -145,9 +145,9 @@ abbrev pub set_row : ℤ → List ℕ → Row → Row
 set_row zxid body r = record r { body = body; version = r.version +ℤ pos 1; mzxid = zxid }
 
 -- the znodes after the one at a path got or lost a child
-abbrev pub touched : ℤ → Option Row → List Row → List Row
-touched zxid None rows = rows
-touched zxid (Some r) rows = put_row (record r { pzxid = zxid }) rows
+abbrev pub with_child_change : ℤ → Option Row → List Row → List Row
+with_child_change zxid None rows = rows
+with_child_change zxid (Some r) rows = put_row (record r { pzxid = zxid }) rows
 
 abbrev pub after_set : ℤ → List ℕ → Option Row → List Row → List Row
 after_set zxid body None rows = rows
@@ -155,22 +155,22 @@ after_set zxid body (Some r) rows = put_row (set_row zxid body r) rows
 
 -- what an operation that isn't refused makes of these znodes
 abbrev pub after_op : ℤ → Op → List Row → List Row
-after_op zxid (Create path body owner) rows = put_row (created_row zxid path body owner) (touched zxid (row_at (parent_of path) rows) rows)
+after_op zxid (Create path body owner) rows = put_row (created_row zxid path body owner) (with_child_change zxid (row_at (parent_of path) rows) rows)
 after_op zxid (Set path body version) rows = after_set zxid body (row_at path rows) rows
-after_op zxid (Delete path version) rows = without_row path (touched zxid (row_at (parent_of path) rows) rows)
+after_op zxid (Delete path version) rows = without_row path (with_child_change zxid (row_at (parent_of path) rows) rows)
 after_op zxid (Check path version) rows = rows
 
 -- ---- a multi
 
-abbrev pub refused : ℕ → Option Refusal → Result (List Row) TreeFault → Result (List Row) TreeFault
-refused index None rest = rest
-refused index (Some (code c)) rest = Err (fault.Refused index c)
-refused index (Some (limit n)) rest = Err (fault.Limit index n)
+abbrev pub rows_unless_refused : ℕ → Option Refusal → Result (List Row) TreeFault → Result (List Row) TreeFault
+rows_unless_refused index None rest = rest
+rows_unless_refused index (Some (code c)) rest = Err (fault.Refused index c)
+rows_unless_refused index (Some (limit n)) rest = Err (fault.Limit index n)
 
 -- the znodes after these operations, one after another, or the first that is refused, numbered from this index on
 abbrev pub after_ops : List ℤ → ℤ → ℕ → List Op → List Row → Result (List Row) TreeFault
 after_ops sessions zxid index [] rows = Ok rows
-after_ops sessions zxid index (o ∷ os) rows = refused index (op_refusal sessions o rows) (after_ops sessions zxid (index + 1) os (after_op zxid o rows))
+after_ops sessions zxid index (o ∷ os) rows = rows_unless_refused index (op_refusal sessions o rows) (after_ops sessions zxid (index + 1) os (after_op zxid o rows))
 
 abbrev pub with_zxid : Tree → Result (List Row) TreeFault → Result Tree TreeFault
 with_zxid t (Err e) = Err e
@@ -267,8 +267,8 @@ broker_ids t = all_put int_cmp (λ i. i) (filter_map broker_id_of t.rows) []
 -- ---- closed and recorded
 
 -- what `/migration` records, where it can be read
-abbrev pub recorded : Tree → Option Recorded
-recorded t = option_and_then (λ (r : Row). recorded_of r.body) (row_at migration_path t.rows)
+abbrev pub migration_record : Tree → Option Recorded
+migration_record t = option_and_then (λ (r : Row). recorded_of r.body) (row_at migration_path t.rows)
 
 abbrev pub has_offset : Option Recorded → Bool
 has_offset None = false
@@ -287,5 +287,5 @@ unclosed_below (Some m) rows = if has_offset (recorded_of m.body) then first_pat
 
 -- Where the tree isn't closed: `/migration` where no offset is recorded, else the first znode of the migrated area that
 -- was written, or whose children were, after `/migration`.
-abbrev pub unclosed : Tree → Option (List ℕ)
-unclosed t = unclosed_below (row_at migration_path t.rows) (migrated_rows t)
+abbrev pub unclosed_path : Tree → Option (List ℕ)
+unclosed_path t = unclosed_below (row_at migration_path t.rows) (migrated_rows t)

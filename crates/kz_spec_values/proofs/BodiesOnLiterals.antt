@@ -4,8 +4,8 @@ use Rattle.serde_json.proofs.OnLiterals.{serde_json_on_literals}
 use Rattle.kz_types.proofs.OnLiterals.{values_on_literals}
 use Rattle.kz_spec_quotas.proofs.QuotasOnLiterals.{quotas_on_literals}
 use Rattle.kz_spec_values.specs.Credentials.{credential_of, credential_text, entries_of}
-use Rattle.kz_spec_values.specs.Bodies.{body_of, empty_body, read_body, written, is_of_kind}
+use Rattle.kz_spec_values.specs.Bodies.{body_of, empty_body, read_body, text_of_body, is_of_kind}
 
 unfoldable pub bodies_on_literals : ⊤
-unfolding serde_json_on_literals values_on_literals quotas_on_literals credential_of credential_text entries_of body_of empty_body read_body written is_of_kind
+unfolding serde_json_on_literals values_on_literals quotas_on_literals credential_of credential_text entries_of body_of empty_body read_body text_of_body is_of_kind
 bodies_on_literals = tt

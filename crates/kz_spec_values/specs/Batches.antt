@@ -103,8 +103,8 @@ not_null (None, r) = Err BadCount
 not_null (Some x, r) = Ok (x, r)
 
 -- a length and so many bytes
-abbrev pub measured : Format BatchFault (List ℕ)
-measured = record {
+abbrev pub bytes_with_length : Format BatchFault (List ℕ)
+bytes_with_length = record {
   spells = λ x bytes. IsMeasured (Some x) bytes;
   read = λ r. measured_or_null.read r >>= not_null;
   written = λ x. measured_written (Some x);
@@ -113,7 +113,7 @@ measured = record {
 
 -- a header of a record: a key and a value
 abbrev pub header : Format BatchFault (List ℕ × Option (List ℕ))
-header = measured ⊗ measured_or_null
+header = bytes_with_length ⊗ measured_or_null
 
 abbrev pub headers_at : ℤ × Reading → Result (List (List ℕ × Option (List ℕ)) × Reading) BatchFault
 headers_at (pos n, r) = items_at header.read n r
@@ -133,7 +133,7 @@ abbrev pub Content : Type 0
 Content = Unit {0} × (ℤ × (ℤ × (Option (List ℕ) × (List ℕ × List (List ℕ × Option (List ℕ))))))
 
 abbrev pub content : Format BatchFault Content
-content = no_attributes ⊗ part varlong ⊗ part varlong ⊗ measured_or_null ⊗ measured ⊗ headers
+content = no_attributes ⊗ part varlong ⊗ part varlong ⊗ measured_or_null ⊗ bytes_with_length ⊗ headers
 
 -- what a batch takes of a record: its offset delta and its value
 abbrev pub delta_of : Content → ℤ
@@ -203,20 +203,20 @@ pub record IsBatch (bytes : List ℕ) (batch : BatchContents) : Type 0 where
 -- ---- reading: the first fault in the order in which they are tested
 
 -- the whole batch by its length field, which counts at least 49 bytes
-abbrev pub sized : ℤ → ℕ → Bool
-sized (pos n) size = not (nat_lt n 49) && not (nat_lt size (12 + n))
-sized (negsuc n) size = false
+abbrev pub holds_whole_batch : ℤ → ℕ → Bool
+holds_whole_batch (pos n) size = not (nat_lt n 49) && not (nat_lt size (12 + n))
+holds_whole_batch (negsuc n) size = false
 
 abbrev pub is_short : List ℕ → Bool
-is_short bytes = if nat_lt (length bytes) 61 then true else not (sized (stated_length bytes) (length bytes))
+is_short bytes = if nat_lt (length bytes) 61 then true else not (holds_whole_batch (stated_length bytes) (length bytes))
 
 -- the bytes that the length field counts, from the attributes on
 abbrev pub summed_rest : List ℕ → ℤ → List ℕ
 summed_rest rest (pos n) = take (n - 9) rest
 summed_rest rest (negsuc n) = []
 
-abbrev pub summed : List ℕ → List ℕ
-summed bytes = summed_rest (drop 21 bytes) (stated_length bytes)
+abbrev pub bytes_under_sum : List ℕ → List ℕ
+bytes_under_sum bytes = summed_rest (drop 21 bytes) (stated_length bytes)
 
 -- so many records and no more bytes, where that count is one more than the last delta
 abbrev pub records_counted : ℤ → List ℕ → Result (List Content) BatchFault
@@ -240,7 +240,7 @@ unfoldable pub batch_of : List ℕ → Result BatchContents BatchFault
 batch_of bytes =
     if is_short bytes then Err Short
     else (if not (magic bytes == 2) then Err (BadMagic (magic bytes))
-    else (if not (stated_sum bytes == crc32c (summed bytes)) then Err (BadCrc (stated_sum bytes) (crc32c (summed bytes)))
+    else (if not (stated_sum bytes == crc32c (bytes_under_sum bytes)) then Err (BadCrc (stated_sum bytes) (crc32c (bytes_under_sum bytes)))
     else (if not (compression bytes == 0) then Err (Compressed (compression bytes))
     else (if not (int_eq (stated_length bytes) (pos (length bytes - 12))) then Err BadCount
     else (values_of (is_control bytes) bytes >>= λ values. Ok (batch_with bytes values))))))

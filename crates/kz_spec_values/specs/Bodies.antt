@@ -37,9 +37,9 @@ of_form name None = Err (BadField name)
 of_form name (Some a) = Ok a
 
 -- a member that must be there
-abbrev pub required : {A : Type 0} → List ℕ → (Data → Option A) → Option Data → Result A BodyFault
-required name form None = Err (Missing name)
-required name form (Some d) = of_form name (form d)
+abbrev pub required_member : {A : Type 0} → List ℕ → (Data → Option A) → Option Data → Result A BodyFault
+required_member name form None = Err (Missing name)
+required_member name form (Some d) = of_form name (form d)
 
 -- a member that may be absent
 abbrev pub optional : {A : Type 0} → List ℕ → A → (Data → Option A) → Option Data → Result A BodyFault
@@ -48,7 +48,7 @@ optional name absent form (Some d) = of_form name (form d)
 
 -- the member of an object, in its form
 abbrev pub field : {A : Type 0} → List ℕ → (Data → Option A) → Data → Result A BodyFault
-field name form d = required name form (get name d)
+field name form d = required_member name form (get name d)
 
 -- a whole number within bounds
 abbrev pub within : ℤ → ℤ → ℤ → Option ℤ
@@ -395,14 +395,14 @@ producer_data broker start end = object
     (member (codes "version") (whole_data (pos 1)) no_members))))
 
 -- the text that is written for a body: compact, with members in byte order
-unfoldable pub written : Body → List ℕ
-written (body.Topic id rows) = compact_text (topic_data id rows)
-written (body.State leader leader_epoch controller_epoch isr recovery) = compact_text (state_data leader leader_epoch controller_epoch isr recovery)
-written (body.Config pairs) = compact_text (config_data pairs)
-written (body.Quota quotas scrams) = compact_text (config_data (map quota_pair quotas ++ map credential_pair scrams))
-written (body.Acls rows) = compact_text (acls_data rows)
-written (body.Producer broker start end) = compact_text (producer_data broker start end)
-written body.Blank = []
+unfoldable pub text_of_body : Body → List ℕ
+text_of_body (body.Topic id rows) = compact_text (topic_data id rows)
+text_of_body (body.State leader leader_epoch controller_epoch isr recovery) = compact_text (state_data leader leader_epoch controller_epoch isr recovery)
+text_of_body (body.Config pairs) = compact_text (config_data pairs)
+text_of_body (body.Quota quotas scrams) = compact_text (config_data (map quota_pair quotas ++ map credential_pair scrams))
+text_of_body (body.Acls rows) = compact_text (acls_data rows)
+text_of_body (body.Producer broker start end) = compact_text (producer_data broker start end)
+text_of_body body.Blank = []
 
 -- whether a body is of its entity's kind
 unfoldable pub is_of_kind : EntityKey → Body → Bool

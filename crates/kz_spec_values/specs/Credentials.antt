@@ -130,14 +130,14 @@ entry_by key pair None =
 abbrev pub entry_of : EntityKey → Pair → Result Entries BodyFault
 entry_of key pair = entry_by key pair (credential_key key pair.name)
 
-abbrev pub joined : Entries → Entries → Entries
-joined a b = record { quotas = a.quotas ++ b.quotas; scrams = a.scrams ++ b.scrams }
+abbrev pub entries_of_both : Entries → Entries → Entries
+entries_of_both a b = record { quotas = a.quotas ++ b.quotas; scrams = a.scrams ++ b.scrams }
 
 -- the first fault, or both
 abbrev pub both : Result Entries BodyFault → Result Entries BodyFault → Result Entries BodyFault
 both (Err fault) others = Err fault
 both (Ok a) (Err fault) = Err fault
-both (Ok a) (Ok b) = Ok (joined a b)
+both (Ok a) (Ok b) = Ok (entries_of_both a b)
 
 -- what the members of a configuration say, or the fault of the first member at fault
 unfoldable pub entries_of : EntityKey → List Pair → Result Entries BodyFault

@@ -47,8 +47,8 @@ pub record Format (E X : Type 0) : Type 1 where
   pub fits : X → Type 0
 
 -- A value that another one stands for.
-abbrev pub mapped : {E X Y : Type 0} → (X → Y) → (Y → X) → Format E X → Format E Y
-mapped made back f = record {
+abbrev pub format_through : {E X Y : Type 0} → (X → Y) → (Y → X) → Format E X → Format E Y
+format_through made back f = record {
   spells = λ y bytes. f.spells (back y) bytes;
   read = λ r. f.read r >>= λ x. Ok (made x.0, x.1);
   written = λ y. f.written (back y);
@@ -67,8 +67,8 @@ front n = record {
 }
 
 -- a number of this width, the highest byte first
-abbrev pub unsigned : Width → Format ByteFault ℕ
-unsigned w = record {
+abbrev pub unsigned_number : Width → Format ByteFault ℕ
+unsigned_number w = record {
   spells = λ n bytes. (n < 2 ^ bits w) × (bytes ≡ to_be_bytes w n);
   read = λ r. (front (byte_len w)).read r >>= λ x. Ok (from_be_bytes w x.0, x.1);
   written = to_be_bytes w;
@@ -76,17 +76,17 @@ unsigned w = record {
 }
 
 -- the same in two's complement
-abbrev pub signed : Width → Format ByteFault ℤ
-signed w = record {
+abbrev pub signed_number : Width → Format ByteFault ℤ
+signed_number w = record {
   spells = λ z bytes. FitsSigned w z × (bytes ≡ to_be_bytes w (cast_unsigned w z));
-  read = λ r. (unsigned w).read r >>= λ x. Ok (cast_signed w x.0, x.1);
+  read = λ r. (unsigned_number w).read r >>= λ x. Ok (cast_signed w x.0, x.1);
   written = λ z. to_be_bytes w (cast_unsigned w z);
   fits = FitsSigned w;
 }
 
 -- the 16 bytes of an id
 abbrev pub id : Format ByteFault Id
-id = mapped (λ x. record { bytes = x }) (λ i. i.bytes) (front 16)
+id = format_through (λ x. record { bytes = x }) (λ i. i.bytes) (front 16)
 
 -- ---- numbers of variable size
 
@@ -138,17 +138,17 @@ unzigzag n = if n % 2 == 0 then pos (n / 2) else negsuc (n / 2)
 
 -- a signed number of 32 bits
 abbrev pub varint : Format ByteFault ℤ
-varint = mapped unzigzag zigzag uvarint
+varint = format_through unzigzag zigzag uvarint
 
 -- a signed number of 64 bits
 abbrev pub varlong : Format ByteFault ℤ
-varlong = mapped unzigzag zigzag uvarlong
+varlong = format_through unzigzag zigzag uvarlong
 
 -- ---- lengths and what they count
 
 -- A count of items plus one, and the items, which have so many bytes each; or a 0 for none at all.
-abbrev pub counted : ℕ → Format ByteFault (Option (List ℕ))
-counted size = record {
+abbrev pub items_with_count : ℕ → Format ByteFault (Option (List ℕ))
+items_with_count size = record {
   spells = λ value bytes. elim value [
     | None ↦ uvarint.spells 0 bytes
     | Some items ↦ (count : ℕ) × (head : List ℕ) × (length items ≡ size * count) × uvarint.spells (count + 1) head × (bytes ≡ head ++ items)
@@ -159,7 +159,7 @@ counted size = record {
 }
 
 abbrev pub nullable_bytes : Format ByteFault (Option (List ℕ))
-nullable_bytes = counted 1
+nullable_bytes = items_with_count 1
 
 -- how many bytes a character has that begins with this byte; 0 where none does
 abbrev pub char_size : ℕ → ℕ
@@ -174,9 +174,9 @@ abbrev pub text_fault : List ℕ → ℕ
 text_fault bytes = utf8_valid_len bytes + possible (drop (utf8_valid_len bytes) bytes)
 
 -- A text that was taken, whose bytes end at this place.
-abbrev pub judged : ℕ → Option (List ℕ) → Result (Option (List ℕ)) ByteFault
-judged end None = Ok None
-judged end (Some text) = if is_utf8 text then Ok (Some text) else Err (NotUtf8 (end - length text + text_fault text))
+abbrev pub text_or_fault : ℕ → Option (List ℕ) → Result (Option (List ℕ)) ByteFault
+text_or_fault end None = Ok None
+text_or_fault end (Some text) = if is_utf8 text then Ok (Some text) else Err (NotUtf8 (end - length text + text_fault text))
 
 abbrev pub IsText : Option (List ℕ) → Type 0
 IsText None = Unit {0}
@@ -186,7 +186,7 @@ IsText (Some text) = IsUtf8 text
 abbrev pub nullable_text : Format ByteFault (Option (List ℕ))
 nullable_text = record {
   spells = λ value bytes. IsText value × nullable_bytes.spells value bytes;
-  read = λ r. nullable_bytes.read r >>= λ x. judged x.1.at x.0 >>= λ text. Ok (text, x.1);
+  read = λ r. nullable_bytes.read r >>= λ x. text_or_fault x.1.at x.0 >>= λ text. Ok (text, x.1);
   written = nullable_bytes.written;
   fits = λ value. IsText value × nullable_bytes.fits value;
 }

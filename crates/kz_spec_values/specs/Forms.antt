@@ -5,7 +5,7 @@ use Rattle.kz_types.specs.declared.record.ByteFault.{ByteFault}
 use Rattle.kz_types.specs.declared.record.ByteFault.TheVariants as bytes
 use Rattle.kz_types.specs.declared.record.CodecFault.{CodecFault}
 use Rattle.kz_types.specs.declared.record.CodecFault.TheVariants.{Short, BadField}
-use Rattle.kz_spec_values.specs.Fields.{Reading, Format, mapped, ◌>>=◌, uvarint, front, counted, nullable_bytes, judged, IsText, ints_of, int_bytes, AreInts}
+use Rattle.kz_spec_values.specs.Fields.{Reading, Format, format_through, ◌>>=◌, uvarint, front, items_with_count, nullable_bytes, text_or_fault, IsText, ints_of, int_bytes, AreInts}
 
 -- ---- single fields
 
@@ -15,13 +15,13 @@ field_fault (bytes.Short at) = Short at
 field_fault (bytes.Overlong at) = BadField at
 field_fault (bytes.NotUtf8 at) = BadField at
 
-abbrev pub lifted : {A : Type 0} → Result A ByteFault → Result A CodecFault
-lifted (Ok x) = Ok x
-lifted (Err e) = Err (field_fault e)
+abbrev pub with_field_fault : {A : Type 0} → Result A ByteFault → Result A CodecFault
+with_field_fault (Ok x) = Ok x
+with_field_fault (Err e) = Err (field_fault e)
 
 -- a field of a record
 abbrev pub field : {X : Type 0} → Format ByteFault X → Format CodecFault X
-field f = record { spells = f.spells; read = λ r. lifted (f.read r); written = f.written; fits = f.fits }
+field f = record { spells = f.spells; read = λ r. with_field_fault (f.read r); written = f.written; fits = f.fits }
 
 -- a value that is there, or a bad field at this place
 abbrev pub there : {X : Type 0} → ℕ → Option X × Reading → Result (X × Reading) CodecFault
@@ -32,7 +32,7 @@ there at (Some x, r) = Ok (x, r)
 abbrev pub present : {X : Type 0} → Format ByteFault (Option X) → Format CodecFault X
 present f = record {
   spells = λ x bytes. f.spells (Some x) bytes;
-  read = λ r. lifted (f.read r) >>= there r.at;
+  read = λ r. with_field_fault (f.read r) >>= there r.at;
   written = λ x. f.written (Some x);
   fits = λ x. f.fits (Some x);
 }
@@ -63,10 +63,10 @@ AreIntsOrNull (Some zs) = AreInts zs
 
 abbrev pub nullable_ints : Format ByteFault (Option (List ℤ))
 nullable_ints = record {
-  spells = λ value bytes. AreIntsOrNull value × (counted 4).spells (option_map int_bytes value) bytes;
-  read = λ r. (counted 4).read r >>= λ x. Ok (option_map ints_of x.0, x.1);
-  written = λ value. (counted 4).written (option_map int_bytes value);
-  fits = λ value. AreIntsOrNull value × (counted 4).fits (option_map int_bytes value);
+  spells = λ value bytes. AreIntsOrNull value × (items_with_count 4).spells (option_map int_bytes value) bytes;
+  read = λ r. (items_with_count 4).read r >>= λ x. Ok (option_map ints_of x.0, x.1);
+  written = λ value. (items_with_count 4).written (option_map int_bytes value);
+  fits = λ value. AreIntsOrNull value × (items_with_count 4).fits (option_map int_bytes value);
 }
 
 -- ---- one after another
@@ -107,7 +107,7 @@ AllFit fits (x ∷ xs) = fits x × AllFit fits xs
 abbrev pub list_of : {X : Type 0} → Format CodecFault X → Format CodecFault (List X)
 list_of f = record {
   spells = λ xs bytes. (head : List ℕ) × (body : List ℕ) × (bytes ≡ head ++ body) × uvarint.spells (length xs + 1) head × Each f.spells xs body;
-  read = λ r. lifted (uvarint.read r) >>= counted_items f.read r.at;
+  read = λ r. with_field_fault (uvarint.read r) >>= counted_items f.read r.at;
   written = λ xs. uvarint.written (length xs + 1) ++ items_written f.written xs;
   fits = λ xs. (length xs + 1 < 2 ^ 32) × AllFit f.fits xs;
 }
@@ -174,7 +174,7 @@ abbrev pub plain : {X : Type 0} → Format ByteFault X → Content X
 plain f = record { format = f; good = λ x. Unit {0}; judge = λ end x. Ok x }
 
 abbrev pub text_content : Content (Option (List ℕ))
-text_content = record { format = nullable_bytes; good = IsText; judge = judged }
+text_content = record { format = nullable_bytes; good = IsText; judge = text_or_fault }
 
 -- a fault in a tag's field, whose number stands at this place
 abbrev pub tag_fault : ℕ → ByteFault → CodecFault
@@ -182,13 +182,13 @@ tag_fault at (bytes.Short end) = BadField at
 tag_fault at (bytes.Overlong place) = BadField place
 tag_fault at (bytes.NotUtf8 place) = BadField place
 
-abbrev pub taken : {X : Type 0} → ℕ → Result X ByteFault → Result X CodecFault
-taken at (Ok x) = Ok x
-taken at (Err e) = Err (tag_fault at e)
+abbrev pub with_tag_fault : {X : Type 0} → ℕ → Result X ByteFault → Result X CodecFault
+with_tag_fault at (Ok x) = Ok x
+with_tag_fault at (Err e) = Err (tag_fault at e)
 
 -- the value of a tag's field, which has to fill the field
-abbrev pub filled : {X : Type 0} → Content X → ℕ → Reading → Result X CodecFault
-filled content at r = taken at (content.format.read r) >>= λ x. if length x.1.left == 0 then lifted (content.judge x.1.at x.0) else Err (BadField at)
+abbrev pub tag_value : {X : Type 0} → Content X → ℕ → Reading → Result X CodecFault
+tag_value content at r = with_tag_fault at (content.format.read r) >>= λ x. if length x.1.left == 0 then with_field_fault (content.judge x.1.at x.0) else Err (BadField at)
 
 abbrev pub Says : {X : Type 0} → Content X → X → X → Option (List ℕ) → Type 0
 Says content default x None = x ≡ default
@@ -199,16 +199,16 @@ abbrev pub tag : {X : Type 0} → ℕ → X → (X → Bool) → Content X → K
 tag number default is_default content = record {
   default = default;
   says = λ tags x. Says content default x (field_of number tags);
-  take = λ other at r x. if other == number then filled content at r else Ok x;
+  take = λ other at r x. if other == number then tag_value content at r else Ok x;
   tags = λ x. if is_default x then [] else record { number = number; bytes = content.format.written x } ∷ [];
   fits = λ x. content.good x × content.format.fits x;
 }
 
 -- The next tag, whose number has to be at least this one: its number, and its field where it stands.
 abbrev pub tag_at : ℕ → Reading → Result ((ℕ × Reading) × Reading) CodecFault
-tag_at least r = lifted (uvarint.read r) >>= λ number.
+tag_at least r = with_field_fault (uvarint.read r) >>= λ number.
     if nat_lt number.0 least then Err (BadField r.at)
-    else lifted (uvarint.read number.1) >>= λ size. lifted ((front size.0).read size.1) >>= λ content.
+    else with_field_fault (uvarint.read number.1) >>= λ size. with_field_fault ((front size.0).read size.1) >>= λ content.
     Ok ((number.0, record { at = size.1.at; left = content.0 }), content.1)
 
 -- so many tags, from this value on
@@ -219,11 +219,11 @@ tags_at take (suc n) least s r = tag_at least r >>= λ t. take t.0.0 r.at t.0.1 
 abbrev pub section : {S : Type 0} → Known S → Format CodecFault S
 section known = record {
   spells = λ s bytes. (tags : List Tag) × IsSection tags bytes × known.says tags s;
-  read = λ r. lifted (uvarint.read r) >>= λ count. tags_at known.take count.0 0 known.default count.1;
+  read = λ r. with_field_fault (uvarint.read r) >>= λ count. tags_at known.take count.0 0 known.default count.1;
   written = λ s. uvarint.written (length (known.tags s)) ++ tags_written (known.tags s);
   fits = known.fits;
 }
 
 -- fields, and then a tagged section in which no tag is known
-abbrev pub closed : {X : Type 0} → Format CodecFault X → Format CodecFault X
-closed f = mapped (λ p. p.0) (λ x. (x, tt)) (f ⊗ section nothing)
+abbrev pub without_tags : {X : Type 0} → Format CodecFault X → Format CodecFault X
+without_tags f = format_through (λ p. p.0) (λ x. (x, tt)) (f ⊗ section nothing)

@@ -20,25 +20,25 @@ use Rattle.kz_types.specs.declared.record.MetaRecord.TheVariants.{RegisterBroker
 use Rattle.kz_types.specs.declared.record.CodecFault.{CodecFault}
 use Rattle.kz_types.specs.declared.record.CodecFault.TheVariants.{UnknownKey, UnknownVersion, BadField, Rest, NoMemory}
 use Rattle.kz_types.specs.QuotaEntities.{user_first}
-use Rattle.kz_spec_values.specs.Fields.{Reading, Format, mapped, ◌>>=◌, uvarint, unsigned, signed, id, nullable_bytes, nullable_text}
-use Rattle.kz_spec_values.specs.Forms.{lifted, field, present, flag, nullable_ints, ◌⊗◌, list_of, AllFit, nothing, Known, Content, both, plain, text_content, tag, section, closed}
+use Rattle.kz_spec_values.specs.Fields.{Reading, Format, format_through, ◌>>=◌, uvarint, unsigned_number, signed_number, id, nullable_bytes, nullable_text}
+use Rattle.kz_spec_values.specs.Forms.{with_field_fault, field, present, flag, nullable_ints, ◌⊗◌, list_of, AllFit, nothing, Known, Content, both, plain, text_content, tag, section, without_tags}
 
 -- ---- the fields, under the names of Kafka's schemas
 
 abbrev pub int8 : Format CodecFault ℤ
-int8 = field (signed w8)
+int8 = field (signed_number w8)
 
 abbrev pub int16 : Format CodecFault ℤ
-int16 = field (signed w16)
+int16 = field (signed_number w16)
 
 abbrev pub uint16 : Format CodecFault ℕ
-uint16 = field (unsigned w16)
+uint16 = field (unsigned_number w16)
 
 abbrev pub int32 : Format CodecFault ℤ
-int32 = field (signed w32)
+int32 = field (signed_number w32)
 
 abbrev pub int64 : Format CodecFault ℤ
-int64 = field (signed w64)
+int64 = field (signed_number w64)
 
 abbrev pub uuid : Format CodecFault Id
 uuid = field id
@@ -59,60 +59,60 @@ ints = present nullable_ints
 
 -- name, host, port, security protocol
 abbrev pub endpoint : Format CodecFault Endpoint
-endpoint = mapped
+endpoint = format_through
     (λ x. record { name = x.0; host = x.1.0; port = x.1.1.0; protocol = x.1.1.1 })
     (λ e. (e.name, (e.host, (e.port, e.protocol))))
-    (closed (string ⊗ string ⊗ uint16 ⊗ int16))
+    (without_tags (string ⊗ string ⊗ uint16 ⊗ int16))
 
 -- name, least version, greatest version
 abbrev pub feature : Format CodecFault Feature
-feature = mapped
+feature = format_through
     (λ x. record { name = x.0; min = x.1.0; max = x.1.1 })
     (λ f. (f.name, (f.min, f.max)))
-    (closed (string ⊗ int16 ⊗ int16))
+    (without_tags (string ⊗ int16 ⊗ int16))
 
 -- broker id, migrating, incarnation id, broker epoch, endpoints, features, rack, fenced, in shutdown
 abbrev pub register_broker : Format CodecFault RegisterBrokerRecord
-register_broker = mapped
+register_broker = format_through
     (λ x. record { broker_id = x.0; migrating = x.1.0; incarnation = x.1.1.0; broker_epoch = x.1.1.1.0; endpoints = x.1.1.1.1.0; features = x.1.1.1.1.1.0; rack = x.1.1.1.1.1.1.0; fenced = x.1.1.1.1.1.1.1.0; in_shutdown = x.1.1.1.1.1.1.1.1 })
     (λ b. (b.broker_id, (b.migrating, (b.incarnation, (b.broker_epoch, (b.endpoints, (b.features, (b.rack, (b.fenced, b.in_shutdown)))))))))
-    (closed (int32 ⊗ flag ⊗ uuid ⊗ int64 ⊗ list_of endpoint ⊗ list_of feature ⊗ nullable_string ⊗ flag ⊗ flag))
+    (without_tags (int32 ⊗ flag ⊗ uuid ⊗ int64 ⊗ list_of endpoint ⊗ list_of feature ⊗ nullable_string ⊗ flag ⊗ flag))
 
 -- name, topic id
 abbrev pub topic : Format CodecFault TopicRecord
-topic = mapped
+topic = format_through
     (λ x. record { name = x.0; topic_id = x.1 })
     (λ t. (t.name, t.topic_id))
-    (closed (string ⊗ uuid))
+    (without_tags (string ⊗ uuid))
 
 -- tag 0: the recovery state
 abbrev pub partition_tags : Known ℤ
-partition_tags = tag 0 (pos 0) (int_eq (pos 0)) (plain (signed w8))
+partition_tags = tag 0 (pos 0) (int_eq (pos 0)) (plain (signed_number w8))
 
 -- partition id, topic id, replicas, in-sync replicas, removing and adding replicas, leader, leader epoch, partition
 -- epoch; tag 0: recovery state, by default 0
 abbrev pub partition : Format CodecFault PartitionRecord
-partition = mapped
+partition = format_through
     (λ x. record { partition_id = x.0; topic_id = x.1.0; replicas = x.1.1.0; isr = x.1.1.1.0; removing = x.1.1.1.1.0; adding = x.1.1.1.1.1.0; leader = x.1.1.1.1.1.1.0; leader_epoch = x.1.1.1.1.1.1.1.0; partition_epoch = x.1.1.1.1.1.1.1.1.0; recovery = x.1.1.1.1.1.1.1.1.1 })
     (λ p. (p.partition_id, (p.topic_id, (p.replicas, (p.isr, (p.removing, (p.adding, (p.leader, (p.leader_epoch, (p.partition_epoch, p.recovery))))))))))
     (int32 ⊗ uuid ⊗ ints ⊗ ints ⊗ ints ⊗ ints ⊗ int32 ⊗ int32 ⊗ int32 ⊗ section partition_tags)
 
 -- resource type, resource name, name, value
 abbrev pub config : Format CodecFault ConfigRecord
-config = mapped
+config = format_through
     (λ x. record { resource_type = x.0; resource_name = x.1.0; name = x.1.1.0; value = x.1.1.1 })
     (λ c. (c.resource_type, (c.resource_name, (c.name, c.value))))
-    (closed (int8 ⊗ string ⊗ string ⊗ nullable_string))
+    (without_tags (int8 ⊗ string ⊗ string ⊗ nullable_string))
 
 -- a tag of a list of numbers, by default null
 abbrev pub ints_tag : ℕ → Known (Option (List ℤ))
 ints_tag number = tag number None is_none (plain nullable_ints)
 
 abbrev pub leader_tag : Known ℤ
-leader_tag = tag 1 (negsuc 1) (int_eq (negsuc 1)) (plain (signed w32))
+leader_tag = tag 1 (negsuc 1) (int_eq (negsuc 1)) (plain (signed_number w32))
 
 abbrev pub stated_recovery_tag : Known ℤ
-stated_recovery_tag = tag 5 (negsuc 0) (int_eq (negsuc 0)) (plain (signed w8))
+stated_recovery_tag = tag 5 (negsuc 0) (int_eq (negsuc 0)) (plain (signed_number w8))
 
 -- tags 0: in-sync replicas, 1: leader, by default -2, 2: replicas, 3: removing, 4: adding replicas, 5: recovery state,
 -- by default -1
@@ -121,24 +121,24 @@ change_tags = both (ints_tag 0) (both leader_tag (both (ints_tag 2) (both (ints_
 
 -- partition id, topic id, and the tagged parts
 abbrev pub partition_change : Format CodecFault PartitionChangeRecord
-partition_change = mapped
+partition_change = format_through
     (λ x. record { partition_id = x.0; topic_id = x.1.0; isr = x.1.1.0; leader = x.1.1.1.0; replicas = x.1.1.1.1.0; removing = x.1.1.1.1.1.0; adding = x.1.1.1.1.1.1.0; recovery = x.1.1.1.1.1.1.1 })
     (λ c. (c.partition_id, (c.topic_id, (c.isr, (c.leader, (c.replicas, (c.removing, (c.adding, c.recovery))))))))
     (int32 ⊗ uuid ⊗ section change_tags)
 
 -- name, mechanism, salt, stored key, server key, iterations
 abbrev pub user_scram_credential : Format CodecFault UserScramCredentialRecord
-user_scram_credential = mapped
+user_scram_credential = format_through
     (λ x. record { name = x.0; mechanism = x.1.0; salt = x.1.1.0; stored_key = x.1.1.1.0; server_key = x.1.1.1.1.0; iterations = x.1.1.1.1.1 })
     (λ u. (u.name, (u.mechanism, (u.salt, (u.stored_key, (u.server_key, u.iterations))))))
-    (closed (string ⊗ int8 ⊗ bytes ⊗ bytes ⊗ bytes ⊗ int32))
+    (without_tags (string ⊗ int8 ⊗ bytes ⊗ bytes ⊗ bytes ⊗ int32))
 
 -- kind, name
 abbrev pub quota_entity : Format CodecFault QuotaEntity
-quota_entity = mapped
+quota_entity = format_through
     (λ x. record { kind = x.0; name = x.1 })
     (λ e. (e.kind, e.name))
-    (closed (string ⊗ nullable_string))
+    (without_tags (string ⊗ nullable_string))
 
 -- The parts of whom a quota speaks of. The pair of a client id and a user is read in either order.
 abbrev pub quota_entities : Format CodecFault (List QuotaEntity)
@@ -151,36 +151,36 @@ quota_entities = record {
 
 -- entity, key, whole part of the value, millionths, removed
 abbrev pub client_quota : Format CodecFault ClientQuotaRecord
-client_quota = mapped
+client_quota = format_through
     (λ x. record { entity = x.0; key = x.1.0; value = record { whole = x.1.1.0; micros = x.1.1.1.0 }; remove = x.1.1.1.1 })
     (λ q. (q.entity, (q.key, (q.value.whole, (q.value.micros, q.remove)))))
-    (closed (quota_entities ⊗ string ⊗ int64 ⊗ int32 ⊗ flag))
+    (without_tags (quota_entities ⊗ string ⊗ int64 ⊗ int32 ⊗ flag))
 
 -- broker id, broker epoch, next producer id
 abbrev pub producer_ids : Format CodecFault ProducerIdsRecord
-producer_ids = mapped
+producer_ids = format_through
     (λ x. record { broker_id = x.0; broker_epoch = x.1.0; next = x.1.1 })
     (λ p. (p.broker_id, (p.broker_epoch, p.next)))
-    (closed (int32 ⊗ int64 ⊗ int64))
+    (without_tags (int32 ⊗ int64 ⊗ int64))
 
 -- id, resource type, resource name, pattern type, principal, host, operation, permission type
 abbrev pub access_control_entry : Format CodecFault AccessControlEntryRecord
-access_control_entry = mapped
+access_control_entry = format_through
     (λ x. record { id = x.0; resource_type = x.1.0; resource_name = x.1.1.0; pattern_type = x.1.1.1.0; principal = x.1.1.1.1.0; host = x.1.1.1.1.1.0; operation = x.1.1.1.1.1.1.0; permission = x.1.1.1.1.1.1.1 })
     (λ a. (a.id, (a.resource_type, (a.resource_name, (a.pattern_type, (a.principal, (a.host, (a.operation, a.permission))))))))
-    (closed (uuid ⊗ int8 ⊗ string ⊗ int8 ⊗ string ⊗ string ⊗ int8 ⊗ int8))
+    (without_tags (uuid ⊗ int8 ⊗ string ⊗ int8 ⊗ string ⊗ string ⊗ int8 ⊗ int8))
 
 -- an id alone
 abbrev pub id_alone : Format CodecFault Id
-id_alone = closed uuid
+id_alone = without_tags uuid
 
 -- a state alone
 abbrev pub state_alone : Format CodecFault ℤ
-state_alone = closed int8
+state_alone = without_tags int8
 
 -- name, mechanism
 abbrev pub name_and_mechanism : Format CodecFault (List ℕ × ℤ)
-name_and_mechanism = closed (string ⊗ int8)
+name_and_mechanism = without_tags (string ⊗ int8)
 
 -- tag 0: a text, by default null
 abbrev pub text_tags : Known (Option (List ℕ))
@@ -225,24 +225,24 @@ Spells EndTransaction text = IsValue 24 0 no_fields tt text
 Spells (AbortTransaction reason) text = IsValue 25 0 tagged_text reason text
 
 -- The one spelling that is written: the fewest groups for each number, and no tag at its default.
-abbrev pub written : MetaRecord → List ℕ
-written (RegisterBroker r) = head_written 0 2 ++ register_broker.written r
-written (Topic r) = head_written 2 0 ++ topic.written r
-written (Partition r) = head_written 3 0 ++ partition.written r
-written (Config r) = head_written 4 0 ++ config.written r
-written (PartitionChange r) = head_written 5 0 ++ partition_change.written r
-written (RemoveTopic i) = head_written 9 0 ++ id_alone.written i
-written (UserScramCredential r) = head_written 11 0 ++ user_scram_credential.written r
-written (ClientQuota r) = head_written 14 64 ++ client_quota.written r
-written (ProducerIds r) = head_written 15 0 ++ producer_ids.written r
-written (AccessControlEntry r) = head_written 18 0 ++ access_control_entry.written r
-written (RemoveAccessControlEntry i) = head_written 19 0 ++ id_alone.written i
-written NoOp = head_written 20 0 ++ no_fields.written tt
-written (ZkMigrationState state) = head_written 21 0 ++ state_alone.written state
-written (RemoveUserScramCredential name mechanism) = head_written 22 0 ++ name_and_mechanism.written (name, mechanism)
-written (BeginTransaction name) = head_written 23 0 ++ tagged_text.written name
-written EndTransaction = head_written 24 0 ++ no_fields.written tt
-written (AbortTransaction reason) = head_written 25 0 ++ tagged_text.written reason
+abbrev pub bytes_of_record : MetaRecord → List ℕ
+bytes_of_record (RegisterBroker r) = head_written 0 2 ++ register_broker.written r
+bytes_of_record (Topic r) = head_written 2 0 ++ topic.written r
+bytes_of_record (Partition r) = head_written 3 0 ++ partition.written r
+bytes_of_record (Config r) = head_written 4 0 ++ config.written r
+bytes_of_record (PartitionChange r) = head_written 5 0 ++ partition_change.written r
+bytes_of_record (RemoveTopic i) = head_written 9 0 ++ id_alone.written i
+bytes_of_record (UserScramCredential r) = head_written 11 0 ++ user_scram_credential.written r
+bytes_of_record (ClientQuota r) = head_written 14 64 ++ client_quota.written r
+bytes_of_record (ProducerIds r) = head_written 15 0 ++ producer_ids.written r
+bytes_of_record (AccessControlEntry r) = head_written 18 0 ++ access_control_entry.written r
+bytes_of_record (RemoveAccessControlEntry i) = head_written 19 0 ++ id_alone.written i
+bytes_of_record NoOp = head_written 20 0 ++ no_fields.written tt
+bytes_of_record (ZkMigrationState state) = head_written 21 0 ++ state_alone.written state
+bytes_of_record (RemoveUserScramCredential name mechanism) = head_written 22 0 ++ name_and_mechanism.written (name, mechanism)
+bytes_of_record (BeginTransaction name) = head_written 23 0 ++ tagged_text.written name
+bytes_of_record EndTransaction = head_written 24 0 ++ no_fields.written tt
+bytes_of_record (AbortTransaction reason) = head_written 25 0 ++ tagged_text.written reason
 
 -- Each text is UTF-8, each number is in its range, and each length and count fits its field.
 abbrev pub Fits : MetaRecord → Type 0
@@ -388,14 +388,14 @@ fields_at key r =
     else Err (UnknownKey key)))))))))))))))))
 
 -- the fields, once the version is that of the key
-abbrev pub versioned : ℕ → Option ℕ → Reading → Result (MetaRecord × Reading) CodecFault
-versioned key None r = Err (UnknownKey key)
-versioned key (Some version) r = lifted (uvarint.read r) >>= λ stated. if stated.0 == version then fields_at key stated.1 else Err (UnknownVersion key stated.0)
+abbrev pub fields_of_version : ℕ → Option ℕ → Reading → Result (MetaRecord × Reading) CodecFault
+fields_of_version key None r = Err (UnknownKey key)
+fields_of_version key (Some version) r = with_field_fault (uvarint.read r) >>= λ stated. if stated.0 == version then fields_at key stated.1 else Err (UnknownVersion key stated.0)
 
 -- a record at the front
 unfoldable pub record_at : Reading → Result (MetaRecord × Reading) CodecFault
-record_at r = lifted (uvarint.read r) >>= λ frame.
-    if frame.0 == 1 then (lifted (uvarint.read frame.1) >>= λ key. versioned key.0 (version_of key.0) key.1)
+record_at r = with_field_fault (uvarint.read r) >>= λ frame.
+    if frame.0 == 1 then (with_field_fault (uvarint.read frame.1) >>= λ key. fields_of_version key.0 (version_of key.0) key.1)
     else Err (BadField r.at)
 
 -- a record and no more bytes

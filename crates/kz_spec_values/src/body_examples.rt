@@ -6,7 +6,7 @@ ghost use Rattle.kz_types.specs.declared.key.EntityKey.TheVariants.{Topic, Parti
 ghost use Rattle.kz_types.specs.declared.bodies.Body.TheVariants as body;
 ghost use Rattle.kz_types.specs.declared.fault.BodyFault.TheVariants.{NotJson, Missing, BadField, NoTopicId, UnknownKey};
 ghost use Rattle.kz_spec_values.specs.Credentials.{credential_of, credential_text};
-ghost use Rattle.kz_spec_values.specs.Bodies.{read_body, written};
+ghost use Rattle.kz_spec_values.specs.Bodies.{read_body, text_of_body};
 
 /// Empty data.
 pub fn empty_data()
@@ -17,11 +17,11 @@ pub fn empty_data()
 
 /// A configuration of a broker.
 pub fn broker_config()
-    ensures written { written (body.Config (record { name = codes "a"; value = codes "1" } ∷ record { name = codes "b"; value = codes "x\"y" } ∷ []))
+    ensures written { text_of_body (body.Config (record { name = codes "a"; value = codes "1" } ∷ record { name = codes "b"; value = codes "x\"y" } ∷ []))
         ≡ codes "{\"config\":{\"a\":\"1\",\"b\":\"x\\\"y\"},\"version\":1}" }
-    ensures order { written (body.Config (record { name = codes "b"; value = codes "2" } ∷ record { name = codes "a"; value = codes "1" } ∷ []))
+    ensures order { text_of_body (body.Config (record { name = codes "b"; value = codes "2" } ∷ record { name = codes "a"; value = codes "1" } ∷ []))
         ≡ codes "{\"config\":{\"a\":\"1\",\"b\":\"2\"},\"version\":1}" }
-    ensures empty { written (body.Config []) ≡ codes "{\"config\":{},\"version\":1}" }
+    ensures empty { text_of_body (body.Config []) ≡ codes "{\"config\":{},\"version\":1}" }
     ensures read { read_body (BrokerConfig (Some (pos 1))) (codes "{\"version\":1,\"config\":{\"b\":\"2\",\"a\":\"1\"},\"more\":[]}")
         ≡ Ok (body.Config (record { name = codes "a"; value = codes "1" } ∷ record { name = codes "b"; value = codes "2" } ∷ [])) }
     ensures last_counts { read_body (BrokerConfig None) (codes "{\"version\":9,\"version\":1,\"config\":{\"a\":\"1\",\"a\":\"2\"}}")
@@ -38,7 +38,7 @@ pub fn quotas()
     ensures read { read_body (User (Some (codes "u"))) (codes "{\"version\":1,\"config\":{\"producer_byte_rate\":\"12.5\",\"consumer_byte_rate\":\"1e3\"}}")
         ≡ Ok (body.Quota (record { key = codes "consumer_byte_rate"; value = record { whole = pos 1000; micros = pos 0 } }
         ∷ record { key = codes "producer_byte_rate"; value = record { whole = pos 12; micros = pos 500000 } } ∷ []) []) }
-    ensures written { written (body.Quota (record { key = codes "consumer_byte_rate"; value = record { whole = pos 1000; micros = pos 0 } } ∷ []) [])
+    ensures written { text_of_body (body.Quota (record { key = codes "consumer_byte_rate"; value = record { whole = pos 1000; micros = pos 0 } } ∷ []) [])
         ≡ codes "{\"config\":{\"consumer_byte_rate\":\"1000\"},\"version\":1}" }
     ensures unknown { read_body (Ip None) (codes "{\"version\":1,\"config\":{\"producer_byte_rate\":\"1\"}}") ≡ Err (UnknownKey (codes "producer_byte_rate")) }
     ensures fine { read_body (User None) (codes "{\"version\":1,\"config\":{\"producer_byte_rate\":\"1e-7\"}}") ≡ Err (BadField (codes "producer_byte_rate")) }
@@ -63,7 +63,7 @@ pub fn topics()
         ≡ Ok (body.Topic (record { bytes = 0 ∷ 1 ∷ 2 ∷ 3 ∷ 4 ∷ 5 ∷ 6 ∷ 7 ∷ 8 ∷ 9 ∷ 10 ∷ 11 ∷ 12 ∷ 13 ∷ 14 ∷ 15 ∷ [] })
         (record { number = pos 2; replicas = pos 1 ∷ pos 2 ∷ []; adding = pos 1 ∷ []; removing = [] }
         ∷ record { number = pos 10; replicas = pos 3 ∷ []; adding = []; removing = [] } ∷ [])) }
-    ensures written { written (body.Topic (record { bytes = 0 ∷ 1 ∷ 2 ∷ 3 ∷ 4 ∷ 5 ∷ 6 ∷ 7 ∷ 8 ∷ 9 ∷ 10 ∷ 11 ∷ 12 ∷ 13 ∷ 14 ∷ 15 ∷ [] })
+    ensures written { text_of_body (body.Topic (record { bytes = 0 ∷ 1 ∷ 2 ∷ 3 ∷ 4 ∷ 5 ∷ 6 ∷ 7 ∷ 8 ∷ 9 ∷ 10 ∷ 11 ∷ 12 ∷ 13 ∷ 14 ∷ 15 ∷ [] })
         (record { number = pos 2; replicas = pos 1 ∷ pos 2 ∷ []; adding = pos 1 ∷ []; removing = [] }
         ∷ record { number = pos 10; replicas = pos 3 ∷ []; adding = []; removing = [] } ∷ []))
         ≡ codes "{\"adding_replicas\":{\"2\":[1]},\"partitions\":{\"10\":[3],\"2\":[1,2]},\"removing_replicas\":{},\"topic_id\":\"AAECAwQFBgcICQoLDA0ODw\",\"version\":3}" }
@@ -82,9 +82,9 @@ pub fn others()
     ensures minus_zero { read_body (Partition (codes "t") (pos 0)) (codes "{\"version\":1,\"leader\":-0}") ≡ Err (BadField (codes "leader")) }
     ensures acls { read_body (Acl (pos 3) (pos 2) (codes "o")) (codes "{\"version\":1,\"acls\":[{\"principal\":\"User:a\",\"permissionType\":\"Deny\",\"operation\":\"IdempotentWrite\",\"host\":\"*\",\"x\":0}]}")
         ≡ Ok (body.Acls (record { kind = pos 2; pattern = pos 3; name = codes "o"; principal = codes "User:a"; host = codes "*"; operation = pos 12; permission = pos 2 } ∷ [])) }
-    ensures acls_written { written (body.Acls (record { kind = pos 2; pattern = pos 3; name = codes "o"; principal = codes "User:a"; host = codes "*"; operation = pos 12; permission = pos 2 } ∷ []))
+    ensures acls_written { text_of_body (body.Acls (record { kind = pos 2; pattern = pos 3; name = codes "o"; principal = codes "User:a"; host = codes "*"; operation = pos 12; permission = pos 2 } ∷ []))
         ≡ codes "{\"acls\":[{\"host\":\"*\",\"operation\":\"IdempotentWrite\",\"permissionType\":\"Deny\",\"principal\":\"User:a\"}],\"version\":1}" }
     ensures block { read_body Producer (codes "{\"version\":1,\"broker\":-1,\"block_start\":\"01000\",\"block_end\":\"999\"}") ≡ Ok (body.Producer (negsuc 0) (pos 1000) (pos 999)) }
     ensures block_large { read_body Producer (codes "{\"version\":1,\"broker\":1,\"block_start\":\"9223372036854775808\",\"block_end\":\"9\"}") ≡ Err (BadField (codes "block_start")) }
-    ensures block_written { written (body.Producer (negsuc 0) (pos 1000) (pos 1999)) ≡ codes "{\"block_end\":\"1999\",\"block_start\":\"1000\",\"broker\":-1,\"version\":1}" }
+    ensures block_written { text_of_body (body.Producer (negsuc 0) (pos 1000) (pos 1999)) ≡ codes "{\"block_end\":\"1999\",\"block_start\":\"1000\",\"broker\":-1,\"version\":1}" }
 {}

@@ -2,22 +2,22 @@
 ghost use Rattle.std.specs.Prelude.{◌≡◌, ◌∷◌, [], None, Some, Ok, Err, codes, pos, negsuc, true, false, length};
 ghost use Rattle.kz_types.specs.declared.record.MetaRecord.TheVariants.{NoOp, ZkMigrationState, BeginTransaction, EndTransaction, AbortTransaction, Topic, PartitionChange, ClientQuota};
 ghost use Rattle.kz_types.specs.declared.record.CodecFault.TheVariants.{Short, UnknownKey, UnknownVersion, BadField, Rest};
-ghost use Rattle.kz_spec_values.specs.Records.{record_of, written};
+ghost use Rattle.kz_spec_values.specs.Records.{record_of, bytes_of_record};
 
 /// Records without fields.
 #[tactic(auto, unfolding(crate::specs::Records::record_of, crate::specs::Records::record_at, crate::specs::Records::fields_at, crate::specs::Forms::tags_at, crate::specs::Forms::items_at, crate::specs::Fields::groups_at, crate::specs::Fields::groups_of))]
 pub fn no_fields()
     ensures no_op { record_of (0x01 ∷ 0x14 ∷ 0x00 ∷ 0x00 ∷ []) ≡ Ok NoOp }
-    ensures no_op_written { written NoOp ≡ 0x01 ∷ 0x14 ∷ 0x00 ∷ 0x00 ∷ [] }
+    ensures no_op_written { bytes_of_record NoOp ≡ 0x01 ∷ 0x14 ∷ 0x00 ∷ 0x00 ∷ [] }
     ensures end { record_of (0x01 ∷ 0x18 ∷ 0x00 ∷ 0x00 ∷ []) ≡ Ok EndTransaction }
-    ensures end_written { written EndTransaction ≡ 0x01 ∷ 0x18 ∷ 0x00 ∷ 0x00 ∷ [] }
+    ensures end_written { bytes_of_record EndTransaction ≡ 0x01 ∷ 0x18 ∷ 0x00 ∷ 0x00 ∷ [] }
 {}
 
 /// A number of one byte.
 #[tactic(auto, unfolding(crate::specs::Records::record_of, crate::specs::Records::record_at, crate::specs::Records::fields_at, crate::specs::Forms::tags_at, crate::specs::Forms::items_at, crate::specs::Fields::groups_at, crate::specs::Fields::groups_of))]
 pub fn a_state()
     ensures read { record_of (0x01 ∷ 0x15 ∷ 0x00 ∷ 0x01 ∷ 0x00 ∷ []) ≡ Ok (ZkMigrationState (pos 1)) }
-    ensures is_written { written (ZkMigrationState (pos 1)) ≡ 0x01 ∷ 0x15 ∷ 0x00 ∷ 0x01 ∷ 0x00 ∷ [] }
+    ensures is_written { bytes_of_record (ZkMigrationState (pos 1)) ≡ 0x01 ∷ 0x15 ∷ 0x00 ∷ 0x01 ∷ 0x00 ∷ [] }
     ensures negative { record_of (0x01 ∷ 0x15 ∷ 0x00 ∷ 0xff ∷ 0x00 ∷ []) ≡ Ok (ZkMigrationState (negsuc 0)) }
 {}
 
@@ -25,9 +25,9 @@ pub fn a_state()
 #[tactic(auto, unfolding(crate::specs::Records::record_of, crate::specs::Records::record_at, crate::specs::Records::fields_at, crate::specs::Forms::tags_at, crate::specs::Forms::items_at, crate::specs::Fields::groups_at, crate::specs::Fields::groups_of))]
 pub fn a_tagged_text()
     ensures read { record_of (0x01 ∷ 0x17 ∷ 0x00 ∷ 0x01 ∷ 0x00 ∷ 0x0d ∷ 0x0d ∷ 0x5a ∷ 0x4b ∷ 0x20 ∷ 0x4d ∷ 0x69 ∷ 0x67 ∷ 0x72 ∷ 0x61 ∷ 0x74 ∷ 0x69 ∷ 0x6f ∷ 0x6e ∷ []) ≡ Ok (BeginTransaction (Some (codes "ZK Migration"))) }
-    ensures is_written { written (BeginTransaction (Some (codes "ZK Migration"))) ≡ 0x01 ∷ 0x17 ∷ 0x00 ∷ 0x01 ∷ 0x00 ∷ 0x0d ∷ 0x0d ∷ 0x5a ∷ 0x4b ∷ 0x20 ∷ 0x4d ∷ 0x69 ∷ 0x67 ∷ 0x72 ∷ 0x61 ∷ 0x74 ∷ 0x69 ∷ 0x6f ∷ 0x6e ∷ [] }
+    ensures is_written { bytes_of_record (BeginTransaction (Some (codes "ZK Migration"))) ≡ 0x01 ∷ 0x17 ∷ 0x00 ∷ 0x01 ∷ 0x00 ∷ 0x0d ∷ 0x0d ∷ 0x5a ∷ 0x4b ∷ 0x20 ∷ 0x4d ∷ 0x69 ∷ 0x67 ∷ 0x72 ∷ 0x61 ∷ 0x74 ∷ 0x69 ∷ 0x6f ∷ 0x6e ∷ [] }
     ensures explicit_null { record_of (0x01 ∷ 0x19 ∷ 0x00 ∷ 0x01 ∷ 0x00 ∷ 0x01 ∷ 0x00 ∷ []) ≡ Ok (AbortTransaction None) }
-    ensures null_written { written (AbortTransaction None) ≡ 0x01 ∷ 0x19 ∷ 0x00 ∷ 0x00 ∷ [] }
+    ensures null_written { bytes_of_record (AbortTransaction None) ≡ 0x01 ∷ 0x19 ∷ 0x00 ∷ 0x00 ∷ [] }
 {}
 
 /// Unknown tags and numbers in more bytes than they need.

@@ -24,7 +24,7 @@ use Rattle.kz_types.specs.declared.image.ScramEntry.{ScramEntry}
 use Rattle.kz_types.specs.declared.image.AclEntry.{AclEntry}
 use Rattle.kz_types.specs.Numbers.{canonical}
 use Rattle.kz_types.specs.Paths.{roots, path_of, key_of}
-use Rattle.kz_spec_values.specs.Bodies.{written}
+use Rattle.kz_spec_values.specs.Bodies.{text_of_body}
 use Rattle.kz_ordered.specs.Order.{bytes_cmp}
 use Rattle.kz_ordered.specs.Ordered.{find as find_by_key, all_put}
 use Rattle.kz_spec_stores.specs.Tree.{path_of_rendered}
@@ -36,7 +36,7 @@ bare path = record { path = path; body = [] }
 
 -- the znode of an entity
 abbrev pub znode : EntityKey → Body → Rendered
-znode k b = record { path = path_of k; body = written b }
+znode k b = record { path = path_of k; body = text_of_body b }
 
 -- ---- topics
 

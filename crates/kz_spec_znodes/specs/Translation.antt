@@ -118,8 +118,8 @@ assignments_in (Some (body.Topic id partitions)) = partitions
 assignments_in b = []
 
 -- the brokers of a partition, where its topic's znode assigns any
-abbrev pub assigned : List ℕ → ℤ → List Row → Option AssignmentRow
-assigned topic number rows = find int_cmp number_of_assignment number (assignments_in (option_and_then body_of_row (row_of (key.Topic topic) rows)))
+abbrev pub assignment_at : List ℕ → ℤ → List Row → Option AssignmentRow
+assignment_at topic number rows = find int_cmp number_of_assignment number (assignments_in (option_and_then body_of_row (row_of (key.Topic topic) rows)))
 
 -- none, or a replica
 abbrev pub may_lead : List ℤ → ℤ → Bool
@@ -237,7 +237,7 @@ records_of_producer (Ok b) = Ok []
 -- the records of an entity by its body, among these znodes and after the earlier ones
 abbrev pub records_of : List Row → List Row → EntityKey → Result Body BodyFault → RowRecords
 records_of rows earlier (key.Topic name) read = records_of_topic rows earlier name read
-records_of rows earlier (key.Partition topic number) read = records_if_assigned (assigned topic number rows) read
+records_of rows earlier (key.Partition topic number) read = records_if_assigned (assignment_at topic number rows) read
 records_of rows earlier (key.TopicConfig name) read = records_if_there (row_of (key.Topic name) rows) name read
 records_of rows earlier (key.BrokerConfig broker) read = records_of_config (pos 4) (broker_name broker) read
 records_of rows earlier (key.Acl pattern resource name) read = records_of_acls earlier read
@@ -260,15 +260,15 @@ row_records rows earlier r = records_by_kind rows earlier (kind_of r.path) r
 
 -- ---- all znodes
 
-abbrev pub joined : List ℕ → RowRecords → Translated → Translated
-joined path (Err w) rest = Err (record { path = path; why = w })
-joined path (Ok rs) (Ok more) = Ok (rs ++ more)
-joined path (Ok rs) (Err e) = Err e
+abbrev pub records_then : List ℕ → RowRecords → Translated → Translated
+records_then path (Err w) rest = Err (record { path = path; why = w })
+records_then path (Ok rs) (Ok more) = Ok (rs ++ more)
+records_then path (Ok rs) (Err e) = Err e
 
 -- the records of the znodes after the earlier ones, or the first that can't be translated
 abbrev pub records_after : List Row → List Row → List Row → Translated
 records_after rows earlier [] = Ok []
-records_after rows earlier (r ∷ rest) = joined r.path (row_records rows earlier r) (records_after rows (earlier ++ r ∷ []) rest)
+records_after rows earlier (r ∷ rest) = records_then r.path (row_records rows earlier r) (records_after rows (earlier ++ r ∷ []) rest)
 
 -- the records of these znodes, or the first that can't be translated
 abbrev pub all_records : List Row → Translated
@@ -278,13 +278,13 @@ all_records rows = records_after rows [] rows
 abbrev pub further_records : ℕ
 further_records = 4
 
-abbrev pub bounded : Option Excess → List MetaRecord → Translated
-bounded (Some e) rs = Err (record { path = e.path; why = why.Over e.number })
-bounded None rs = if nat_lt MAX_RECORDS (length rs + further_records) then Err (record { path = codes "/brokers/topics"; why = why.Over (number_of_limit limits.Records) }) else Ok rs
+abbrev pub records_unless_excess : Option Excess → List MetaRecord → Translated
+records_unless_excess (Some e) rs = Err (record { path = e.path; why = why.Over e.number })
+records_unless_excess None rs = if nat_lt MAX_RECORDS (length rs + further_records) then Err (record { path = codes "/brokers/topics"; why = why.Over (number_of_limit limits.Records) }) else Ok rs
 
 abbrev pub within_limits : Translated → Translated
 within_limits (Err e) = Err e
-within_limits (Ok rs) = bounded (excess (all_applied MAX_EPOCH rs empty_image)) rs
+within_limits (Ok rs) = records_unless_excess (excess (all_applied MAX_EPOCH rs empty_image)) rs
 
 -- The records of the znodes of the migrated area, which are given in path order, or the first path in path order that can't
 -- be translated, and why; the limits are tested last.

@@ -13,20 +13,20 @@ abbrev pub row : List ℕ → List ℕ → Row
 row path text = record { path = path; body = text; version = pos 0; owner = None; czxid = pos 1; mzxid = pos 1; pzxid = pos 1 }
 
 -- a rendered znode with this data
-abbrev pub rendered : List ℕ → List ℕ → Rendered
-rendered path text = record { path = path; body = text }
+abbrev pub znode_with : List ℕ → List ℕ → Rendered
+znode_with path text = record { path = path; body = text }
 
 -- a rendered znode as it stands when it was made
 abbrev pub row_of_rendered : Rendered → Row
 row_of_rendered r = row r.path r.body
 
 -- the metadata that these records make at epoch 1
-abbrev pub made : List MetaRecord → Image
-made records = all_applied (pos 1) records empty_image
+abbrev pub image_of_records : List MetaRecord → Image
+image_of_records records = all_applied (pos 1) records empty_image
 
 -- the metadata that these records make at epoch 1, and then further ones at epoch 3
 abbrev pub made_later : List MetaRecord → List MetaRecord → Image
-made_later records further = all_applied (pos 3) further (made records)
+made_later records further = all_applied (pos 3) further (image_of_records records)
 
 -- the znodes of a topic of three partitions, with its configuration, a user's quota and credential, and entries of the topic
 abbrev pub orders_rows : List Row
@@ -57,12 +57,12 @@ abbrev pub counting_topic : List ℕ → MetaRecord
 counting_topic name = meta.Topic (record { name = name; topic_id = counting_id })
 
 -- its partition of this number on these brokers, all in sync
-abbrev pub replicated : ℤ → List ℤ → ℤ → ℤ → MetaRecord
-replicated number replicas leader leader_epoch = meta.Partition (record { partition_id = number; topic_id = counting_id; replicas = replicas; isr = replicas; removing = []; adding = []; leader = leader; recovery = pos 0; leader_epoch = leader_epoch; partition_epoch = pos 0 })
+abbrev pub partition_on : ℤ → List ℤ → ℤ → ℤ → MetaRecord
+partition_on number replicas leader leader_epoch = meta.Partition (record { partition_id = number; topic_id = counting_id; replicas = replicas; isr = replicas; removing = []; adding = []; leader = leader; recovery = pos 0; leader_epoch = leader_epoch; partition_epoch = pos 0 })
 
 -- the migrated entry of this number: a user is allowed this operation on a resource of this name
-abbrev pub allowed : ℕ → List ℕ → ℤ → MetaRecord
-allowed n name operation = meta.AccessControlEntry (record { id = record { bytes = 75 ∷ 82 ∷ 65 ∷ 70 ∷ 84 ∷ 77 ∷ 73 ∷ 71 ∷ 0 ∷ 0 ∷ 0 ∷ 0 ∷ 0 ∷ 0 ∷ 0 ∷ n ∷ [] }; resource_type = pos 2; resource_name = name; pattern_type = pos 3; principal = codes "User:alice"; host = codes "*"; operation = operation; permission = pos 3 })
+abbrev pub allowing_entry : ℕ → List ℕ → ℤ → MetaRecord
+allowing_entry n name operation = meta.AccessControlEntry (record { id = record { bytes = 75 ∷ 82 ∷ 65 ∷ 70 ∷ 84 ∷ 77 ∷ 73 ∷ 71 ∷ 0 ∷ 0 ∷ 0 ∷ 0 ∷ 0 ∷ 0 ∷ 0 ∷ n ∷ [] }; resource_type = pos 2; resource_name = name; pattern_type = pos 3; principal = codes "User:alice"; host = codes "*"; operation = operation; permission = pos 3 })
 
 -- the quota of a client of a user, where None is the default
 abbrev pub quota_of_pair : Option (List ℕ) → Option (List ℕ) → MetaRecord
@@ -75,14 +75,14 @@ client_quota user client = quota_of_pair (Some user) (Some client)
 abbrev pub orders_records : List MetaRecord
 orders_records =
     counting_topic (codes "orders")
-    ∷ replicated (pos 0) (pos 1 ∷ pos 2 ∷ []) (pos 1) (pos 4)
-    ∷ replicated (pos 1) (pos 2 ∷ pos 3 ∷ []) (pos 2) (pos 0)
-    ∷ replicated (pos 2) (pos 3 ∷ pos 1 ∷ []) (pos 3) (pos 0)
+    ∷ partition_on (pos 0) (pos 1 ∷ pos 2 ∷ []) (pos 1) (pos 4)
+    ∷ partition_on (pos 1) (pos 2 ∷ pos 3 ∷ []) (pos 2) (pos 0)
+    ∷ partition_on (pos 2) (pos 3 ∷ pos 1 ∷ []) (pos 3) (pos 0)
     ∷ meta.Config (record { resource_type = pos 2; resource_name = codes "orders"; name = codes "retention.ms"; value = Some (codes "86400000") })
     ∷ meta.UserScramCredential (record { name = codes "alice"; mechanism = pos 1; salt = codes "salt"; stored_key = codes "key"; server_key = codes "ser"; iterations = pos 4096 })
     ∷ meta.ClientQuota (record { entity = record { kind = codes "user"; name = Some (codes "alice") } ∷ []; key = codes "producer_byte_rate"; value = record { whole = pos 1024; micros = pos 0 }; remove = false })
-    ∷ allowed 0 (codes "orders") (pos 3)
-    ∷ allowed 1 (codes "orders") (pos 4)
+    ∷ allowing_entry 0 (codes "orders") (pos 3)
+    ∷ allowing_entry 1 (codes "orders") (pos 4)
     ∷ []
 
 -- the data of a topic of that id, with these partitions

@@ -4,14 +4,14 @@
 ghost use Rattle.std.specs.Prelude.{◌≡◌, [], ◌∷◌, None, negsuc, codes};
 ghost use Rattle.kz_types.specs.declared.tree.Op.TheVariants.{Create, Set, Delete};
 ghost use Rattle.kz_spec_znodes.specs.Difference.{diff};
-ghost use Rattle.kz_spec_znodes.specs.ZnodeExamples.{rendered};
+ghost use Rattle.kz_spec_znodes.specs.ZnodeExamples.{znode_with};
 
 /// Deletes come first, by falling path, then creates and sets by rising path, which is that of bytes: `-` and `.` stand
 /// before `/`. Equal znodes are left alone.
 pub fn worked_difference()
-    ensures operations { diff (rendered (codes "/a") (codes "x") ∷ rendered (codes "/a-b") [] ∷ rendered (codes "/a/b") [] ∷ rendered (codes "/c") [] ∷ [])
-        (rendered (codes "/a") (codes "y") ∷ rendered (codes "/a.b") [] ∷ rendered (codes "/a/b") [] ∷ rendered (codes "/d") (codes "z") ∷ [])
+    ensures operations { diff (znode_with (codes "/a") (codes "x") ∷ znode_with (codes "/a-b") [] ∷ znode_with (codes "/a/b") [] ∷ znode_with (codes "/c") [] ∷ [])
+        (znode_with (codes "/a") (codes "y") ∷ znode_with (codes "/a.b") [] ∷ znode_with (codes "/a/b") [] ∷ znode_with (codes "/d") (codes "z") ∷ [])
         ≡ Delete (codes "/c") (negsuc 0) ∷ Delete (codes "/a-b") (negsuc 0) ∷ Set (codes "/a") (codes "y") (negsuc 0) ∷ Create (codes "/a.b") [] None ∷ Create (codes "/d") (codes "z") None ∷ [] }
-    ensures equal { diff (rendered (codes "/a") (codes "x") ∷ []) (rendered (codes "/a") (codes "x") ∷ []) ≡ [] }
-    ensures all_of_it { diff (rendered (codes "/a") [] ∷ rendered (codes "/a/b") [] ∷ []) [] ≡ Delete (codes "/a/b") (negsuc 0) ∷ Delete (codes "/a") (negsuc 0) ∷ [] }
+    ensures equal { diff (znode_with (codes "/a") (codes "x") ∷ []) (znode_with (codes "/a") (codes "x") ∷ []) ≡ [] }
+    ensures all_of_it { diff (znode_with (codes "/a") [] ∷ znode_with (codes "/a/b") [] ∷ []) [] ≡ Delete (codes "/a/b") (negsuc 0) ∷ Delete (codes "/a") (negsuc 0) ∷ [] }
 {}

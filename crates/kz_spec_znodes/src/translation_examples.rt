@@ -9,21 +9,21 @@ ghost use Rattle.kz_spec_stores.specs.Image.{empty_image, first_bad};
 ghost use Rattle.kz_spec_znodes.specs.Rendering.{render};
 ghost use Rattle.kz_spec_znodes.specs.Translation.{translate};
 ghost use Rattle.kz_spec_stores.specs.ImageExamples.{broker_member, block};
-ghost use Rattle.kz_spec_znodes.specs.ZnodeExamples.{row, row_of_rendered, made, orders_rows, orders_records, counting_id, counting_topic, replicated, allowed, counting_data, state_data, config_data, entry_data, block_data};
+ghost use Rattle.kz_spec_znodes.specs.ZnodeExamples.{row, row_of_rendered, image_of_records, orders_rows, orders_records, counting_id, counting_topic, partition_on, allowing_entry, counting_data, state_data, config_data, entry_data, block_data};
 
 /// A topic comes with its partitions, a configuration by its members, and entries by their number. Each record is accepted,
 /// and the znodes that they are rendered as say the same.
 pub fn worked_area()
     ensures records { translate orders_rows ≡ Ok orders_records }
     ensures accepted { first_bad 0 orders_records empty_image ≡ None }
-    ensures again { translate (map row_of_rendered (render (made orders_records))) ≡ Ok orders_records }
+    ensures again { translate (map row_of_rendered (render (image_of_records orders_records))) ≡ Ok orders_records }
 {}
 
 /// A partition without a state is led by its first replica. One with a state has its znode's data version, and a leader of
 /// -2 is none. Partitions come by rising number.
 pub fn partitions()
     ensures no_state { translate (row (codes "/brokers/topics/t") (counting_data (codes "{\"10\":[3],\"2\":[2,1]}")) ∷ [])
-        ≡ Ok (counting_topic (codes "t") ∷ replicated (pos 2) (pos 2 ∷ pos 1 ∷ []) (pos 2) (pos 0) ∷ replicated (pos 10) (pos 3 ∷ []) (pos 3) (pos 0) ∷ []) }
+        ≡ Ok (counting_topic (codes "t") ∷ partition_on (pos 2) (pos 2 ∷ pos 1 ∷ []) (pos 2) (pos 0) ∷ partition_on (pos 10) (pos 3 ∷ []) (pos 3) (pos 0) ∷ []) }
     ensures state { translate (row (codes "/brokers/topics/t") (counting_data (codes "{\"0\":[2,1]},\"adding_replicas\":{\"0\":[2]},\"removing_replicas\":{\"0\":[1]}"))
         ∷ (record (row (codes "/brokers/topics/t/partitions/0/state") (state_data (codes "-2") (codes "[1]"))) { version = pos 9 }) ∷ [])
         ≡ Ok (counting_topic (codes "t") ∷ meta.Partition (record { partition_id = pos 0; topic_id = counting_id; replicas = pos 2 ∷ pos 1 ∷ []; isr = pos 1 ∷ []; removing = pos 1 ∷ []; adding = pos 2 ∷ []; leader = negsuc 0; recovery = pos 1; leader_epoch = pos 2; partition_epoch = pos 9 }) ∷ []) }
@@ -74,7 +74,7 @@ pub fn others()
         ≡ Ok (meta.ClientQuota (record { entity = record { kind = codes "ip"; name = None } ∷ []; key = codes "connection_creation_rate"; value = record { whole = pos 2; micros = pos 0 }; remove = false })
         ∷ meta.ClientQuota (record { entity = record { kind = codes "user"; name = None } ∷ record { kind = codes "client-id"; name = Some (codes "a/b") } ∷ []; key = codes "request_percentage"; value = record { whole = pos 0; micros = pos 500000 }; remove = false }) ∷ []) }
     ensures entries { translate (row (codes "/kafka-acl/Topic/a") (entry_data (codes "\"Read\"")) ∷ row (codes "/kafka-acl/Topic/b") (entry_data (codes "\"Write\"")) ∷ [])
-        ≡ Ok (allowed 0 (codes "a") (pos 3) ∷ allowed 1 (codes "b") (pos 4) ∷ []) }
+        ≡ Ok (allowing_entry 0 (codes "a") (pos 3) ∷ allowing_entry 1 (codes "b") (pos 4) ∷ []) }
     ensures block { translate (row (codes "/latest_producer_id_block") (block_data (codes "9223372036854774807")) ∷ []) ≡ Ok (block (pos 9223372036854774808) ∷ []) }
     ensures no_block { translate (row (codes "/latest_producer_id_block") [] ∷ []) ≡ Ok [] }
     ensures brokers { translate (row (codes "/config/brokers/1") (config_data (codes "{\"a\":\"1\"}")) ∷ row (codes "/config/brokers/<default>") [] ∷ [])
@@ -106,7 +106,7 @@ pub fn faults_of_states()
 
 /// What is added to or removed from partitions that aren't there is dropped, and has to be of its form.
 pub fn reassignments()
-    ensures dropped { translate (row (codes "/brokers/topics/t") (counting_data (codes "{\"0\":[1]},\"adding_replicas\":{\"7\":[9,9]}")) ∷ []) ≡ Ok (counting_topic (codes "t") ∷ replicated (pos 0) (pos 1 ∷ []) (pos 1) (pos 0) ∷ []) }
+    ensures dropped { translate (row (codes "/brokers/topics/t") (counting_data (codes "{\"0\":[1]},\"adding_replicas\":{\"7\":[9,9]}")) ∷ []) ≡ Ok (counting_topic (codes "t") ∷ partition_on (pos 0) (pos 1 ∷ []) (pos 1) (pos 0) ∷ []) }
     ensures form { translate (row (codes "/brokers/topics/t") (counting_data (codes "{\"0\":[1]},\"adding_replicas\":{\"7\":[-1]}")) ∷ []) ≡ Err (record { path = codes "/brokers/topics/t"; why = Body (BadField (codes "adding_replicas")) }) }
     ensures foreign { translate (row (codes "/brokers/topics/t") (counting_data (codes "{\"0\":[1]},\"removing_replicas\":{\"0\":[9]}")) ∷ []) ≡ Err (record { path = codes "/brokers/topics/t"; why = Body (BadField (codes "removing_replicas")) }) }
 {}
@@ -116,7 +116,7 @@ pub fn reassignments()
 pub fn further_znodes()
     ensures entries { translate (row (codes "/kafka-acl-extended/prefixed/Topic/b") (entry_data (codes "\"Read\"")) ∷ row (codes "/kafka-acl/Group/g") [] ∷ row (codes "/kafka-acl/Topic/a") (entry_data (codes "\"Write\"")) ∷ [])
         ≡ Ok (meta.AccessControlEntry (record { id = record { bytes = 75 ∷ 82 ∷ 65 ∷ 70 ∷ 84 ∷ 77 ∷ 73 ∷ 71 ∷ 0 ∷ 0 ∷ 0 ∷ 0 ∷ 0 ∷ 0 ∷ 0 ∷ 0 ∷ [] }; resource_type = pos 2; resource_name = codes "b"; pattern_type = pos 4; principal = codes "User:alice"; host = codes "*"; operation = pos 3; permission = pos 3 })
-        ∷ allowed 1 (codes "a") (pos 4) ∷ []) }
+        ∷ allowing_entry 1 (codes "a") (pos 4) ∷ []) }
     ensures default_broker { translate (row (codes "/config/brokers/<default>") (config_data (codes "{\"b\":\"2\",\"a\":\"1\"}")) ∷ []) ≡ Ok (broker_member [] (codes "a") (Some (codes "1")) ∷ broker_member [] (codes "b") (Some (codes "2")) ∷ []) }
     ensures default_user { translate (row (codes "/config/users/<default>") (config_data (codes "{\"SCRAM-SHA-256\":\"salt=,stored_key=,server_key=,iterations=1\"}")) ∷ []) ≡ Err (record { path = codes "/config/users/<default>"; why = Body (UnknownKey (codes "SCRAM-SHA-256")) }) }
     ensures no_name { translate (row (codes "/config/clients/c") (config_data (codes "{\"\":\"2\"}")) ∷ []) ≡ Err (record { path = codes "/config/clients/c"; why = Body (UnknownKey []) }) }

@@ -156,9 +156,9 @@ pub fn new_stores(rt: &impl Abort, alloc: Global, declared: &[i32], running: &[i
 
 // One step. What the driver and others know of the log stays known.
 fn step(rt: &impl Abort, driver: &mut Driver, stores: &mut Stores, replies: &mut Sequence<Reply>)
-    requires { IsViewOf stores.old.log driver.old.view }
-    ensures view { IsViewOf stores.new.log driver.new.view }
-    ensures views { (v : View) → IsViewOf stores.old.log v → IsViewOf stores.new.log v }
+    requires { IsViewOf (⟦<MemoryLog as MetaLog>⟧.log stores.old.log) driver.old.view }
+    ensures view { IsViewOf (⟦<MemoryLog as MetaLog>⟧.log stores.new.log) driver.new.view }
+    ensures views { (v : View) → IsViewOf (⟦<MemoryLog as MetaLog>⟧.log stores.old.log) v → IsViewOf (⟦<MemoryLog as MetaLog>⟧.log stores.new.log) v }
 {
     match driver.step(&mut stores.tree, &mut stores.log, &stores.peers, 8) {
         Ok(reply) => put(rt, replies, reply),
@@ -168,9 +168,9 @@ fn step(rt: &impl Abort, driver: &mut Driver, stores: &mut Stores, replies: &mut
 
 /// Makes as many steps as there are lines, and compares what they tell, as a turn's lines write it.
 pub fn tells(rt: &impl Abort, alloc: Global, driver: &mut Driver, stores: &mut Stores, lines: &str)
-    requires { IsViewOf stores.old.log driver.old.view }
-    ensures view { IsViewOf stores.new.log driver.new.view }
-    ensures views { (v : View) → IsViewOf stores.old.log v → IsViewOf stores.new.log v }
+    requires { IsViewOf (⟦<MemoryLog as MetaLog>⟧.log stores.old.log) driver.old.view }
+    ensures view { IsViewOf (⟦<MemoryLog as MetaLog>⟧.log stores.new.log) driver.new.view }
+    ensures views { (v : View) → IsViewOf (⟦<MemoryLog as MetaLog>⟧.log stores.old.log) v → IsViewOf (⟦<MemoryLog as MetaLog>⟧.log stores.new.log) v }
 {
     let mut replies = Sequence::new(alloc);
     for _ in lines.lines() {
@@ -183,8 +183,8 @@ pub fn tells(rt: &impl Abort, alloc: Global, driver: &mut Driver, stores: &mut S
 /// The log elects a leader, which begins with these records.
 pub fn elect(rt: &impl Abort, stores: &mut Stores, items: &[MetaRecord])
     requires { 0 < length items.now }
-    ensures views { (v : View) → IsViewOf stores.old.log v → IsViewOf stores.new.log v }
-    ensures first { IsViewOf stores.new.log new_view }
+    ensures views { (v : View) → IsViewOf (⟦<MemoryLog as MetaLog>⟧.log stores.old.log) v → IsViewOf (⟦<MemoryLog as MetaLog>⟧.log stores.new.log) v }
+    ensures first { IsViewOf (⟦<MemoryLog as MetaLog>⟧.log stores.new.log) new_view }
 {
     views_stay();
     let _kept = stores.log.epoch();
@@ -208,7 +208,7 @@ pub fn elected(alloc: Global, id: i32, epoch: i32) -> Driver
 // A controller that is elected with this epoch, and has read nothing of the log.
 fn elected_later(alloc: Global, stores: &Stores, id: i32, epoch: i32) -> Driver
     requires { pos 1 ≤ℤ epoch }
-    ensures { IsViewOf stores.now.log result.view }
+    ensures { IsViewOf (⟦<MemoryLog as MetaLog>⟧.log stores.now.log) result.view }
 {
     views_stay();
     let _kept = stores.log.epoch();
@@ -248,7 +248,7 @@ pub fn has_body(tree: &MemoryTree, path: &str, body: &str) -> bool {
 
 // A tree and a log that the controller 3000 has migrated, and that controller, which rests.
 fn migrated(rt: &impl Abort, alloc: Global) -> (Stores, Driver)
-    ensures { IsViewOf result.0.log result.1.view }
+    ensures { IsViewOf (⟦<MemoryLog as MetaLog>⟧.log result.0.log) result.1.view }
 {
     let mut stores = new_stores(rt, alloc, &[3000], &[3000]);
     elect(rt, &mut stores, &MIGRATING);
@@ -282,7 +282,7 @@ fn a_driver_migrates_an_empty_tree(rt: HostRuntime) {
 // Appends records as the leader of the epoch 1.
 fn append_all(rt: &impl Abort, stores: &mut Stores, items: &[MetaRecord])
     requires { 0 < length items.now }
-    ensures { (v : View) → IsViewOf stores.old.log v → IsViewOf stores.new.log v }
+    ensures { (v : View) → IsViewOf (⟦<MemoryLog as MetaLog>⟧.log stores.old.log) v → IsViewOf (⟦<MemoryLog as MetaLog>⟧.log stores.new.log) v }
 {
     views_stay();
     let _kept = stores.log.epoch();
@@ -294,7 +294,7 @@ fn append_all(rt: &impl Abort, stores: &mut Stores, items: &[MetaRecord])
 
 /// Appends a record as the leader of the epoch 1.
 pub fn append(rt: &impl Abort, stores: &mut Stores, item: MetaRecord)
-    ensures { (v : View) → IsViewOf stores.old.log v → IsViewOf stores.new.log v }
+    ensures { (v : View) → IsViewOf (⟦<MemoryLog as MetaLog>⟧.log stores.old.log) v → IsViewOf (⟦<MemoryLog as MetaLog>⟧.log stores.new.log) v }
 {
     append_all(rt, stores, &[item]);
 }

@@ -1,6 +1,10 @@
 //! Tests of the znodes of metadata, the records of znodes, the operations between renderings, and drivers.
 #![tactic(auto)]
 
+mod limits;
+
+pub use limits::all_data_has_at_most_67108864_bytes;
+
 #[cfg(test)]
 mod cluster;
 #[cfg(test)]

@@ -91,40 +91,32 @@ fn records_of_topics(rt: &impl Abort, alloc: Global) -> Sequence<MetaRecord> {
     records
 }
 
-// A record of each kind that speaks of users, quotas and entries.
-fn records_of_users(rt: &impl Abort, alloc: Global) -> Sequence<MetaRecord> {
-    let scram = UserScramCredentialRecord {
+fn credential(rt: &impl Abort, alloc: Global) -> MetaRecord {
+    MetaRecord::UserScramCredential(UserScramCredentialRecord {
         name: text_of(rt, alloc, "alice"),
         mechanism: 1,
         salt: body_of(rt, alloc, "salt"),
         stored_key: body_of(rt, alloc, "key"),
         server_key: body_of(rt, alloc, "server"),
         iterations: 4096,
-    };
-    let mut records = one(rt, alloc, MetaRecord::UserScramCredential(scram));
-    let removed = MetaRecord::RemoveUserScramCredential {
-        name: text_of(rt, alloc, "alice"),
-        mechanism: 1,
-    };
-    put(rt, &mut records, removed);
+    })
+}
+
+fn client_quota(rt: &impl Abort, alloc: Global) -> MetaRecord {
     let user = QuotaEntity {
         kind: text_of(rt, alloc, "user"),
         name: Some(text_of(rt, alloc, "alice")),
     };
-    let quota = ClientQuotaRecord {
+    MetaRecord::ClientQuota(ClientQuotaRecord {
         entity: QuotaEntities::from_vec(one(rt, alloc, user).into_vec()),
         key: text_of(rt, alloc, "producer_byte_rate"),
         value: QUOTA,
         remove: false,
-    };
-    put(rt, &mut records, MetaRecord::ClientQuota(quota));
-    let ids = ProducerIdsRecord {
-        broker_id: 1,
-        broker_epoch: 0,
-        next: 1000,
-    };
-    put(rt, &mut records, MetaRecord::ProducerIds(ids));
-    let acl = AccessControlEntryRecord {
+    })
+}
+
+fn access_control_entry(rt: &impl Abort, alloc: Global) -> MetaRecord {
+    MetaRecord::AccessControlEntry(AccessControlEntryRecord {
         id: ID,
         resource_type: 2,
         resource_name: text_of(rt, alloc, "orders"),
@@ -133,13 +125,27 @@ fn records_of_users(rt: &impl Abort, alloc: Global) -> Sequence<MetaRecord> {
         host: text_of(rt, alloc, "*"),
         operation: 3,
         permission: 3,
+    })
+}
+
+// A record of each kind that speaks of users, quotas and entries.
+fn records_of_users(rt: &impl Abort, alloc: Global) -> Sequence<MetaRecord> {
+    let mut records = one(rt, alloc, credential(rt, alloc));
+    let removed = MetaRecord::RemoveUserScramCredential {
+        name: text_of(rt, alloc, "alice"),
+        mechanism: 1,
     };
-    put(rt, &mut records, MetaRecord::AccessControlEntry(acl));
-    put(
-        rt,
-        &mut records,
-        MetaRecord::RemoveAccessControlEntry { id: ID },
-    );
+    put(rt, &mut records, removed);
+    put(rt, &mut records, client_quota(rt, alloc));
+    let ids = ProducerIdsRecord {
+        broker_id: 1,
+        broker_epoch: 0,
+        next: 1000,
+    };
+    put(rt, &mut records, MetaRecord::ProducerIds(ids));
+    put(rt, &mut records, access_control_entry(rt, alloc));
+    let removed = MetaRecord::RemoveAccessControlEntry { id: ID };
+    put(rt, &mut records, removed);
     records
 }
 
@@ -168,6 +174,7 @@ fn records_are_copied(rt: HostRuntime) {
     assert!(rt; is_copied(alloc, batch(&rt, alloc)));
 }
 
+/// A member of a configuration.
 pub fn pair(rt: &impl Abort, alloc: Global) -> Pair {
     Pair {
         name: text_of(rt, alloc, "a"),
@@ -264,6 +271,7 @@ fn ops(rt: &impl Abort, alloc: Global) -> Sequence<Op> {
     ops
 }
 
+/// A znode with all its numbers.
 pub fn row(rt: &impl Abort, alloc: Global) -> Row {
     Row {
         path: path_of(rt, alloc),
@@ -276,6 +284,7 @@ pub fn row(rt: &impl Abort, alloc: Global) -> Row {
     }
 }
 
+/// A znode as metadata has it.
 pub fn rendered(rt: &impl Abort, alloc: Global) -> Rendered {
     Rendered {
         path: path_of(rt, alloc),
@@ -306,6 +315,7 @@ fn partition_row(rt: &impl Abort, alloc: Global) -> PartitionRow {
     }
 }
 
+/// A configuration of one member.
 pub fn configuration(rt: &impl Abort, alloc: Global) -> Configuration {
     Configuration {
         name: text_of(rt, alloc, "1"),

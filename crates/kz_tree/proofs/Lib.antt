@@ -8,6 +8,5 @@ pub mod Multis
 pub mod Nexts
 pub mod Owned
 pub mod Pages
-pub mod Prefixes
 pub mod Steps
 pub mod Zxids

@@ -10,7 +10,7 @@ use Rattle.kz_types.specs.declared.tree.Op.{Op}
 use Rattle.kz_types.specs.declared.tree.Op.TheVariants.{Create, Set, Delete, Check}
 use Rattle.kz_types.specs.declared.fault.TreeFault.{TreeFault}
 use Rattle.kz_ordered.specs.Order.{bytes_cmp}
-use Rattle.kz_spec_stores.specs.Tree.{Refusal, code, limit, row_at, put_row, without_row, parent_of, has_children, is_ephemeral, count_beside, create_refusal, set_refusal, delete_refusal, check_refusal, op_refusal, created_row, set_row, touched, after_set, after_op, refused, after_ops}
+use Rattle.kz_spec_stores.specs.Tree.{Refusal, code, limit, row_at, put_row, without_row, parent_of, has_children, is_ephemeral, count_beside, create_refusal, set_refusal, delete_refusal, check_refusal, op_refusal, created_row, set_row, with_child_change, after_set, after_op, rows_unless_refused, after_ops}
 
 -- a znode without its zxids
 abbrev bare : Row → Row
@@ -95,7 +95,7 @@ refusal_bare sessions (Check path version) rows = ap (check_refusal version) (fo
 
 -- ---- effects
 
-touched_bare : (z : ℤ) (o : Option Row) (rows : List Row) → all_bare (touched z o rows) ≡ all_bare (touched (pos 0) (option_map bare o) (all_bare rows))
+touched_bare : (z : ℤ) (o : Option Row) (rows : List Row) → all_bare (with_child_change z o rows) ≡ all_bare (with_child_change (pos 0) (option_map bare o) (all_bare rows))
 touched_bare z None rows = sym (bare_twice rows)
 touched_bare z (Some r) rows =
     bare_put (record r { pzxid = z }) rows ∙ ap (put_row (bare r)) (sym (bare_twice rows)) ∙ sym (bare_put (record (bare r) { pzxid = pos 0 }) (all_bare rows))
@@ -105,17 +105,17 @@ after_set_bare z body None rows = sym (bare_twice rows)
 after_set_bare z body (Some r) rows =
     bare_put (set_row z body r) rows ∙ ap (put_row (bare (set_row (pos 0) body (bare r)))) (sym (bare_twice rows)) ∙ sym (bare_put (set_row (pos 0) body (bare r)) (all_bare rows))
 
-parent_touched : (z : ℤ) (path : List ℕ) (rows : List Row) → all_bare (touched z (row_at path rows) rows) ≡ all_bare (touched (pos 0) (row_at path (all_bare rows)) (all_bare rows))
-parent_touched z path rows = touched_bare z (row_at path rows) rows ∙ ap (λ o. all_bare (touched (pos 0) o (all_bare rows))) (sym (found_bare path rows))
+parent_touched : (z : ℤ) (path : List ℕ) (rows : List Row) → all_bare (with_child_change z (row_at path rows) rows) ≡ all_bare (with_child_change (pos 0) (row_at path (all_bare rows)) (all_bare rows))
+parent_touched z path rows = touched_bare z (row_at path rows) rows ∙ ap (λ o. all_bare (with_child_change (pos 0) o (all_bare rows))) (sym (found_bare path rows))
 
 effect_bare : (z : ℤ) (o : Op) (rows : List Row) → all_bare (after_op z o rows) ≡ all_bare (after_op (pos 0) o (all_bare rows))
 effect_bare z (Create path body owner) rows =
-    bare_put (created_row z path body owner) (touched z (row_at (parent_of path) rows) rows) ∙ ap (put_row (bare (created_row (pos 0) path body owner))) (parent_touched z (parent_of path) rows)
-    ∙ sym (bare_put (created_row (pos 0) path body owner) (touched (pos 0) (row_at (parent_of path) (all_bare rows)) (all_bare rows)))
+    bare_put (created_row z path body owner) (with_child_change z (row_at (parent_of path) rows) rows) ∙ ap (put_row (bare (created_row (pos 0) path body owner))) (parent_touched z (parent_of path) rows)
+    ∙ sym (bare_put (created_row (pos 0) path body owner) (with_child_change (pos 0) (row_at (parent_of path) (all_bare rows)) (all_bare rows)))
 effect_bare z (Set path body version) rows = after_set_bare z body (row_at path rows) rows ∙ ap (λ o. all_bare (after_set (pos 0) body o (all_bare rows))) (sym (found_bare path rows))
 effect_bare z (Delete path version) rows =
-    bare_without path (touched z (row_at (parent_of path) rows) rows) ∙ ap (without_row path) (parent_touched z (parent_of path) rows)
-    ∙ sym (bare_without path (touched (pos 0) (row_at (parent_of path) (all_bare rows)) (all_bare rows)))
+    bare_without path (with_child_change z (row_at (parent_of path) rows) rows) ∙ ap (without_row path) (parent_touched z (parent_of path) rows)
+    ∙ sym (bare_without path (with_child_change (pos 0) (row_at (parent_of path) (all_bare rows)) (all_bare rows)))
 effect_bare z (Check path version) rows = sym (bare_twice rows)
 
 -- ---- a multi
@@ -126,7 +126,7 @@ Alike (Ok a) (Err f) = ⊥
 Alike (Err e) (Ok b) = ⊥
 Alike (Err e) (Err f) = e ≡ f
 
-alike_step : (index : ℕ) (r : Option Refusal) (a b : Result (List Row) TreeFault) → Alike a b → Alike (refused index r a) (refused index r b)
+alike_step : (index : ℕ) (r : Option Refusal) (a b : Result (List Row) TreeFault) → Alike a b → Alike (rows_unless_refused index r a) (rows_unless_refused index r b)
 alike_step index None a b h = h
 alike_step index (Some (code c)) a b h = refl
 alike_step index (Some (limit n)) a b h = refl

@@ -1,7 +1,7 @@
 //! What operations make of znodes.
 ghost use Rattle.std.specs.Prelude.{◌≡◌, ◌<ℤ◌, IfOk, OnOk, IfErr, Ok, Some, None, []};
 ghost use Rattle.kz_types.specs.declared.limits.TheConstants.{MAX_VERSION};
-ghost use Rattle.kz_spec_stores.specs.Tree.{row_at, touched, set_row, created_row, after_set, after_op, after_ops, op_refusal, refused};
+ghost use Rattle.kz_spec_stores.specs.Tree.{row_at, with_child_change, set_row, created_row, after_set, after_op, after_ops, op_refusal, rows_unless_refused};
 ghost use Rattle.kz_tree.specs.Kept.{AreRows};
 ghost use Rattle.kz_tree.specs.Refusals.{IsMultiFaultOf, meaning};
 
@@ -15,7 +15,7 @@ use std::alloc::Global;
 // A znode got or lost a child.
 fn touch(rows: &mut Vec<Row>, path: &[u8], zxid: i64)
     requires { AreRows rows.old.items }
-    ensures value { rows.new.items ≡ touched zxid (row_at path.now rows.old.items) rows.old.items }
+    ensures value { rows.new.items ≡ with_child_change zxid (row_at path.now rows.old.items) rows.old.items }
     ensures kept { AreRows rows.new.items }
 {
     if let Ok(at) = spot_of(rows, path) {
@@ -93,7 +93,7 @@ fn apply(
 }
 
 fn fault_of(index: usize, refusal: Refusal) -> MultiFault
-    ensures { IsMultiFaultOf (refused index (Some (meaning refusal)) (Ok [])) result }
+    ensures { IsMultiFaultOf (rows_unless_refused index (Some (meaning refusal)) (Ok [])) result }
 {
     match refusal {
         Refusal::Code(code) => MultiFault::Refused { index, code },

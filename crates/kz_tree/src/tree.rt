@@ -267,7 +267,7 @@ impl Tree {
 
     /// What `/migration` records, where it is there and can be read.
     pub fn recorded(&self) -> Result<Option<Recorded>, NoMemory>
-        ensures { IfOk result (λ recorded. recorded ≡ tree.recorded self.now) }
+        ensures { IfOk result (λ recorded. recorded ≡ tree.migration_record self.now) }
     {
         reads::recorded(self.alloc, &self.rows)
     }
@@ -275,8 +275,8 @@ impl Tree {
     /// Whether the tree is closed: an offset is recorded, and no znode of the migrated area was written, nor were its
     /// children, after `/migration`.
     pub fn closed(&self) -> Result<(), ClosedFault>
-        ensures ok { OnOk result (tree.unclosed self.now ≡ None) }
-        ensures err { IfErr result (IsClosedFaultOf (tree.unclosed self.now)) }
+        ensures ok { OnOk result (tree.unclosed_path self.now ≡ None) }
+        ensures err { IfErr result (IsClosedFaultOf (tree.unclosed_path self.now)) }
     {
         match self.unclosed() {
             Ok(None) => Ok(()),
@@ -288,7 +288,7 @@ impl Tree {
     /// Where the tree isn't closed: `/migration` where no offset is recorded, else the first znode of the migrated area
     /// that was written, or whose children were, after `/migration`.
     pub fn unclosed(&self) -> Result<Option<ZPath>, NoMemory>
-        ensures { IfOk result (λ path. path ≡ tree.unclosed self.now) }
+        ensures { IfOk result (λ path. path ≡ tree.unclosed_path self.now) }
     {
         reads::unclosed(self.alloc, &self.rows)
     }

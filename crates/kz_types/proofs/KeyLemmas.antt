@@ -9,7 +9,7 @@ use Rattle.kz_types.specs.declared.key.EntityKey.{EntityKey}
 use Rattle.kz_types.specs.declared.key.EntityKey.TheVariants.{Topic, Partition, TopicConfig, BrokerConfig, Client, User, UserClient, Ip, Acl, Producer}
 use Rattle.kz_types.specs.Numbers.{canonical, number_in}
 use Rattle.kz_types.specs.PathRule.{is_path, parts}
-use Rattle.kz_types.specs.Paths.{is_part, is_topic_name, topic_of, address_of, default_or, part_or_default, default_part, restored, sanitised, unescaped, resource_type_of, resource_type_name, are, key_of, key_of_parts, key_of_three, key_of_four, key_of_five, key_of_six, path_of}
+use Rattle.kz_types.specs.Paths.{is_part, is_topic_name, topic_of, address_of, default_or, part_or_default, default_part, name_of_part, part_for_name, bytes_of_part, resource_type_of, resource_type_name, are, key_of, key_of_parts, key_of_three, key_of_four, key_of_five, key_of_six, path_of}
 use Rattle.kz_types.proofs.NumberLemmas.{bytes_eq-true, canonical_sound}
 use Rattle.kz_types.proofs.PathRules.{both_hold, split_of_path}
 
@@ -47,10 +47,10 @@ address_is part name h = elim (taken (is_part part) (Some part) None name h) [
   | inr other ↦ no_some name other.1
 ]
 
-restored_is : (part name : List ℕ) → restored part ≡ Some name → sanitised name ≡ part
-unfolding restored
-restored_is part name h = elim (taken (bytes_eq (sanitised (unescaped part)) part && is_utf8 (unescaped part)) (Some (unescaped part)) None name h) [
-  | inl same ↦ ap sanitised (sym (some_same (unescaped part) name same.1)) ∙ bytes_eq-true (sanitised (unescaped part)) part (both_hold (bytes_eq (sanitised (unescaped part)) part) (is_utf8 (unescaped part)) same.0).0
+restored_is : (part name : List ℕ) → name_of_part part ≡ Some name → part_for_name name ≡ part
+unfolding name_of_part
+restored_is part name h = elim (taken (bytes_eq (part_for_name (bytes_of_part part)) part && is_utf8 (bytes_of_part part)) (Some (bytes_of_part part)) None name h) [
+  | inl same ↦ ap part_for_name (sym (some_same (bytes_of_part part) name same.1)) ∙ bytes_eq-true (part_for_name (bytes_of_part part)) part (both_hold (bytes_eq (part_for_name (bytes_of_part part)) part) (is_utf8 (bytes_of_part part)) same.0).0
   | inr other ↦ no_some name other.1
 ]
 
@@ -115,12 +115,12 @@ three_path a b c key h = elim (taken (are a b (codes "brokers") (codes "topics")
     | inr other ↦ elim (taken (are a b (codes "config") (codes "brokers")) (option_map (λ broker. BrokerConfig broker) (default_or number_in c)) _ key other.1) [
       | inl same ↦ form (λ broker. BrokerConfig broker) (part_or_default signed_decimal) a b c (codes "config") (codes "brokers") (default_or number_in c) key (λ x. refl)
           (λ x e. default_is number_in signed_decimal c x (number_is c) e) same.0 same.1
-      | inr other ↦ elim (taken (are a b (codes "config") (codes "clients")) (option_map (λ client. Client client) (default_or restored c)) _ key other.1) [
-        | inl same ↦ form (λ client. Client client) (part_or_default sanitised) a b c (codes "config") (codes "clients") (default_or restored c) key (λ x. refl)
-            (λ x e. default_is restored sanitised c x (restored_is c) e) same.0 same.1
-        | inr other ↦ elim (taken (are a b (codes "config") (codes "users")) (option_map (λ user. User user) (default_or restored c)) _ key other.1) [
-          | inl same ↦ form (λ user. User user) (part_or_default sanitised) a b c (codes "config") (codes "users") (default_or restored c) key (λ x. refl)
-              (λ x e. default_is restored sanitised c x (restored_is c) e) same.0 same.1
+      | inr other ↦ elim (taken (are a b (codes "config") (codes "clients")) (option_map (λ client. Client client) (default_or name_of_part c)) _ key other.1) [
+        | inl same ↦ form (λ client. Client client) (part_or_default part_for_name) a b c (codes "config") (codes "clients") (default_or name_of_part c) key (λ x. refl)
+            (λ x e. default_is name_of_part part_for_name c x (restored_is c) e) same.0 same.1
+        | inr other ↦ elim (taken (are a b (codes "config") (codes "users")) (option_map (λ user. User user) (default_or name_of_part c)) _ key other.1) [
+          | inl same ↦ form (λ user. User user) (part_or_default part_for_name) a b c (codes "config") (codes "users") (default_or name_of_part c) key (λ x. refl)
+              (λ x e. default_is name_of_part part_for_name c x (restored_is c) e) same.0 same.1
           | inr other ↦ elim (taken (are a b (codes "config") (codes "ips")) (option_map (λ address. Ip address) (default_or address_of c)) _ key other.1) [
             | inl same ↦ form (λ address. Ip address) (part_or_default (λ x. x)) a b c (codes "config") (codes "ips") (default_or address_of c) key (λ x. refl)
                 (λ x e. default_is address_of (λ y. y) c x (λ y f. sym (address_is c y f)) e) same.0 same.1
@@ -148,14 +148,14 @@ four_path a b c d key h = elim (taken (are a b (codes "kafka-acl-extended") (cod
 pub five_path : (a b c d e : List ℕ) (key : EntityKey) → key_of_five a b c d e ≡ Some key → path_of key ≡ 47 ∷ (a ++ 47 ∷ (b ++ 47 ∷ (c ++ 47 ∷ (d ++ 47 ∷ e))))
 unfolding path_of
 five_path a b c d e key h = elim (taken (are a b (codes "config") (codes "users") && bytes_eq d (codes "clients"))
-    (option_and_then (λ user. option_map (λ client. UserClient user client) (default_or restored e)) (default_or restored c)) None key h) [
+    (option_and_then (λ user. option_map (λ client. UserClient user client) (default_or name_of_part e)) (default_or name_of_part c)) None key h) [
       | inl same ↦
           let w = both_hold (are a b (codes "config") (codes "users")) (bytes_eq d (codes "clients")) same.0 in
-          let u = chained (λ user. option_map (λ client. UserClient user client) (default_or restored e)) (default_or restored c) key same.1 in
-          let m = mapped (λ client. UserClient u.0 client) (default_or restored e) key u.2 in
+          let u = chained (λ user. option_map (λ client. UserClient user client) (default_or name_of_part e)) (default_or name_of_part c) key same.1 in
+          let m = mapped (λ client. UserClient u.0 client) (default_or name_of_part e) key u.2 in
           ap path_of (sym m.2)
-          ∙ (λ i. 47 ∷ (codes "config" ++ 47 ∷ (codes "users" ++ 47 ∷ (default_is restored sanitised c u.0 (restored_is c) u.1 i
-          ++ 47 ∷ (sym (bytes_eq-true d (codes "clients") w.1) i ++ 47 ∷ default_is restored sanitised e m.0 (restored_is e) m.1 i)))))
+          ∙ (λ i. 47 ∷ (codes "config" ++ 47 ∷ (codes "users" ++ 47 ∷ (default_is name_of_part part_for_name c u.0 (restored_is c) u.1 i
+          ++ 47 ∷ (sym (bytes_eq-true d (codes "clients") w.1) i ++ 47 ∷ default_is name_of_part part_for_name e m.0 (restored_is e) m.1 i)))))
           ∙ between a b (codes "config") (codes "users") (c ++ 47 ∷ (d ++ 47 ∷ e)) w.0
       | inr other ↦ no_some key other.1
     ]

@@ -103,23 +103,23 @@ abbrev pub sanitised_byte : ℕ → List ℕ
 sanitised_byte b = if is_plain b then b ∷ [] else 37 ∷ hex_digit (b / 16) ∷ hex_digit (b % 16) ∷ []
 
 -- the part that a client id or a user's name is written as
-unfoldable pub sanitised : List ℕ → List ℕ
-sanitised name = flat_map sanitised_byte name
+unfoldable pub part_for_name : List ℕ → List ℕ
+part_for_name name = flat_map sanitised_byte name
 
 -- the value of an upper-case hexadecimal digit, and 0 of another byte
 abbrev pub hex_value : ℕ → ℕ
 hex_value c = if nat_le 48 c && nat_le c 57 then c - 48 else if nat_le 65 c && nat_le c 70 then c - 55 else 0
 
 -- the bytes that a part's plain bytes and escapes stand for
-unfoldable pub unescaped : List ℕ → List ℕ
-unescaped [] = []
-unescaped (c ∷ []) = c ∷ []
-unescaped (c ∷ d ∷ []) = c ∷ d ∷ []
-unescaped (c ∷ d ∷ e ∷ rest) = if c == 37 then (hex_value d * 16 + hex_value e) ∷ unescaped rest else c ∷ unescaped (d ∷ e ∷ rest)
+unfoldable pub bytes_of_part : List ℕ → List ℕ
+bytes_of_part [] = []
+bytes_of_part (c ∷ []) = c ∷ []
+bytes_of_part (c ∷ d ∷ []) = c ∷ d ∷ []
+bytes_of_part (c ∷ d ∷ e ∷ rest) = if c == 37 then (hex_value d * 16 + hex_value e) ∷ bytes_of_part rest else c ∷ bytes_of_part (d ∷ e ∷ rest)
 
 -- the name that is written as this part. A part that no name is written as has none
-unfoldable pub restored : List ℕ → Option (List ℕ)
-restored part = if bytes_eq (sanitised (unescaped part)) part && is_utf8 (unescaped part) then Some (unescaped part) else None
+unfoldable pub name_of_part : List ℕ → Option (List ℕ)
+name_of_part part = if bytes_eq (part_for_name (bytes_of_part part)) part && is_utf8 (bytes_of_part part) then Some (bytes_of_part part) else None
 
 -- ---- the forms of a path's parts
 
@@ -158,8 +158,8 @@ key_of_three a b c =
     if are a b (codes "brokers") (codes "topics") then option_map (λ name. Topic name) (topic_of c)
     else if are a b (codes "config") (codes "topics") then option_map (λ name. TopicConfig name) (topic_of c)
     else if are a b (codes "config") (codes "brokers") then option_map (λ broker. BrokerConfig broker) (default_or number_in c)
-    else if are a b (codes "config") (codes "clients") then option_map (λ client. Client client) (default_or restored c)
-    else if are a b (codes "config") (codes "users") then option_map (λ user. User user) (default_or restored c)
+    else if are a b (codes "config") (codes "clients") then option_map (λ client. Client client) (default_or name_of_part c)
+    else if are a b (codes "config") (codes "users") then option_map (λ user. User user) (default_or name_of_part c)
     else if are a b (codes "config") (codes "ips") then option_map (λ address. Ip address) (default_or address_of c)
     else if bytes_eq a (codes "kafka-acl") then option_map (λ kind. Acl (pos 3) kind c) (resource_type_of b)
     else None
@@ -174,7 +174,7 @@ key_of_four a b c d =
 abbrev pub key_of_five : List ℕ → List ℕ → List ℕ → List ℕ → List ℕ → Option EntityKey
 key_of_five a b c d e =
     if are a b (codes "config") (codes "users") && bytes_eq d (codes "clients")
-    then option_and_then (λ user. option_map (λ client. UserClient user client) (default_or restored e)) (default_or restored c)
+    then option_and_then (λ user. option_map (λ client. UserClient user client) (default_or name_of_part e)) (default_or name_of_part c)
     else None
 
 -- of six
@@ -207,7 +207,7 @@ is_scaffold_of_parts (a ∷ b ∷ []) = false
 is_scaffold_of_parts (a ∷ b ∷ c ∷ []) = false
 is_scaffold_of_parts (a ∷ b ∷ c ∷ d ∷ []) =
     (are a b (codes "brokers") (codes "topics") && is_topic_name c && bytes_eq d (codes "partitions"))
-    || (are a b (codes "config") (codes "users") && is_some (default_or restored c) && bytes_eq d (codes "clients"))
+    || (are a b (codes "config") (codes "users") && is_some (default_or name_of_part c) && bytes_eq d (codes "clients"))
 is_scaffold_of_parts (a ∷ b ∷ c ∷ d ∷ e ∷ []) =
     are a b (codes "brokers") (codes "topics") && is_topic_name c && bytes_eq d (codes "partitions") && is_some (canonical e)
 is_scaffold_of_parts (a ∷ b ∷ c ∷ d ∷ e ∷ f ∷ more) = false
@@ -231,9 +231,9 @@ path_of (Topic name) = codes "/brokers/topics/" ++ name
 path_of (Partition topic number) = codes "/brokers/topics/" ++ (topic ++ (codes "/partitions/" ++ (signed_decimal number ++ codes "/state")))
 path_of (TopicConfig name) = codes "/config/topics/" ++ name
 path_of (BrokerConfig broker) = codes "/config/brokers/" ++ part_or_default signed_decimal broker
-path_of (Client client) = codes "/config/clients/" ++ part_or_default sanitised client
-path_of (User user) = codes "/config/users/" ++ part_or_default sanitised user
-path_of (UserClient user client) = codes "/config/users/" ++ (part_or_default sanitised user ++ (codes "/clients/" ++ part_or_default sanitised client))
+path_of (Client client) = codes "/config/clients/" ++ part_or_default part_for_name client
+path_of (User user) = codes "/config/users/" ++ part_or_default part_for_name user
+path_of (UserClient user client) = codes "/config/users/" ++ (part_or_default part_for_name user ++ (codes "/clients/" ++ part_or_default part_for_name client))
 path_of (Ip address) = codes "/config/ips/" ++ part_or_default (λ a. a) address
 path_of (Acl pattern kind name) =
     (if int_eq pattern (pos 3) then codes "/kafka-acl/" else codes "/kafka-acl-extended/prefixed/")

@@ -9,10 +9,10 @@ is_client_first (first ∷ second ∷ []) = bytes_eq first.kind (codes "client-i
 is_client_first parts = false
 
 -- the other order of two parts
-abbrev pub turned : List QuotaEntity → List QuotaEntity
-turned (first ∷ second ∷ []) = second ∷ first ∷ []
-turned parts = parts
+abbrev pub other_order : List QuotaEntity → List QuotaEntity
+other_order (first ∷ second ∷ []) = second ∷ first ∷ []
+other_order parts = parts
 
 -- the same parts, and the pair of a client id and a user with the user first
 abbrev pub user_first : List QuotaEntity → List QuotaEntity
-user_first parts = if is_client_first parts then turned parts else parts
+user_first parts = if is_client_first parts then other_order parts else parts

@@ -12,7 +12,7 @@ use Rattle.kz_spec_stores.specs.Log.{Log, batch_ends, image_at}
 use Rattle.kz_spec_znodes.specs.Rendering.{render}
 use Rattle.kz_spec_machine.specs.Verdicts.{agrees_at, disagrees, ahead_path, paths_at, unless_disagrees, closed_or_ahead, verdict_at}
 use Rattle.kz_world.specs.declared.comparison.Found.{Found}
-use Rattle.kz_world.specs.Agreement.{agrees_in, first_among, all_first, marked, all_found, found_at, is_disagreeing, ahead_of, found_verdict, found_closed_or_ahead, unless_one_disagrees}
+use Rattle.kz_world.specs.Agreement.{agrees_in, first_among, all_first, marks_at_end, all_found, found_at, is_disagreeing, ahead_of, found_verdict, found_closed_or_ahead, unless_one_disagrees}
 
 -- ---- one batch end more
 
@@ -20,15 +20,15 @@ reached : (x y : ℤ) → y ≤ℤ x → int_le y x ≡ true
 reached x y h = grind (arith, ints)
 
 from_offset : (there : List Rendered) (l : Log) (offset end : ℤ) (ends : List ℤ) (zs : List Rendered) → int_le offset end ≡ true
-    → marked end there (render (image_at l end)) zs (all_first there l offset ends zs) ≡ all_first there l offset (end ∷ ends) zs
+    → marks_at_end end there (render (image_at l end)) zs (all_first there l offset ends zs) ≡ all_first there l offset (end ∷ ends) zs
 from_offset there l offset end ends [] h = refl
 from_offset there l offset end ends (z ∷ zs) h =
     rw h (ap (λ ms. cond (agrees_in there (render (image_at l end)) z.path) (Some end) (first_among there l offset ends z.path) ∷ ms) (from_offset there l offset end ends zs h))
 
 pub next_end : (l : Log) (offset end : ℤ) (ends : List ℤ) (there rendering zs : List Rendered) (marks : List (Option ℤ)) → offset ≤ℤ end → rendering ≡ render (image_at l end) → marks ≡ all_first there l offset ends zs
-    → marked end there rendering zs marks ≡ all_first there l offset (end ∷ ends) zs
+    → marks_at_end end there rendering zs marks ≡ all_first there l offset (end ∷ ends) zs
 next_end l offset end ends there rendering zs marks h r m =
-    ap (λ x. marked end there x zs marks) r ∙ ap (marked end there (render (image_at l end)) zs) m ∙ from_offset there l offset end ends zs (reached end offset h)
+    ap (λ x. marks_at_end end there x zs marks) r ∙ ap (marks_at_end end there (render (image_at l end)) zs) m ∙ from_offset there l offset end ends zs (reached end offset h)
 
 -- ---- what is found at all znodes
 

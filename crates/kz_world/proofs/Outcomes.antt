@@ -14,19 +14,19 @@ use Rattle.kz_types.specs.declared.machine.Event.TheVariants as event
 use Rattle.kz_types.specs.declared.machine.Reply.{Reply}
 use Rattle.kz_types.specs.declared.record.MetaRecord.{MetaRecord}
 use Rattle.kz_spec_stores.specs.Image.{all_applied, first_bad}
-use Rattle.kz_spec_stores.specs.Log.{Log, append, elect, end_of, full_log, added, with_batch, image_of, begun_of, is_migrated_log}
+use Rattle.kz_spec_stores.specs.Log.{Log, append, elect, end_of, full_log, log_unless_limit, with_batch, image_of, begun_of, is_migrated_log}
 use Rattle.kz_spec_znodes.specs.Rendering.{excess}
 use Rattle.kz_spec_machine.specs.Driver.{Shared, Driver}
-use Rattle.kz_spec_machine.specs.Machine.{World, next, running_ids, is_running, start_refusal, turn, work, turned_world, decided, unless_refused, first_of, unless, over, full, running_refusal, leader_refusal, change_refusal, over_excess, election_refusal, election_records, elected_log, elected_world, election_answer, next_epoch, changed_log, changed_world, turn_result, driver_of, register_refusal, registration, bad_record}
+use Rattle.kz_spec_machine.specs.Machine.{World, next, running_ids, is_running, start_refusal, turn, work, turned_world, outcome_unless, unless_refused, first_of, unless, over, full, running_refusal, leader_refusal, change_refusal, over_excess, election_refusal, election_records, elected_log, elected_world, election_answer, next_epoch, changed_log, changed_world, turn_result, driver_of, register_refusal, registration, bad_record}
 use Rattle.kz_spec_machine.specs.Failures.{is_failed_step, is_failure, IsCutOff, IsLeft}
 use Rattle.kz_driver.specs.declared.fault.StepFault.{StepFault}
 use Rattle.kz_driver.specs.Disks.{Disks, Files}
 use Rattle.kz_log.specs.Requests.{IsRefusal}
 use Rattle.kz_world.specs.Disks.{UnlessRefused, DriverTurnDisks, TurnEventDisks, ResultDisks, EventDisks}
-use Rattle.kz_world.specs.Faults.{after_log_fault, answered, result_of_answer}
+use Rattle.kz_world.specs.Faults.{after_log_fault, answer_of_result, result_of_answer}
 use Rattle.kz_world.specs.Refusals.{records_refusal}
 use Rattle.kz_world.specs.Turns.{StepsEnd, IsTurned}
-use Rattle.kz_world.specs.Worlds.{AreDistinct, elected_drivers, appended, IsDone, IsOutcome}
+use Rattle.kz_world.specs.Worlds.{AreDistinct, elected_drivers, world_after_append, IsDone, IsOutcome}
 use Rattle.kz_world.proofs.Told.{told_answer, log_refuses, event_told, left_by}
 use Rattle.kz_world.proofs.Listings.{itself, one_place}
 use Rattle.kz_world.proofs.StepWise.{turned, cut_off_fails}
@@ -37,8 +37,8 @@ first_none : (a b : Option Answer) → first_of a b ≡ None → (a ≡ None) ×
 first_none None b h = (refl, h)
 first_none (Some x) b h = absurd (cc)
 
-by_refusal : (w : World) (refusal : Option Answer) (r : Answer) (new : World) (a : Answer) → refusal ≡ Some r → decided w refusal new a ≡ (w, r)
-by_refusal w refusal r new a h = ap (λ x. decided w x new a) h
+by_refusal : (w : World) (refusal : Option Answer) (r : Answer) (new : World) (a : Answer) → refusal ≡ Some r → outcome_unless w refusal new a ≡ (w, r)
+by_refusal w refusal r new a h = ap (λ x. outcome_unless w x new a) h
 
 -- what holds where there is no refusal
 pub unless_none : (o : Option Answer) (asked refused : Type 0) → o ≡ None → asked → UnlessRefused o asked refused
@@ -77,19 +77,19 @@ abbrev number_or : ℕ → Result Log LogFault → ℕ
 number_or n (Err (fault.Limit m)) = m
 number_or n other = n
 
-added_ok : (f : Option ℕ) (new l : Log) → added f new ≡ Ok l → (f ≡ None) × (new ≡ l)
+added_ok : (f : Option ℕ) (new l : Log) → log_unless_limit f new ≡ Ok l → (f ≡ None) × (new ≡ l)
 added_ok None new l h = (refl, ap (log_or new) h)
 added_ok (Some n) new l h = absurd (cc)
 
-added_over : (f : Option ℕ) (new : Log) (n : ℕ) → added f new ≡ Err (fault.Limit n) → f ≡ Some n
+added_over : (f : Option ℕ) (new : Log) (n : ℕ) → log_unless_limit f new ≡ Err (fault.Limit n) → f ≡ Some n
 added_over None new n h = absurd (cc)
 added_over (Some m) new n h = ap (λ r. Some (number_or m r)) h
 
-elect_ok : (b : Bool) (f : Option ℕ) (new l : Log) → cond b (added f new) (Err (fault.Limit (number_of_limit limits.Epoch))) ≡ Ok l → (b ≡ true) × (f ≡ None) × (new ≡ l)
+elect_ok : (b : Bool) (f : Option ℕ) (new l : Log) → cond b (log_unless_limit f new) (Err (fault.Limit (number_of_limit limits.Epoch))) ≡ Ok l → (b ≡ true) × (f ≡ None) × (new ≡ l)
 elect_ok true f new l h = (refl, (added_ok f new l h).0, (added_ok f new l h).1)
 elect_ok false f new l h = absurd (cc)
 
-elect_over : (b : Bool) (f : Option ℕ) (new : Log) (n : ℕ) → cond b (added f new) (Err (fault.Limit (number_of_limit limits.Epoch))) ≡ Err (fault.Limit n) → first_of (unless b (over (number_of_limit limits.Epoch))) (option_map over f) ≡ Some (over n)
+elect_over : (b : Bool) (f : Option ℕ) (new : Log) (n : ℕ) → cond b (log_unless_limit f new) (Err (fault.Limit (number_of_limit limits.Epoch))) ≡ Err (fault.Limit n) → first_of (unless b (over (number_of_limit limits.Epoch))) (option_map over f) ≡ Some (over n)
 elect_over true f new n h = ap (option_map over) (added_over f new n h)
 elect_over false f new n h = ap (λ r. Some (over (number_or (number_of_limit limits.Epoch) r))) h
 
@@ -119,7 +119,7 @@ election_over w id now items n runs items_are refused =
     (ap (λ a. first_of a (first_of (unless (int_lt old.epoch MAX_EPOCH) (over (number_of_limit limits.Epoch))) (full old (election_records old)))) runs
     ∙ elect_over (int_lt old.epoch MAX_EPOCH) (full_log old (election_records old)) (elected_log old now) n (ap (elect old now) (sym items_are) ∙ refused))
 
-elect_not_stale : (b : Bool) (f : Option ℕ) (new : Log) (epoch : ℤ) → cond b (added f new) (Err (fault.Limit (number_of_limit limits.Epoch))) ≡ Err (fault.Stale epoch) → ⊥
+elect_not_stale : (b : Bool) (f : Option ℕ) (new : Log) (epoch : ℤ) → cond b (log_unless_limit f new) (Err (fault.Limit (number_of_limit limits.Epoch))) ≡ Err (fault.Stale epoch) → ⊥
 elect_not_stale true None new epoch h = absurd (cc)
 elect_not_stale true (Some n) new epoch h = absurd (cc)
 elect_not_stale false f new epoch h = absurd (cc)
@@ -136,16 +136,16 @@ election_refused w id now items f new runs items_are is same =
 -- ---- appends
 
 -- an append of the log's own epoch
-append_is : (l : Log) (epoch now : ℤ) (items : List MetaRecord) → epoch ≡ l.epoch → append l epoch now items ≡ added (full_log l items) (with_batch l l.epoch now items)
+append_is : (l : Log) (epoch now : ℤ) (items : List MetaRecord) → epoch ≡ l.epoch → append l epoch now items ≡ log_unless_limit (full_log l items) (with_batch l l.epoch now items)
 append_is l epoch now items is =
-    ap (λ e. append l e now items) is ∙ ap (λ b. cond b (added (full_log l items) (with_batch l l.epoch now items)) (Err (fault.Stale l.epoch))) (itself l.epoch)
+    ap (λ e. append l e now items) is ∙ ap (λ b. cond b (log_unless_limit (full_log l items) (with_batch l l.epoch now items)) (Err (fault.Stale l.epoch))) (itself l.epoch)
 
-not_stale : (f : Option ℕ) (new : Log) (epoch : ℤ) → added f new ≡ Err (fault.Stale epoch) → ⊥
+not_stale : (f : Option ℕ) (new : Log) (epoch : ℤ) → log_unless_limit f new ≡ Err (fault.Stale epoch) → ⊥
 not_stale None new epoch h = absurd (cc)
 not_stale (Some n) new epoch h = absurd (cc)
 
 append_over : (w : World) (records : List MetaRecord) (now epoch : ℤ) (n : ℕ) (new : World) → epoch ≡ w.shared.log.epoch → append w.shared.log epoch now records ≡ Err (fault.Limit n) → new ≡ w
-    → appended w records now ≡ (new, answer.Over n)
+    → world_after_append w records now ≡ (new, answer.Over n)
 append_over w records now epoch n new is limit same =
     let l = w.shared.log in
     by_refusal w (full l records) (over n) (changed_world w records now) (answer.Appended (end_of (changed_log l records now)))
@@ -154,21 +154,21 @@ append_over w records now epoch n new is limit same =
 
 -- the log refuses an append of its own epoch
 pub append_refused : (w : World) (records : List MetaRecord) (now epoch : ℤ) (f : LogFault) (new : World) → epoch ≡ w.shared.log.epoch → IsRefusal (append w.shared.log epoch now records) f → new ≡ w
-    → IfOk (after_log_fault f) (λ a. (appended w records now ≡ (new, a)) × (is_failure a ≡ false))
+    → IfOk (after_log_fault f) (λ a. (world_after_append w records now ≡ (new, a)) × (is_failure a ≡ false))
 append_refused w records now epoch f new is refused same =
     let l = w.shared.log in
-    log_refuses (append l epoch now records) f (λ a. (appended w records now ≡ (new, a)) × (is_failure a ≡ false)) refused
+    log_refuses (append l epoch now records) f (λ a. (world_after_append w records now ≡ (new, a)) × (is_failure a ≡ false)) refused
     (λ e stale. absurd (not_stale (full_log l records) (with_batch l l.epoch now records) e (sym (append_is l epoch now records is) ∙ stale)))
     (λ n limit. (append_over w records now epoch n new is limit same, refl))
 
 -- it is taken
 pub append_done : (w : World) (records : List MetaRecord) (now epoch end : ℤ) (m : Log) → epoch ≡ w.shared.log.epoch → append w.shared.log epoch now records ≡ Ok m → end ≡ end_of m
-    → appended w records now ≡ (record { shared = record { tree = w.shared.tree; log = m; declared = w.shared.declared }; drivers = w.drivers }, answer.Appended end)
+    → world_after_append w records now ≡ (record { shared = record { tree = w.shared.tree; log = m; declared = w.shared.declared }; drivers = w.drivers }, answer.Appended end)
 append_done w records now epoch end m is made end_is =
     let l = w.shared.log in
     let target : Log → ℤ → World × Answer = λ x e. (record { shared = record { tree = w.shared.tree; log = x; declared = w.shared.declared }; drivers = w.drivers }, answer.Appended e) in
     let taken = added_ok (full_log l records) (with_batch l l.epoch now records) m (sym (append_is l epoch now records is) ∙ made) in
-    ap (λ f. decided w (option_map over f) (changed_world w records now) (answer.Appended (end_of (changed_log l records now)))) taken.0
+    ap (λ f. outcome_unless w (option_map over f) (changed_world w records now) (answer.Appended (end_of (changed_log l records now)))) taken.0
     ∙ ap (λ x. target x (end_of x)) taken.1 ∙ ap (target m) (sym end_is)
 
 -- ---- changes
@@ -195,9 +195,9 @@ unfolding next
 change_refused w id now records r leads refused =
     by_refusal w (change_refusal w id records) r (changed_world w records now) (answer.Appended (end_of (changed_log w.shared.log records now))) (by_records w id records (Some r) leads refused)
 
-pub change_appends : (w : World) (id now : ℤ) (records : List MetaRecord) → leader_refusal w id ≡ None → records_refusal w.shared.log.epoch (image_of w.shared.log) records ≡ None → next w (event.Change id records now) ≡ appended w records now
+pub change_appends : (w : World) (id now : ℤ) (records : List MetaRecord) → leader_refusal w id ≡ None → records_refusal w.shared.log.epoch (image_of w.shared.log) records ≡ None → next w (event.Change id records now) ≡ world_after_append w records now
 unfolding next
-change_appends w id now records leads taken = ap (λ a. decided w a (changed_world w records now) (answer.Appended (end_of (changed_log w.shared.log records now)))) (by_records w id records None leads taken)
+change_appends w id now records leads taken = ap (λ a. outcome_unless w a (changed_world w records now) (answer.Appended (end_of (changed_log w.shared.log records now)))) (by_records w id records None leads taken)
 
 -- ---- registrations
 
@@ -213,11 +213,11 @@ register_refused w id broker migrating now offset leads is =
     let records = registration broker migrating in
     by_refusal w (register_refusal w id records) (answer.InTransaction offset) (changed_world w records now) (answer.Appended (end_of (changed_log w.shared.log records now))) (by_begun w id records (Some offset) leads is)
 
-pub register_appends : (w : World) (id broker : ℤ) (migrating : Bool) (now : ℤ) → leader_refusal w id ≡ None → begun_of w.shared.log ≡ None → next w (event.Register id broker migrating now) ≡ appended w (registration broker migrating) now
+pub register_appends : (w : World) (id broker : ℤ) (migrating : Bool) (now : ℤ) → leader_refusal w id ≡ None → begun_of w.shared.log ≡ None → next w (event.Register id broker migrating now) ≡ world_after_append w (registration broker migrating) now
 unfolding next
 register_appends w id broker migrating now leads is =
     let records = registration broker migrating in
-    ap (λ a. decided w a (changed_world w records now) (answer.Appended (end_of (changed_log w.shared.log records now)))) (by_begun w id records None leads is)
+    ap (λ a. outcome_unless w a (changed_world w records now) (answer.Appended (end_of (changed_log w.shared.log records now)))) (by_begun w id records None leads is)
 
 -- ---- starts
 
@@ -294,10 +294,10 @@ turn_outcome r w id now at new runs h found each =
 
 -- what it does to the disks
 pub turn_disks : (r : Result Answer StepFault) (w : World) (id now : ℤ) (at : ℕ) (files : Files) (old new : Disks) → running_refusal w id ≡ None → at < length w.drivers → driver_of id w.drivers ≡ slice_get w.drivers at
-    → ((d : Driver) → slice_get w.drivers at ≡ Some d → DriverTurnDisks w now d r old new) → ResultDisks w (event.Turn id now) files r old new
+    → ((d : Driver) → slice_get w.drivers at ≡ Some d → DriverTurnDisks w now d files r old new) → ResultDisks w (event.Turn id now) files r old new
 turn_disks r w id now at files old new runs h found each =
     unless_none (running_refusal w id) _ _ runs
-    (subst (λ o. TurnEventDisks w now o r old new) (sym found) (by_driver (λ o. TurnEventDisks w now o r old new) w.drivers at (slice_get w.drivers at) h refl each))
+    (subst (λ o. TurnEventDisks w now o files r old new) (sym found) (by_driver (λ o. TurnEventDisks w now o files r old new) w.drivers at (slice_get w.drivers at) h refl each))
 
 -- a turn that is refused
 pub turn_refused : (w : World) (id now : ℤ) (r : Answer) → running_refusal w id ≡ Some r → is_failure r ≡ false → IsOutcome w (event.Turn id now) w r
@@ -314,16 +314,16 @@ turn_of_none w id now new runs none same = done_is_outcome w (event.Turn id now)
 -- ---- answers of events
 
 -- an answer that tells of no failure
-pub event_done : (w new : World) (e : Event) (files : Files) (r : Result Answer StepFault) (a : Answer) (old later : Disks) → a ≡ answered r → IfOk r (IsOutcome w e new) → ResultDisks w e files r old later → is_failure a ≡ false → next w e ≡ (new, a)
+pub event_done : (w new : World) (e : Event) (files : Files) (r : Result Answer StepFault) (a : Answer) (old later : Disks) → a ≡ answer_of_result r → IfOk r (IsOutcome w e new) → ResultDisks w e files r old later → is_failure a ≡ false → next w e ≡ (new, a)
 event_done w new e files (Ok b) a old later is outcome disks none = outcome.done (sym (ap is_failure is) ∙ none) ∙ ap (λ x. (new, x)) (sym is)
 event_done w new e files (Err f) a old later is outcome disks none = true_or_false (is_failure a) (ap is_failure is ∙ (event_told w e files f old later disks).failure) none
 
 -- one that tells of a failure
-pub event_failed : (w new : World) (e : Event) (r : Result Answer StepFault) (a : Answer) → a ≡ answered r → IfOk r (IsOutcome w e new) → OnErr r (new ≡ w) → is_failure a ≡ true → IsLeft w e a new
+pub event_failed : (w new : World) (e : Event) (r : Result Answer StepFault) (a : Answer) → a ≡ answer_of_result r → IfOk r (IsOutcome w e new) → OnErr r (new ≡ w) → is_failure a ≡ true → IsLeft w e a new
 event_failed w new e (Ok b) a is outcome same fails = subst (λ x. IsLeft w e x new) (sym is) (outcome.failed (sym (ap is_failure is) ∙ fails))
 event_failed w new e (Err f) a is outcome same fails = subst (λ x. IsLeft w e x new) (sym is) (left_by w e f new same)
 
 -- what it says of the disks
-pub event_disks : (w new : World) (e : Event) (files : Files) (r : Result Answer StepFault) (a : Answer) (old later : Disks) → a ≡ answered r → IfOk r (IsOutcome w e new) → ResultDisks w e files r old later → EventDisks w e files a old later
+pub event_disks : (w new : World) (e : Event) (files : Files) (r : Result Answer StepFault) (a : Answer) (old later : Disks) → a ≡ answer_of_result r → IfOk r (IsOutcome w e new) → ResultDisks w e files r old later → EventDisks w e files a old later
 event_disks w new e files (Ok b) a old later is outcome disks = subst (λ x. ResultDisks w e files x old later) (sym (ap result_of_answer is ∙ outcome.told)) disks
 event_disks w new e files (Err f) a old later is outcome disks = subst (λ x. ResultDisks w e files x old later) (sym (ap result_of_answer is ∙ (event_told w e files f old later disks).answer)) disks

@@ -22,12 +22,12 @@ use Rattle.kz_spec_stores.specs.Tree.{Tree, multi, broker_ids}
 use Rattle.kz_spec_stores.specs.Log.{Log, View, IsViewOf, append}
 use Rattle.kz_spec_stores.specs.Image.{Image}
 use Rattle.kz_spec_znodes.specs.Translation.{Unreadable, translate}
-use Rattle.kz_spec_machine.specs.Driver.{Shared, Driver, Stepped, step, asked, answered, Request, nothing, read_log, list_brokers, look_up, read_page, write, add, unless_finalised, wait_or_move, after_quorum, after_brokers, missing_controller, missing_broker, having_read, seen_in, looked, shown_by, unless_fenced, unless_full_epoch, unless_bad_epoch, unless_full_record, epoch_or_zero, claim_ops, after_claim, after_translation, after_append, begin_record, next_records, after_records, after_rest, is_recorded_at, writes, after_write, written_driver, is_last_write, is_claim_refused, write_ops, remaining_at}
+use Rattle.kz_spec_machine.specs.Driver.{Shared, Driver, Stepped, step, request_at, after_answer, Request, nothing, read_log, list_brokers, look_up, read_page, write, add, unless_finalised, wait_or_move, after_quorum, after_brokers, missing_controller, missing_broker, having_read, seen_in, after_look, shown_by, unless_fenced, unless_full_epoch, unless_bad_epoch, unless_full_record, epoch_or_zero, claim_ops, after_claim, after_translation, after_append, begin_record, next_records, after_records, after_rest, is_recorded_at, writes, after_write, written_driver, is_last_write, is_claim_refused, write_ops, remaining_at}
 use Rattle.kz_spec_machine.specs.Machine.{Turned, ends, turn, with_reply}
 use Rattle.kz_spec_machine.specs.Failures.{is_failed_step, IsCutOff}
 use Rattle.kz_driver.specs.declared.fault.StepFault.{StepFault}
 use Rattle.kz_driver.specs.declared.fault.StepFault.TheVariants as step_fault
-use Rattle.kz_driver.specs.Disks.{Disks, Files, files_of, RequestDisks, StepDisks}
+use Rattle.kz_driver.specs.Disks.{Disks, Files, RequestDisks, StepDisks}
 use Rattle.kz_world.specs.Disks.{StepRequestDisks, TurnDisks}
 use Rattle.kz_world.specs.Faults.{reply_of_fault, result_of_reply}
 use Rattle.kz_world.specs.Turns.{StepsEnd}
@@ -72,7 +72,7 @@ full_record : (r : Option Row) (d : Driver) (rest : Driver × Reply) → HasId d
 full_record None d rest h = h
 full_record (Some r) d rest h = chosen _ d.id _ rest refl h
 
-looks : (seen : ClaimSeen) (d : Driver) → HasId d.id (looked seen d)
+looks : (seen : ClaimSeen) (d : Driver) → HasId d.id (after_look seen d)
 looks seen d = fenced (shown_by seen.control) d _ (bad_epoch seen.epoch d _ (full_record seen.migration d _ refl))
 
 claims : (seen : ClaimSeen) (d : Driver) (ops : List Op) (r : Result Tree TreeFault) → HasId d.id (after_claim seen d ops r)
@@ -116,7 +116,7 @@ under t (Some claim) ops target more last d = wrote claim ops target more last d
 rests : (before : Image) (d : Driver) → HasId d.id (after_rest before d)
 rests before d = finalised d.id d _ refl (chosen (is_recorded_at d.recorded d.view.position) d.id _ _ refl refl)
 
-has_id : (s : Shared) (running : List ℤ) (now : ℤ) (d : Driver) (st : Stage) → HasId d.id (answered s running now d st)
+has_id : (s : Shared) (running : List ℤ) (now : ℤ) (d : Driver) (st : Stage) → HasId d.id (after_answer s running now d st)
 has_id s running now d stage.Uninitialized = refl
 has_id s running now d stage.Inactive = refl
 has_id s running now d stage.WaitForControllerQuorum = quorum s.declared running (having_read s.log d)
@@ -174,40 +174,40 @@ abbrev pub moment : Shared → Driver → Disks → Moment
 moment s d disks = record { shared = s; driver = d; disks = disks }
 
 -- what a step with this reply does to the disks
-abbrev pub StepMoves : ℤ → Moment → Reply → Moment → Type 0
-StepMoves now m r n = (files : Files) × StepRequestDisks m.shared now m.driver files (result_of_reply r) m.disks n.disks
+abbrev pub StepMoves : Files → ℤ → Moment → Reply → Moment → Type 0
+StepMoves files now m r n = StepRequestDisks m.shared now m.driver files (result_of_reply r) m.disks n.disks
 
 -- one step, which didn't end the turn
-pub record IsStep (running : List ℤ) (now : ℤ) (m : Moment) (r : Reply) (n : Moment) : Type 0 where
+pub record IsStep (files : Files) (running : List ℤ) (now : ℤ) (m : Moment) (r : Reply) (n : Moment) : Type 0 where
   pub made : step m.shared running now m.driver ≡ stepped n.shared n.driver r
   pub on : ends r ≡ false
-  pub disks : StepMoves now m r n
+  pub disks : StepMoves files now m r n
 
 -- such steps with these replies, one after another
-abbrev pub AreSteps : List ℤ → ℤ → Moment → List Reply → Moment → Type 0
-AreSteps running now m [] n = m ≡ n
-AreSteps running now m (r ∷ rs) n = (mid : Moment) × IsStep running now m r mid × AreSteps running now mid rs n
+abbrev pub AreSteps : Files → List ℤ → ℤ → Moment → List Reply → Moment → Type 0
+AreSteps files running now m [] n = m ≡ n
+AreSteps files running now m (r ∷ rs) n = (mid : Moment) × IsStep files running now m r mid × AreSteps files running now mid rs n
 
 -- a further one
-pub steps_more : (running : List ℤ) (now : ℤ) (m : Moment) (rs : List Reply) (n : Moment) (r : Reply) (o : Moment) → AreSteps running now m rs n → IsStep running now n r o → AreSteps running now m (rs ++ r ∷ []) o
-steps_more running now m [] n r o same is = (o, subst (λ x. IsStep running now x r o) (sym same) is, refl)
-steps_more running now m (q ∷ qs) n r o h is = (h.0, h.1, steps_more running now h.0 qs n r o h.2 is)
+pub steps_more : (files : Files) (running : List ℤ) (now : ℤ) (m : Moment) (rs : List Reply) (n : Moment) (r : Reply) (o : Moment) → AreSteps files running now m rs n → IsStep files running now n r o → AreSteps files running now m (rs ++ r ∷ []) o
+steps_more files running now m [] n r o same is = (o, subst (λ x. IsStep files running now x r o) (sym same) is, refl)
+steps_more files running now m (q ∷ qs) n r o h is = (h.0, h.1, steps_more files running now h.0 qs n r o h.2 is)
 
 -- as many steps as the turn may have
-pub all_steps : (running : List ℤ) (now : ℤ) (m : Moment) (rs : List Reply) (n : Moment) → AreSteps running now m rs n → turn (length rs) m.shared running now m.driver ≡ turned n.shared n.driver rs
+pub all_steps : (files : Files) (running : List ℤ) (now : ℤ) (m : Moment) (rs : List Reply) (n : Moment) → AreSteps files running now m rs n → turn (length rs) m.shared running now m.driver ≡ turned n.shared n.driver rs
 unfolding turn
-all_steps running now m [] n same = ap (λ (x : Moment). turned x.shared x.driver []) same
-all_steps running now m (q ∷ qs) n h =
-    goes_on_at (length qs) m.shared running now m.driver h.0.shared h.0.driver q h.1.made h.1.on ∙ ap (with_reply q) (all_steps running now h.0 qs n h.2)
+all_steps files running now m [] n same = ap (λ (x : Moment). turned x.shared x.driver []) same
+all_steps files running now m (q ∷ qs) n h =
+    goes_on_at (length qs) m.shared running now m.driver h.0.shared h.0.driver q h.1.made h.1.on ∙ ap (with_reply q) (all_steps files running now h.0 qs n h.2)
 
 -- the last step ends the turn
-last_step : (running : List ℤ) (now : ℤ) (most : ℕ) (m : Moment) (rs : List Reply) (n : Moment) (r : Reply) (t : Shared) (e : Driver) → length rs < most → AreSteps running now m rs n → step n.shared running now n.driver ≡ stepped t e r → ends r ≡ true
+last_step : (files : Files) (running : List ℤ) (now : ℤ) (most : ℕ) (m : Moment) (rs : List Reply) (n : Moment) (r : Reply) (t : Shared) (e : Driver) → length rs < most → AreSteps files running now m rs n → step n.shared running now n.driver ≡ stepped t e r → ends r ≡ true
     → turn most m.shared running now m.driver ≡ turned t e (rs ++ r ∷ [])
-last_step running now zero m rs n r t e few h is last = absurd (omega (arith, few))
-last_step running now (suc k) m [] n r t e few same is last =
+last_step files running now zero m rs n r t e few h is last = absurd (omega (arith, few))
+last_step files running now (suc k) m [] n r t e few same is last =
     ends_at k m.shared running now m.driver t e r (ap (λ (x : Moment). step x.shared running now x.driver) same ∙ is) last
-last_step running now (suc k) m (q ∷ qs) n r t e few h is last =
-    goes_on_at k m.shared running now m.driver h.0.shared h.0.driver q h.1.made h.1.on ∙ ap (with_reply q) (last_step running now k h.0 qs n r t e (omega (arith, few)) h.2 is last)
+last_step files running now (suc k) m (q ∷ qs) n r t e few h is last =
+    goes_on_at k m.shared running now m.driver h.0.shared h.0.driver q h.1.made h.1.on ∙ ap (with_reply q) (last_step files running now k h.0 qs n r t e (omega (arith, few)) h.2 is last)
 
 -- a step that went on, before a turn that was cut off
 cut_after : (k : ℕ) (s : Shared) (running : List ℤ) (now : ℤ) (d : Driver) (q : Reply) (mid : Shared) (next : Driver) (rest : List Reply) (t : Shared) (e : Driver) → step s running now d ≡ stepped mid next q → ends q ≡ false
@@ -223,52 +223,51 @@ fails_here : (k : ℕ) (s : Shared) (running : List ℤ) (now : ℤ) (d : Driver
 unfolding IsCutOff
 fails_here k s running now d r t e failed shared driver = (failed, shared, driver)
 
-cut_step : (running : List ℤ) (now : ℤ) (most : ℕ) (m : Moment) (rs : List Reply) (n : Moment) (r : Reply) (t : Shared) (e : Driver) → length rs < most → AreSteps running now m rs n → is_failed_step r ≡ true → e ≡ n.driver → t ≡ n.shared
+cut_step : (files : Files) (running : List ℤ) (now : ℤ) (most : ℕ) (m : Moment) (rs : List Reply) (n : Moment) (r : Reply) (t : Shared) (e : Driver) → length rs < most → AreSteps files running now m rs n → is_failed_step r ≡ true → e ≡ n.driver → t ≡ n.shared
     → IsCutOff most m.shared running now m.driver (rs ++ r ∷ []) t e
-cut_step running now zero m rs n r t e few h failed driver shared = absurd (omega (arith, few))
-cut_step running now (suc k) m [] n r t e few same failed driver shared =
+cut_step files running now zero m rs n r t e few h failed driver shared = absurd (omega (arith, few))
+cut_step files running now (suc k) m [] n r t e few same failed driver shared =
     fails_here k m.shared running now m.driver r t e failed (shared ∙ sym (ap (λ (x : Moment). x.shared) same)) (driver ∙ sym (ap (λ (x : Moment). x.driver) same))
-cut_step running now (suc k) m (q ∷ qs) n r t e few h failed driver shared =
-    cut_after k m.shared running now m.driver q h.0.shared h.0.driver (qs ++ r ∷ []) t e h.1.made h.1.on (cut_step running now k h.0 qs n r t e (omega (arith, few)) h.2 failed driver shared)
+cut_step files running now (suc k) m (q ∷ qs) n r t e few h failed driver shared =
+    cut_after k m.shared running now m.driver q h.0.shared h.0.driver (qs ++ r ∷ []) t e h.1.made h.1.on (cut_step files running now k h.0 qs n r t e (omega (arith, few)) h.2 failed driver shared)
 
 -- the replies of these steps tell of no failure
-no_failure : (running : List ℤ) (now : ℤ) (m : Moment) (rs : List Reply) (n : Moment) (rest : List Reply) → AreSteps running now m rs n → list_any is_failed_step rest ≡ false → list_any is_failed_step (rs ++ rest) ≡ false
-no_failure running now m [] n rest same h = h
-no_failure running now m (q ∷ qs) n rest steps h = rw (goes_on_told q steps.1.on) (no_failure running now steps.0 qs n rest steps.2 h)
+no_failure : (files : Files) (running : List ℤ) (now : ℤ) (m : Moment) (rs : List Reply) (n : Moment) (rest : List Reply) → AreSteps files running now m rs n → list_any is_failed_step rest ≡ false → list_any is_failed_step (rs ++ rest) ≡ false
+no_failure files running now m [] n rest same h = h
+no_failure files running now m (q ∷ qs) n rest steps h = rw (goes_on_told q steps.1.on) (no_failure files running now steps.0 qs n rest steps.2 h)
 
 -- what all steps do to the disks
-pub all_disks : (running : List ℤ) (now : ℤ) (m : Moment) (rs : List Reply) (n : Moment) (rest : List Reply) (new : Disks) → AreSteps running now m rs n → TurnDisks n.shared running now n.driver rest n.disks new
-    → TurnDisks m.shared running now m.driver (rs ++ rest) m.disks new
-all_disks running now m [] n rest new same h = subst (λ (x : Moment). TurnDisks x.shared running now x.driver rest x.disks new) (sym same) h
-all_disks running now m (q ∷ qs) n rest new steps h = (
-  steps.1.disks.0,
+pub all_disks : (files : Files) (running : List ℤ) (now : ℤ) (m : Moment) (rs : List Reply) (n : Moment) (rest : List Reply) (new : Disks) → AreSteps files running now m rs n → TurnDisks n.shared running now n.driver files rest n.disks new
+    → TurnDisks m.shared running now m.driver files (rs ++ rest) m.disks new
+all_disks files running now m [] n rest new same h = subst (λ (x : Moment). TurnDisks x.shared running now x.driver files rest x.disks new) (sym same) h
+all_disks files running now m (q ∷ qs) n rest new steps h = (
   steps.0.disks,
-  steps.1.disks.1,
-  subst (λ (x : Stepped). TurnDisks x.shared running now x.driver (qs ++ rest) steps.0.disks new) (sym steps.1.made) (all_disks running now steps.0 qs n rest new steps.2 h),
+  steps.1.disks,
+  subst (λ (x : Stepped). TurnDisks x.shared running now x.driver files (qs ++ rest) steps.0.disks new) (sym steps.1.made) (all_disks files running now steps.0 qs n rest new steps.2 h),
 )
 
 -- and a last one
-pub last_disks : (running : List ℤ) (now : ℤ) (m : Moment) (rs : List Reply) (n : Moment) (r : Reply) (o : Moment) → AreSteps running now m rs n → StepMoves now n r o → TurnDisks m.shared running now m.driver (rs ++ r ∷ []) m.disks o.disks
-last_disks running now m rs n r o steps moves = all_disks running now m rs n (r ∷ []) o.disks steps (moves.0, o.disks, moves.1, refl)
+pub last_disks : (files : Files) (running : List ℤ) (now : ℤ) (m : Moment) (rs : List Reply) (n : Moment) (r : Reply) (o : Moment) → AreSteps files running now m rs n → StepMoves files now n r o → TurnDisks m.shared running now m.driver files (rs ++ r ∷ []) m.disks o.disks
+last_disks files running now m rs n r o steps moves = all_disks files running now m rs n (r ∷ []) o.disks steps (o.disks, moves, refl)
 
 -- The last step: where it doesn't fail, it ends the turn.
-ends_by : (b : Bool) (running : List ℤ) (now : ℤ) (most : ℕ) (m : Moment) (rs : List Reply) (n : Moment) (r : Reply) (t : Shared) (e : Driver) → is_failed_step r ≡ b → length rs < most → AreSteps running now m rs n → ends r ≡ true
+ends_by : (b : Bool) (files : Files) (running : List ℤ) (now : ℤ) (most : ℕ) (m : Moment) (rs : List Reply) (n : Moment) (r : Reply) (t : Shared) (e : Driver) → is_failed_step r ≡ b → length rs < most → AreSteps files running now m rs n → ends r ≡ true
     → (is_failed_step r ≡ false → step n.shared running now n.driver ≡ stepped t e r) → (is_failed_step r ≡ true → (e ≡ n.driver) × (t ≡ n.shared))
     → StepsEnd most m.shared running now m.driver (rs ++ r ∷ []) t e
-ends_by true running now most m rs n r t e is few steps last made failed = inr (cut_step running now most m rs n r t e few steps is (failed is).0 (failed is).1)
-ends_by false running now most m rs n r t e is few steps last made failed =
-    inl (last_step running now most m rs n r t e few steps (made is) last, no_failure running now m rs n (r ∷ []) steps (rw is refl))
+ends_by true files running now most m rs n r t e is few steps last made failed = inr (cut_step files running now most m rs n r t e few steps is (failed is).0 (failed is).1)
+ends_by false files running now most m rs n r t e is few steps last made failed =
+    inl (last_step files running now most m rs n r t e few steps (made is) last, no_failure files running now m rs n (r ∷ []) steps (rw is refl))
 
-pub turn_ends : (running : List ℤ) (now : ℤ) (most : ℕ) (m : Moment) (rs : List Reply) (n : Moment) (r : Reply) (t : Shared) (e : Driver) → length rs < most → AreSteps running now m rs n → ends r ≡ true
+pub turn_ends : (files : Files) (running : List ℤ) (now : ℤ) (most : ℕ) (m : Moment) (rs : List Reply) (n : Moment) (r : Reply) (t : Shared) (e : Driver) → length rs < most → AreSteps files running now m rs n → ends r ≡ true
     → (is_failed_step r ≡ false → step n.shared running now n.driver ≡ stepped t e r) → (is_failed_step r ≡ true → (e ≡ n.driver) × (t ≡ n.shared))
     → StepsEnd most m.shared running now m.driver (rs ++ r ∷ []) t e
-turn_ends running now most m rs n r t e few steps last made failed = ends_by (is_failed_step r) running now most m rs n r t e refl few steps last made failed
+turn_ends files running now most m rs n r t e few steps last made failed = ends_by (is_failed_step r) files running now most m rs n r t e refl few steps last made failed
 
 -- All steps that the turn may have are made.
-pub turn_is_whole : (running : List ℤ) (now : ℤ) (most : ℕ) (m : Moment) (rs qs : List Reply) (n : Moment) → most ≡ length rs → qs ≡ rs → AreSteps running now m rs n → StepsEnd most m.shared running now m.driver qs n.shared n.driver
-turn_is_whole running now most m rs qs n count same steps =
-    let made = ap (λ k. turn k m.shared running now m.driver) count ∙ all_steps running now m rs n steps ∙ ap (turned n.shared n.driver) (sym same) in
-    let none = ap (list_any is_failed_step) (same ∙ sym (append-nil rs)) ∙ no_failure running now m rs n [] steps refl in
+pub turn_is_whole : (files : Files) (running : List ℤ) (now : ℤ) (most : ℕ) (m : Moment) (rs qs : List Reply) (n : Moment) → most ≡ length rs → qs ≡ rs → AreSteps files running now m rs n → StepsEnd most m.shared running now m.driver qs n.shared n.driver
+turn_is_whole files running now most m rs qs n count same steps =
+    let made = ap (λ k. turn k m.shared running now m.driver) count ∙ all_steps files running now m rs n steps ∙ ap (turned n.shared n.driver) (sym same) in
+    let none = ap (list_any is_failed_step) (same ∙ sym (append-nil rs)) ∙ no_failure files running now m rs n [] steps refl in
     inl (made, none)
 
 -- There is no memory for the reply of the next step.
@@ -281,21 +280,20 @@ out_of_memory s epoch now position files (read_page after) disks = (refl, refl)
 out_of_memory s epoch now position files (write ops) disks = inl (refl, refl)
 out_of_memory s epoch now position files (add records) disks = (refl, refl)
 
-pub memory_ends : (running : List ℤ) (now : ℤ) (most : ℕ) (m : Moment) (rs : List Reply) (n : Moment) → length rs < most → AreSteps running now m rs n → StepsEnd most m.shared running now m.driver (rs ++ reply.NoMemory ∷ []) n.shared n.driver
-memory_ends running now most m rs n few steps = inr (cut_step running now most m rs n reply.NoMemory n.shared n.driver few steps refl refl refl)
+pub memory_ends : (files : Files) (running : List ℤ) (now : ℤ) (most : ℕ) (m : Moment) (rs : List Reply) (n : Moment) → length rs < most → AreSteps files running now m rs n → StepsEnd most m.shared running now m.driver (rs ++ reply.NoMemory ∷ []) n.shared n.driver
+memory_ends files running now most m rs n few steps = inr (cut_step files running now most m rs n reply.NoMemory n.shared n.driver few steps refl refl refl)
 
-pub memory_disks : (running : List ℤ) (now : ℤ) (m : Moment) (rs : List Reply) (n : Moment) → AreSteps running now m rs n → TurnDisks m.shared running now m.driver (rs ++ reply.NoMemory ∷ []) m.disks n.disks
-memory_disks running now m rs n steps =
-    let none : Files = files_of (λ change. None) (λ change. None) in
-    last_disks running now m rs n reply.NoMemory n steps (none, out_of_memory n.shared _ now _ none (asked n.shared now n.driver n.driver.stage) n.disks)
+pub memory_disks : (files : Files) (running : List ℤ) (now : ℤ) (m : Moment) (rs : List Reply) (n : Moment) → AreSteps files running now m rs n → TurnDisks m.shared running now m.driver files (rs ++ reply.NoMemory ∷ []) m.disks n.disks
+memory_disks files running now m rs n steps =
+    last_disks files running now m rs n reply.NoMemory n steps (out_of_memory n.shared _ now _ files (request_at n.shared now n.driver n.driver.stage) n.disks)
 
 -- So many steps of a turn are made, and it goes on from here: the last place of the replies is kept, the driver has its id,
 -- and what it and others know is a view of the log.
-pub record IsTurning (i : ℕ) (replies : List Reply) (running : List ℤ) (now : ℤ) (first here : Moment) : Type 0 where
+pub record IsTurning (i : ℕ) (replies : List Reply) (files : Files) (running : List ℤ) (now : ℤ) (first here : Moment) : Type 0 where
   pub made : List Reply
   pub kept : replies ≡ made ++ reply.NoMemory ∷ []
   pub count : length made ≡ i
-  pub steps : AreSteps running now first made here
+  pub steps : AreSteps files running now first made here
   pub id : here.driver.id ≡ first.driver.id
   pub view : IsViewOf here.shared.log here.driver.view
   pub views : (v : View) → IsViewOf first.shared.log v → IsViewOf here.shared.log v
@@ -319,8 +317,8 @@ step_moves s now d files r old new told h = subst (λ (x : Result Reply StepFaul
 -- what one does that failed
 pub fault_moves : (s : Shared) (now : ℤ) (d : Driver) (files : Files) (f : StepFault) (r : Reply) (old new : Disks) → r ≡ reply_of_fault f → StepDisks s now d files (Err f) old new → StepRequestDisks s now d files (result_of_reply r) old new
 fault_moves s now d files f r old new is h =
-    let told = request_told Reply s (epoch_or_zero d.epoch) now d.view.position files (asked s now d d.stage) f old new h.request in
+    let told = request_told Reply s (epoch_or_zero d.epoch) now d.view.position files (request_at s now d d.stage) f old new h.request in
     subst (λ (x : Result Reply StepFault). StepRequestDisks s now d files x old new) (sym (ap result_of_reply is ∙ told.reply)) h.request
 
 pub fault_fails : (s : Shared) (now : ℤ) (d : Driver) (files : Files) (f : StepFault) (r : Reply) (old new : Disks) → r ≡ reply_of_fault f → StepDisks s now d files (Err f) old new → is_failed_step r ≡ true
-fault_fails s now d files f r old new is h = ap is_failed_step is ∙ (request_told Reply s (epoch_or_zero d.epoch) now d.view.position files (asked s now d d.stage) f old new h.request).failed_step
+fault_fails s now d files f r old new is h = ap is_failed_step is ∙ (request_told Reply s (epoch_or_zero d.epoch) now d.view.position files (request_at s now d d.stage) f old new h.request).failed_step

@@ -24,10 +24,10 @@ abbrev pub all_first : List Rendered → Log → ℤ → List ℤ → List Rende
 all_first area l offset ends znodes = map (λ (z : Rendered). first_among area l offset ends z.path) znodes
 
 -- one batch end more before the others, at which the tree is compared with this rendering
-abbrev pub marked : ℤ → List Rendered → List Rendered → List Rendered → List (Option ℤ) → List (Option ℤ)
-marked end area rendering [] marks = []
-marked end area rendering (z ∷ zs) [] = []
-marked end area rendering (z ∷ zs) (m ∷ ms) = (if agrees_in area rendering z.path then Some end else m) ∷ marked end area rendering zs ms
+abbrev pub marks_at_end : ℤ → List Rendered → List Rendered → List Rendered → List (Option ℤ) → List (Option ℤ)
+marks_at_end end area rendering [] marks = []
+marks_at_end end area rendering (z ∷ zs) [] = []
+marks_at_end end area rendering (z ∷ zs) (m ∷ ms) = (if agrees_in area rendering z.path then Some end else m) ∷ marks_at_end end area rendering zs ms
 
 -- what is found at each of these znodes, compared with a rendering
 abbrev pub all_found : List Rendered → List Rendered → List Rendered → List (Option ℤ) → List Found

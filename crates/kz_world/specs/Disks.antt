@@ -1,19 +1,19 @@
 -- What an event does to the disks below the tree and the log: which store it asks, by its own refusals, and what the answer of
 -- that store says of its disk.
-use Rattle.std.specs.Prelude.{◌≡◌, ℕ, false, ℤ, List, [], ◌∷◌, Option, Some, None, option_map, Result, Ok}
+use Rattle.std.specs.Prelude.{◌≡◌, false, ℤ, List, [], ◌∷◌, Option, Some, None, option_map, Result, Ok}
 use Rattle.kz_types.specs.declared.machine.Reply.{Reply}
 use Rattle.kz_types.specs.declared.machine.Event.{Event}
 use Rattle.kz_types.specs.declared.machine.Event.TheVariants as event
 use Rattle.kz_types.specs.declared.machine.Answer.{Answer}
 use Rattle.kz_types.specs.declared.machine.Answer.TheVariants as answer
 use Rattle.kz_types.specs.declared.record.MetaRecord.{MetaRecord}
-use Rattle.kz_spec_stores.specs.Requests.{Disk, TreeChange, LogChange, Multi, BeginSession, EndSession}
+use Rattle.kz_spec_stores.specs.Requests.{Disk, Multi, BeginSession, EndSession, Append, Elect}
 use Rattle.kz_spec_stores.specs.Tree.{multi, begin_session, end_session}
-use Rattle.kz_spec_stores.specs.Log.{append, elect, image_of, begun_of}
-use Rattle.kz_spec_machine.specs.Driver.{Shared, Driver, epoch_or_zero, asked, step}
+use Rattle.kz_spec_stores.specs.Log.{Log, append, elect, image_of, begun_of}
+use Rattle.kz_spec_machine.specs.Driver.{Shared, Driver, epoch_or_zero, request_at, step}
 use Rattle.kz_spec_machine.specs.Machine.{World, running_ids, driver_of, running_refusal, leader_refusal, client_refusal, election_records, registration}
 use Rattle.kz_driver.specs.declared.fault.StepFault.{StepFault}
-use Rattle.kz_driver.specs.Disks.{Disks, disks_of, Files, files_of, AsksNothing, ReadsLog, ChangesTree, ChangesLog, RequestDisks}
+use Rattle.kz_driver.specs.Disks.{Disks, disks_of, Files, AsksNothing, ReadsLog, ChangesTree, ChangesLog, RequestDisks}
 use Rattle.kz_world.specs.Faults.{result_of_reply, result_of_answer}
 use Rattle.kz_world.specs.Refusals.{records_refusal}
 use Rattle.kz_world.specs.Worlds.{WorldOver}
@@ -22,48 +22,44 @@ use Rattle.kz_world.specs.Worlds.{WorldOver}
 abbrev pub disks_in : {T L : Type 0} → (T → Disk) → (L → Disk) → WorldOver T L → Disks
 disks_in tree log w = disks_of (tree w.tree) (log w.log)
 
--- and the bytes that each store's file would have after a change
-abbrev pub files_in : {T L : Type 0} → (T → TreeChange → Option ℕ) → (L → LogChange → Option ℕ) → WorldOver T L → Files
-files_in tree log w = files_of (tree w.tree) (log w.log)
-
 -- ---- a turn
 
 -- what the one request of a step does to the disks
 abbrev pub StepRequestDisks : Shared → ℤ → Driver → Files → Result Reply StepFault → Disks → Disks → Type 0
-StepRequestDisks s now d files r old new = RequestDisks s (epoch_or_zero d.epoch) now d.view.position files (asked s now d d.stage) r old new
+StepRequestDisks s now d files r old new = RequestDisks s (epoch_or_zero d.epoch) now d.view.position files (request_at s now d d.stage) r old new
 
--- What the steps of a turn do to the disks, one after another, each by its one request, with the files as they are by then. A
--- step may be out of memory at every stage, since its reply takes memory.
-abbrev pub TurnDisks : Shared → List ℤ → ℤ → Driver → List Reply → Disks → Disks → Type 0
-TurnDisks s running now d [] old new = new ≡ old
-TurnDisks s running now d (r ∷ rs) old new =
-    (files : Files) × (mid : Disks)
+-- What the steps of a turn do to the disks, one after another, each by its one request. A step may be out of memory at every
+-- stage, since its reply takes memory.
+abbrev pub TurnDisks : Shared → List ℤ → ℤ → Driver → Files → List Reply → Disks → Disks → Type 0
+TurnDisks s running now d files [] old new = new ≡ old
+TurnDisks s running now d files (r ∷ rs) old new =
+    (mid : Disks)
     × StepRequestDisks s now d files (result_of_reply r) old mid
-    × TurnDisks (step s running now d).shared running now (step s running now d).driver rs mid new
+    × TurnDisks (step s running now d).shared running now (step s running now d).driver files rs mid new
 
 -- A turn reads the log, for the bound on its steps, and makes its steps.
-abbrev pub DriverTurnDisks : World → ℤ → Driver → Result Answer StepFault → Disks → Disks → Type 0
-DriverTurnDisks w now d (Ok (answer.Turn replies)) old new = (old.log.down ≡ false) × TurnDisks w.shared (running_ids w.drivers) now d replies old new
-DriverTurnDisks w now d r old new = ReadsLog r old new
+abbrev pub DriverTurnDisks : World → ℤ → Driver → Files → Result Answer StepFault → Disks → Disks → Type 0
+DriverTurnDisks w now d files (Ok (answer.Turn replies)) old new = (old.log.down ≡ false) × TurnDisks w.shared (running_ids w.drivers) now d files replies old new
+DriverTurnDisks w now d files r old new = ReadsLog r old new
 
-abbrev pub TurnEventDisks : World → ℤ → Option Driver → Result Answer StepFault → Disks → Disks → Type 0
-TurnEventDisks w now None r old new = AsksNothing r old new
-TurnEventDisks w now (Some d) r old new = DriverTurnDisks w now d r old new
+abbrev pub TurnEventDisks : World → ℤ → Option Driver → Files → Result Answer StepFault → Disks → Disks → Type 0
+TurnEventDisks w now None files r old new = AsksNothing r old new
+TurnEventDisks w now (Some d) files r old new = DriverTurnDisks w now d files r old new
 
 -- ---- an event
 
 -- what holds where there is no refusal, and where there is one
 abbrev pub UnlessRefused : Option Answer → Type 0 → Type 0 → Type 0
-UnlessRefused None asked refused = asked
-UnlessRefused (Some refusal) asked refused = refused
-
--- The log is read, and then asked for a change, after which its file would have some length, told by the store that was read.
-abbrev pub ReadsAndChangesLog : {B E : Type 0} → Result B E → Result Answer StepFault → Disks → Disks → Type 0
-ReadsAndChangesLog made r old new = (file : Option ℕ) × ChangesLog made file r old new
+UnlessRefused None request_at refused = request_at
+UnlessRefused (Some refusal) request_at refused = refused
 
 -- the records are appended to the log
-abbrev pub AppendsRecords : World → List MetaRecord → ℤ → Result Answer StepFault → Disks → Disks → Type 0
-AppendsRecords w records now r old new = ReadsAndChangesLog (append w.shared.log w.shared.log.epoch now records) r old new
+abbrev pub AppendsRecords : Log → List MetaRecord → ℤ → Files → Result Answer StepFault → Disks → Disks → Type 0
+AppendsRecords log records now files r old new = ChangesLog (append log log.epoch now records) (files.log log (Append log.epoch now records)) r old new
+
+-- a controller is elected
+abbrev pub ElectsController : Log → ℤ → Files → Result Answer StepFault → Disks → Disks → Type 0
+ElectsController log now files r old new = ChangesLog (elect log now (election_records log)) (files.log log (Elect now (election_records log))) r old new
 
 -- What an event does to the disks, by its answer or the fault that it tells. Where a rule of the event itself refuses it, no
 -- store is asked, or the log is only read.
@@ -71,26 +67,26 @@ abbrev pub ResultDisks : World → Event → Files → Result Answer StepFault �
 ResultDisks w (event.Quorum ids) files r old new = AsksNothing r old new
 ResultDisks w (event.Start id) files r old new = AsksNothing r old new
 ResultDisks w (event.Elect id now) files r old new = UnlessRefused (running_refusal w id)
-    (ReadsAndChangesLog (elect w.shared.log now (election_records w.shared.log)) r old new)
+    (ElectsController w.shared.log now files r old new)
     (AsksNothing r old new)
 ResultDisks w (event.Turn id now) files r old new = UnlessRefused (running_refusal w id)
-    (TurnEventDisks w now (driver_of id w.drivers) r old new)
+    (TurnEventDisks w now (driver_of id w.drivers) files r old new)
     (AsksNothing r old new)
 ResultDisks w (event.Change id records now) files r old new = UnlessRefused (leader_refusal w id)
     (UnlessRefused (records_refusal w.shared.log.epoch (image_of w.shared.log) records)
-    (AppendsRecords w records now r old new)
+    (AppendsRecords w.shared.log records now files r old new)
     (ReadsLog r old new))
     (AsksNothing r old new)
 ResultDisks w (event.Register id broker migrating now) files r old new = UnlessRefused (leader_refusal w id)
     (UnlessRefused (option_map (λ offset. answer.InTransaction offset) (begun_of w.shared.log))
-    (AppendsRecords w (registration broker migrating) now r old new)
+    (AppendsRecords w.shared.log (registration broker migrating) now files r old new)
     (ReadsLog r old new))
     (AsksNothing r old new)
 ResultDisks w event.Check files r old new = ReadsLog r old new
-ResultDisks w (event.ZkOpen session) files r old new = ChangesTree (begin_session w.shared.tree session) (files.tree (BeginSession session)) r old new
-ResultDisks w (event.ZkExpire session) files r old new = ChangesTree (end_session w.shared.tree session) (files.tree (EndSession session)) r old new
+ResultDisks w (event.ZkOpen session) files r old new = ChangesTree (begin_session w.shared.tree session) (files.tree w.shared.tree (BeginSession session)) r old new
+ResultDisks w (event.ZkExpire session) files r old new = ChangesTree (end_session w.shared.tree session) (files.tree w.shared.tree (EndSession session)) r old new
 ResultDisks w (event.Zk ops) files r old new = UnlessRefused (client_refusal w.shared.tree ops)
-    (ChangesTree (multi w.shared.tree ops) (files.tree (Multi ops)) r old new)
+    (ChangesTree (multi w.shared.tree ops) (files.tree w.shared.tree (Multi ops)) r old new)
     (AsksNothing r old new)
 
 -- the same by the answer

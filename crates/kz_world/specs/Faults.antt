@@ -39,9 +39,9 @@ answer_of_fault (step_fault.Log f) = answer.LogFailed f
 answer_of_fault step_fault.NoMemory = answer.NoMemory
 
 -- the answer of an event, which tells its fault where it has one
-abbrev pub answered : Result Answer StepFault → Answer
-answered (Ok a) = a
-answered (Err f) = answer_of_fault f
+abbrev pub answer_of_result : Result Answer StepFault → Answer
+answer_of_result (Ok a) = a
+answer_of_result (Err f) = answer_of_fault f
 
 -- an answer, or the fault that it tells; the faults of a turn's steps are told by their replies
 abbrev pub result_of_answer : Answer → Result Answer StepFault

@@ -11,7 +11,7 @@ use Rattle.kz_types.specs.declared.record.MetaRecord.TheVariants as meta
 use Rattle.kz_spec_stores.specs.Log.{Log, View, IsViewOf, end_of}
 use Rattle.kz_spec_stores.specs.Tree.{Tree}
 use Rattle.kz_spec_machine.specs.Driver.{Driver, elected_driver, is_one_of}
-use Rattle.kz_spec_machine.specs.Machine.{World, next, running_ids, decided, full, changed_log, changed_world}
+use Rattle.kz_spec_machine.specs.Machine.{World, next, running_ids, outcome_unless, full, changed_log, changed_world}
 use Rattle.kz_spec_machine.specs.Failures.{is_failure, IsLeft}
 use Rattle.kz_driver.specs.Drivers.{shared_of}
 use Rattle.kz_world.specs.Faults.{result_of_answer}
@@ -29,12 +29,12 @@ pub record WorldOver (T : Type 0) (L : Type 0) : Type 0 where
   pub drivers : List Driver
 
 -- the world over two stores, whose tree and log are told
-abbrev pub seen : {T L : Type 0} → (T → Tree) → (L → Log) → WorldOver T L → World
-seen tree log w = record { shared = shared_of (tree w.tree) (log w.log) w.declared; drivers = w.drivers }
+abbrev pub plain_world : {T L : Type 0} → (T → Tree) → (L → Log) → WorldOver T L → World
+plain_world tree log w = record { shared = shared_of (tree w.tree) (log w.log) w.declared; drivers = w.drivers }
 
 -- the parts as a world over their stores
-abbrev pub held : {T L : Type 0} → Parts T L → WorldOver T L
-held p = record { tree = p.tree; log = p.log; declared = p.declared; drivers = p.drivers.items }
+abbrev pub world_of_parts : {T L : Type 0} → Parts T L → WorldOver T L
+world_of_parts p = record { tree = p.tree; log = p.log; declared = p.declared; drivers = p.drivers.items }
 
 -- no two of these ids are the same
 abbrev pub AreDistinct : List ℤ → Type 0
@@ -63,8 +63,8 @@ IsAsked (event.ZkOpen session) = pos 1 ≤ℤ session
 IsAsked e = ⊤
 
 -- what an append by the leader makes of the world, and its answer
-abbrev pub appended : World → List MetaRecord → ℤ → World × Answer
-appended w records now = decided w (full w.shared.log records) (changed_world w records now) (answer.Appended (end_of (changed_log w.shared.log records now)))
+abbrev pub world_after_append : World → List MetaRecord → ℤ → World × Answer
+world_after_append w records now = outcome_unless w (full w.shared.log records) (changed_world w records now) (answer.Appended (end_of (changed_log w.shared.log records now)))
 
 -- what an election writes where a transaction has begun or not, and the migration is in this state
 abbrev pub records_on_election : Option ℤ → ℤ → List MetaRecord

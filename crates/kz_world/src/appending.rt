@@ -1,8 +1,9 @@
 //! Appends by a leader.
 ghost use Rattle.std.specs.Prelude.{◌≡◌, ◌<◌, pos, false, ◌≤ℤ◌, length, IfOk, OnErr};
 ghost use Rattle.kz_spec_machine.specs.Failures.{is_failure};
+ghost use Rattle.kz_driver.specs.Disks.{files_of};
 ghost use Rattle.kz_world.specs.Disks.{disks_in, AppendsRecords};
-ghost use Rattle.kz_world.specs.Worlds.{world_of, held, appended, IsKept};
+ghost use Rattle.kz_world.specs.Worlds.{world_of, world_of_parts, world_after_append, IsKept};
 
 use crate::faults::after_log_fault;
 use crate::parts::Parts;
@@ -20,10 +21,10 @@ pub fn append<T: ZTree, L: MetaLog>(
     requires kept { IsKept (L.log parts.old.log) parts.old.view parts.old.drivers.items }
     requires elected { pos 1 ≤ℤ (L.log parts.old.log).epoch }
     requires some { 0 < length records.now }
-    ensures ok { IfOk result (λ answer. (appended (world_of T.tree L.log parts.old) records.now now ≡ (world_of T.tree L.log parts.new, answer)) × (is_failure answer ≡ false)) }
+    ensures ok { IfOk result (λ answer. (world_after_append (world_of T.tree L.log parts.old) records.now now ≡ (world_of T.tree L.log parts.new, answer)) × (is_failure answer ≡ false)) }
     ensures kept { IsKept (L.log parts.new.log) parts.new.view parts.new.drivers.items }
     ensures err { OnErr result (world_of T.tree L.log parts.new ≡ world_of T.tree L.log parts.old) }
-    ensures disks { AppendsRecords (world_of T.tree L.log parts.old) records.now now result (disks_in T.disk L.disk (held parts.old)) (disks_in T.disk L.disk (held parts.new)) }
+    ensures disks { AppendsRecords (L.log parts.old.log) records.now now (files_of T.length_with L.length_with) result (disks_in T.disk L.disk (world_of_parts parts.old)) (disks_in T.disk L.disk (world_of_parts parts.new)) }
 {
     let epoch = parts.log.epoch();
     match parts.log.append(epoch, now, records) {

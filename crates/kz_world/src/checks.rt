@@ -5,7 +5,7 @@ ghost use Rattle.kz_spec_stores.specs.Log.{image_of};
 ghost use Rattle.kz_spec_machine.specs.Verdicts.{verdict};
 ghost use Rattle.kz_driver.specs.Disks.{ReadsLog};
 ghost use Rattle.kz_world.specs.Disks.{disks_in};
-ghost use Rattle.kz_world.specs.Worlds.{world_of, held, IsDone, IsKept};
+ghost use Rattle.kz_world.specs.Worlds.{world_of, world_of_parts, IsDone, IsKept};
 
 use crate::comparison::verdict_of;
 use crate::parts::Parts;
@@ -47,7 +47,7 @@ pub fn compare<T: ZTree, L: MetaLog>(
     ensures ok { IfOk result (IsDone (world_of T.tree L.log parts.old) event.Check (world_of T.tree L.log parts.new)) }
     ensures kept { IsKept (L.log parts.new.log) parts.new.view parts.new.drivers.items }
     ensures err { OnErr result (world_of T.tree L.log parts.new ≡ world_of T.tree L.log parts.old) }
-    ensures disks { ReadsLog result (disks_in T.disk L.disk (held parts.old)) (disks_in T.disk L.disk (held parts.new)) }
+    ensures disks { ReadsLog result (disks_in T.disk L.disk (world_of_parts parts.old)) (disks_in T.disk L.disk (world_of_parts parts.new)) }
 {
     match read(parts) {
         Ok(()) => {}

@@ -1,51 +1,33 @@
 //! Multis of ZooKeeper clients.
 ghost use Rattle.std.specs.Prelude.{◌≡◌, ◌&&◌, ◌||◌, is_some, false, None, IfOk, IfSome, OnErr};
-ghost use Rattle.std.specs.List.{list_any};
 ghost use Rattle.std.specs.Str.{bytes_eq};
-ghost use Rattle.kz_types.specs.Paths.{base_paths, control_paths, is_among, is_below, is_migrated};
+ghost use Rattle.kz_types.specs.Paths.{base_paths, is_among, is_migrated};
 ghost use Rattle.kz_types.specs.declared.machine.Event.TheVariants as event;
 ghost use Rattle.kz_spec_values.specs.Control.{control_path, epoch_path, shown_epoch};
 ghost use Rattle.kz_spec_machine.specs.Machine.{is_reserved, is_held, is_held_path, is_held_tree, first_told, client_refusal};
 ghost use Rattle.kz_spec_machine.specs.Failures.{is_failure};
-ghost use Rattle.kz_world.specs.Disks.{disks_in, files_in, ResultDisks};
-ghost use Rattle.kz_world.specs.Worlds.{world_of, held, IsDone, IsKept};
+ghost use Rattle.kz_driver.specs.Disks.{files_of};
+ghost use Rattle.kz_world.specs.Disks.{disks_in, ResultDisks};
+ghost use Rattle.kz_world.specs.Worlds.{world_of, world_of_parts, IsDone, IsKept};
 
 use crate::faults::after_tree_fault;
 use crate::parts::Parts;
 use kz_driver::{StepFault, path_of_op};
 use kz_log::MetaLog;
+use kz_paths::{
+    CONTROL_TEXT, is_base, is_below_control, is_controller_path, is_epoch_path, is_migrated,
+    is_migration_path,
+};
 use kz_state::read_control;
-use kz_tree::{Tree, ZTree, is_migrated};
+use kz_tree::{Tree, ZTree};
 use kz_types::{Answer, Duplicate, NoMemory, Op, ZPath};
 use std::alloc::Global;
-
-// Whether this is the path of a base znode.
-#[tactic(auto, unfolding(kz_types::specs::Paths::base_paths))]
-fn is_base(path: &[u8]) -> bool
-    ensures { result ≡ is_among base_paths path.now }
-{
-    path == b"/brokers".as_slice()
-        || path == b"/config".as_slice()
-        || path == b"/kafka-acl".as_slice()
-        || path == b"/kafka-acl-extended".as_slice()
-        || path == b"/kafka-acl-extended/prefixed".as_slice()
-}
-
-// Whether the path is below a control znode.
-#[tactic(auto, unfolding(kz_types::specs::Paths::control_paths))]
-fn is_below_control(path: &[u8]) -> bool
-    ensures { result ≡ list_any (λ control. is_below control path.now) control_paths }
-{
-    path.starts_with(b"/controller/")
-        || path.starts_with(b"/controller_epoch/")
-        || path.starts_with(b"/migration/")
-}
 
 // Whether a KRaft controller's body is given to `/controller`.
 fn takes_control(alloc: Global, path: &[u8], body: &[u8]) -> Result<bool, NoMemory>
     ensures { IfOk result (λ takes. takes ≡ (bytes_eq path.now control_path && is_some (shown_epoch body.now))) }
 {
-    if path == b"/controller".as_slice() {
+    if is_controller_path(path) {
         Ok(read_control(alloc, body)?.is_some())
     } else {
         Ok(false)
@@ -56,7 +38,7 @@ fn takes_control(alloc: Global, path: &[u8], body: &[u8]) -> Result<bool, NoMemo
 fn must_last(path: &[u8]) -> bool
     ensures { result ≡ (bytes_eq path.now epoch_path || is_migrated path.now || is_among base_paths path.now) }
 {
-    path == b"/controller_epoch".as_slice() || is_migrated(path) || is_base(path)
+    is_epoch_path(path) || is_migrated(path) || is_base(path)
 }
 
 // Whether no client may do this.
@@ -65,7 +47,7 @@ fn is_reserved(alloc: Global, op: &Op) -> Result<bool, NoMemory>
 {
     match op {
         Op::Create { path, body, owner } => {
-            if path.bytes() == b"/migration".as_slice() {
+            if is_migration_path(path.bytes()) {
                 return Ok(true);
             }
             if owner.is_some() && must_last(path.bytes()) {
@@ -77,16 +59,13 @@ fn is_reserved(alloc: Global, op: &Op) -> Result<bool, NoMemory>
             takes_control(alloc, path.bytes(), body.as_slice())
         }
         Op::Set { path, body, .. } => {
-            if path.bytes() == b"/migration".as_slice() {
+            if is_migration_path(path.bytes()) {
                 return Ok(true);
             }
             takes_control(alloc, path.bytes(), body.as_slice())
         }
         Op::Delete { path, .. } => {
-            Ok(
-                path.bytes() == b"/migration".as_slice()
-                    || path.bytes() == b"/controller_epoch".as_slice(),
-            )
+            Ok(is_migration_path(path.bytes()) || is_epoch_path(path.bytes()))
         }
         Op::Check { .. } => Ok(false),
     }
@@ -96,10 +75,7 @@ fn is_reserved(alloc: Global, op: &Op) -> Result<bool, NoMemory>
 fn is_held_path(path: &[u8]) -> bool
     ensures { result ≡ is_held_path path.now }
 {
-    is_migrated(path)
-        || is_base(path)
-        || path == b"/controller".as_slice()
-        || path == b"/controller_epoch".as_slice()
+    is_migrated(path) || is_base(path) || is_controller_path(path) || is_epoch_path(path)
 }
 
 // Whether no client may do this while a KRaft controller holds the tree.
@@ -140,9 +116,9 @@ fn first_held(alloc: Global, ops: &[Op]) -> Result<Option<ZPath>, NoMemory>
 
 // Whether a KRaft controller holds the tree.
 fn is_held_tree(alloc: Global, tree: &Tree) -> Result<bool, NoMemory>
-    ensures { IfOk result (λ held. held ≡ is_held_tree tree.now) }
+    ensures { IfOk result (λ holds. holds ≡ is_held_tree tree.now) }
 {
-    match tree.row(b"/controller") {
+    match tree.row(CONTROL_TEXT.as_bytes()) {
         Some(row) => Ok(read_control(alloc, row.body.as_slice())?.is_some()),
         None => Ok(false),
     }
@@ -173,7 +149,7 @@ fn ask_tree<T: ZTree, L: MetaLog>(parts: &mut Parts<T, L>, ops: &[Op]) -> Result
     ensures ok { IfOk result (IsDone (world_of T.tree L.log parts.old) (event.Zk ops.now) (world_of T.tree L.log parts.new)) }
     ensures kept { IsKept (L.log parts.new.log) parts.new.view parts.new.drivers.items }
     ensures err { OnErr result (world_of T.tree L.log parts.new ≡ world_of T.tree L.log parts.old) }
-    ensures disks { ResultDisks (world_of T.tree L.log parts.old) (event.Zk ops.now) (files_in T.length_with L.length_with (held parts.old)) result (disks_in T.disk L.disk (held parts.old)) (disks_in T.disk L.disk (held parts.new)) }
+    ensures disks { ResultDisks (world_of T.tree L.log parts.old) (event.Zk ops.now) (files_of T.length_with L.length_with) result (disks_in T.disk L.disk (world_of_parts parts.old)) (disks_in T.disk L.disk (world_of_parts parts.new)) }
 {
     match parts.tree.multi(ops) {
         Ok(zxid) => Ok(Answer::DoneAt { zxid }),
@@ -193,7 +169,7 @@ pub fn ask<T: ZTree, L: MetaLog>(
     ensures ok { IfOk result (IsDone (world_of T.tree L.log parts.old) (event.Zk ops.now) (world_of T.tree L.log parts.new)) }
     ensures kept { IsKept (L.log parts.new.log) parts.new.view parts.new.drivers.items }
     ensures err { OnErr result (world_of T.tree L.log parts.new ≡ world_of T.tree L.log parts.old) }
-    ensures disks { ResultDisks (world_of T.tree L.log parts.old) (event.Zk ops.now) (files_in T.length_with L.length_with (held parts.old)) result (disks_in T.disk L.disk (held parts.old)) (disks_in T.disk L.disk (held parts.new)) }
+    ensures disks { ResultDisks (world_of T.tree L.log parts.old) (event.Zk ops.now) (files_of T.length_with L.length_with) result (disks_in T.disk L.disk (world_of_parts parts.old)) (disks_in T.disk L.disk (world_of_parts parts.new)) }
 {
     match client_refusal(alloc, parts.tree.tree(), ops) {
         Ok(Some(refusal)) => Ok(refusal),

@@ -4,11 +4,11 @@ ghost use Rattle.std.specs.List.{find as find_by, filter_map};
 ghost use Rattle.kz_types.specs.declared.tree.Rendered.{Rendered as RenderedValue};
 ghost use Rattle.kz_ordered.specs.Order.{bytes_cmp};
 ghost use Rattle.kz_ordered.specs.Ordered.{all_put, put as put_in, Rises};
-ghost use Rattle.kz_spec_stores.specs.Tree.{area as area_of, recorded, unclosed, path_of_rendered};
+ghost use Rattle.kz_spec_stores.specs.Tree.{area as area_of, migration_record, unclosed_path, path_of_rendered};
 ghost use Rattle.kz_spec_stores.specs.Log.{image_at, batch_ends};
 ghost use Rattle.kz_spec_znodes.specs.Rendering.{body_at, render};
 ghost use Rattle.kz_spec_machine.specs.Verdicts.{paths_at, verdict_at, verdict_of};
-ghost use Rattle.kz_world.specs.Agreement.{agrees_in, all_first, marked, all_found, found_at, is_disagreeing, ahead_of, found_verdict};
+ghost use Rattle.kz_world.specs.Agreement.{agrees_in, all_first, marks_at_end, all_found, found_at, is_disagreeing, ahead_of, found_verdict};
 
 use kz_log::LogRows;
 use kz_render::render;
@@ -112,7 +112,7 @@ fn marked(
     requires area { Rises bytes_cmp path_of_rendered area.now }
     requires rendering { Rises bytes_cmp path_of_rendered rendering.now }
     requires as_many { length marks.now ≡ length znodes.now }
-    ensures marks { IfOk result (λ made. made.items ≡ marked end area.now rendering.now znodes.now marks.now) }
+    ensures marks { IfOk result (λ made. made.items ≡ marks_at_end end area.now rendering.now znodes.now marks.now) }
     ensures as_many { IfOk result (λ made. length made.items ≡ length znodes.now) }
 {
     let mut made = Vec::new(alloc);
@@ -263,7 +263,7 @@ fn verdict_of_found(
 // How the tree and the log agree, where an offset is recorded.
 #[tactic(auto, using(crate::proofs::Agreements::verdict_found))]
 fn verdict_at(alloc: Global, tree: &Tree, log: &LogRows, offset: i64) -> Result<Verdict, NoMemory>
-    ensures { IfOk result (λ verdict. verdict ≡ verdict_at tree.now log.now offset (is_none (unclosed tree.now))) }
+    ensures { IfOk result (λ verdict. verdict ≡ verdict_at tree.now log.now offset (is_none (unclosed_path tree.now))) }
 {
     let is_closed = tree.unclosed()?.is_none();
     let found = find_all(alloc, tree, log, offset)?;
@@ -272,7 +272,7 @@ fn verdict_at(alloc: Global, tree: &Tree, log: &LogRows, offset: i64) -> Result<
 
 /// How the tree and a migrated log agree: nothing recorded; a path that disagrees; as recorded; or ahead of it.
 pub fn verdict_of(alloc: Global, tree: &Tree, log: &LogRows) -> Result<Verdict, NoMemory>
-    ensures { IfOk result (λ verdict. verdict ≡ verdict_of tree.now log.now (recorded tree.now)) }
+    ensures { IfOk result (λ verdict. verdict ≡ verdict_of tree.now log.now (migration_record tree.now)) }
 {
     match tree.recorded()? {
         Some(Recorded { offset, .. }) if offset >= 0 => verdict_at(alloc, tree, log, offset),

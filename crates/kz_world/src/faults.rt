@@ -1,6 +1,6 @@
 //! How a fault of a store is told.
 ghost use Rattle.std.specs.Prelude.{◌≡◌};
-ghost use Rattle.kz_world.specs.Faults.{reply_of_fault, answered, after_tree_fault, after_log_fault, after_session_fault};
+ghost use Rattle.kz_world.specs.Faults.{reply_of_fault, answer_of_result, after_tree_fault, after_log_fault, after_session_fault};
 
 use kz_driver::StepFault;
 use kz_session::SessionFault;
@@ -19,7 +19,7 @@ pub fn reply_of_fault(fault: StepFault) -> Reply
 
 /// The answer of an event, which tells its fault where it has one.
 pub fn answered(outcome: Result<Answer, StepFault>) -> Answer
-    ensures { result ≡ answered outcome }
+    ensures { result ≡ answer_of_result outcome }
 {
     match outcome {
         Ok(answer) => answer,

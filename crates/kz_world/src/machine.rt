@@ -1,11 +1,12 @@
 //! The machine.
 ghost use Rattle.std.specs.Prelude.{◌≡◌, [], true, false, IfOk, OnErr};
-ghost use Rattle.kz_spec_stores.specs.Tree.{recorded};
+ghost use Rattle.kz_spec_stores.specs.Tree.{migration_record};
 ghost use Rattle.kz_spec_stores.specs.Log.{end_of};
 ghost use Rattle.kz_spec_machine.specs.Machine.{next};
 ghost use Rattle.kz_spec_machine.specs.Failures.{is_failure, IsLeft};
-ghost use Rattle.kz_world.specs.Disks.{disks_in, files_in, ResultDisks, EventDisks};
-ghost use Rattle.kz_world.specs.Worlds.{WorldOver, world_of, seen, held, IsKept, IsAsked, IsOutcome};
+ghost use Rattle.kz_driver.specs.Disks.{files_of};
+ghost use Rattle.kz_world.specs.Disks.{disks_in, ResultDisks, EventDisks};
+ghost use Rattle.kz_world.specs.Worlds.{WorldOver, world_of, plain_world, world_of_parts, IsKept, IsAsked, IsOutcome};
 
 use crate::change::change;
 use crate::checks::compare;
@@ -34,7 +35,7 @@ pub struct World<T: ZSessions, L: MetaLog> {
 impl<T: ZSessions, L: MetaLog> Model for World<T, L> {
     ghost Value = { WorldOver T L };
 
-    ghost view = { λ w. held w.parts };
+    ghost view = { λ w. world_of_parts w.parts };
 
     ghost invariant = { λ w. IsKept (L.log w.parts.log) w.parts.view w.parts.drivers.items };
 }
@@ -51,7 +52,7 @@ fn happen<T: ZSessions, L: MetaLog>(
     ensures ok { IfOk result (IsOutcome (world_of T.tree L.log parts.old) event.now (world_of T.tree L.log parts.new)) }
     ensures kept { IsKept (L.log parts.new.log) parts.new.view parts.new.drivers.items }
     ensures err { OnErr result (world_of T.tree L.log parts.new ≡ world_of T.tree L.log parts.old) }
-    ensures disks { ResultDisks (world_of T.tree L.log parts.old) event.now (files_in T.length_with L.length_with (held parts.old)) result (disks_in T.disk L.disk (held parts.old)) (disks_in T.disk L.disk (held parts.new)) }
+    ensures disks { ResultDisks (world_of T.tree L.log parts.old) event.now (files_of T.length_with L.length_with) result (disks_in T.disk L.disk (world_of_parts parts.old)) (disks_in T.disk L.disk (world_of_parts parts.new)) }
 {
     match event {
         Event::Quorum { ids } => Ok(declare(alloc, parts, ids)?),
@@ -102,30 +103,30 @@ impl<T: ZSessions, L: MetaLog> World<T, L> {
     /// as these left it. A request that the tree or the log refuses is an answer.
     pub fn event(&mut self, event: &Event) -> Answer
         requires { IsAsked event.now }
-        ensures next { is_failure result ≡ false → next (seen T.tree L.log self.old) event.now ≡ (seen T.tree L.log self.new, result) }
-        ensures failed { is_failure result ≡ true → IsLeft (seen T.tree L.log self.old) event.now result (seen T.tree L.log self.new) }
-        ensures disks { EventDisks (seen T.tree L.log self.old) event.now (files_in T.length_with L.length_with self.old) result (disks_in T.disk L.disk self.old) (disks_in T.disk L.disk self.new) }
+        ensures next { is_failure result ≡ false → next (plain_world T.tree L.log self.old) event.now ≡ (plain_world T.tree L.log self.new, result) }
+        ensures failed { is_failure result ≡ true → IsLeft (plain_world T.tree L.log self.old) event.now result (plain_world T.tree L.log self.new) }
+        ensures disks { EventDisks (plain_world T.tree L.log self.old) event.now (files_of T.length_with L.length_with) result (disks_in T.disk L.disk self.old) (disks_in T.disk L.disk self.new) }
     {
         answered(happen(self.alloc, &mut self.parts, event))
     }
 
     /// The last transaction of the tree, 0 before the first.
     pub fn zxid(&self) -> i64
-        ensures { result ≡ (seen T.tree L.log self.now).shared.tree.zxid }
+        ensures { result ≡ (plain_world T.tree L.log self.now).shared.tree.zxid }
     {
         self.parts.tree.tree().last_zxid()
     }
 
     /// The last offset of the log, -1 where it is empty.
     pub fn end(&self) -> i64
-        ensures { result ≡ end_of (seen T.tree L.log self.now).shared.log }
+        ensures { result ≡ end_of (plain_world T.tree L.log self.now).shared.log }
     {
         self.parts.log.end()
     }
 
     /// What `/migration` records, where it is there and can be read.
     pub fn recorded(&self) -> Result<Option<Recorded>, NoMemory>
-        ensures { IfOk result (λ told. told ≡ recorded (seen T.tree L.log self.now).shared.tree) }
+        ensures { IfOk result (λ told. told ≡ migration_record (plain_world T.tree L.log self.now).shared.tree) }
     {
         self.parts.tree.tree().recorded()
     }

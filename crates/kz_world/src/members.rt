@@ -2,7 +2,7 @@
 ghost use Rattle.std.specs.Prelude.{◌≡◌, IfOk, OnErr};
 ghost use Rattle.kz_types.specs.declared.machine.Event.TheVariants as event;
 ghost use Rattle.kz_world.specs.Disks.{disks_in};
-ghost use Rattle.kz_world.specs.Worlds.{world_of, held, IsDone, IsKept};
+ghost use Rattle.kz_world.specs.Worlds.{world_of, world_of_parts, IsDone, IsKept};
 
 use crate::parts::Parts;
 use crate::refusals::{quorum_refusal, start_refusal};
@@ -23,7 +23,7 @@ pub fn declare<T: ZTree, L: MetaLog>(
     ensures ok { IfOk result (IsDone (world_of T.tree L.log parts.old) (event.Quorum ids.now) (world_of T.tree L.log parts.new)) }
     ensures kept { IsKept (L.log parts.new.log) parts.new.view parts.new.drivers.items }
     ensures err { OnErr result (world_of T.tree L.log parts.new ≡ world_of T.tree L.log parts.old) }
-    ensures disks { disks_in T.disk L.disk (held parts.new) ≡ disks_in T.disk L.disk (held parts.old) }
+    ensures disks { disks_in T.disk L.disk (world_of_parts parts.new) ≡ disks_in T.disk L.disk (world_of_parts parts.old) }
 {
     if let Some(refusal) = quorum_refusal(parts) {
         return Ok(refusal);
@@ -43,7 +43,7 @@ pub fn start<T: ZTree, L: MetaLog>(
     ensures ok { IfOk result (IsDone (world_of T.tree L.log parts.old) (event.Start id) (world_of T.tree L.log parts.new)) }
     ensures kept { IsKept (L.log parts.new.log) parts.new.view parts.new.drivers.items }
     ensures err { OnErr result (world_of T.tree L.log parts.new ≡ world_of T.tree L.log parts.old) }
-    ensures disks { disks_in T.disk L.disk (held parts.new) ≡ disks_in T.disk L.disk (held parts.old) }
+    ensures disks { disks_in T.disk L.disk (world_of_parts parts.new) ≡ disks_in T.disk L.disk (world_of_parts parts.old) }
 {
     match start_refusal(parts, id) {
         Some(refusal) => Ok(refusal),

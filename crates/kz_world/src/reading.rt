@@ -3,7 +3,7 @@ ghost use Rattle.std.specs.Prelude.{◌≡◌, false, IfOk, OnOk};
 ghost use Rattle.kz_spec_stores.specs.Log.{begun_of, image_of};
 ghost use Rattle.kz_driver.specs.Disks.{ReadsLog};
 ghost use Rattle.kz_world.specs.Disks.{disks_in};
-ghost use Rattle.kz_world.specs.Worlds.{world_of, held, IsKept};
+ghost use Rattle.kz_world.specs.Worlds.{world_of, world_of_parts, IsKept};
 
 use crate::parts::Parts;
 use kz_driver::StepFault;
@@ -19,7 +19,7 @@ pub fn read<T: ZTree, L: MetaLog>(parts: &mut Parts<T, L>) -> Result<(), StepFau
     ensures kept { IsKept (L.log parts.new.log) parts.new.view parts.new.drivers.items }
     ensures world { world_of T.tree L.log parts.new ≡ world_of T.tree L.log parts.old }
     ensures same { L.log parts.new.log ≡ L.log parts.old.log }
-    ensures disks { ReadsLog result (disks_in T.disk L.disk (held parts.old)) (disks_in T.disk L.disk (held parts.new)) }
+    ensures disks { ReadsLog result (disks_in T.disk L.disk (world_of_parts parts.old)) (disks_in T.disk L.disk (world_of_parts parts.new)) }
 {
     match read_to_end(&mut parts.view, &mut parts.log) {
         Ok(()) => Ok(()),

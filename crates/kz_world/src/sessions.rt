@@ -1,8 +1,9 @@
 //! Sessions of ZooKeeper clients.
 ghost use Rattle.std.specs.Prelude.{◌≡◌, ◌≤ℤ◌, pos, IfOk, OnErr};
 ghost use Rattle.kz_types.specs.declared.machine.Event.TheVariants as event;
-ghost use Rattle.kz_world.specs.Disks.{disks_in, files_in, ResultDisks};
-ghost use Rattle.kz_world.specs.Worlds.{world_of, held, IsDone, IsKept};
+ghost use Rattle.kz_driver.specs.Disks.{files_of};
+ghost use Rattle.kz_world.specs.Disks.{disks_in, ResultDisks};
+ghost use Rattle.kz_world.specs.Worlds.{world_of, world_of_parts, IsDone, IsKept};
 
 use crate::faults::after_session_fault;
 use crate::parts::Parts;
@@ -22,7 +23,7 @@ pub fn open<T: ZSessions, L: MetaLog>(
     ensures ok { IfOk result (IsDone (world_of T.tree L.log parts.old) (event.ZkOpen session) (world_of T.tree L.log parts.new)) }
     ensures kept { IsKept (L.log parts.new.log) parts.new.view parts.new.drivers.items }
     ensures err { OnErr result (world_of T.tree L.log parts.new ≡ world_of T.tree L.log parts.old) }
-    ensures disks { ResultDisks (world_of T.tree L.log parts.old) (event.ZkOpen session) (files_in T.length_with L.length_with (held parts.old)) result (disks_in T.disk L.disk (held parts.old)) (disks_in T.disk L.disk (held parts.new)) }
+    ensures disks { ResultDisks (world_of T.tree L.log parts.old) (event.ZkOpen session) (files_of T.length_with L.length_with) result (disks_in T.disk L.disk (world_of_parts parts.old)) (disks_in T.disk L.disk (world_of_parts parts.new)) }
 {
     match parts.tree.begin_session(session) {
         Ok(zxid) => Ok(Answer::DoneAt { zxid }),
@@ -41,7 +42,7 @@ pub fn expire<T: ZSessions, L: MetaLog>(
     ensures ok { IfOk result (IsDone (world_of T.tree L.log parts.old) (event.ZkExpire session) (world_of T.tree L.log parts.new)) }
     ensures kept { IsKept (L.log parts.new.log) parts.new.view parts.new.drivers.items }
     ensures err { OnErr result (world_of T.tree L.log parts.new ≡ world_of T.tree L.log parts.old) }
-    ensures disks { ResultDisks (world_of T.tree L.log parts.old) (event.ZkExpire session) (files_in T.length_with L.length_with (held parts.old)) result (disks_in T.disk L.disk (held parts.old)) (disks_in T.disk L.disk (held parts.new)) }
+    ensures disks { ResultDisks (world_of T.tree L.log parts.old) (event.ZkExpire session) (files_of T.length_with L.length_with) result (disks_in T.disk L.disk (world_of_parts parts.old)) (disks_in T.disk L.disk (world_of_parts parts.new)) }
 {
     match parts.tree.end_session(session) {
         Ok(zxid) => Ok(Answer::DoneAt { zxid }),

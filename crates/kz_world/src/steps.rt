@@ -61,7 +61,7 @@ fn one_step<T: ZTree, L: MetaLog>(
     ensures view { IsViewOf (L.log log.new) driver.new.view }
     ensures views { (v : ViewValue) → IsViewOf (L.log log.old) v → IsViewOf (L.log log.new) v }
     ensures id { driver.new.id ≡ driver.old.id }
-    ensures disks { StepRequestDisks (shared_of (T.tree tree.old) (L.log log.old) peers.now.declared) now driver.old (files_of (T.length_with tree.old) (L.length_with log.old)) (result_of_reply result)
+    ensures disks { StepRequestDisks (shared_of (T.tree tree.old) (L.log log.old) peers.now.declared) now driver.old (files_of T.length_with L.length_with) (result_of_reply result)
         (disks_of (T.disk tree.old) (L.disk log.old)) (disks_of (T.disk tree.new) (L.disk log.new)) }
 {
     match driver.step(tree, log, peers, now) {
@@ -105,7 +105,7 @@ pub fn turn<T: ZTree, L: MetaLog>(
     ensures view { IsViewOf (L.log log.new) driver.new.view }
     ensures views { (v : ViewValue) → IsViewOf (L.log log.old) v → IsViewOf (L.log log.new) v }
     ensures id { driver.new.id ≡ driver.old.id }
-    ensures disks { IfOk result (λ replies. TurnDisks (shared_of (T.tree tree.old) (L.log log.old) peers.now.declared) peers.now.running now driver.old replies.items
+    ensures disks { IfOk result (λ replies. TurnDisks (shared_of (T.tree tree.old) (L.log log.old) peers.now.declared) peers.now.running now driver.old (files_of T.length_with L.length_with) replies.items
         (disks_of (T.disk tree.old) (L.disk log.old)) (disks_of (T.disk tree.new) (L.disk log.new))) }
     ensures err { OnErr result ((driver.new ≡ driver.old) × (tree.new ≡ tree.old) × (log.new ≡ log.old)) }
 {

@@ -3,10 +3,10 @@ ghost use Rattle.std.specs.Prelude.{◌≡◌, ◌<◌, false, length, Some, IfO
 ghost use Rattle.kz_types.specs.declared.machine.Event.TheVariants as event;
 ghost use Rattle.kz_spec_machine.specs.Driver.{Driver as DriverValue};
 ghost use Rattle.kz_spec_machine.specs.Machine.{running_ids, work};
-ghost use Rattle.kz_driver.specs.Disks.{ReadsLog};
-ghost use Rattle.kz_world.specs.Disks.{disks_in, files_in, DriverTurnDisks, ResultDisks};
+ghost use Rattle.kz_driver.specs.Disks.{files_of, ReadsLog};
+ghost use Rattle.kz_world.specs.Disks.{disks_in, DriverTurnDisks, ResultDisks};
 ghost use Rattle.kz_world.specs.Turns.{IsTurned};
-ghost use Rattle.kz_world.specs.Worlds.{world_of, held, IsKept, IsOutcome};
+ghost use Rattle.kz_world.specs.Worlds.{world_of, world_of_parts, IsKept, IsOutcome};
 
 use crate::drivers::{place_of, running_ids};
 use crate::parts::Parts;
@@ -42,7 +42,7 @@ fn most_steps<T: ZTree, L: MetaLog>(
     ensures most { (d : DriverValue) → slice_get parts.old.drivers.items at ≡ Some d → IfOk result (λ most. most ≡ work (world_of T.tree L.log parts.old).shared d) }
     ensures kept { IsKept (L.log parts.new.log) parts.new.view parts.new.drivers.items }
     ensures world { world_of T.tree L.log parts.new ≡ world_of T.tree L.log parts.old }
-    ensures disks { ReadsLog result (disks_in T.disk L.disk (held parts.old)) (disks_in T.disk L.disk (held parts.new)) }
+    ensures disks { ReadsLog result (disks_in T.disk L.disk (world_of_parts parts.old)) (disks_in T.disk L.disk (world_of_parts parts.new)) }
 {
     match read(parts) {
         Ok(()) => {}
@@ -78,7 +78,7 @@ fn turn_at<T: ZTree, L: MetaLog>(
     ensures ok { (d : DriverValue) → slice_get parts.old.drivers.items at ≡ Some d → IfOk result (IsTurned (world_of T.tree L.log parts.old) now d (world_of T.tree L.log parts.new)) }
     ensures kept { IsKept (L.log parts.new.log) parts.new.view parts.new.drivers.items }
     ensures err { OnErr result (world_of T.tree L.log parts.new ≡ world_of T.tree L.log parts.old) }
-    ensures disks { (d : DriverValue) → slice_get parts.old.drivers.items at ≡ Some d → DriverTurnDisks (world_of T.tree L.log parts.old) now d result (disks_in T.disk L.disk (held parts.old)) (disks_in T.disk L.disk (held parts.new)) }
+    ensures disks { (d : DriverValue) → slice_get parts.old.drivers.items at ≡ Some d → DriverTurnDisks (world_of T.tree L.log parts.old) now d (files_of T.length_with L.length_with) result (disks_in T.disk L.disk (world_of_parts parts.old)) (disks_in T.disk L.disk (world_of_parts parts.new)) }
 {
     match turn(
         alloc,
@@ -106,7 +106,7 @@ fn prepared_turn<T: ZTree, L: MetaLog>(
     ensures ok { (d : DriverValue) → slice_get parts.old.drivers.items at ≡ Some d → IfOk result (IsTurned (world_of T.tree L.log parts.old) now d (world_of T.tree L.log parts.new)) }
     ensures kept { IsKept (L.log parts.new.log) parts.new.view parts.new.drivers.items }
     ensures err { OnErr result (world_of T.tree L.log parts.new ≡ world_of T.tree L.log parts.old) }
-    ensures disks { (d : DriverValue) → slice_get parts.old.drivers.items at ≡ Some d → DriverTurnDisks (world_of T.tree L.log parts.old) now d result (disks_in T.disk L.disk (held parts.old)) (disks_in T.disk L.disk (held parts.new)) }
+    ensures disks { (d : DriverValue) → slice_get parts.old.drivers.items at ≡ Some d → DriverTurnDisks (world_of T.tree L.log parts.old) now d (files_of T.length_with L.length_with) result (disks_in T.disk L.disk (world_of_parts parts.old)) (disks_in T.disk L.disk (world_of_parts parts.new)) }
 {
     let Ok(peers) = peers(alloc, parts) else {
         return Err(StepFault::NoMemory);
@@ -130,7 +130,7 @@ pub fn turn_of<T: ZTree, L: MetaLog>(
     ensures ok { IfOk result (IsOutcome (world_of T.tree L.log parts.old) (event.Turn id now) (world_of T.tree L.log parts.new)) }
     ensures kept { IsKept (L.log parts.new.log) parts.new.view parts.new.drivers.items }
     ensures err { OnErr result (world_of T.tree L.log parts.new ≡ world_of T.tree L.log parts.old) }
-    ensures disks { ResultDisks (world_of T.tree L.log parts.old) (event.Turn id now) (files_in T.length_with L.length_with (held parts.old)) result (disks_in T.disk L.disk (held parts.old)) (disks_in T.disk L.disk (held parts.new)) }
+    ensures disks { ResultDisks (world_of T.tree L.log parts.old) (event.Turn id now) (files_of T.length_with L.length_with) result (disks_in T.disk L.disk (world_of_parts parts.old)) (disks_in T.disk L.disk (world_of_parts parts.new)) }
 {
     if let Some(refusal) = running_refusal(parts, id) {
         return Ok(refusal);

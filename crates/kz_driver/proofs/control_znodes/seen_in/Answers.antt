@@ -11,5 +11,5 @@ as_many t = refl
 pub seen_of-requires : goal.seen_of-requires
 seen_of-requires g c =
     ap length c.in_ok-rows.ensures.ok
-    ∙ (ap (λ paths. length (look (g.T.ZTree.tree c.args.tree.now) paths)) (c.deref.ensures.value ∙ c.in_ok-paths.ensures)
+    ∙ (ap (λ paths. length (look (g.T.ZTree.tree c.args.tree.now) paths)) (c.deref.ensures.value ∙ c.in_ok-paths.ensures.paths)
     ∙ as_many (g.T.ZTree.tree c.args.tree.now))

@@ -12,7 +12,7 @@ use Rattle.kz_spec_stores.specs.Tree.{Tree, multi, scan, broker_ids, rendered_ro
 use Rattle.kz_spec_stores.specs.Requests.{Either}
 use Rattle.kz_spec_znodes.specs.Rendering.{render}
 use Rattle.kz_spec_znodes.specs.Difference.{diff}
-use Rattle.kz_spec_machine.specs.Driver.{Shared, step, epoch_or_zero, after_brokers, missing_broker, looked, seen_in, claim_ops, after_page, last_path}
+use Rattle.kz_spec_machine.specs.Driver.{Shared, step, epoch_or_zero, after_brokers, missing_broker, after_look, seen_in, claim_ops, after_page, last_path}
 use Rattle.kz_driver.specs.Rows.{driver_of}
 use Rattle.kz_driver.specs.Claims.{claim_outcome, after_claim_outcome, tree_after}
 use Rattle.kz_driver.specs.Drivers.{HasEpoch, IsAtTarget, asks_tree, shared_of}
@@ -72,7 +72,7 @@ returns-in-ClaimLeadership-clause-kept g c =
 
 pub returns-in-ReadControlZnodes-clause-kept : goal.returns-in-ReadControlZnodes-clause-kept
 returns-in-ReadControlZnodes-clause-kept g c =
-    look_kept c.read_control_znodes.result c.args.row.now c.read_control_znodes.new.row (looked (seen_in (g.T.ZTree.tree c.args.tree.now)) (driver_of c.args.row.now)) c.read_control_znodes.ensures.ok (c.read_control_znodes.ensures.can c.in-ReadControlZnodes.is) c.read_control_znodes.ensures.err c.requires.kept
+    look_kept c.read_control_znodes.result c.args.row.now c.read_control_znodes.new.row (after_look (seen_in (g.T.ZTree.tree c.args.tree.now)) (driver_of c.args.row.now)) c.read_control_znodes.ensures.ok (c.read_control_znodes.ensures.can c.in-ReadControlZnodes.is) c.read_control_znodes.ensures.err c.requires.kept
     (look_lives (seen_in (g.T.ZTree.tree c.args.tree.now)) (driver_of c.args.row.now) (subst (HasEpoch c.args.row.now.epoch) c.in-ReadControlZnodes.is c.requires.kept.elected) c.requires.kept)
 
 pub returns-in-ScanForResync-clause-kept : goal.returns-in-ScanForResync-clause-kept
@@ -152,8 +152,8 @@ returns-in_default-clause-disks g c =
     let old = c.args.log.now in
     let new = c.step_without_tree.new.log in
     let fits : SFits w64 c.args.now = search rules in
-    subst (λ n. StepDisks (shared_of (trees.tree tree) (logs.log old) c.args.peers.now.declared) n (driver_of c.args.row.now) (files_of (trees.length_with tree) (logs.length_with old)) c.step_without_tree.result (disks_of (trees.disk tree) (logs.disk old)) (disks_of (trees.disk tree) (logs.disk new)))
-    (to_z-of_z w64 c.args.now fits) (c.step_without_tree.ensures.disks (trees.tree tree) (trees.disk tree) (trees.length_with tree))
+    subst (λ n. StepDisks (shared_of (trees.tree tree) (logs.log old) c.args.peers.now.declared) n (driver_of c.args.row.now) (files_of trees.length_with logs.length_with) c.step_without_tree.result (disks_of (trees.disk tree) (logs.disk old)) (disks_of (trees.disk tree) (logs.disk new)))
+    (to_z-of_z w64 c.args.now fits) (c.step_without_tree.ensures.disks (trees.tree tree) (trees.disk tree) trees.length_with)
 
 pub returns-in_default-clause-stop : goal.returns-in_default-clause-stop
 returns-in_default-clause-stop g c =
@@ -169,8 +169,8 @@ returns-in_default-clause-stop g c =
     let without : asks_tree row.stage ≡ false = search rules in
     let stop = subst (λ n. IsErrOf r (step_fault.Log log_fault.Failed) → Either (logs.log old) (step s c.args.peers.now.running n (driver_of row)).shared.log (logs.left new))
     (to_z-of_z w64 c.args.now fits) (c.step_without_tree.ensures.stop (trees.tree tree)) in
-    leaves_without_tree r s (step s c.args.peers.now.running c.args.now (driver_of row)).shared _ (driver_of row) (trees.left tree) (logs.left new) (files_of (trees.length_with tree) (logs.length_with old)) (disks_of (trees.disk tree) (logs.disk old)) (disks_of (trees.disk tree) (logs.disk new))
-    without (c.step_without_tree.ensures.disks (trees.tree tree) (trees.disk tree) (trees.length_with tree)) stop
+    leaves_without_tree r s (step s c.args.peers.now.running c.args.now (driver_of row)).shared _ (driver_of row) (trees.left tree) (logs.left new) (files_of trees.length_with logs.length_with) (disks_of (trees.disk tree) (logs.disk old)) (disks_of (trees.disk tree) (logs.disk new))
+    without (c.step_without_tree.ensures.disks (trees.tree tree) (trees.disk tree) trees.length_with) stop
 
 pub returns-in-WriteResync-clause-stop : goal.returns-in-WriteResync-clause-stop
 returns-in-WriteResync-clause-stop g c =
@@ -182,7 +182,7 @@ returns-in-WriteResync-clause-stop g c =
     let d = driver_of c.args.row.now in
     let peers = c.args.peers.now in
     let target = c.in-WriteResync.target in
-    write_leaves wrote.result (trees.tree tree) (logs.log log) peers.declared peers.running c.args.now d (stage.WriteResync target c.in-WriteResync.ops) target (files_of (trees.length_with tree) (logs.length_with log)) (disks_of (trees.disk tree) (logs.disk log)) (disks_of (trees.disk wrote.new.tree) (logs.disk wrote.new.log)) (trees.left wrote.new.tree) (logs.left wrote.new.log)
+    write_leaves wrote.result (trees.tree tree) (logs.log log) peers.declared peers.running c.args.now d (stage.WriteResync target c.in-WriteResync.ops) target (files_of trees.length_with logs.length_with) (disks_of (trees.disk tree) (logs.disk log)) (disks_of (trees.disk wrote.new.tree) (logs.disk wrote.new.log)) (trees.left wrote.new.tree) (logs.left wrote.new.log)
     c.in-WriteResync.is refl (wrote.ensures.disks peers.declared (epoch_or_zero d.epoch) c.args.now) wrote.ensures.stop
 
 pub returns-in-WriteDelta-clause-stop : goal.returns-in-WriteDelta-clause-stop
@@ -195,5 +195,5 @@ returns-in-WriteDelta-clause-stop g c =
     let d = driver_of c.args.row.now in
     let peers = c.args.peers.now in
     let target = c.in-WriteDelta.target in
-    write_leaves wrote.result (trees.tree tree) (logs.log log) peers.declared peers.running c.args.now d (stage.WriteDelta target c.in-WriteDelta.ops) target (files_of (trees.length_with tree) (logs.length_with log)) (disks_of (trees.disk tree) (logs.disk log)) (disks_of (trees.disk wrote.new.tree) (logs.disk wrote.new.log)) (trees.left wrote.new.tree) (logs.left wrote.new.log)
+    write_leaves wrote.result (trees.tree tree) (logs.log log) peers.declared peers.running c.args.now d (stage.WriteDelta target c.in-WriteDelta.ops) target (files_of trees.length_with logs.length_with) (disks_of (trees.disk tree) (logs.disk log)) (disks_of (trees.disk wrote.new.tree) (logs.disk wrote.new.log)) (trees.left wrote.new.tree) (logs.left wrote.new.log)
     c.in-WriteDelta.is refl (wrote.ensures.disks peers.declared (epoch_or_zero d.epoch) c.args.now) wrote.ensures.stop

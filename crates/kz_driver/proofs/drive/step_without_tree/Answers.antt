@@ -114,7 +114,7 @@ returns-in-BeginMigration-clause-disks g c t tree_disk tree_file =
     let same : to_z w64 (of_z w64 c.args.now) ≡ c.args.now = to_z-of_z w64 c.args.now fits in
     let rows = c.in-BeginMigration.rows in
     step_disks _ _ _ (stage.BeginMigration rows) _ _ _ _ c.in-BeginMigration.is
-    (subst (λ n. RequestDisks s epoch n row.view.position (files_of tree_file (logs.length_with old)) (begin_request (translate rows)) c.begin_migration.result (disks_of tree_disk (logs.disk old)) (disks_of tree_disk (logs.disk new)))
+    (subst (λ n. RequestDisks s epoch n row.view.position (files_of tree_file logs.length_with) (begin_request (translate rows)) c.begin_migration.result (disks_of tree_disk (logs.disk old)) (disks_of tree_disk (logs.disk new)))
     same (c.begin_migration.ensures.disks rows c.in-BeginMigration.is t ids tree_disk tree_file))
     (λ e. absurd (cc))
 

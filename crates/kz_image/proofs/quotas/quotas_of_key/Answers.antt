@@ -7,4 +7,4 @@ use Rattle.kz_image.proofs.QuotaLists.{long_path_not_found}
 use Rattle.kz_image.proofs.quotas.quotas_of_key.Goals as goal
 
 pub returns-in-None : goal.returns-in-None
-returns-in-None c = sym (ap (option_map rows_of) (long_path_not_found (path_of (entity_of c.args.key.now)) c.args.entries.now c.requires c.in-None.ensures))
+returns-in-None c = sym (ap (option_map rows_of) (long_path_not_found (path_of (entity_of c.args.key.now)) c.args.entries.now c.requires c.in-None.ensures.path))

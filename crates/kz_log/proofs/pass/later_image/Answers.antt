@@ -4,7 +4,7 @@ use mir.Val.{SFits}
 use Rattle.kz_types.specs.declared.log.Entry.{Entry}
 use Rattle.kz_spec_stores.specs.Log.{all_entries_applied}
 use Rattle.kz_log.specs.Reading.{entries_after, unread_entries, Knows, image_after}
-use Rattle.kz_log.proofs.Batches.{is_before, is_not_before, within, passed_none, unread_consecutive}
+use Rattle.kz_log.proofs.Batches.{is_before, is_not_before, within, pass_none, unread_consecutive}
 use Rattle.kz_log.proofs.pass.later_image.Goals as goal
 
 pub loop-here-init : goal.loop-here-init
@@ -42,7 +42,7 @@ returns c =
     let at = to_z w64 (of_z w64 c.args.at) in
     let place : SFits w64 here.position = search rules in
     let over = is_not_before here.position at place c.loop-here-test.false in
-    sym (ap (λ es. all_entries_applied es c.loop-here.made) (passed_none at here.position (is_some c.loop-here.known) (unread_entries here.position here.epoch here.items.now here.rest.now)
+    sym (ap (λ es. all_entries_applied es c.loop-here.made) (pass_none at here.position (is_some c.loop-here.known) (unread_entries here.position here.epoch here.items.now here.rest.now)
     (unread_consecutive here.position here.epoch here.items.now here.rest.now) over))
     ∙ c.loop-here.invariant.same
     ∙ ap (λ o. image_after o false (entries_after (to_z w64 (of_z w64 c.args.base)) c.args.batches.now) c.args.image.now) (to_z-of_z w64 c.args.at c.ranges.at)

@@ -1,7 +1,7 @@
 use Rattle.std.proofs.Common.{[], refl}
 use Rattle.std.proofs.KnownBytes.{Consumes-nil, Appends-nil}
 use Rattle.kz_types.specs.declared.outside.Status.TheVariants as status
-use Rattle.kz_spec_runs.specs.Output.{opening, replayed}
+use Rattle.kz_spec_runs.specs.Output.{opening, outcome_of_replay}
 use Rattle.kz_replay.specs.Runs.{side}
 use Rattle.kz_replay.proofs.Cut.{state}
 use Rattle.kz_replay.proofs.Failures.{no_failure}
@@ -15,7 +15,7 @@ returns-in-Err g c =
     let out = side g.K.Sink.taken g.K.Sink.faults g.K.Sink.last_failed c.args.out.now in
     let start = state opening [] 0 in
     replays c.args.words.now start input input out out status.NoMemory (c.is_replay.ensures.0 c.if-not-is_replay.false) refl (λ e. cc)
-    (always input.bytes (Told start input input out out status.NoMemory) (λ script. ([], [], Consumes-nil input.bytes, Appends-nil out.bytes, ((replayed script).text, refl))))
+    (always input.bytes (Told start input input out out status.NoMemory) (λ script. ([], [], Consumes-nil input.bytes, Appends-nil out.bytes, ((outcome_of_replay script).text, refl))))
     (λ e. absurd (cc))
     (no_failure status.ReadFault status.NoMemory input.faults input.faults input.last_failed input.last_failed (λ e. cc) refl (λ failed. failed))
     (no_failure status.WriteFault status.NoMemory out.faults out.faults out.last_failed out.last_failed (λ e. cc) refl (λ failed. failed))

@@ -1,5 +1,5 @@
-use Rattle.kz_settle.proofs.Passing.{counted_is_passed}
+use Rattle.kz_settle.proofs.Passing.{counted_is_pass}
 use Rattle.kz_settle.proofs.laws.one_pass.Goals as goal
 
 pub returns : goal.returns
-returns c = counted_is_passed
+returns c = counted_is_pass

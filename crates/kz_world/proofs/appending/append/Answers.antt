@@ -12,7 +12,7 @@ use Rattle.kz_spec_machine.specs.Failures.{is_failure}
 use Rattle.kz_driver.specs.declared.fault.StepFault.{StepFault}
 use Rattle.kz_driver.specs.Disks.{IsLogChange}
 use Rattle.kz_log.proofs.Views.{append_leaves_views}
-use Rattle.kz_world.specs.Worlds.{world_of, appended}
+use Rattle.kz_world.specs.Worlds.{world_of, world_after_append}
 use Rattle.kz_world.proofs.Outcomes.{append_done, append_refused}
 use Rattle.kz_world.proofs.Told.{changed, log_disk}
 use Rattle.kz_world.proofs.Views.{kept_still}
@@ -31,7 +31,7 @@ returns-in-Ok-clause-ok g c =
     let end_fits : SFits w64 c.in-Ok.offset = search rules in
     let epoch_is = to_z-of_z w32 c.epoch-epoch.result epoch_fits ∙ c.epoch-epoch.ensures in
     let end_is = to_z-of_z w64 c.in-Ok.offset end_fits ∙ c.in-Ok.ensures.ok.1 in (
-      ap (appended w c.args.records.now) (sym (to_z-of_z w64 c.args.now c.ranges.now))
+      ap (world_after_append w c.args.records.now) (sym (to_z-of_z w64 c.args.now c.ranges.now))
           ∙ append_done w c.args.records.now (to_z w64 (of_z w64 c.args.now)) _ (to_z w64 (of_z w64 c.in-Ok.offset)) (g.L.MetaLog.log c.append.new.self) epoch_is c.in-Ok.ensures.ok.0 end_is,
       refl,
     )
@@ -44,8 +44,8 @@ returns-in-Err-clause-ok g c =
     let epoch_fits : SFits w32 c.epoch-epoch.result = search rules in
     let epoch_is = to_z-of_z w32 c.epoch-epoch.result epoch_fits ∙ c.epoch-epoch.ensures in
     let same = ap (λ (l : Log). record w { shared = record w.shared { log = l } }) c.in-Err.ensures.same in
-    subst (λ x. IfOk c.after_log_fault.result (λ a. (appended w c.args.records.now x ≡ (new, a)) × (is_failure a ≡ false))) (to_z-of_z w64 c.args.now c.ranges.now)
-    (subst (λ (r : Result Answer StepFault). IfOk r (λ a. (appended w c.args.records.now n ≡ (new, a)) × (is_failure a ≡ false))) (sym c.after_log_fault.ensures)
+    subst (λ x. IfOk c.after_log_fault.result (λ a. (world_after_append w c.args.records.now x ≡ (new, a)) × (is_failure a ≡ false))) (to_z-of_z w64 c.args.now c.ranges.now)
+    (subst (λ (r : Result Answer StepFault). IfOk r (λ a. (world_after_append w c.args.records.now n ≡ (new, a)) × (is_failure a ≡ false))) (sym c.after_log_fault.ensures)
     (append_refused w c.args.records.now n _ c.in-Err.fault new epoch_is c.in-Err.ensures.refused same))
 
 pub returns-in-Ok-clause-disks : goal.returns-in-Ok-clause-disks
@@ -57,11 +57,15 @@ returns-in-Ok-clause-disks g c =
     let records = c.args.records.now in
     let epoch_fits : SFits w32 c.epoch-epoch.result = search rules in
     let epoch_is = to_z-of_z w32 c.epoch-epoch.result epoch_fits ∙ c.epoch-epoch.ensures in
-    let same = ap (λ e. append l e (to_z w64 (of_z w64 c.args.now)) records) epoch_is ∙ ap (λ n. append l l.epoch n records) (to_z-of_z w64 c.args.now c.ranges.now) in
-    let file = g.L.MetaLog.length_with p.log (Append (to_z w32 (of_z w32 c.epoch-epoch.result)) (to_z w64 (of_z w64 c.args.now)) records) in
-    let done : Result Answer StepFault = Ok (answer.Appended (to_z w64 (of_z w64 c.in-Ok.offset))) in
-    let asked = append l (to_z w32 (of_z w32 c.epoch-epoch.result)) (to_z w64 (of_z w64 c.args.now)) records in
-    (file, (subst (λ (made : Result Log LogFault). IsLogChange made file done old new) same (changed asked (g.L.MetaLog.log c.append.new.self) file old new c.in-Ok.ensures.ok.0 c.in-Ok.ensures.disk), refl))
+    let e = to_z w32 (of_z w32 c.epoch-epoch.result) in
+    let n = to_z w64 (of_z w64 c.args.now) in
+    let grown = g.L.MetaLog.length_with l in
+    let done : Result Answer StepFault = Ok (answer.Appended (to_z w64 (of_z w64 c.in-Ok.offset))) in (
+      subst (λ x. IsLogChange (append l l.epoch x records) (grown (Append l.epoch x records)) done old new) (to_z-of_z w64 c.args.now c.ranges.now)
+          (subst (λ x. IsLogChange (append l x n records) (grown (Append x n records)) done old new) epoch_is
+          (changed (append l e n records) (g.L.MetaLog.log c.append.new.self) (grown (Append e n records)) old new c.in-Ok.ensures.ok.0 c.in-Ok.ensures.disk)),
+      refl,
+    )
 
 pub returns-in-Err-clause-disks : goal.returns-in-Err-clause-disks
 returns-in-Err-clause-disks g c =
@@ -72,14 +76,12 @@ returns-in-Err-clause-disks g c =
     let records = c.args.records.now in
     let epoch_fits : SFits w32 c.epoch-epoch.result = search rules in
     let epoch_is = to_z-of_z w32 c.epoch-epoch.result epoch_fits ∙ c.epoch-epoch.ensures in
-    let same = ap (λ e. append l e (to_z w64 (of_z w64 c.args.now)) records) epoch_is ∙ ap (λ n. append l l.epoch n records) (to_z-of_z w64 c.args.now c.ranges.now) in
-    let file = g.L.MetaLog.length_with p.log (Append (to_z w32 (of_z w32 c.epoch-epoch.result)) (to_z w64 (of_z w64 c.args.now)) records) in
-    let asked = append l (to_z w32 (of_z w32 c.epoch-epoch.result)) (to_z w64 (of_z w64 c.args.now)) records in
-    let told = log_disk asked c.in-Err.fault file old new c.in-Err.ensures.refused c.in-Err.ensures.disk in (
-      file,
-      (
-        subst (λ (made : Result Log LogFault). IsLogChange made file c.after_log_fault.result old new) same
-            (subst (λ (r : Result Answer StepFault). IsLogChange asked file r old new) (sym c.after_log_fault.ensures) told),
-        refl,
-      ),
+    let e = to_z w32 (of_z w32 c.epoch-epoch.result) in
+    let n = to_z w64 (of_z w64 c.args.now) in
+    let grown = g.L.MetaLog.length_with l in
+    let told = log_disk (append l e n records) c.in-Err.fault (grown (Append e n records)) old new c.in-Err.ensures.refused c.in-Err.ensures.disk in (
+      subst (λ x. IsLogChange (append l l.epoch x records) (grown (Append l.epoch x records)) c.after_log_fault.result old new) (to_z-of_z w64 c.args.now c.ranges.now)
+          (subst (λ x. IsLogChange (append l x n records) (grown (Append x n records)) c.after_log_fault.result old new) epoch_is
+          (subst (λ (r : Result Answer StepFault). IsLogChange (append l e n records) (grown (Append e n records)) r old new) (sym c.after_log_fault.ensures) told)),
+      refl,
     )

@@ -10,7 +10,7 @@ use Rattle.kz_spec_stores.specs.Log.{Log, image_of}
 use Rattle.kz_spec_machine.specs.Failures.{is_failure}
 use Rattle.kz_spec_machine.specs.Machine.{World, leader_refusal, next}
 use Rattle.kz_world.specs.Refusals.{records_refusal}
-use Rattle.kz_world.specs.Worlds.{world_of, appended}
+use Rattle.kz_world.specs.Worlds.{world_of, world_after_append}
 use Rattle.kz_world.proofs.Outcomes.{told_by, change_refused, change_appends}
 use Rattle.kz_world.proofs.change.change.Goals as goal
 
@@ -31,8 +31,8 @@ returns-in-Ok-None-clause-ok g c =
     let epoch_is = to_z-of_z w32 c.epoch.result fits ∙ c.epoch.ensures ∙ ap (λ (m : Log). m.epoch) c.read.ensures.same in
     let leads = ap (leader_refusal w) (sym (to_z-of_z w32 id c.ranges.id)) ∙ sym c.leader_refusal.ensures.refusal ∙ c.in_default.is in
     let taken = asked l records _ _ _ _ epoch_is (c.image.ensures ∙ c.in-Ok.ensures.image) c.in-Ok-None.ensures.refusal c.in-Ok-None.field-0-is in
-    told_by c.append.result (next w (event.Change id records c.args.now)) (appended (world_of g.T.ZTree.tree g.L.MetaLog.log c.read.new.parts) records now) (world_of g.T.ZTree.tree g.L.MetaLog.log c.append.new.parts)
-    (ap (λ n. next w (event.Change id records n)) (sym (to_z-of_z w64 c.args.now c.ranges.now)) ∙ change_appends w id now records leads taken ∙ ap (λ (x : World). appended x records now) (sym c.read.ensures.world)) c.append.ensures.ok
+    told_by c.append.result (next w (event.Change id records c.args.now)) (world_after_append (world_of g.T.ZTree.tree g.L.MetaLog.log c.read.new.parts) records now) (world_of g.T.ZTree.tree g.L.MetaLog.log c.append.new.parts)
+    (ap (λ n. next w (event.Change id records n)) (sym (to_z-of_z w64 c.args.now c.ranges.now)) ∙ change_appends w id now records leads taken ∙ ap (λ (x : World). world_after_append x records now) (sym c.read.ensures.world)) c.append.ensures.ok
 
 pub returns-in-Ok-Some-clause-ok : goal.returns-in-Ok-Some-clause-ok
 returns-in-Ok-Some-clause-ok g c =

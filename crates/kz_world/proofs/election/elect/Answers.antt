@@ -2,14 +2,13 @@ use Rattle.std.proofs.Common.{◌≡◌, cond, [], ◌∷◌, ◌++◌, Result, 
 use Rattle.std.specs.Ordering.{int_eq}
 use Rattle.std.proofs.lemmas.Int.{to_z-of_z}
 use Rattle.kz_types.specs.declared.codes.TheConstants.{NO_MIGRATION, PRE_MIGRATION}
-use Rattle.kz_types.specs.declared.fault.LogFault.{LogFault}
 use Rattle.kz_types.specs.declared.record.MetaRecord.TheVariants as meta
-use Rattle.kz_spec_stores.specs.Log.{Log, IsLog, begun_of, elect, image_of}
+use Rattle.kz_spec_stores.specs.Log.{Log, IsLog, begun_of, image_of}
 use Rattle.kz_spec_stores.specs.Image.{Image}
 use Rattle.kz_spec_machine.specs.Machine.{election_records, running_refusal}
-use Rattle.kz_driver.specs.Disks.{Disks}
-use Rattle.kz_world.specs.Disks.{disks_in, ReadsAndChangesLog}
-use Rattle.kz_world.specs.Worlds.{held, world_of, records_on_election}
+use Rattle.kz_driver.specs.Disks.{Disks, files_of}
+use Rattle.kz_world.specs.Disks.{disks_in, ElectsController}
+use Rattle.kz_world.specs.Worlds.{world_of_parts, world_of, records_on_election}
 use Rattle.kz_log.proofs.Views.{open_is_begun}
 use Rattle.kz_world.proofs.Outcomes.{unless_none}
 use Rattle.kz_world.proofs.Views.{read_keeps}
@@ -33,22 +32,15 @@ pub returns-clause-disks : goal.returns-clause-disks
 returns-clause-disks g c =
     let log = g.L.MetaLog.log in
     let disks = disks_in g.T.ZTree.disk g.L.MetaLog.disk in
+    let files = files_of g.T.ZTree.length_with g.L.MetaLog.length_with in
     let p = c.args.parts.now in
     let q = c.read.new.parts in
     let r = c.elect_running.new.parts in
     let w = world_of g.T.ZTree.tree log p in
-    let l = log p.log in
     let n = to_z w64 (of_z w64 c.args.now) in
-    let items = c.deref.result.now in
     let runs = ap (running_refusal w) (sym (to_z-of_z w32 c.args.id c.ranges.id)) ∙ sym c.running_refusal.ensures.refusal ∙ c.in_default.is in
-    let v = q.view in
-    let m = log q.log in
-    let begun_is = c.in-Ok.ensures.begun ∙ ap begun_of (sym c.read.ensures.same) in
-    let image_is = c.in-Ok.ensures.image ∙ ap image_of (sym c.read.ensures.same) in
-    let items_are = c.deref.ensures.value ∙ c.in-Ok-election_records.ensures ∙ ap (λ b. records_on_election b v.image.state) begun_is ∙ ap (λ (i : Image). records_on_election (begun_of m) i.state) image_is
-    ∙ election_is m (g.met.L.MetaLog.is_log q.log) ∙ ap election_records c.read.ensures.same in
-    let made = ap (λ (x : Log). elect x n items) c.read.ensures.same ∙ ap (λ x. elect l x items) (to_z-of_z w64 c.args.now c.ranges.now) ∙ ap (elect l c.args.now) items_are in
-    let same = read_keeps (disks (held p)) (disks (held q)) c.in-Ok.ensures.disks.0.1 c.in-Ok.ensures.disks.1 in
+    let same = read_keeps (disks (world_of_parts p)) (disks (world_of_parts q)) c.in-Ok.ensures.disks.0.1 c.in-Ok.ensures.disks.1 in
     unless_none (running_refusal w c.args.id) _ _ runs
-    (subst (λ (x : Result Log LogFault). ReadsAndChangesLog x c.elect_running.result (disks (held p)) (disks (held r))) made
-    (subst (λ (x : Disks). ReadsAndChangesLog (elect m n items) c.elect_running.result x (disks (held r))) same c.elect_running.ensures.disks))
+    (subst (λ x. ElectsController (log p.log) x files c.elect_running.result (disks (world_of_parts p)) (disks (world_of_parts r))) (to_z-of_z w64 c.args.now c.ranges.now)
+    (subst (λ (l : Log). ElectsController l n files c.elect_running.result (disks (world_of_parts p)) (disks (world_of_parts r))) c.read.ensures.same
+    (subst (λ (x : Disks). ElectsController (log q.log) n files c.elect_running.result x (disks (world_of_parts r))) same c.elect_running.ensures.disks)))

@@ -1,8 +1,8 @@
 use Rattle.std.proofs.Common.{rules, ◌∙◌, refl, sym, ap, subst, w32, w64, to_z, of_z, List, Result, Ok}
 use Rattle.std.proofs.lemmas.Int.{to_z-of_z}
 use mir.Val.{SFits}
-use Rattle.kz_types.specs.declared.fault.LogFault.{LogFault}
 use Rattle.kz_types.specs.declared.machine.Answer.{Answer}
+use Rattle.kz_types.specs.declared.record.MetaRecord.{MetaRecord}
 use Rattle.kz_types.specs.declared.machine.Answer.TheVariants as answer
 use Rattle.kz_spec_stores.specs.Log.{Log, elect}
 use Rattle.kz_spec_stores.specs.Requests.{Elect}
@@ -44,10 +44,13 @@ returns-in-Ok-clause-disks g c =
     let new = g.L.MetaLog.disk c.elect.new.self in
     let items = c.args.items.now in
     let n = to_z w64 (of_z w64 c.args.now) in
-    let same = ap (λ x. elect l x items) (to_z-of_z w64 c.args.now c.ranges.now) in
-    let file = g.L.MetaLog.length_with p.log (Elect n items) in
-    let done : Result Answer StepFault = Ok (answer.Elected (to_z w32 (of_z w32 c.in-Ok.elected.epoch)) (to_z w64 (of_z w64 c.in-Ok.elected.end))) in
-    (file, (subst (λ (made : Result Log LogFault). IsLogChange made file done old new) same (changed (elect l n items) (g.L.MetaLog.log c.elect.new.self) file old new c.in-Ok.ensures.ok.0 c.in-Ok.ensures.disk), refl))
+    let grown = g.L.MetaLog.length_with l in
+    let done : Result Answer StepFault = Ok (answer.Elected (to_z w32 (of_z w32 c.in-Ok.elected.epoch)) (to_z w64 (of_z w64 c.in-Ok.elected.end))) in (
+      subst (λ (rs : List MetaRecord). IsLogChange (elect l c.args.now rs) (grown (Elect c.args.now rs)) done old new) c.requires.items
+          (subst (λ x. IsLogChange (elect l x items) (grown (Elect x items)) done old new) (to_z-of_z w64 c.args.now c.ranges.now)
+          (changed (elect l n items) (g.L.MetaLog.log c.elect.new.self) (grown (Elect n items)) old new c.in-Ok.ensures.ok.0 c.in-Ok.ensures.disk)),
+      refl,
+    )
 
 pub returns-in-Err-clause-disks : goal.returns-in-Err-clause-disks
 returns-in-Err-clause-disks g c =
@@ -57,13 +60,10 @@ returns-in-Err-clause-disks g c =
     let new = g.L.MetaLog.disk c.elect.new.self in
     let items = c.args.items.now in
     let n = to_z w64 (of_z w64 c.args.now) in
-    let same = ap (λ x. elect l x items) (to_z-of_z w64 c.args.now c.ranges.now) in
-    let file = g.L.MetaLog.length_with p.log (Elect n items) in
-    let told = log_disk (elect l n items) c.in-Err.fault file old new c.in-Err.ensures.refused c.in-Err.ensures.disk in (
-      file,
-      (
-        subst (λ (made : Result Log LogFault). IsLogChange made file c.after_log_fault.result old new) same
-            (subst (λ (r : Result Answer StepFault). IsLogChange (elect l n items) file r old new) (sym c.after_log_fault.ensures) told),
-        refl,
-      ),
+    let grown = g.L.MetaLog.length_with l in
+    let told = log_disk (elect l n items) c.in-Err.fault (grown (Elect n items)) old new c.in-Err.ensures.refused c.in-Err.ensures.disk in (
+      subst (λ (rs : List MetaRecord). IsLogChange (elect l c.args.now rs) (grown (Elect c.args.now rs)) c.after_log_fault.result old new) c.requires.items
+          (subst (λ x. IsLogChange (elect l x items) (grown (Elect x items)) c.after_log_fault.result old new) (to_z-of_z w64 c.args.now c.ranges.now)
+          (subst (λ (r : Result Answer StepFault). IsLogChange (elect l n items) (grown (Elect n items)) r old new) (sym c.after_log_fault.ensures) told)),
+      refl,
     )

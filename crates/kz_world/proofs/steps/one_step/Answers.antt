@@ -17,7 +17,7 @@ returns-in-Err-clause-id g c = ap (λ (d : Driver). d.id) c.in-Err.ensures.err.0
 pub returns-in-Ok-clause-disks : goal.returns-in-Ok-clause-disks
 returns-in-Ok-clause-disks g c =
     let s = shared_of (g.T.ZTree.tree c.args.tree.now) (g.L.MetaLog.log c.args.log.now) c.args.peers.now.declared in
-    let files = files_of (g.T.ZTree.length_with c.args.tree.now) (g.L.MetaLog.length_with c.args.log.now) in
+    let files = files_of g.T.ZTree.length_with g.L.MetaLog.length_with in
     let old = disks_of (g.T.ZTree.disk c.args.tree.now) (g.L.MetaLog.disk c.args.log.now) in
     let new = disks_of (g.T.ZTree.disk c.step.new.tree) (g.L.MetaLog.disk c.step.new.log) in
     subst (λ n. StepRequestDisks s n c.args.driver.now files (result_of_reply c.in-Ok.reply) old new) (to_z-of_z w64 c.args.now c.ranges.now)
@@ -31,7 +31,7 @@ returns-in-Err-clause-made g c = λ told.
 pub returns-in-Err-clause-disks : goal.returns-in-Err-clause-disks
 returns-in-Err-clause-disks g c =
     let s = shared_of (g.T.ZTree.tree c.args.tree.now) (g.L.MetaLog.log c.args.log.now) c.args.peers.now.declared in
-    let files = files_of (g.T.ZTree.length_with c.args.tree.now) (g.L.MetaLog.length_with c.args.log.now) in
+    let files = files_of g.T.ZTree.length_with g.L.MetaLog.length_with in
     let old = disks_of (g.T.ZTree.disk c.args.tree.now) (g.L.MetaLog.disk c.args.log.now) in
     let new = disks_of (g.T.ZTree.disk c.step.new.tree) (g.L.MetaLog.disk c.step.new.log) in
     subst (λ n. StepRequestDisks s n c.args.driver.now files (result_of_reply c.reply_of_fault.result) old new) (to_z-of_z w64 c.args.now c.ranges.now)

@@ -2,9 +2,9 @@ use Rattle.std.proofs.Common.{◌≡◌, Some, ap, subst, ◌∙◌, w64, to_z, 
 use Rattle.std.specs.Prelude.{slice_get}
 use Rattle.std.proofs.lemmas.Int.{to_z-of_z}
 use Rattle.kz_spec_machine.specs.Machine.{World}
-use Rattle.kz_driver.specs.Disks.{Disks}
+use Rattle.kz_driver.specs.Disks.{Disks, files_of}
 use Rattle.kz_world.specs.Disks.{disks_in, DriverTurnDisks}
-use Rattle.kz_world.specs.Worlds.{held, world_of}
+use Rattle.kz_world.specs.Worlds.{world_of_parts, world_of}
 use Rattle.kz_world.proofs.Views.{read_keeps}
 use Rattle.kz_world.proofs.turns.prepared_turn.Goals as goal
 
@@ -17,8 +17,9 @@ returns-clause-disks g c = λ d at_is.
     let r = c.turn_at.new.parts in
     let n = to_z w64 (of_z w64 c.args.now) in
     let told = c.turn_at.result in
+    let files = files_of g.T.ZTree.length_with g.L.MetaLog.length_with in
     let there : slice_get q.drivers.items c.args.at ≡ Some d = ap (λ (w : World). slice_get w.drivers c.args.at) c.most_steps.ensures.world ∙ at_is in
-    let same = read_keeps (disks (held p)) (disks (held q)) c.in-Ok-most_steps.ensures.disks.0.1 c.in-Ok-most_steps.ensures.disks.1 in
-    subst (λ x. DriverTurnDisks (world p) x d told (disks (held p)) (disks (held r))) (to_z-of_z w64 c.args.now c.ranges.now)
-    (subst (λ (w : World). DriverTurnDisks w n d told (disks (held p)) (disks (held r))) c.most_steps.ensures.world
-    (subst (λ (x : Disks). DriverTurnDisks (world q) n d told x (disks (held r))) same (c.turn_at.ensures.disks d there)))
+    let same = read_keeps (disks (world_of_parts p)) (disks (world_of_parts q)) c.in-Ok-most_steps.ensures.disks.0.1 c.in-Ok-most_steps.ensures.disks.1 in
+    subst (λ x. DriverTurnDisks (world p) x d files told (disks (world_of_parts p)) (disks (world_of_parts r))) (to_z-of_z w64 c.args.now c.ranges.now)
+    (subst (λ (w : World). DriverTurnDisks w n d files told (disks (world_of_parts p)) (disks (world_of_parts r))) c.most_steps.ensures.world
+    (subst (λ (x : Disks). DriverTurnDisks (world q) n d files told x (disks (world_of_parts r))) same (c.turn_at.ensures.disks d there)))

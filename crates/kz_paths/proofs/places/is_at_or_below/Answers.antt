@@ -1,0 +1,13 @@
+use Rattle.std.proofs.Common.{arith}
+use Rattle.std.proofs.lemmas.Grind.{common_steps}
+use Rattle.kz_paths.proofs.Prefixes.{at_or_below}
+use Rattle.kz_paths.proofs.places.is_at_or_below.Goals as goal
+
+pub returns-then-path-above : goal.returns-then-path-above
+returns-then-path-above c = let e = at_or_below c.args.above.now c.args.path.now in grind (arith, common_steps, e)
+
+pub returns-else-path-above : goal.returns-else-path-above
+returns-else-path-above c = let e = at_or_below c.args.above.now c.args.path.now in grind (arith, common_steps, e)
+
+pub returns-else-starts_with : goal.returns-else-starts_with
+returns-else-starts_with c = let e = at_or_below c.args.above.now c.args.path.now in grind (arith, common_steps, e)
