@@ -1,4 +1,4 @@
--- A driver that is unless_told before its claim.
+-- What a driver checks before its claim.
 use Rattle.std.specs.Prelude.{ℤ, ◌≤ℤ◌, ⊤, Option, Some, None}
 use Rattle.kz_types.specs.declared.limits.TheConstants.{MAX_VERSION}
 use Rattle.kz_types.specs.declared.tree.Row.{Row}

@@ -5,7 +5,7 @@ ghost use Rattle.kz_spec_stores.specs.Tree.{Tree};
 ghost use Rattle.kz_spec_stores.specs.Log.{View as ViewValue, IsViewOf};
 ghost use Rattle.kz_spec_machine.specs.Driver.{Driver as DriverValue, new_driver, elected_driver, step};
 ghost use Rattle.kz_spec_machine.specs.Failures.{is_failed_step};
-ghost use Rattle.kz_driver.specs.Disks.{disks_of, files_of, StepDisks, StepLeaves};
+ghost use Rattle.kz_driver.specs.Disks.{disks_of, frames_of, StepDisks, StepLeaves};
 ghost use Rattle.kz_driver.specs.Drivers.{IsKept, asks_tree, shared_of, after_uninitialized, after_broker_comm};
 ghost use Rattle.kz_driver.specs.Rows.{driver_of};
 
@@ -119,7 +119,7 @@ impl Driver {
         ensures err { OnErr result ((self.new ≡ self.old) × (T.tree tree.new ≡ T.tree tree.old) × (L.log log.new ≡ L.log log.old)) }
         ensures view { IsViewOf (L.log log.new) self.new.view }
         ensures views { (v : ViewValue) → IsViewOf (L.log log.old) v → IsViewOf (L.log log.new) v }
-        ensures disks { StepDisks (shared_of (T.tree tree.old) (L.log log.old) peers.now.declared) now self.old (files_of T.length_with L.length_with) result
+        ensures disks { StepDisks (shared_of (T.tree tree.old) (L.log log.old) peers.now.declared) now self.old (frames_of T.frame_bytes L.frame_bytes) result
             (disks_of (T.disk tree.old) (L.disk log.old)) (disks_of (T.disk tree.new) (L.disk log.new)) }
         ensures stop { StepLeaves result (shared_of (T.tree tree.old) (L.log log.old) peers.now.declared)
             (step (shared_of (T.tree tree.old) (L.log log.old) peers.now.declared) peers.now.running now self.old).shared (T.left tree.new) (L.left log.new) }
@@ -161,7 +161,7 @@ fn step_without_tree<L: MetaLog>(
     ensures view { IsViewOf (L.log log.new) row.new.view }
     ensures views { (v : ViewValue) → IsViewOf (L.log log.old) v → IsViewOf (L.log log.new) v }
     ensures err { OnErr result ((row.new ≡ row.old) × (L.log log.new ≡ L.log log.old)) }
-    ensures disks { (t : Tree) (tree_disk : Disk) (tree_file : Tree → TreeChange → ℕ → ℕ) → StepDisks (shared_of t (L.log log.old) peers.now.declared) now (driver_of row.old) (files_of tree_file L.length_with) result
+    ensures disks { (t : Tree) (tree_disk : Disk) (tree_frame : Tree → TreeChange → ℕ) → StepDisks (shared_of t (L.log log.old) peers.now.declared) now (driver_of row.old) (frames_of tree_frame L.frame_bytes) result
         (disks_of tree_disk (L.disk log.old)) (disks_of tree_disk (L.disk log.new)) }
     ensures stop { (t : Tree) → IsErrOf result (StepFault.Log LogFault.Failed)
         → Either (L.log log.old) (step (shared_of t (L.log log.old) peers.now.declared) peers.now.running now (driver_of row.old)).shared.log (L.left log.new) }
@@ -197,7 +197,7 @@ fn step_row<T: ZTree, L: MetaLog>(
     ensures view { IsViewOf (L.log log.new) row.new.view }
     ensures views { (v : ViewValue) → IsViewOf (L.log log.old) v → IsViewOf (L.log log.new) v }
     ensures err { OnErr result ((row.new ≡ row.old) × (T.tree tree.new ≡ T.tree tree.old) × (L.log log.new ≡ L.log log.old)) }
-    ensures disks { StepDisks (shared_of (T.tree tree.old) (L.log log.old) peers.now.declared) now (driver_of row.old) (files_of T.length_with L.length_with) result
+    ensures disks { StepDisks (shared_of (T.tree tree.old) (L.log log.old) peers.now.declared) now (driver_of row.old) (frames_of T.frame_bytes L.frame_bytes) result
         (disks_of (T.disk tree.old) (L.disk log.old)) (disks_of (T.disk tree.new) (L.disk log.new)) }
     ensures stop { StepLeaves result (shared_of (T.tree tree.old) (L.log log.old) peers.now.declared)
         (step (shared_of (T.tree tree.old) (L.log log.old) peers.now.declared) peers.now.running now (driver_of row.old)).shared (T.left tree.new) (L.left log.new) }

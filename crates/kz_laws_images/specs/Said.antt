@@ -19,8 +19,8 @@ abbrev pub acceptable_records : ℤ → List MetaRecord → Image → List MetaR
 acceptable_records epoch [] i = []
 acceptable_records epoch (r ∷ rs) i = before_unless_broken (broken i r) r (acceptable_records epoch rs (image_with epoch r i))
 
--- What records say of a thing, one after another, from what was said before them: a word is what one record says of it,
--- from what was said before that record.
+-- What records say of a thing, one after another. `word` is what one record says of it, where something was said before, and
+-- `before` is what was said before all of them.
 abbrev pub said : {V : Type 0} → (MetaRecord → V → V) → List MetaRecord → V → V
 said word [] before = before
 said word (r ∷ rs) before = said word rs (word r before)

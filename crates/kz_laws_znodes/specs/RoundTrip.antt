@@ -107,20 +107,20 @@ at_epoch epoch p = record p { row = record p.row { controller_epoch = epoch } }
 abbrev pub topic_at_epoch : ℤ → TopicEntry → TopicEntry
 topic_at_epoch epoch t = record t { partitions = map (at_epoch epoch) t.partitions }
 
--- The metadata as it is at most once it has returned: each partition with the greatest controller epoch, and the next producer
--- id after a block of 1,000.
+-- The greatest metadata that may return: each partition has the greatest controller epoch, and the next producer id stands
+-- after one more block of 1,000.
 abbrev pub grown : Image → Image
 grown i = record i { topics = map (topic_at_epoch MAX_EPOCH) i.topics; next_producer = option_map (λ next. next +ℤ pos 1000) i.next_producer }
 
 abbrev pub HasEpoch : PartitionEntry → Type 0
 HasEpoch p = pos 0 ≤ℤ p.row.controller_epoch
 
--- room for two blocks of producer ids
+-- one more block of producer ids fits, and the block after it
 abbrev pub HasRoom : Option ℤ → Type 0
 HasRoom None = ⊤
 HasRoom (Some next) = next ≤ℤ pos 9223372036854773808
 
--- No controller epoch is negative, a further block of producer ids fits, and neither the znodes nor the records pass a limit.
+-- No controller epoch is negative, two more blocks of producer ids fit, and neither the znodes nor the records pass a limit.
 pub record MayReturn (i : Image) : Type 0 where
   pub epochs : All (λ (t : TopicEntry). All HasEpoch t.partitions) i.topics
   pub next : HasRoom i.next_producer

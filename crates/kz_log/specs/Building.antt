@@ -28,13 +28,14 @@ building_from (Some base) v = record { position = base.0; epoch = pos 0; image =
 abbrev pub view_of : Building → View
 view_of b = record { position = b.position; epoch = b.epoch; image = b.image; begun = b.settling.begun; kept = b.settling.kept }
 
--- Taking these entries led from one state to another: whatever entries were pushed before, the settler stands after all of
--- them, and what was handed out since was applied.
+-- What the entries that are taken make of a state. Whatever entries were pushed before, the settler stands after all of them,
+-- and the entries that it handed out since are in the metadata.
 abbrev pub Takes : List Entry → Building → Building → Type 0
 Takes es old new = (pushed given : List Entry) → Rises int_cmp offset_of (pushed ++ es) → Stands pushed given old.settling
     → (more : List Entry) × Stands (pushed ++ es) (given ++ more) new.settling × (new.image ≡ all_entries_applied more old.image)
 
--- So, and everything that was released was popped; the position is the last offset, and the epoch that of the last batch.
+-- The entries are taken, and all that was released is handed out. The position is the last offset, and the epoch is that of
+-- the last batch.
 pub record Took (es : List Entry) (last writer : ℤ) (old new : Building) : Type 0 where
   pub takes : Takes es old new
   pub popped : new.settling.released ≡ []

@@ -27,7 +27,7 @@ passes fault.NoMemory = true
 passes fault.Down = true
 passes (fault.Full length) = true
 
--- what comes of a request whose answer is to be lost, where this holds if it is lost
+-- What comes of a request whose answer is to be lost: its fault passes, or nothing arrives, and then `P` holds.
 abbrev pub IsUnanswered : {A : Type 0} → Type 0 → Result A LogWireFault → Type 0
 IsUnanswered P (Ok a) = ⊥
 IsUnanswered P (Err wire_fault.Lost) = P

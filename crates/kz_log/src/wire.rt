@@ -111,7 +111,7 @@ impl<L: MetaLog> LogWire<L> {
             (IsUnanswered (IsAfterAppend (L.log self.old.inner) (logs.append (L.log self.old.inner) epoch now items.now) (L.log self.new.inner)) result) }
         ensures spent { self.new.plan ≡ Plan.Deliver }
         ensures counted { Counts (arrival_of result) self.old.faults self.new.faults }
-        ensures disk { OverConnection (ChangesDisk (IsTaken (logs.append (L.log self.old.inner) epoch now items.now)) (L.length_with (L.log self.old.inner) (Append epoch now items.now)))
+        ensures disk { OverConnection (ChangesDisk (IsTaken (logs.append (L.log self.old.inner) epoch now items.now)) (L.frame_bytes (L.log self.old.inner) (Append epoch now items.now)))
             (answer_by answer_of_log_fault (logs.append (L.log self.old.inner) epoch now items.now)) (without_sessions self.old.plan) (arrival_of result) (L.disk self.old.inner) (L.disk self.new.inner) }
         ensures stop { IsErrOf result (LogWireFault.Log LogFault.Failed) → Between (L.log self.old.inner) (logs.append (L.log self.old.inner) epoch now items.now) (L.left self.new.inner) }
     {

@@ -33,8 +33,8 @@ IsNext next_is.GoesOn end = end ≡ None
 IsNext (next_is.Ends e) end = end ≡ Some (status_of e)
 IsNext next_is.NoMemory end = ⊥
 
--- This is printed at the beginning of an outcome, and then the run goes on with the rest, or ends: at the outcome's own end, or,
--- where memory ran out, earlier.
+-- An outcome begins with a text that is printed. Then the run goes on with the rest of the outcome, or ends: at the outcome's
+-- own end, or earlier where memory ran out.
 abbrev pub Begins : List ℕ → Next → Outcome → Outcome → Type 0
 Begins text next_is.GoesOn o rest = o ≡ after text rest
 Begins text (next_is.Ends e) o rest = o ≡ record { text = text; status = status_of e }

@@ -30,17 +30,12 @@ tells_disk_fault (reply.TreeFailed fault) = is_disk_fault_of_tree fault
 tells_disk_fault (reply.LogFailed fault) = is_disk_fault_of_log fault
 tells_disk_fault other = false
 
--- this holds where the event is a turn, which alone is answered by replies
-abbrev pub IfTurn : Event → Type 0 → Type 0
-IfTurn (event.Turn id now) holds = holds
-IfTurn e holds = ⊤
-
 -- No disk failed: neither for the event itself nor for a step of its turn.
-abbrev pub FailsByNoDisk : Event → Answer → Type 0
-FailsByNoDisk e (answer.Turn replies) = IfTurn e (list_any tells_disk_fault replies ≡ false)
-FailsByNoDisk e (answer.TreeFailed fault) = is_disk_fault_of_tree fault ≡ false
-FailsByNoDisk e (answer.LogFailed fault) = is_disk_fault_of_log fault ≡ false
-FailsByNoDisk e a = ⊤
+abbrev pub FailsByNoDisk : Answer → Type 0
+FailsByNoDisk (answer.Turn replies) = list_any tells_disk_fault replies ≡ false
+FailsByNoDisk (answer.TreeFailed fault) = is_disk_fault_of_tree fault ≡ false
+FailsByNoDisk (answer.LogFailed fault) = is_disk_fault_of_log fault ≡ false
+FailsByNoDisk a = ⊤
 
 -- The lines that are printed for the answer to the event of this line. An event that failed prints none, but for a turn: the lines
 -- of its steps before the failure.

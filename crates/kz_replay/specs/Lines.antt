@@ -30,7 +30,8 @@ effect_by p false (Some e) = effect_of_event p e
 abbrev pub effect_of_line : Place → List ℕ → Effect
 effect_of_line p line = effect_by p (is_passed_over line) (line_event line)
 
--- This is printed for it, and then the run goes on from its place, or ends as it does; where memory ran out a front is printed.
+-- What is printed for an effect. Then the run goes on from the effect's place, or ends as it says. Where memory ran out, a front
+-- of its text is printed.
 abbrev pub Prints : Effect → List ℕ → Next → Place → Type 0
 Prints e text next_is.GoesOn new = (text ≡ e.text) × (e.end ≡ None) × (new ≡ e.place)
 Prints e text (next_is.Ends why) new = (text ≡ e.text) × (e.end ≡ Some (status_of why))

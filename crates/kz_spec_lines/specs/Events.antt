@@ -30,7 +30,7 @@ controller_of d = option_and_then id_of (get (codes "controller") d)
 abbrev pub now_of : Data → Option ℤ
 now_of d = time_of (get (codes "now") d)
 
--- how many members there are with `now`, which may be absent, where there are so many others
+-- how many members an object has that has `others` members beside `now`, which may be absent
 abbrev pub timed_count : ℕ → Data → ℕ
 timed_count others d = count_with (get (codes "now") d) others
 

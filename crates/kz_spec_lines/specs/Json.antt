@@ -19,7 +19,7 @@ member_count (string s) = 0
 member_count (array ds) = 0
 member_count (object ms) = members_len ms
 
--- how many members there are in all, where so many others are there and this one may be absent
+-- how many members an object has that has `n` members beside this one, which may be absent
 abbrev pub count_with : Option Data → ℕ → ℕ
 count_with None n = n
 count_with (Some d) n = n + 1

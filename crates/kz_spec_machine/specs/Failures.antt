@@ -1,5 +1,5 @@
 -- Answers that tell of a failure: a store or the memory failed, so that the event or the step could not be finished.
-use Rattle.std.specs.Prelude.{◌≡◌, ℕ, zero, suc, Bool, true, false, ◌||◌, ℤ, List, [], ◌∷◌, Option, Some, None}
+use Rattle.std.specs.Prelude.{◌≡◌, ℕ, zero, suc, Bool, true, false, ◌||◌, ℤ, List, [], ◌∷◌, Option, Some, None, ⊥}
 use Rattle.std.specs.List.{list_any}
 use Rattle.kz_types.specs.declared.fault.TreeFault.{TreeFault}
 use Rattle.kz_types.specs.declared.fault.TreeFault.TheVariants as tree_fault
@@ -56,8 +56,12 @@ pub record CutOffTurn (w : World) (id now : ℤ) (replies : List Reply) (new : W
   pub cut_off : IsCutOff (work w.shared before) w.shared (running_ids w.drivers) now before replies new.shared after
   pub drivers : new.drivers ≡ with_driver after w.drivers
 
--- What an event leaves that failed: a turn leaves what its steps before the failure did, and every other event the world as
--- it was.
+-- A turn alone answers replies. One that failed leaves what its steps before the failure did.
+abbrev pub IsLeftByTurn : World → Event → List Reply → World → Type 0
+IsLeftByTurn w (event.Turn id now) replies new = CutOffTurn w id now replies new
+IsLeftByTurn w e replies new = ⊥
+
+-- What an event leaves that failed. But for a turn that was cut off, it leaves the world as it was.
 abbrev pub IsLeft : World → Event → Answer → World → Type 0
-IsLeft w (event.Turn id now) (answer.Turn replies) new = CutOffTurn w id now replies new
+IsLeft w e (answer.Turn replies) new = IsLeftByTurn w e replies new
 IsLeft w e a new = new ≡ w

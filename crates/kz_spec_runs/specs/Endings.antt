@@ -10,9 +10,9 @@ use Rattle.kz_spec_runs.specs.Output.{Outcome, outcome_of_replay, written_so_far
 abbrev pub IsFront : List ℕ → List ℕ → Type 0
 IsFront front text = (rest : List ℕ) × (text ≡ front ++ rest)
 
--- A run that is to have this outcome, and these replies to the lines that it has taken whole, has written so much and ended with this
--- status: exactly the outcome; where a read failed, exactly those replies; and where a write failed or memory ran out, a front
--- of the outcome's text.
+-- How a run ended, by its status. `o` is the outcome that its script asks for, `replies` are those to the lines that it took
+-- whole, and `sent` is what it wrote. It wrote the whole outcome; where a read failed, exactly those replies; and where a write
+-- failed or memory ran out, a front of the outcome's text.
 abbrev pub EndsAs : Outcome → List ℕ → List ℕ → Status → Type 0
 EndsAs o replies sent status.Done = o ≡ record { text = sent; status = status.Done }
 EndsAs o replies sent status.Usage = ⊥

@@ -43,8 +43,8 @@ moments_on p None go = moment_at [] (pair_of p.world.shared) ∷ []
 moments_on p (Some e) go = moments_at (without_last (written_for p e)) (pair_of p.world.shared ∷ event_pairs p.world e)
     ++ later (written_for p e) (moments_unless (ending (next p.world e).1) (place_after_event p e) (go (place_after_event p e)))
 
--- The moments of these lines from a place on. In an event, at each of its requests, a stop
--- may find any front of the event's lines but all of them: these stand only where all its requests are made.
+-- The moments of these lines from a place on. At each request of an event, a stop may find some of the event's lines printed,
+-- but not all of them. All of them are printed only where all requests of the event are made.
 unfoldable pub moments : Place → List Item → List Moment
 moments p [] = moment_at (summary p) (pair_of p.world.shared) ∷ []
 moments p (long ∷ is) = moment_at [] (pair_of p.world.shared) ∷ []

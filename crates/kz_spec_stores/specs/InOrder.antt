@@ -1,5 +1,5 @@
--- What every metadata keeps: its lists rise, and those within its entries, none of these that mustn't be empty is, and its
--- entries are legal.
+-- What every metadata keeps: its lists rise, and so do the lists within its entries; the lists that an entry must have some
+-- item in aren't empty; and its entries are legal.
 use Rattle.std.specs.Prelude.{◌≡◌, ◌<◌, ◌==◌, ℕ, Bool, true, ◌&&◌, ◌||◌, List, length, slice_index, All}
 use Rattle.std.specs.Ordering.{int_cmp}
 use Rattle.kz_types.specs.PathRule.{is_path}

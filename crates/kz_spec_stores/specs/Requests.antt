@@ -1,6 +1,6 @@
 -- What every store answers a request, what the request did to the store's disk, and what a stop may leave of the store:
 -- the value that is left, or None where what is left stands for none.
-use Rattle.std.specs.Prelude.{◌≡◌, ◌⊎◌, ◌<◌, ◌≤◌, ℕ, ℤ, Bool, true, false, List, Option, Some, None, option_map, Result, Ok, Err, ⊤}
+use Rattle.std.specs.Prelude.{◌≡◌, ◌⊎◌, ◌<◌, ◌≤◌, ℕ, ◌+◌, max, ℤ, Bool, true, false, List, Option, Some, None, is_some, option_map, Result, Ok, Err, ⊤}
 use Rattle.kz_types.specs.declared.limits.TheConstants.{MAX_FILE_BYTES}
 use Rattle.kz_types.specs.declared.tree.Op.{Op}
 use Rattle.kz_types.specs.declared.record.MetaRecord.{MetaRecord}
@@ -12,16 +12,21 @@ use Rattle.kz_types.specs.Causes.{Rose}
 
 -- ---- a disk
 
--- What a store tells of its disk: how many of its calls have failed; whether one has failed that the store made, so that it
--- makes none any more; and the bytes of the store's file, where it has one.
+-- A store's file: its bytes, and where the next frame begins in it. Bytes that a failed request left may stand after that place.
+pub record StoreFile : Type 0 where
+  pub length : ℕ
+  pub end : ℕ
+
+-- What a store tells of its disk: how many of its calls have failed; whether one of the store's own calls has failed, after
+-- which the store makes no call; and its file, where it has one.
 pub record Disk : Type 0 where
   pub faults : ℕ
   pub down : Bool
-  pub length : Option ℕ
+  pub file : Option StoreFile
 
 -- of a store in memory
 abbrev pub no_disk : Disk
-no_disk = record { faults = 0; down = false; length = None }
+no_disk = record { faults = 0; down = false; file = None }
 
 -- ---- what changes a store
 
@@ -35,19 +40,23 @@ pub data LogChange : Type 0 where
   Elect : ℤ → List MetaRecord → LogChange
   Reset : LogChange
 
--- the length that a store's file would have after a change, where the store has a file
-abbrev pub file_with : (ℕ → ℕ) → Disk → Option ℕ
-file_with grown disk = option_map grown disk.length
+-- a file after one more frame of so many bytes
+abbrev pub with_frame : ℕ → StoreFile → StoreFile
+with_frame frame file = record { length = max file.length (file.end + frame); end = file.end + frame }
 
--- a file of this length keeps the limit; a store without a file always does
-abbrev pub Fits : Option ℕ → Type 0
+-- the file after such a frame, where there is one
+abbrev pub file_with : ℕ → Disk → Option StoreFile
+file_with frame disk = option_map (with_frame frame) disk.file
+
+-- a file keeps the limit; a store without a file always does
+abbrev pub Fits : Option StoreFile → Type 0
 Fits None = ⊤
-Fits (Some length) = length ≤ MAX_FILE_BYTES
+Fits (Some file) = file.length ≤ MAX_FILE_BYTES
 
--- a file would have this length, which passes the limit
-abbrev pub IsTooLong : Option ℕ → ℕ → Type 0
+-- a file would pass the limit, and this is the length that it would have
+abbrev pub IsTooLong : Option StoreFile → ℕ → Type 0
 IsTooLong None told = ⊥
-IsTooLong (Some length) told = (told ≡ length) × (MAX_FILE_BYTES < length)
+IsTooLong (Some file) told = (told ≡ file.length) × (MAX_FILE_BYTES < file.length)
 
 -- ---- what a store answers
 
@@ -87,16 +96,16 @@ IsTaken (Err e) = ⊥
 
 -- ---- what a request did to the disk
 
--- A request that changes the store, after which a file of so many bytes would have `grown` of them. The disk fails, and the
--- file is full, only where nothing refuses the request; the file has the new length where the request is done; and the store
--- is down from the request on whose call failed.
-abbrev pub ChangesDisk : Type 0 → (ℕ → ℕ) → StoreAnswer → Disk → Disk → Type 0
-ChangesDisk taken grown Done old new = (old.down ≡ false) × Fits (file_with grown old) × (new ≡ record old { length = file_with grown old })
-ChangesDisk taken grown Refused old new = (old.down ≡ false) × (new ≡ old)
-ChangesDisk taken grown NoMemory old new = new ≡ old
-ChangesDisk taken grown Failed old new = (old.down ≡ false) × taken × Fits (file_with grown old) × Rose old.faults new.faults × (new.down ≡ true)
-ChangesDisk taken grown Down old new = (old.down ≡ true) × (new ≡ old)
-ChangesDisk taken grown (Full length) old new = (old.down ≡ false) × taken × IsTooLong (file_with grown old) length × (new ≡ old)
+-- A request that changes the store by a frame of so many bytes. The disk fails, and the file is full, only where nothing
+-- refuses the request. The file has the frame where the request is done. The store is down from the request on whose call
+-- failed; what that call leaves of the file isn't told, but that there is one.
+abbrev pub ChangesDisk : Type 0 → ℕ → StoreAnswer → Disk → Disk → Type 0
+ChangesDisk taken frame Done old new = (old.down ≡ false) × Fits (file_with frame old) × (new ≡ record old { file = file_with frame old })
+ChangesDisk taken frame Refused old new = (old.down ≡ false) × (new ≡ old)
+ChangesDisk taken frame NoMemory old new = new ≡ old
+ChangesDisk taken frame Failed old new = (old.down ≡ false) × taken × Fits (file_with frame old) × Rose old.faults new.faults × (new.down ≡ true) × (is_some new.file ≡ is_some old.file)
+ChangesDisk taken frame Down old new = (old.down ≡ true) × (new ≡ old)
+ChangesDisk taken frame (Full length) old new = (old.down ≡ false) × taken × IsTooLong (file_with frame old) length × (new ≡ old)
 
 -- A request that only reads: it makes no call of the disk.
 abbrev pub ReadsDisk : StoreAnswer → Disk → Disk → Type 0

@@ -28,7 +28,7 @@ passes Failed = true
 passes Down = true
 passes (Full length) = true
 
--- what comes of a request whose answer is to be lost, where this holds if it is lost
+-- What comes of a request whose answer is to be lost: its answer passes, or nothing arrives, and then `P` holds.
 abbrev pub IsUnanswered : Type 0 → Arrival → Type 0
 IsUnanswered P (Answered answer) = passes answer ≡ true
 IsUnanswered P Lost = P

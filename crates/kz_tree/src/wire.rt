@@ -94,7 +94,7 @@ impl<T: ZTree> Wire<T> {
             (IsUnanswered (T.tree self.new.inner ≡ after_multi (T.tree self.old.inner) (znodes.multi (T.tree self.old.inner) ops.now)) (arrival_of result)) }
         ensures spent { self.new.plan ≡ Plan.Deliver }
         ensures counted { Counts (arrival_of result) self.old.faults self.new.faults }
-        ensures disk { OverConnection (ChangesDisk (IsTaken (znodes.multi (T.tree self.old.inner) ops.now)) (T.length_with (T.tree self.old.inner) (Multi ops.now)))
+        ensures disk { OverConnection (ChangesDisk (IsTaken (znodes.multi (T.tree self.old.inner) ops.now)) (T.frame_bytes (T.tree self.old.inner) (Multi ops.now)))
             (answer_by answer_of_tree_fault (znodes.multi (T.tree self.old.inner) ops.now)) self.old.plan (arrival_of result) (T.disk self.old.inner) (T.disk self.new.inner) }
         ensures stop { IsErrOf result (WireFault.Tree TreeFault.Device) → Between (T.tree self.old.inner) (znodes.multi (T.tree self.old.inner) ops.now) (T.left self.new.inner) }
     {
