@@ -12,15 +12,13 @@ ghost use Rattle.kz_spec_stores.specs.Image.{acl_row, configurations_after, topi
 ghost use Rattle.kz_spec_stores.specs.InOrder.{AreTopicsInOrder, AreInOrder, AreQuotasInOrder, AreUsersInOrder};
 ghost use Rattle.kz_spec_stores.specs.Legal.{AreTopics, IsConfiguration, IsQuotaEntry, IsScramEntry, IsAcl, IsBroker, IsNext};
 ghost use Rattle.kz_image.specs.Faults.{IsFirstBad};
-ghost use Rattle.kz_image.specs.QuotaPaths.{IsEntityRead};
+ghost use Rattle.kz_image_lists.specs.QuotaPaths.{IsEntityRead};
 
-use crate::brokers::{is_migrating, register};
-use crate::configurations::configure;
-use crate::credentials::{remove_scram, scram_at, set_scram};
-use crate::places::partition_at;
-use crate::quotas::QuotaList;
 use crate::rules::{broken, refused};
-use crate::topics::Topics;
+use kz_image_lists::{
+    QuotaList, Topics, configure, is_migrating, partition_at, register, remove_scram, scram_at,
+    set_scram,
+};
 use kz_sorted::{find, put, without};
 use kz_types::{
     AccessControlEntryRecord, AclEntry, AclRow, ClientQuotaRecord, ConfigRecord, Configuration,

@@ -1,17 +1,10 @@
 //! The metadata of the cluster as the records that count make it, and the rules by which records are accepted.
 #![tactic(auto)]
 
-mod brokers;
-mod configurations;
-mod credentials;
 mod feed;
 mod image;
-mod names;
-mod places;
 mod presence;
-mod quotas;
 mod rules;
-mod topics;
 mod values;
 
 pub use feed::Feed;

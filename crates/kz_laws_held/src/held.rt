@@ -5,7 +5,7 @@ ghost use Rattle.base64.specs.GeneralPurpose.{IsBytes};
 ghost use Rattle.kz_spec_stores.specs.InOrder.{IsInOrder};
 ghost use Rattle.kz_spec_znodes.specs.Rendering.{render};
 ghost use Rattle.kz_laws_znodes.specs.RoundTrip.{IsSameBut, IsText, FitsInt, IsPartitionWritable, IsMemberWritable, IsTopicWritable, IsConfigWritable, IsQuotaWritable, AreQuotasWritable, IsScramWritable, IsUserWritable, IsAclWritable, IsWritable, MayReturn, Returns};
-ghost use Rattle.kz_image.specs.QuotaPaths.{IsEntityRead};
+ghost use Rattle.kz_image_lists.specs.QuotaPaths.{IsEntityRead};
 
 use kz_image::Image;
 use kz_types::{

@@ -1,0 +1,7 @@
+pub mod Lists
+pub mod Entries
+pub mod TopicLists
+pub mod TopicNames
+pub mod BrokerLists
+pub mod QuotaLists
+pub mod UserLists
