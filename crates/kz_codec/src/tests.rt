@@ -1,13 +1,14 @@
-ghost use Rattle.std.specs.Prelude.{◌≡◌, ◌<◌, length};
+//! Records as bytes, from the log of a cluster and from its faults.
+ghost use Rattle.std.specs.Prelude.{◌≡◌, length};
 ghost use Rattle.kz_spec_values.specs.Records.{LengthsFit};
 
 use super::*;
 use kz_types::{CodecFault, MetaRecord, Text};
-use std::alloc::{AllocError, Global};
-use std::test::Fail;
+use std::alloc::Global;
+use std::process::Abort;
 
-// Written values of each record: they are read, have their size, and are written again as they stood.
-const WRITTEN: [&str; 30] = [
+// Written values of each record: each is read, and has its size.
+static WRITTEN: [&str; 30] = [
     "01190000",
     "0119000100050575736572",
     "0112004ac0f881cb657b69bcbbf16384c2d8ce7f07225c0a09017f8001026100ff00",
@@ -41,7 +42,7 @@ const WRITTEN: [&str; 30] = [
 ];
 
 // Other spellings of values, each with its written one.
-const SPELLED: [(&str, &str); 5] = [
+static SPELLED: [(&str, &str); 5] = [
     ("011400010500", "01140000"),
     ("0194000000", "01140000"),
     ("8100948000800080808000", "01140000"),
@@ -53,7 +54,7 @@ const SPELLED: [(&str, &str); 5] = [
 ];
 
 // Bytes that are no value, each with its fault.
-const FAULTS: [(&str, CodecFault); 59] = [
+static FAULTS: [(&str, CodecFault); 59] = [
     ("09190000", CodecFault::BadField { at: 0 }),
     ("21170000", CodecFault::BadField { at: 0 }),
     ("41180000", CodecFault::BadField { at: 0 }),
@@ -226,9 +227,8 @@ const FAULTS: [(&str, CodecFault); 59] = [
     ("", CodecFault::Short { at: 0 }),
 ];
 
-fn digit(byte: u8) -> u8
-    ensures { result < 16 }
-{
+// The value of a hexadecimal digit.
+fn digit(byte: u8) -> u8 {
     match byte {
         b'0'..=b'9' => byte - b'0',
         b'a'..=b'f' => byte - b'a' + 10,
@@ -237,79 +237,99 @@ fn digit(byte: u8) -> u8
 }
 
 // The bytes that a text of hexadecimal digits stands for.
-fn unhex(alloc: Global, text: &str) -> Result<Vec<u8>, AllocError> {
+fn unhex(rt: &impl Abort, alloc: Global, text: &str) -> Vec<u8> {
     let mut bytes = Vec::new(alloc);
     for pair in text.as_bytes().chunks_exact(2) {
         if let [high, low] = pair {
-            bytes.push(digit(*high) * 16 + digit(*low))?;
+            let byte = digit(*high).wrapping_mul(16).wrapping_add(digit(*low));
+            if bytes.push(byte).is_err() {
+                panic!(rt; "no memory");
+            }
         }
     }
-    Ok(bytes)
+    bytes
+}
+
+// The size of the record that these bytes spell.
+fn size_of(rt: &impl Abort, alloc: Global, text: &str) -> u128 {
+    match read_value(alloc, &unhex(rt, alloc, text)) {
+        Ok(record) => value_size(&record),
+        Err(_) => panic!(rt; "no record"),
+    }
 }
 
 #[test]
-fn values_and_their_sizes(rt: HostRuntime) -> Result<(), Fail> {
-    for text in WRITTEN {
-        let bytes = unhex(rt.alloc(), text)?;
-        let record = read_value(rt.alloc(), &bytes).ok().ok_or(text)?;
-        assert_eq!(rt; value_size(&record), bytes.len() as u128);
+fn values_have_their_sizes(rt: HostRuntime) {
+    let alloc = rt.alloc();
+    for text in &WRITTEN {
+        assert!(rt; size_of(&rt, alloc, text) == text.len() as u128 / 2);
     }
-    for (text, written) in SPELLED {
-        let bytes = unhex(rt.alloc(), text)?;
-        let written = unhex(rt.alloc(), written)?;
-        let record = read_value(rt.alloc(), &bytes).ok().ok_or(text)?;
-        assert_eq!(rt; value_size(&record), written.len() as u128);
+    for (text, written) in &SPELLED {
+        assert!(rt; size_of(&rt, alloc, text) == written.len() as u128 / 2);
     }
-    Ok(())
+}
+
+// Whether reading these bytes ends with this fault.
+fn is_fault(rt: &impl Abort, alloc: Global, text: &str, fault: CodecFault) -> bool {
+    match read_value(alloc, &unhex(rt, alloc, text)) {
+        Ok(_) => false,
+        Err(found) => found == fault,
+    }
 }
 
 #[test]
-fn each_fault_at_its_place(rt: HostRuntime) -> Result<(), Fail> {
-    for (text, fault) in FAULTS {
-        let bytes = unhex(rt.alloc(), text)?;
-        assert_eq!(rt; read_value(rt.alloc(), &bytes).err(), Some(fault), "{text}");
+fn each_fault_is_at_its_place(rt: HostRuntime) {
+    let alloc = rt.alloc();
+    for (text, fault) in &FAULTS {
+        assert!(rt; is_fault(&rt, alloc, text, *fault), "{text}");
     }
-    Ok(())
 }
 
 // Whether these are the bytes that are written for a record.
-fn is_written(alloc: Global, record: &MetaRecord, text: &str) -> bool
+fn is_written(rt: &impl Abort, alloc: Global, record: &MetaRecord, text: &str) -> bool
     requires { LengthsFit record.now }
 {
-    match (write_value(alloc, record), unhex(alloc, text)) {
-        (Ok(bytes), Ok(expected)) => bytes.as_slice() == expected.as_slice(),
-        _ => false,
+    match write_value(alloc, record) {
+        Ok(bytes) => bytes.as_slice() == unhex(rt, alloc, text).as_slice(),
+        Err(_) => false,
     }
 }
 
 // Whether these are the bytes that are written for the beginning of a transaction of this name.
-fn is_written_beginning(alloc: Global, name: &str, text: &str) -> bool
+fn is_written_beginning(rt: &impl Abort, alloc: Global, name: &str, text: &str) -> bool
     requires { length name.now ≡ 12 }
 {
     match Text::from_str(alloc, name) {
         Ok(name) => {
             let name = Some(name);
-            is_written(alloc, &MetaRecord::BeginTransaction { name }, text)
+            is_written(rt, alloc, &MetaRecord::BeginTransaction { name }, text)
         }
         Err(_) => false,
     }
 }
 
 #[test]
-fn written_records(rt: HostRuntime) {
-    assert!(rt; is_written(rt.alloc(), &MetaRecord::NoOp, "01140000"));
+fn records_are_written(rt: HostRuntime) {
+    let alloc = rt.alloc();
+    assert!(rt; is_written(&rt, alloc, &MetaRecord::NoOp, "01140000"));
     let state = MetaRecord::ZkMigrationState { state: 1 };
-    assert!(rt; is_written(rt.alloc(), &state, "0115000100"));
+    assert!(rt; is_written(&rt, alloc, &state, "0115000100"));
     let begin = "01170001000d0d5a4b204d6967726174696f6e";
-    assert!(rt; is_written_beginning(rt.alloc(), "ZK Migration", begin));
-    assert!(rt; is_written(rt.alloc(), &MetaRecord::EndTransaction, "01180000"));
+    assert!(rt; is_written_beginning(&rt, alloc, "ZK Migration", begin));
+    assert!(rt; is_written(&rt, alloc, &MetaRecord::EndTransaction, "01180000"));
+}
+
+// Whether these bytes spell a `NoOp`.
+fn is_no_op(rt: &impl Abort, alloc: Global, text: &str) -> bool {
+    matches!(
+        read_value(alloc, &unhex(rt, alloc, text)),
+        Ok(MetaRecord::NoOp)
+    )
 }
 
 #[test]
-fn other_spellings(rt: HostRuntime) -> Result<(), Fail> {
-    for text in ["011400010500", "0194000000"] {
-        let bytes = unhex(rt.alloc(), text)?;
-        assert!(rt; matches!(read_value(rt.alloc(), &bytes), Ok(MetaRecord::NoOp)));
-    }
-    Ok(())
+fn other_spellings_are_read(rt: HostRuntime) {
+    let alloc = rt.alloc();
+    assert!(rt; is_no_op(&rt, alloc, "011400010500"));
+    assert!(rt; is_no_op(&rt, alloc, "0194000000"));
 }

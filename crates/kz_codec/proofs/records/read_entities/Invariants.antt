@@ -1,8 +1,0 @@
-use Rattle.std.proofs.Common.{◌≡◌, ◌-◌}
-use Rattle.kz_spec_values.specs.Forms.{items_at}
-use Rattle.kz_spec_values.specs.Records.{quota_entity}
-use Rattle.kz_codec.proofs.Loops.{with_front}
-use Rattle.kz_codec.proofs.records.read_entities.Given as goal
-
-abbrev pub invariant-loop : goal.invariant-loop
-invariant-loop l = with_front l.items.items (items_at quota_entity.read (l.count - l.counter) l.reader) ≡ items_at quota_entity.read l.count l.fn.reader

@@ -1,7 +1,0 @@
-use Rattle.std.proofs.Common.{◌≡◌, ◌+◌, ◌*◌, ◌^◌, ◌≤◌, length, take}
-use Rattle.kz_spec_values.specs.Forms.{items_written}
-use Rattle.kz_spec_values.specs.Records.{endpoint}
-use Rattle.kz_codec.proofs.size.all_endpoints_size.Given as goal
-
-abbrev pub invariant-loop-item : goal.invariant-loop-item
-invariant-loop-item l = record { size : l.size ≡ length (items_written endpoint.written (take l.item-index l.items)); bound : l.size ≤ l.item-index * (2 ^ 64 + 25) }

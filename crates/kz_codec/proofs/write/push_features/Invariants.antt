@@ -1,7 +1,0 @@
-use Rattle.std.proofs.Common.{◌≡◌, ◌++◌, take}
-use Rattle.kz_spec_values.specs.Forms.{items_written}
-use Rattle.kz_spec_values.specs.Records.{feature}
-use Rattle.kz_codec.proofs.write.push_features.Given as goal
-
-abbrev pub invariant-loop-item : goal.invariant-loop-item
-invariant-loop-item l = l.out.items ≡ l.fn.out.items ++ items_written feature.written (take l.item-index l.items)

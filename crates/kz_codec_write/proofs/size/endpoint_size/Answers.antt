@@ -1,0 +1,16 @@
+use Rattle.std.proofs.Common.{◌≡◌, ◌++◌, length, arith}
+use Rattle.std.proofs.lemmas.List.{length-append}
+use Rattle.kz_spec_values.specs.Forms.{nothing, section}
+use Rattle.kz_spec_values.specs.Records.{int16, string, uint16}
+use Rattle.kz_codec_write.proofs.Appends.{no_tags_length}
+use Rattle.kz_codec_write.proofs.size.endpoint_size.Goals as goal
+
+pub returns-clause-size : goal.returns-clause-size
+returns-clause-size c =
+    let b1 = string.written c.args.r.now.name in
+    let b2 = string.written c.args.r.now.host in
+    let b3 = uint16.written c.args.r.now.port in
+    let b4 = int16.written c.args.r.now.protocol in
+    let s1 : c.string_size.result ≡ length b1 = c.string_size.ensures.size in
+    let s2 : c.string_size-2.result ≡ length b2 = c.string_size-2.ensures.size in
+    omega (arith, length-append b3 (b4), length-append b2 (b3 ++ (b4)), length-append b1 (b2 ++ (b3 ++ (b4))), length-append (b1 ++ (b2 ++ (b3 ++ (b4)))) ((section nothing).written tt), no_tags_length)

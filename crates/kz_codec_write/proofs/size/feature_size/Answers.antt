@@ -1,0 +1,14 @@
+use Rattle.std.proofs.Common.{◌≡◌, ◌++◌, length, arith}
+use Rattle.std.proofs.lemmas.List.{length-append}
+use Rattle.kz_spec_values.specs.Forms.{nothing, section}
+use Rattle.kz_spec_values.specs.Records.{int16, string}
+use Rattle.kz_codec_write.proofs.Appends.{no_tags_length}
+use Rattle.kz_codec_write.proofs.size.feature_size.Goals as goal
+
+pub returns-clause-size : goal.returns-clause-size
+returns-clause-size c =
+    let b1 = string.written c.args.r.now.name in
+    let b2 = int16.written c.args.r.now.min in
+    let b3 = int16.written c.args.r.now.max in
+    let s1 : c.string_size.result ≡ length b1 = c.string_size.ensures.size in
+    omega (arith, length-append b2 (b3), length-append b1 (b2 ++ (b3)), length-append (b1 ++ (b2 ++ (b3))) ((section nothing).written tt), no_tags_length)

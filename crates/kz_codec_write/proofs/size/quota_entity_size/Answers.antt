@@ -1,0 +1,14 @@
+use Rattle.std.proofs.Common.{◌≡◌, ◌++◌, length, arith}
+use Rattle.std.proofs.lemmas.List.{length-append}
+use Rattle.kz_spec_values.specs.Forms.{nothing, section}
+use Rattle.kz_spec_values.specs.Records.{nullable_string, string}
+use Rattle.kz_codec_write.proofs.Appends.{no_tags_length}
+use Rattle.kz_codec_write.proofs.size.quota_entity_size.Goals as goal
+
+pub returns-clause-size : goal.returns-clause-size
+returns-clause-size c =
+    let b1 = string.written c.args.r.now.kind in
+    let b2 = nullable_string.written c.args.r.now.name in
+    let s1 : c.string_size.result ≡ length b1 = c.string_size.ensures.size in
+    let s2 : c.nullable_string_size.result ≡ length b2 = c.nullable_string_size.ensures.size in
+    omega (arith, length-append b1 (b2), length-append (b1 ++ (b2)) ((section nothing).written tt), no_tags_length)
