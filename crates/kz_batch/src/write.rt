@@ -2,7 +2,7 @@
 ghost use Rattle.std.specs.Prelude.{◌≡◌, ◌+◌, ◌*◌, ◌<◌, ◌≤◌, ◌^◌, ◌++◌, ◌+ℤ◌, ℤ, pos, negsuc, length, map, OnOk, IfOk};
 ghost use Rattle.std.specs.Int.{w32, w64, to_be_bytes, cast_unsigned};
 ghost use Rattle.kz_spec_values.specs.Fields.{groups_of};
-ghost use Rattle.kz_spec_values.specs.Batches.{content, entry, holding, records_written, summed_written, header_written, sealed_written, batch_written, Holds31, BatchFits};
+ghost use Rattle.kz_spec_values.specs.Batches.{content, entry, content_with, records_written, summed_written, header_written, sealed_written, batch_written, Holds31, BatchFits};
 ghost use Rattle.kz_spec_values.specs.Forms.{AllFit};
 
 use kz_bytes::{put_i32, put_uvarint, uvarint_size};
@@ -25,7 +25,7 @@ fn number_size(number: u128, more: u8) -> u128
 // How many bytes the content of a record has.
 fn content_size(index: u64, value: &[u8]) -> u128
     requires { index < 2 ^ 63 }
-    ensures size { result ≡ length (content.written (holding index value.now)) }
+    ensures size { result ≡ length (content.written (content_with index value.now)) }
     ensures bound { result ≤ length value.now + 24 }
 {
     let number = uvarint_size(2 * index) as u128;
@@ -45,7 +45,7 @@ fn small_size() -> u128
 // How many bytes a record has.
 fn entry_size(index: u64, value: &[u8]) -> u128
     requires { index < 2 ^ 63 }
-    ensures size { result ≡ length (entry.written (holding index value.now)) }
+    ensures size { result ≡ length (entry.written (content_with index value.now)) }
     ensures bound { result ≤ length value.now + 34 }
 {
     let size = content_size(index, value);
@@ -56,7 +56,7 @@ fn entry_size(index: u64, value: &[u8]) -> u128
 fn put_content(out: &mut Vec<u8>, index: u32, value: &[u8]) -> Result<(), NoMemory>
     requires index { index < 2 ^ 31 }
     requires size { length value.now < 2 ^ 31 }
-    ensures { OnOk result (out.new.items ≡ out.old.items ++ content.written (holding index value.now)) }
+    ensures { OnOk result (out.new.items ≡ out.old.items ++ content.written (content_with index value.now)) }
 {
     out.extend_from_slice(&[0])?;
     put_uvarint(out, 0)?;
@@ -72,7 +72,7 @@ fn put_content(out: &mut Vec<u8>, index: u32, value: &[u8]) -> Result<(), NoMemo
 fn put_entry(out: &mut Vec<u8>, index: u32, value: &[u8]) -> Result<(), NoMemory>
     requires index { index < 2 ^ 31 }
     requires size { Holds31 value.now }
-    ensures { OnOk result (out.new.items ≡ out.old.items ++ entry.written (holding index value.now)) }
+    ensures { OnOk result (out.new.items ≡ out.old.items ++ entry.written (content_with index value.now)) }
 {
     put_uvarint(out, 2 * content_size(index as u64, value) as u32)?;
     put_content(out, index, value)?;

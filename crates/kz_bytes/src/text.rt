@@ -2,7 +2,7 @@
 ghost use Rattle.std.specs.Prelude.{◌≡◌, ◌<◌, ◌≤◌, length, true, false, MatchOption, IfSome};
 ghost use Rattle.std.specs.Str.{IsUtf8, is_utf8};
 ghost use Rattle.std.specs.Str.Lossy.{utf8_error_len};
-ghost use Rattle.kz_spec_values.specs.Fields.{char_size, possible, text_fault};
+ghost use Rattle.kz_spec_values.specs.Fields.{char_size, text_beginning_length, text_fault};
 
 // How many bytes a character has that begins with this byte; 0 where none does.
 fn char_size(byte: u8) -> usize
@@ -28,7 +28,7 @@ fn possible(bytes: &[u8], error_len: Option<usize>) -> usize
     requires some { 0 < length bytes.now }
     requires error { error_len ≡ utf8_error_len bytes.now }
     requires within { IfSome error_len (λ k. k ≤ length bytes.now) }
-    ensures value { result ≡ possible bytes.now }
+    ensures value { result ≡ text_beginning_length bytes.now }
     ensures bound { result ≤ length bytes.now }
 {
     let size = char_size(bytes[0]);

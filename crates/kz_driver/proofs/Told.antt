@@ -26,7 +26,7 @@ use Rattle.kz_spec_stores.specs.Log.{Log, append, log_unless_limit, full_log, wi
 use Rattle.kz_spec_znodes.specs.Difference.{diff, chunk}
 use Rattle.kz_spec_znodes.specs.Rendering.{render}
 use Rattle.kz_spec_znodes.specs.Translation.{Unreadable, translate}
-use Rattle.kz_spec_machine.specs.Driver.{Shared, Driver, Stepped, epoch_or_zero, at_stage, resigned_driver, begins_again, having_read, unless_finalised, wait_or_move, after_quorum, after_brokers, unless_fenced, unless_full_epoch, unless_bad_epoch, unless_full_record, after_look, after_claim, claim_ops, after_append, after_records, next_records, after_translation, after_rest, after_write, writes, write_ops, is_last_write, is_claim_refused, is_recorded_at, target_of, remaining_at, views_migrated, shown_by, seen_in, missing_controller, begin_record, after_answer, step}
+use Rattle.kz_spec_machine.specs.Driver.{Shared, Driver, StepResult, epoch_or_zero, at_stage, resigned_driver, begins_again, driver_at_log_end, unless_finalised, wait_or_move, after_quorum, after_brokers, unless_fenced, unless_full_epoch, unless_bad_epoch, unless_full_record, after_look, after_claim, claim_ops, after_append, after_records, next_records, after_translation, after_rest, after_write, writes, write_ops, is_last_write, is_claim_refused, is_recorded_at, target_of, remaining_at, views_migrated, shown_by, seen_in, missing_controller, begin_record, after_answer, step}
 use Rattle.kz_spec_machine.specs.Failures.{is_tree_failure, is_log_failure, is_failed_step}
 use Rattle.kz_driver.proofs.Keeping.{chosen}
 
@@ -153,19 +153,19 @@ dual_write_told before d =
 answer_told : (s : Shared) (running : List ℤ) (now : ℤ) (d : Driver) (at : Stage) → IsTold (after_answer s running now d at)
 answer_told s running now d stage.Uninitialized = refl
 answer_told s running now d stage.Inactive = refl
-answer_told s running now d stage.WaitForControllerQuorum = quorum_told s.declared running (having_read s.log d)
-answer_told s running now d stage.WaitForBrokers = finalised_told (having_read s.log d) (at_stage stage.ListBrokers (having_read s.log d), reply.Looked) refl
+answer_told s running now d stage.WaitForControllerQuorum = quorum_told s.declared running (driver_at_log_end s.log d)
+answer_told s running now d stage.WaitForBrokers = finalised_told (driver_at_log_end s.log d) (at_stage stage.ListBrokers (driver_at_log_end s.log d), reply.Looked) refl
 answer_told s running now d stage.ListBrokers = brokers_told _ d
 answer_told s running now d stage.ReadControlZnodes = look_told (seen_in s.tree) d
 answer_told s running now d (stage.ClaimLeadership seen) = claim_told seen d (claim_ops seen d now) (multi s.tree (claim_ops seen d now)) (multi_answers s.tree (claim_ops seen d now))
 answer_told s running now d (stage.ScanForMigration rows) = refl
 answer_told s running now d (stage.BeginMigration rows) = translation_told s now d (translate rows)
 answer_told s running now d (stage.AppendRecords records) = append_told (after_records records) d (append s.log (epoch_or_zero d.epoch) now (next_records records)) (append_answers s.log (epoch_or_zero d.epoch) now (next_records records))
-answer_told s running now d stage.ReadLogForResync = finalised_told (having_read s.log d) (at_stage (stage.ScanForResync (target_of (having_read s.log d)) []) (having_read s.log d), reply.Looked) refl
+answer_told s running now d stage.ReadLogForResync = finalised_told (driver_at_log_end s.log d) (at_stage (stage.ScanForResync (target_of (driver_at_log_end s.log d)) []) (driver_at_log_end s.log d), reply.Looked) refl
 answer_told s running now d (stage.ScanForResync target rows) = refl
 answer_told s running now d (stage.WriteResync target ops) = writes_told s.tree d.claim (remaining_at s.tree s.log target.offset) target (λ rest. stage.WriteResync target rest) stage.KraftControllerToBrokerComm d
 answer_told s running now d stage.KraftControllerToBrokerComm = refl
-answer_told s running now d stage.DualWrite = dual_write_told d.view.image (having_read s.log d)
+answer_told s running now d stage.DualWrite = dual_write_told d.view.image (driver_at_log_end s.log d)
 answer_told s running now d (stage.WriteDelta target ops) = writes_told s.tree d.claim (remaining_at s.tree s.log target.offset) target (λ rest. stage.WriteDelta target rest) stage.DualWrite d
 
 step_told : (s : Shared) (running : List ℤ) (now : ℤ) (d : Driver) → is_failed_step (step s running now d).reply ≡ false
@@ -175,5 +175,5 @@ step_told s running now d = answer_told s running now d d.stage
 -- where there is a reply, it is the step's
 pub told_of_step : {E : Type 0} (r : Result Reply E) (s : Shared) (running : List ℤ) (now : ℤ) (d : Driver) (shared : Shared) (e : Driver)
     → IfOk r (λ told. step s running now d ≡ record { shared = shared; driver = e; reply = told }) → IfOk r (λ told. is_failed_step told ≡ false)
-told_of_step (Ok told) s running now d shared e is = subst (λ (x : Stepped). is_failed_step x.reply ≡ false) is (step_told s running now d)
+told_of_step (Ok told) s running now d shared e is = subst (λ (x : StepResult). is_failed_step x.reply ≡ false) is (step_told s running now d)
 told_of_step (Err f) s running now d shared e is = tt

@@ -4,7 +4,7 @@ ghost use Rattle.kz_types.specs.declared.driver.Stage.TheVariants as stage;
 ghost use Rattle.kz_spec_znodes.specs.Difference.{diff};
 ghost use Rattle.kz_spec_stores.specs.Log.{Log, IsViewOf, read_view};
 ghost use Rattle.kz_spec_znodes.specs.Rendering.{render};
-ghost use Rattle.kz_spec_machine.specs.Driver.{at_stage, target_of, having_read, is_recorded_at, after_rest};
+ghost use Rattle.kz_spec_machine.specs.Driver.{at_stage, target_of, driver_at_log_end, is_recorded_at, after_rest};
 ghost use Rattle.kz_driver.specs.Drivers.{IsElected, IsKept};
 ghost use Rattle.kz_driver.specs.Disks.{IsLogRead};
 ghost use Rattle.kz_driver.specs.Rows.{driver_of};
@@ -55,7 +55,7 @@ fn is_recorded_at(recorded: Option<i64>, offset: i64) -> bool
 
 // The driver that has read the log will write these operations.
 fn begin_delta(row: &mut DriverRow, view: View, ops: Vec<Op>)
-    ensures driver { (l : Log) → view ≡ read_view l row.old.view → at_stage (stage.WriteDelta (target_of (having_read l (driver_of row.old))) ops.items) (having_read l (driver_of row.old)) ≡ driver_of row.new }
+    ensures driver { (l : Log) → view ≡ read_view l row.old.view → at_stage (stage.WriteDelta (target_of (driver_at_log_end l (driver_of row.old))) ops.items) (driver_at_log_end l (driver_of row.old)) ≡ driver_of row.new }
     ensures view { row.new.view ≡ view }
     ensures kept { IsElected row.old.epoch → IsKept row.new.epoch row.new.view.position row.new.stage }
 {
@@ -72,7 +72,7 @@ fn after_log_in_dual_write(
     row: &mut DriverRow,
     view: View,
 ) -> Result<Reply, NoMemory>
-    ensures ok { (l : Log) → view ≡ read_view l row.old.view → IfOk result (λ told. after_rest row.old.view.image (having_read l (driver_of row.old)) ≡ (driver_of row.new, told)) }
+    ensures ok { (l : Log) → view ≡ read_view l row.old.view → IfOk result (λ told. after_rest row.old.view.image (driver_at_log_end l (driver_of row.old)) ≡ (driver_of row.new, told)) }
     ensures view { OnOk result (row.new.view ≡ view) }
     ensures kept { IsKept row.old.epoch row.old.view.position row.old.stage → row.old.stage ≡ stage.DualWrite → IsKept row.new.epoch row.new.view.position row.new.stage }
     ensures err { OnErr result (row.new ≡ row.old) }
@@ -98,7 +98,7 @@ pub fn read_log_in_dual_write<L: MetaLog>(
     log: &mut L,
 ) -> Result<Reply, StepFault>
     requires { IsViewOf (L.log log.old) row.old.view }
-    ensures ok { IfOk result (λ told. after_rest row.old.view.image (having_read (L.log log.old) (driver_of row.old)) ≡ (driver_of row.new, told)) }
+    ensures ok { IfOk result (λ told. after_rest row.old.view.image (driver_at_log_end (L.log log.old) (driver_of row.old)) ≡ (driver_of row.new, told)) }
     ensures kept { IsKept row.old.epoch row.old.view.position row.old.stage → row.old.stage ≡ stage.DualWrite → IsKept row.new.epoch row.new.view.position row.new.stage }
     ensures view { IsViewOf (L.log log.new) row.new.view }
     ensures err { OnErr result (row.new ≡ row.old) }

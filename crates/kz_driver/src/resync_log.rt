@@ -2,7 +2,7 @@
 ghost use Rattle.std.specs.Prelude.{◌≡◌, IfOk, OnErr};
 ghost use Rattle.kz_types.specs.declared.driver.Stage.TheVariants as stage;
 ghost use Rattle.kz_spec_stores.specs.Log.{IsViewOf};
-ghost use Rattle.kz_spec_machine.specs.Driver.{target_of, having_read, after_log};
+ghost use Rattle.kz_spec_machine.specs.Driver.{target_of, driver_at_log_end, after_log};
 ghost use Rattle.kz_driver.specs.Drivers.{IsElected, IsKept};
 ghost use Rattle.kz_driver.specs.Disks.{IsLogRead};
 ghost use Rattle.kz_driver.specs.Rows.{driver_of};
@@ -52,7 +52,7 @@ pub fn read_log_for_resync<L: MetaLog>(
     log: &mut L,
 ) -> Result<Reply, StepFault>
     requires { IsViewOf (L.log log.old) row.old.view }
-    ensures ok { IfOk result (λ told. after_log (having_read (L.log log.old) (driver_of row.old)) ≡ (driver_of row.new, told)) }
+    ensures ok { IfOk result (λ told. after_log (driver_at_log_end (L.log log.old) (driver_of row.old)) ≡ (driver_of row.new, told)) }
     ensures kept { IsKept row.old.epoch row.old.view.position row.old.stage → row.old.stage ≡ stage.ReadLogForResync → IsKept row.new.epoch row.new.view.position row.new.stage }
     ensures view { IsViewOf (L.log log.new) row.new.view }
     ensures err { OnErr result (row.new ≡ row.old) }

@@ -6,7 +6,7 @@ ghost use Rattle.kz_types.specs.declared.driver.Stage.TheVariants as stage;
 ghost use Rattle.kz_types.specs.declared.machine.Reply.TheVariants as reply;
 ghost use Rattle.kz_spec_stores.specs.Tree.{broker_ids};
 ghost use Rattle.kz_spec_stores.specs.Log.{IsViewOf};
-ghost use Rattle.kz_spec_machine.specs.Driver.{having_read, after_quorum, after_brokers, missing_broker, unless_finalised, at_stage, resigned_driver};
+ghost use Rattle.kz_spec_machine.specs.Driver.{driver_at_log_end, after_quorum, after_brokers, missing_broker, unless_finalised, at_stage, resigned_driver};
 ghost use Rattle.kz_driver.specs.Disks.{IsTreeRead, IsLogRead};
 ghost use Rattle.kz_driver.specs.Rows.{driver_of};
 
@@ -31,7 +31,7 @@ pub fn resign(row: &mut DriverRow)
 /// Reads the log to its end. At `Err` the driver is as it was.
 pub fn read_log<L: MetaLog>(row: &mut DriverRow, log: &mut L) -> Result<(), StepFault>
     requires { IsViewOf (L.log log.old) row.old.view }
-    ensures ok { OnOk result (driver_of row.new ≡ having_read (L.log log.old) (driver_of row.old)) }
+    ensures ok { OnOk result (driver_of row.new ≡ driver_at_log_end (L.log log.old) (driver_of row.old)) }
     ensures view { IsViewOf (L.log log.new) row.new.view }
     ensures err { OnErr result (row.new ≡ row.old) }
     ensures same { L.log log.new ≡ L.log log.old }
@@ -75,7 +75,7 @@ pub fn wait_for_quorum<L: MetaLog>(
     peers: &Peers,
 ) -> Result<Reply, StepFault>
     requires { IsViewOf (L.log log.old) row.old.view }
-    ensures ok { IfOk result (λ told. after_quorum peers.now.declared peers.now.running (having_read (L.log log.old) (driver_of row.old)) ≡ (driver_of row.new, told)) }
+    ensures ok { IfOk result (λ told. after_quorum peers.now.declared peers.now.running (driver_at_log_end (L.log log.old) (driver_of row.old)) ≡ (driver_of row.new, told)) }
     ensures view { IsViewOf (L.log log.new) row.new.view }
     ensures err { OnErr result (row.new ≡ row.old) }
     ensures same { L.log log.new ≡ L.log log.old }
@@ -100,7 +100,7 @@ fn after_log(row: &mut DriverRow) -> Reply
 /// WAIT_FOR_BROKERS, before the log is read
 pub fn wait_for_brokers<L: MetaLog>(row: &mut DriverRow, log: &mut L) -> Result<Reply, StepFault>
     requires { IsViewOf (L.log log.old) row.old.view }
-    ensures ok { IfOk result (λ told. unless_finalised (having_read (L.log log.old) (driver_of row.old)) (at_stage stage.ListBrokers (having_read (L.log log.old) (driver_of row.old)), reply.Looked) ≡ (driver_of row.new, told)) }
+    ensures ok { IfOk result (λ told. unless_finalised (driver_at_log_end (L.log log.old) (driver_of row.old)) (at_stage stage.ListBrokers (driver_at_log_end (L.log log.old) (driver_of row.old)), reply.Looked) ≡ (driver_of row.new, told)) }
     ensures view { IsViewOf (L.log log.new) row.new.view }
     ensures err { OnErr result (row.new ≡ row.old) }
     ensures same { L.log log.new ≡ L.log log.old }

@@ -7,7 +7,7 @@ ghost use Rattle.kz_ordered.specs.Ordered.{put as put_in, without as without_in,
 ghost use Rattle.kz_types.specs.declared.codes.TheConstants.{NO_MIGRATION, POST_MIGRATION};
 ghost use Rattle.kz_types.specs.declared.record.MetaRecord.TheVariants as meta;
 ghost use Rattle.kz_spec_stores.specs.Metadata.{empty_image, topic_named, id_of_acl, id_of_broker, topic_id_of, topic_name_of, partition_of, configs_of, quotas_of, scram_of, acl_of};
-ghost use Rattle.kz_spec_stores.specs.ImageRules.{broken, quota_key, is_broker_name, is_empty};
+ghost use Rattle.kz_spec_stores.specs.ImageRules.{broken_rule, quota_key, is_broker_name, is_empty};
 ghost use Rattle.kz_spec_stores.specs.Image.{acl_row, configurations_after, topic_configured, with_changed, put_topic, new_topic, without_topic, scram_set, scram_removed, quota_changed, effect, image_with, all_applied, first_bad};
 ghost use Rattle.kz_spec_stores.specs.InOrder.{AreTopicsInOrder, AreInOrder, AreQuotasInOrder, AreUsersInOrder};
 ghost use Rattle.kz_spec_stores.specs.Legal.{AreTopics, IsConfiguration, IsQuotaEntry, IsScramEntry, IsAcl, IsBroker, IsNext};
@@ -300,7 +300,7 @@ impl Image {
     // ---- changes
 
     fn register_broker(&mut self, change: &RegisterBrokerRecord) -> Result<(), NoMemory>
-        requires { broken self.old (meta.RegisterBroker change.now) ≡ None }
+        requires { broken_rule self.old (meta.RegisterBroker change.now) ≡ None }
         ensures ok { OnOk result (self.new ≡ record self.old { brokers = put_in int_cmp id_of_broker change.now self.old.brokers }) }
         ensures err { OnErr result (self.new ≡ self.old) }
     {
@@ -309,7 +309,7 @@ impl Image {
     }
 
     fn make_topic(&mut self, change: &TopicRecord) -> Result<(), NoMemory>
-        requires { broken self.old (meta.Topic change.now) ≡ None }
+        requires { broken_rule self.old (meta.Topic change.now) ≡ None }
         ensures ok { OnOk result (self.new ≡ record self.old { topics = put_topic (new_topic change.now) self.old.topics }) }
         ensures err { OnErr result (self.new ≡ self.old) }
     {
@@ -318,7 +318,7 @@ impl Image {
     }
 
     fn make_partition(&mut self, epoch: i32, change: &PartitionRecord) -> Result<(), NoMemory>
-        requires { broken self.old (meta.Partition change.now) ≡ None }
+        requires { broken_rule self.old (meta.Partition change.now) ≡ None }
         ensures ok { OnOk result (self.new ≡ effect epoch (meta.Partition change.now) self.old) }
         ensures err { OnErr result (self.new ≡ self.old) }
     {
@@ -346,7 +346,7 @@ impl Image {
     }
 
     fn configure(&mut self, change: &ConfigRecord) -> Result<(), NoMemory>
-        requires { broken self.old (meta.Config change.now) ≡ None }
+        requires { broken_rule self.old (meta.Config change.now) ≡ None }
         ensures ok { OnOk result (self.new ≡ (if int_eq change.now.resource_type (pos 2) then record self.old { topics = with_changed (topic_configured change.now) (topic_named change.now.resource_name self.old) self.old.topics } else record self.old { broker_configs = configurations_after change.now self.old.broker_configs })) }
         ensures err { OnErr result (self.new ≡ self.old) }
     {
@@ -362,7 +362,7 @@ impl Image {
         epoch: i32,
         change: &PartitionChangeRecord,
     ) -> Result<(), NoMemory>
-        requires { broken self.old (meta.PartitionChange change.now) ≡ None }
+        requires { broken_rule self.old (meta.PartitionChange change.now) ≡ None }
         ensures ok { OnOk result (self.new ≡ effect epoch (meta.PartitionChange change.now) self.old) }
         ensures err { OnErr result (self.new ≡ self.old) }
     {
@@ -377,7 +377,7 @@ impl Image {
     }
 
     fn set_scram(&mut self, change: &UserScramCredentialRecord) -> Result<(), NoMemory>
-        requires { broken self.old (meta.UserScramCredential change.now) ≡ None }
+        requires { broken_rule self.old (meta.UserScramCredential change.now) ≡ None }
         ensures ok { OnOk result (self.new ≡ record self.old { users = scram_set change.now self.old.users }) }
         ensures err { OnErr result (self.new ≡ self.old) }
     {
@@ -392,7 +392,7 @@ impl Image {
     }
 
     fn change_quota(&mut self, change: &ClientQuotaRecord) -> Result<(), NoMemory>
-        requires { broken self.old (meta.ClientQuota change.now) ≡ None }
+        requires { broken_rule self.old (meta.ClientQuota change.now) ≡ None }
         ensures ok { OnOk result (self.new ≡ record self.old { quotas = quota_changed change.now (quota_key change.now.entity) self.old.quotas }) }
         ensures err { OnErr result (self.new ≡ self.old) }
     {
@@ -401,7 +401,7 @@ impl Image {
     }
 
     fn make_acl(&mut self, change: &AccessControlEntryRecord) -> Result<(), NoMemory>
-        requires { broken self.old (meta.AccessControlEntry change.now) ≡ None }
+        requires { broken_rule self.old (meta.AccessControlEntry change.now) ≡ None }
         ensures ok { OnOk result (self.new ≡ record self.old { acls = put_in bytes_cmp id_of_acl (record { id = change.now.id; row = acl_row change.now }) self.old.acls }) }
         ensures err { OnErr result (self.new ≡ self.old) }
     {
@@ -417,7 +417,7 @@ impl Image {
     }
 
     fn set_next_producer(&mut self, change: &ProducerIdsRecord)
-        requires { broken self.old (meta.ProducerIds change.now) ≡ None }
+        requires { broken_rule self.old (meta.ProducerIds change.now) ≡ None }
         ensures { self.new ≡ record self.old { next_producer = Some change.now.next } }
     {
         self.next_producer = Some(change.next);
@@ -433,7 +433,7 @@ impl Image {
 
     // Takes in a record that breaks no rule.
     fn take_in(&mut self, epoch: i32, item: &MetaRecord) -> Result<(), NoMemory>
-        requires { broken self.old item.now ≡ None }
+        requires { broken_rule self.old item.now ≡ None }
         ensures ok { OnOk result (self.new ≡ effect epoch item.now self.old) }
         ensures err { OnErr result (self.new ≡ self.old) }
     {

@@ -17,7 +17,7 @@ use Rattle.kz_ordered.specs.Ordered.{without, Rises}
 use Rattle.kz_ordered.proofs.Order.{bytes_order, int_order}
 use Rattle.kz_ordered.proofs.Lookup.{Rises-put, Rises-without}
 use Rattle.kz_spec_stores.specs.Metadata.{Image, id_of_acl, id_of_broker, topic_named, topic_with}
-use Rattle.kz_spec_stores.specs.ImageRules.{is_empty, is_zero, is_broker_name, is_mechanism, is_user, are_codes, is_resource, is_row, new_row, is_epoch, is_operation, is_permission, is_epoch_or_none, is_below_next, max_next, broken, quota_key}
+use Rattle.kz_spec_stores.specs.ImageRules.{is_empty, is_zero, is_broker_name, is_mechanism, is_user, are_codes, is_resource, is_row, new_row, is_epoch, is_operation, is_permission, is_epoch_or_none, is_below_next, max_next, broken_rule, quota_key}
 use Rattle.kz_spec_stores.specs.Image.{acl_row, topic_configured, with_changed, configurations_after, without_topic, scram_removed, effect}
 use Rattle.kz_spec_stores.specs.Legal.{AreTopics, IsScramEntry, IsAcl, IsBroker}
 use Rattle.kz_spec_stores.specs.InOrder.{AreTopicsInOrder, AreUsersInOrder, IsInOrder}
@@ -35,16 +35,16 @@ broker_named false true name known other named = holds_by (is_broker_name name) 
 broker_named false false name known other named = cc
 
 -- what a change of a configuration has that breaks no rule
-config_names : (i : Image) (r : ConfigRecord) → broken i (meta.Config r) ≡ None → (is_empty r.name ≡ false) × (int_eq r.resource_type (pos 4) && not (is_broker_name r.resource_name) ≡ false)
+config_names : (i : Image) (r : ConfigRecord) → broken_rule i (meta.Config r) ≡ None → (is_empty r.name ≡ false) × (int_eq r.resource_type (pos 4) && not (is_broker_name r.resource_name) ≡ false)
 config_names i r fine =
     let topic = int_eq r.resource_type (pos 2) && not (is_topic_name r.resource_name) in
     let named = neither_holds (is_empty r.name || topic) (int_eq r.resource_type (pos 4) && not (is_broker_name r.resource_name)) (unbroken i (meta.Config r) fine).0 in
     ((neither_holds (is_empty r.name) topic named.0).0, named.1)
 
-pub member_named : (i : Image) (r : ConfigRecord) → broken i (meta.Config r) ≡ None → is_empty r.name ≡ false
+pub member_named : (i : Image) (r : ConfigRecord) → broken_rule i (meta.Config r) ≡ None → is_empty r.name ≡ false
 member_named i r fine = (config_names i r fine).0
 
-pub resource_named : (i : Image) (r : ConfigRecord) → broken i (meta.Config r) ≡ None → int_eq r.resource_type (pos 2) ≡ false → is_broker_name r.resource_name ≡ true
+pub resource_named : (i : Image) (r : ConfigRecord) → broken_rule i (meta.Config r) ≡ None → int_eq r.resource_type (pos 2) ≡ false → is_broker_name r.resource_name ≡ true
 resource_named i r fine other = broker_named (int_eq r.resource_type (pos 2)) (int_eq r.resource_type (pos 4)) r.resource_name (unbroken i (meta.Config r) fine).2 other (config_names i r fine).1
 
 module _ (i : Image) (order : IsInOrder i) where
@@ -168,7 +168,7 @@ module _ (i : Image) (order : IsInOrder i) where
   pub acl_removed_kept : (id : List ℕ) → IsInOrder (record i { acls = without bytes_cmp id_of_acl id i.acls })
   acl_removed_kept id = with_acls _ (Rises-without bytes_order id_of_acl id i.acls order.acls) (All-without IsAcl bytes_cmp id_of_acl id i.acls order.legal.acls)
 
-  pub kept : (epoch : ℤ) (r : MetaRecord) → broken i r ≡ None → IsInOrder (effect epoch r i)
+  pub kept : (epoch : ℤ) (r : MetaRecord) → broken_rule i r ≡ None → IsInOrder (effect epoch r i)
   kept epoch (meta.RegisterBroker r) fine =
       let valued = neither_holds (int_lt r.broker_id (pos 0)) (not (is_epoch r.broker_epoch)) (unbroken i (meta.RegisterBroker r) fine).2 in
       record {

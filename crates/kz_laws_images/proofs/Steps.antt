@@ -10,21 +10,21 @@ use Rattle.kz_types.specs.declared.record.MetaRecord.{MetaRecord}
 use Rattle.kz_types.specs.declared.record.MetaRecord.TheVariants as meta
 use Rattle.kz_types.specs.declared.record.ConfigRecord.{ConfigRecord}
 use Rattle.kz_spec_stores.specs.Metadata.{Image, topic_named}
-use Rattle.kz_spec_stores.specs.ImageRules.{broken}
+use Rattle.kz_spec_stores.specs.ImageRules.{broken_rule}
 use Rattle.kz_spec_stores.specs.Image.{with_changed, topic_configured, configurations_after, effect, unless_broken, image_with, all_applied}
 use Rattle.kz_spec_stores.specs.InOrder.{IsInOrder}
 use Rattle.kz_spec_stores.specs.Settlement.{counting_records}
 use Rattle.kz_spec_stores.specs.Log.{Log, entries, all_entries_applied, image_at}
-use Rattle.kz_laws_images.specs.Said.{before_unless_broken, acceptable_records, said, accepted_entries, said_by_entries}
+use Rattle.kz_laws_images.specs.Said.{before_unless_broken, acceptable_records, value_by_records, accepted_entries, said_by_entries}
 use Rattle.kz_laws_images.specs.ImageLaws.{IsWhatIsSaid}
 use Rattle.kz_laws_images.proofs.Kept.{kept}
 
-applied_by : (epoch : ℤ) (r : MetaRecord) (i : Image) (found : Option ImageRule) → broken i r ≡ found → IsInOrder i → IsInOrder (unless_broken found (effect epoch r i) i)
+applied_by : (epoch : ℤ) (r : MetaRecord) (i : Image) (found : Option ImageRule) → broken_rule i r ≡ found → IsInOrder i → IsInOrder (unless_broken found (effect epoch r i) i)
 applied_by epoch r i None e order = kept i order epoch r e
 applied_by epoch r i (Some rule) e order = order
 
 pub applied_keeps : (epoch : ℤ) (r : MetaRecord) (i : Image) → IsInOrder i → IsInOrder (image_with epoch r i)
-applied_keeps epoch r i order = applied_by epoch r i (broken i r) refl order
+applied_keeps epoch r i order = applied_by epoch r i (broken_rule i r) refl order
 
 pub all_applied_keeps : (epoch : ℤ) (rs : List MetaRecord) (i : Image) → IsInOrder i → IsInOrder (all_applied epoch rs i)
 all_applied_keeps epoch [] i order = order
@@ -32,7 +32,7 @@ all_applied_keeps epoch (r ∷ rs) i order = all_applied_keeps epoch rs (image_w
 
 -- an accepted record says by this word what is looked up after it
 abbrev pub IsStep : {V : Type 0} → (Image → V) → (ℤ → MetaRecord → V → V) → Type 0
-IsStep look word = (epoch : ℤ) (r : MetaRecord) (i : Image) → IsInOrder i → broken i r ≡ None → look (effect epoch r i) ≡ word epoch r (look i)
+IsStep look word = (epoch : ℤ) (r : MetaRecord) (i : Image) → IsInOrder i → broken_rule i r ≡ None → look (effect epoch r i) ≡ word epoch r (look i)
 
 -- what a record says unless it breaks a rule
 abbrev said_unless_broken : {V : Type 0} → Option ImageRule → V → V → V
@@ -40,14 +40,14 @@ said_unless_broken None says before = says
 said_unless_broken (Some rule) says before = before
 
 module _ {V : Type 0} (look : Image → V) (word : ℤ → MetaRecord → V → V) (step : IsStep look word) where
-  applied_says_by : (epoch : ℤ) (r : MetaRecord) (i : Image) (found : Option ImageRule) → broken i r ≡ found → IsInOrder i → look (unless_broken found (effect epoch r i) i) ≡ said_unless_broken found (word epoch r (look i)) (look i)
+  applied_says_by : (epoch : ℤ) (r : MetaRecord) (i : Image) (found : Option ImageRule) → broken_rule i r ≡ found → IsInOrder i → look (unless_broken found (effect epoch r i) i) ≡ said_unless_broken found (word epoch r (look i)) (look i)
   applied_says_by epoch r i None e order = step epoch r i order e
   applied_says_by epoch r i (Some rule) e order = refl
 
-  applied_says : (epoch : ℤ) (r : MetaRecord) (i : Image) → IsInOrder i → look (image_with epoch r i) ≡ said_unless_broken (broken i r) (word epoch r (look i)) (look i)
-  applied_says epoch r i order = applied_says_by epoch r i (broken i r) refl order
+  applied_says : (epoch : ℤ) (r : MetaRecord) (i : Image) → IsInOrder i → look (image_with epoch r i) ≡ said_unless_broken (broken_rule i r) (word epoch r (look i)) (look i)
+  applied_says epoch r i order = applied_says_by epoch r i (broken_rule i r) refl order
 
-  first_said : (epoch : ℤ) (found : Option ImageRule) (r : MetaRecord) (rs : List MetaRecord) (v : V) → said (word epoch) rs (said_unless_broken found (word epoch r v) v) ≡ said (word epoch) (before_unless_broken found r rs) v
+  first_said : (epoch : ℤ) (found : Option ImageRule) (r : MetaRecord) (rs : List MetaRecord) (v : V) → value_by_records (word epoch) rs (said_unless_broken found (word epoch r v) v) ≡ value_by_records (word epoch) (before_unless_broken found r rs) v
   first_said epoch None r rs v = refl
   first_said epoch (Some rule) r rs v = refl
 
@@ -55,17 +55,17 @@ module _ {V : Type 0} (look : Image → V) (word : ℤ → MetaRecord → V → 
   first_entry_said None e es v = refl
   first_entry_said (Some rule) e es v = refl
 
-  all_said : (epoch : ℤ) (rs : List MetaRecord) (i : Image) → IsInOrder i → look (all_applied epoch rs i) ≡ said (word epoch) (acceptable_records epoch rs i) (look i)
+  all_said : (epoch : ℤ) (rs : List MetaRecord) (i : Image) → IsInOrder i → look (all_applied epoch rs i) ≡ value_by_records (word epoch) (acceptable_records epoch rs i) (look i)
   all_said epoch [] i order = refl
   all_said epoch (r ∷ rs) i order =
       let rest = acceptable_records epoch rs (image_with epoch r i) in
-      all_said epoch rs (image_with epoch r i) (applied_keeps epoch r i order) ∙ ap (said (word epoch) rest) (applied_says epoch r i order) ∙ first_said epoch (broken i r) r rest (look i)
+      all_said epoch rs (image_with epoch r i) (applied_keeps epoch r i order) ∙ ap (value_by_records (word epoch) rest) (applied_says epoch r i order) ∙ first_said epoch (broken_rule i r) r rest (look i)
 
   entries_said : (es : List Entry) (i : Image) → IsInOrder i → look (all_entries_applied es i) ≡ said_by_entries word (accepted_entries es i) (look i)
   entries_said [] i order = refl
   entries_said (e ∷ es) i order =
       let rest = accepted_entries es (image_with e.epoch e.item i) in
-      entries_said es (image_with e.epoch e.item i) (applied_keeps e.epoch e.item i order) ∙ ap (said_by_entries word rest) (applied_says e.epoch e.item i order) ∙ first_entry_said (broken i e.item) e rest (look i)
+      entries_said es (image_with e.epoch e.item i) (applied_keeps e.epoch e.item i order) ∙ ap (said_by_entries word rest) (applied_says e.epoch e.item i order) ∙ first_entry_said (broken_rule i e.item) e rest (look i)
 
   log_says : (l : Log) (at : ℤ) → IsInOrder l.base_image → look (image_at l at) ≡ said_by_entries word (accepted_entries (counting_records (entries l.batches) at) l.base_image) (look l.base_image)
   unfolding image_at

@@ -23,7 +23,7 @@ use Rattle.kz_spec_stores.specs.Image.{put_topic, new_topic, with_changed, put_p
 use Rattle.kz_spec_stores.specs.Settlement.{counting_records}
 use Rattle.kz_spec_stores.specs.Log.{entries, image_at}
 use Rattle.kz_spec_stores.specs.InOrder.{IsTopicInOrder, IsInOrder}
-use Rattle.kz_laws_images.specs.Said.{acceptable_records, said, accepted_entries, said_by_entries}
+use Rattle.kz_laws_images.specs.Said.{acceptable_records, value_by_records, accepted_entries, said_by_entries}
 use Rattle.kz_laws_images.specs.Words.{value_in, TopicMember, topic_member_of, topic_member_word}
 use Rattle.kz_laws_images.specs.ImageLaws.{IsWhatIsSaid, TopicMemberIsSaid}
 use Rattle.kz_laws_images.proofs.Legal.{topic_id}
@@ -94,7 +94,7 @@ named_member_said name member = is_said (named_member name member) (λ epoch. to
 
 pub topic_member_said : TopicMemberIsSaid
 topic_member_said name member = record {
-  after_records = λ epoch rs i order. member_is_in name member (all_applied epoch rs i) ∙ (named_member_said name member).after_records epoch rs i order ∙ ap (said (topic_member_word name member) (acceptable_records epoch rs i)) (sym (member_is_in name member i));
+  after_records = λ epoch rs i order. member_is_in name member (all_applied epoch rs i) ∙ (named_member_said name member).after_records epoch rs i order ∙ ap (value_by_records (topic_member_word name member) (acceptable_records epoch rs i)) (sym (member_is_in name member i));
   in_logs = λ l at order. member_is_in name member (image_at l at) ∙ (named_member_said name member).in_logs l at order
       ∙ ap (said_by_entries (λ (epoch : ℤ). topic_member_word name member) (accepted_entries (counting_records (entries l.batches) at) l.base_image)) (sym (member_is_in name member l.base_image));
 }

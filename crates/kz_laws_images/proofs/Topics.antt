@@ -22,7 +22,7 @@ use Rattle.kz_ordered.specs.Ordered.{find, Rises}
 use Rattle.kz_ordered.proofs.Order.{bytes_order, int_order}
 use Rattle.kz_ordered.proofs.Lookup.{contained_is_found}
 use Rattle.kz_spec_stores.specs.Metadata.{Image, name_of_topic, number_of_partition, same_id, topic_named, topic_with, topic_id_of, topic_name_of, partition_at, partition_of}
-use Rattle.kz_spec_stores.specs.ImageRules.{broken, new_row, changed_row}
+use Rattle.kz_spec_stores.specs.ImageRules.{broken_rule, new_row, changed_row}
 use Rattle.kz_spec_stores.specs.Image.{put_topic, new_topic, with_changed, put_partition, change_partition, partition_changed, topic_configured, configurations_after}
 use Rattle.kz_spec_stores.specs.Legal.{AreApart}
 use Rattle.kz_spec_stores.specs.InOrder.{IsInOrder}
@@ -105,12 +105,12 @@ module _ (i : Image) (order : IsInOrder i) where
   apart = order.legal.topics.apart
 
   -- a new topic
-  pub no_topic : (r : TopicRecord) → broken i (meta.Topic r) ≡ None → (topic_named r.name i ≡ None) × (topic_with r.topic_id i ≡ None)
+  pub no_topic : (r : TopicRecord) → broken_rule i (meta.Topic r) ≡ None → (topic_named r.name i ≡ None) × (topic_with r.topic_id i ≡ None)
   no_topic r fine =
       let absent = neither_holds (is_some (topic_named r.name i)) (is_some (topic_with r.topic_id i)) (unbroken i (meta.Topic r) fine).1 in
       (absent_by (topic_named r.name i) absent.0, absent_by (topic_with r.topic_id i) absent.1)
 
-  pub topic_made : (r : TopicRecord) (id : Id) → broken i (meta.Topic r) ≡ None → find_by (has_id id) (put_topic (new_topic r) i.topics) ≡ cond (same_id r.topic_id id) (Some (new_topic r)) (find_by (has_id id) i.topics)
+  pub topic_made : (r : TopicRecord) (id : Id) → broken_rule i (meta.Topic r) ≡ None → find_by (has_id id) (put_topic (new_topic r) i.topics) ≡ cond (same_id r.topic_id id) (Some (new_topic r)) (find_by (has_id id) i.topics)
   topic_made r id fine = let absent = no_topic r fine in find_id-put id (new_topic r) i.topics (new_agree r.name r.topic_id i.topics rises absent.0 absent.1)
 
 pub topic_id_step : (name : List ℕ) → IsStep (topic_id_of name) (λ epoch. topic_id_word name)

@@ -10,7 +10,7 @@ use Rattle.kz_types.specs.declared.record.ClientQuotaRecord.{ClientQuotaRecord}
 use Rattle.kz_types.specs.declared.record.PartitionChangeRecord.{PartitionChangeRecord}
 use Rattle.kz_types.proofs.PathRules.{both_hold}
 use Rattle.kz_spec_stores.specs.Metadata.{Image, partition_of}
-use Rattle.kz_spec_stores.specs.ImageRules.{is_misnamed, lacks, repeats, is_misvalued, first_broken, broken, is_assigned, is_recovery, is_epoch, is_row, leaves_row, quota_key, has_quota}
+use Rattle.kz_spec_stores.specs.ImageRules.{is_misnamed, lacks, repeats, is_misvalued, first_broken, broken_rule, is_assigned, is_recovery, is_epoch, is_row, leaves_row, quota_key, has_quota}
 
 none_broken : (misnamed lacking repeated misvalued : Bool) → first_broken ((misnamed, BadName) ∷ (lacking, Absent) ∷ (repeated, Exists) ∷ (misvalued, BadValue) ∷ []) ≡ None → (misnamed ≡ false) × (repeated ≡ false) × (misvalued ≡ false)
 none_broken true lacking repeated misvalued e = cc
@@ -20,8 +20,8 @@ none_broken false false false true e = cc
 none_broken false false false false e = (refl, refl, refl)
 
 -- it names nothing that can't be, makes nothing that is there, and has no value that it can't have
-pub unbroken : (i : Image) (r : MetaRecord) → broken i r ≡ None → (is_misnamed r ≡ false) × (repeats i r ≡ false) × (is_misvalued i r ≡ false)
-unfolding broken
+pub unbroken : (i : Image) (r : MetaRecord) → broken_rule i r ≡ None → (is_misnamed r ≡ false) × (repeats i r ≡ false) × (is_misvalued i r ≡ false)
+unfolding broken_rule
 unbroken i r e = none_broken (is_misnamed r) (lacks i r) (repeats i r) (is_misvalued i r) e
 
 -- ---- tests
@@ -46,10 +46,10 @@ not_less (negsuc a) (negsuc b) e = grind (arith, nat_tests)
 
 -- ---- what some records have
 
-pub quota_unbroken : (i : Image) (r : ClientQuotaRecord) → broken i (meta.ClientQuota r) ≡ None → has_quota (quota_key r.entity) r.key ≡ true
+pub quota_unbroken : (i : Image) (r : ClientQuotaRecord) → broken_rule i (meta.ClientQuota r) ≡ None → has_quota (quota_key r.entity) r.key ≡ true
 quota_unbroken i r e = holds_by (has_quota (quota_key r.entity) r.key) (unbroken i (meta.ClientQuota r) e).0
 
-pub change_unbroken : (i : Image) (r : PartitionChangeRecord) → broken i (meta.PartitionChange r) ≡ None → leaves_row r (partition_of r.topic_id r.partition_id i) ≡ true
+pub change_unbroken : (i : Image) (r : PartitionChangeRecord) → broken_rule i (meta.PartitionChange r) ≡ None → leaves_row r (partition_of r.topic_id r.partition_id i) ≡ true
 change_unbroken i r e = holds_by (leaves_row r (partition_of r.topic_id r.partition_id i)) (unbroken i (meta.PartitionChange r) e).2
 
 -- the epochs of a partition
@@ -64,6 +64,6 @@ none_lacking false true repeated misvalued e = cc
 none_lacking false false repeated misvalued e = refl
 
 -- it speaks of nothing that isn't there
-pub lacks_none : (i : Image) (r : MetaRecord) → broken i r ≡ None → lacks i r ≡ false
-unfolding broken
+pub lacks_none : (i : Image) (r : MetaRecord) → broken_rule i r ≡ None → lacks i r ≡ false
+unfolding broken_rule
 lacks_none i r e = none_lacking (is_misnamed r) (lacks i r) (repeats i r) (is_misvalued i r) e

@@ -9,7 +9,7 @@ use Rattle.kz_spec_stores.specs.InOrder.{IsInOrder}
 use Rattle.kz_spec_stores.specs.Image.{image_with, all_applied}
 use Rattle.kz_spec_stores.specs.Settlement.{counting_records}
 use Rattle.kz_spec_stores.specs.Log.{Log, entries, image_at}
-use Rattle.kz_laws_images.specs.Said.{acceptable_records, said, accepted_entries, said_by_entries}
+use Rattle.kz_laws_images.specs.Said.{acceptable_records, value_by_records, accepted_entries, said_by_entries}
 use Rattle.kz_laws_images.specs.Words.{broker_of, member_of, quota_of, topic_member_of, broker_word, acl_word, producer_word, state_word, broker_member_word, scram_word, quota_word, topic_id_word, topic_name_word, partition_word, topic_member_word}
 
 -- ---- order
@@ -32,7 +32,7 @@ AllAppliedKeepsOrder = (epoch : ℤ) (records : List MetaRecord) (i : Image) →
 -- any records of an epoch, and at any offset of a log after those that count there.
 pub record IsWhatIsSaid {V : Type 0} (look : Image → V) (word : ℤ → MetaRecord → V → V) : Type 0 where
   pub after_records : (epoch : ℤ) (records : List MetaRecord) (i : Image) → IsInOrder i
-      → look (all_applied epoch records i) ≡ said (word epoch) (acceptable_records epoch records i) (look i)
+      → look (all_applied epoch records i) ≡ value_by_records (word epoch) (acceptable_records epoch records i) (look i)
   pub in_logs : (l : Log) (at : ℤ) → IsInOrder l.base_image
       → look (image_at l at) ≡ said_by_entries word (accepted_entries (counting_records (entries l.batches) at) l.base_image) (look l.base_image)
 

@@ -3,7 +3,7 @@ ghost use Rattle.std.specs.Prelude.{◌≡◌, [], ◌∷◌, Some, None, pos, n
 ghost use Rattle.kz_types.specs.declared.record.MetaRecord.TheVariants as meta;
 ghost use Rattle.kz_spec_stores.specs.Metadata.{empty_image};
 ghost use Rattle.kz_spec_stores.specs.ImageExamples.{id, topic, partition, change, topic_member};
-ghost use Rattle.kz_laws_images.specs.Said.{acceptable_records, said};
+ghost use Rattle.kz_laws_images.specs.Said.{acceptable_records, value_by_records};
 ghost use Rattle.kz_laws_images.specs.Words.{partition_word, topic_member_word};
 
 /// A change of a partition that isn't there and a second topic of a name are not accepted; once the topic is removed, its
@@ -17,11 +17,11 @@ pub fn accepted_records()
 /// A partition is its last record with each change after that; a new topic of a name has none of the members of the one
 /// before it.
 pub fn said_of_topics()
-    ensures partition { said (partition_word (pos 3) (id 7) (pos 0)) (partition 7 (pos 4) ∷ change 7 (Some (pos 2 ∷ [])) (pos 2) ∷ change 8 None (pos 1) ∷ []) None
+    ensures partition { value_by_records (partition_word (pos 3) (id 7) (pos 0)) (partition 7 (pos 4) ∷ change 7 (Some (pos 2 ∷ [])) (pos 2) ∷ change 8 None (pos 1) ∷ []) None
         ≡ Some (record { replicas = pos 1 ∷ pos 2 ∷ []; isr = pos 2 ∷ []; removing = []; adding = []; leader = pos 2; recovery = pos 0; leader_epoch = pos 5; partition_epoch = pos 1; controller_epoch = pos 3 }) }
-    ensures removed { said (partition_word (pos 3) (id 7) (pos 0)) (partition 7 (pos 4) ∷ meta.RemoveTopic (id 7) ∷ []) None ≡ None }
-    ensures member { said (topic_member_word (codes "t") (codes "a")) (topic (codes "t") 1 ∷ topic_member (codes "t") (codes "a") (Some (codes "1")) ∷ []) (record { topic = None; value = None })
+    ensures removed { value_by_records (partition_word (pos 3) (id 7) (pos 0)) (partition 7 (pos 4) ∷ meta.RemoveTopic (id 7) ∷ []) None ≡ None }
+    ensures member { value_by_records (topic_member_word (codes "t") (codes "a")) (topic (codes "t") 1 ∷ topic_member (codes "t") (codes "a") (Some (codes "1")) ∷ []) (record { topic = None; value = None })
         ≡ record { topic = Some (id 1); value = Some (codes "1") } }
-    ensures anew { said (topic_member_word (codes "t") (codes "a")) (topic (codes "t") 1 ∷ topic_member (codes "t") (codes "a") (Some (codes "1")) ∷ meta.RemoveTopic (id 1) ∷ topic (codes "t") 2 ∷ []) (record { topic = None; value = None })
+    ensures anew { value_by_records (topic_member_word (codes "t") (codes "a")) (topic (codes "t") 1 ∷ topic_member (codes "t") (codes "a") (Some (codes "1")) ∷ meta.RemoveTopic (id 1) ∷ topic (codes "t") 2 ∷ []) (record { topic = None; value = None })
         ≡ record { topic = Some (id 2); value = None } }
 {}

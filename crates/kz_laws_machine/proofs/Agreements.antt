@@ -14,7 +14,7 @@ use Rattle.kz_spec_znodes.specs.Rendering.{render}
 use Rattle.kz_spec_znodes.specs.Difference.{diff}
 use Rattle.kz_spec_machine.specs.Driver.{Driver, epoch_or_zero, views_migrated, record_before_offsets, claim_ops, is_last_write, write_ops}
 use Rattle.kz_spec_machine.specs.Machine.{is_held_tree}
-use Rattle.kz_spec_machine.specs.Sound.{IsId, IsEpochOrNone, TreeShape, LogShape, IsBatchEnd, Agreement, Rests}
+use Rattle.kz_spec_machine.specs.Sound.{IsId, IsEpochOrNone, TreeShape, LogShape, IsBatchEnd, Agreement, IsAtRest}
 use Rattle.kz_laws_values.proofs.Control.{recorded_is_read}
 use Rattle.kz_laws_trees.specs.TreeLaws.{Completed}
 use Rattle.kz_laws_trees.proofs.Ends.{batch_end_within}
@@ -53,7 +53,7 @@ named None o is = absurd (cc)
 named (Some r) o is = (r, refl, cc)
 
 -- the area is the rendering of the metadata at the view's end
-pub rest_area : (t : Tree) (l : Log) (v : View) (offset : Option ℤ) → Agreement t l → Rests t v offset → area t ≡ render (image_at l v.position)
+pub rest_area : (t : Tree) (l : Log) (v : View) (offset : Option ℤ) → Agreement t l → IsAtRest t v offset → area t ≡ render (image_at l v.position)
 rest_area t l v offset agreement rests =
     let r = named (migration_record t) v.position (rests.same ∙ rests.view) in
     agreement.same r.0 r.1 rests.closed ∙ ap (λ (o : ℤ). render (image_at l o)) r.2

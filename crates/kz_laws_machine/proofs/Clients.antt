@@ -9,7 +9,7 @@ use Rattle.kz_spec_znodes.specs.Rendering.{render}
 use Rattle.kz_spec_znodes.specs.Difference.{diff}
 use Rattle.kz_spec_machine.specs.Driver.{Shared, Driver}
 use Rattle.kz_spec_machine.specs.Machine.{is_held_tree}
-use Rattle.kz_spec_machine.specs.Sound.{Agreement, claim_version, IsCurrent, shown_in, Claims, Rests, AtStage, Fine}
+use Rattle.kz_spec_machine.specs.Sound.{Agreement, claim_version, IsCurrent, shown_in, Claims, IsAtRest, AtStage, IsSoundDriver}
 use Rattle.kz_laws_trees.specs.TreeLaws.{Unchanged}
 use Rattle.kz_laws_machine.proofs.Agreements.{closed_offset}
 use Rattle.kz_laws_machine.proofs.Groups.{Current}
@@ -27,7 +27,7 @@ agreement_unchanged t new l u old = record {
 was_current : (t new : Tree) (claim : Option ℤ) → Unchanged t new → IsCurrent new claim → IsCurrent t claim
 was_current t new claim u now = (now.0 ∙ u.version, now.1)
 
-rests_unchanged : (t new : Tree) (d : Driver) → Unchanged t new → Rests t d.view d.recorded → Rests new d.view d.recorded
+rests_unchanged : (t new : Tree) (d : Driver) → Unchanged t new → IsAtRest t d.view d.recorded → IsAtRest new d.view d.recorded
 rests_unchanged t new d u old = record {
   closed = u.unclosed ∙ old.closed;
   same = ap (option_map (λ (r : Recorded). r.offset)) u.recorded ∙ old.same;
@@ -63,7 +63,7 @@ at_unchanged t new l d (stage.WriteDelta target ops) u at = (
   },
 )
 
-pub fine_unchanged : (s : Shared) (new : Tree) (d : Driver) → Unchanged s.tree new → Fine s d → Fine (record s { tree = new }) d
+pub fine_unchanged : (s : Shared) (new : Tree) (d : Driver) → Unchanged s.tree new → IsSoundDriver s d → IsSoundDriver (record s { tree = new }) d
 fine_unchanged s new d u fine = record {
   id = fine.id;
   epochs = fine.epochs;
@@ -99,7 +99,7 @@ no_claim version shown epoch None none claims = refl
 no_claim version shown epoch (Some v) none claims = absurd (claims.held none)
 
 -- no driver has a claim then
-pub unclaimed : (s : Shared) (d : Driver) → is_held_tree s.tree ≡ false → Fine s d → d.claim ≡ None
+pub unclaimed : (s : Shared) (d : Driver) → is_held_tree s.tree ≡ false → IsSoundDriver s d → d.claim ≡ None
 unclaimed s d free fine = no_claim (claim_version s.tree) (shown_in s.tree) d.epoch d.claim (no_shown (shown_in s.tree) free) fine.claims
 
 at_unheld : (t new : Tree) (l : Log) (d : Driver) (x : Stage) → d.claim ≡ None → AtStage t l d x → AtStage new l d x
@@ -120,7 +120,7 @@ at_unheld t new l d stage.KraftControllerToBrokerComm none at = absurd (at.0 non
 at_unheld t new l d stage.DualWrite none at = absurd (at.0 none)
 at_unheld t new l d (stage.WriteDelta target ops) none at = (at.0, λ c. absurd (c.1 none))
 
-pub fine_unheld : (s : Shared) (new : Tree) (d : Driver) → d.claim ≡ None → Fine s d → Fine (record s { tree = new }) d
+pub fine_unheld : (s : Shared) (new : Tree) (d : Driver) → d.claim ≡ None → IsSoundDriver s d → IsSoundDriver (record s { tree = new }) d
 fine_unheld s new d none fine = record {
   id = fine.id;
   epochs = fine.epochs;

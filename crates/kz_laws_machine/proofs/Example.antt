@@ -8,7 +8,7 @@ use Rattle.kz_types.specs.Paths.{base_paths}
 use Rattle.kz_spec_stores.specs.Tree.{row_at}
 use Rattle.kz_spec_machine.proofs.OnLiterals.{machine_on_literals}
 use Rattle.kz_spec_machine.specs.Driver.{Driver, new_driver, elected_driver}
-use Rattle.kz_spec_machine.specs.Machine.{empty_world, Turned, turn, after_events}
+use Rattle.kz_spec_machine.specs.Machine.{empty_world, TurnResult, turn, after_events}
 use Rattle.kz_spec_machine.specs.Sound.{IsId, IsTime, IsLawful, claim_version}
 use Rattle.kz_laws_machine.specs.Laws.{IsReached, IsWriting, MayWrite, WritesAreReached}
 use Rattle.kz_laws_trees.specs.RefusalLaws.{HasBases}
@@ -31,7 +31,7 @@ before : Driver
 before = elected_driver (pos 1) (new_driver (pos 3000))
 
 -- after ten steps of its turn it writes
-moment : Turned
+moment : TurnResult
 moment = turn 10 (after_events empty_world events).shared (pos 3000 ∷ []) (pos 0) before
 
 reached : IsReached moment.shared moment.driver

@@ -9,9 +9,9 @@ use Rattle.kz_types.specs.declared.machine.Reply.{Reply}
 use Rattle.kz_types.specs.declared.machine.Reply.TheVariants as reply
 use Rattle.kz_spec_stores.specs.Tree.{Tree, migration_record}
 use Rattle.kz_spec_stores.specs.Log.{Log, end_of, is_migrated_log}
-use Rattle.kz_spec_machine.specs.Driver.{Shared, Driver, state_of, at_stage, resigned_driver, begins_again, epoch_or_zero, unless_finalised, having_read, target_of}
+use Rattle.kz_spec_machine.specs.Driver.{Shared, Driver, state_of, at_stage, resigned_driver, begins_again, epoch_or_zero, unless_finalised, driver_at_log_end, target_of}
 use Rattle.kz_spec_machine.specs.Machine.{is_held_tree}
-use Rattle.kz_spec_machine.specs.Sound.{IsId, IsEpochOrNone, LogShape, Agreement, claim_version, IsCurrent, shown_in, Claims, Views, Epochs, Elected, Aims, AtStage, Fine}
+use Rattle.kz_spec_machine.specs.Sound.{IsId, IsEpochOrNone, LogShape, Agreement, claim_version, IsCurrent, shown_in, Claims, Views, Epochs, WasElected, IsTargetOf, AtStage, IsSoundDriver}
 use Rattle.kz_spec_stores.specs.Image.{is_migrated_state}
 use Rattle.kz_spec_runs.specs.InStep.{InStep}
 use Rattle.kz_laws_machine.proofs.Agreements.{agreement_grown}
@@ -25,7 +25,7 @@ pub record Base (s : Shared) (d : Driver) : Type 0 where
   pub claims : Claims (claim_version s.tree) (shown_in s.tree) d.epoch d.claim
   pub views : Views s.log d.view
 
-pub base_of : (s : Shared) (d : Driver) → Agreement s.tree s.log → Fine s d → Base s d
+pub base_of : (s : Shared) (d : Driver) → Agreement s.tree s.log → IsSoundDriver s d → Base s d
 base_of s d agreement fine = record { agreement = agreement; id = fine.id; epochs = fine.epochs; claims = fine.claims; views = fine.views }
 
 -- while it is the only driver, a claim that it has is current
@@ -42,14 +42,14 @@ pub record AtRest (s : Shared) : Type 0 where
 -- is in step with the log.
 pub record Owed (s : Shared) (id : ℤ) (result : Driver × Reply) : Type 0 where
   pub agreement : Agreement s.tree s.log
-  pub own : Fine s result.0
+  pub own : IsSoundDriver s result.0
   pub current : Current s result.0
   pub same : result.0.id ≡ id
   pub rest : result.1 ≡ reply.Idle → state_of result.0.stage ≡ state.DualWrite → AtRest s
 
 -- ---- ways to go on
 
-pub moves : (s : Shared) (d : Driver) (x : Stage) (r : Reply) → Base s d → Current s d → Elected d.epoch x → AtStage s.tree s.log (at_stage x d) x → r ≢ reply.Idle → Owed s d.id (at_stage x d, r)
+pub moves : (s : Shared) (d : Driver) (x : Stage) (r : Reply) → Base s d → Current s d → WasElected d.epoch x → AtStage s.tree s.log (at_stage x d) x → r ≢ reply.Idle → Owed s d.id (at_stage x d, r)
 moves s d x r base current elected at busy = record {
   agreement = base.agreement;
   own = record { id = base.id; epochs = base.epochs; elected = elected; claims = base.claims; views = base.views; stage = at };
@@ -58,13 +58,13 @@ moves s d x r base current elected at busy = record {
   rest = λ idle dual. absurd (busy idle);
 }
 
-pub stays : (s : Shared) (d : Driver) (x : Stage) (r : Reply) → d.stage ≡ x → Base s d → Current s d → Elected d.epoch x → AtStage s.tree s.log d x → r ≢ reply.Idle → Owed s d.id (d, r)
+pub stays : (s : Shared) (d : Driver) (x : Stage) (r : Reply) → d.stage ≡ x → Base s d → Current s d → WasElected d.epoch x → AtStage s.tree s.log d x → r ≢ reply.Idle → Owed s d.id (d, r)
 stays s d x r is base current elected at busy = record {
   agreement = base.agreement;
   own = record {
     id = base.id;
     epochs = base.epochs;
-    elected = subst (Elected d.epoch) (sym is) elected;
+    elected = subst (WasElected d.epoch) (sym is) elected;
     claims = base.claims;
     views = base.views;
     stage = subst (AtStage s.tree s.log d) (sym is) at;
@@ -101,7 +101,7 @@ finalised s d rest base owed = chosen s d.id (int_eq d.view.image.state (pos 3))
 
 -- ---- after a read of the log
 
-pub base_read : (s : Shared) (d : Driver) → LogShape s.log → Base s d → Base s (having_read s.log d)
+pub base_read : (s : Shared) (d : Driver) → LogShape s.log → Base s d → Base s (driver_at_log_end s.log d)
 base_read s d shape base = record { agreement = base.agreement; id = base.id; epochs = base.epochs; claims = base.claims; views = view_read s.log d.view shape base.views }
 
 pub zero_or : (l : Log) (e : Option ℤ) → Epochs l.epoch e → IsEpochOrNone (epoch_or_zero e)
@@ -122,7 +122,7 @@ either_epoch true x y a b = a
 either_epoch false x y a b = b
 
 -- what it will record then
-pub aims : (s : Shared) (d : Driver) → LogShape s.log → Base s d → d.epoch ≢ None → d.view.position ≡ end_of s.log → is_migrated_state d.view.image.state ≡ true → Aims (target_of d) d.id d.epoch d.view
+pub aims : (s : Shared) (d : Driver) → LogShape s.log → Base s d → d.epoch ≢ None → d.view.position ≡ end_of s.log → is_migrated_state d.view.image.state ≡ true → IsTargetOf (target_of d) d.id d.epoch d.view
 aims s d shape base elected at_end migrated = record {
   migrated = migrated;
   id = refl;

@@ -16,8 +16,8 @@ use Rattle.kz_spec_stores.specs.Tree.{Tree, multi, begin_session, end_session}
 use Rattle.kz_spec_stores.specs.Log.{Log, append, end_of, image_at}
 use Rattle.kz_spec_znodes.specs.Translation.{Unreadable, translate}
 use Rattle.kz_spec_machine.specs.Driver.{Shared, Driver, epoch_or_zero, claim_ops, remaining_at, write_ops, next_records, begin_record, begin_request, write_request, request_at, with_tree, with_log, shared_after, step}
-use Rattle.kz_spec_machine.specs.Machine.{World, empty_world, running_ids, driver_of, Turned, with_reply, ends, turn, work, quorum_refusal, declared_world, start_refusal, started_world, election_refusal, elected_world, election_answer, running_refusal, turn_result, change_refusal, changed_log, changed_world, registration, register_refusal, moved_world, client_refusal, client_world, next, after_events}
-use Rattle.kz_spec_machine.specs.Sound.{IsTime, Kept, Views, Fine, IsLawful}
+use Rattle.kz_spec_machine.specs.Machine.{World, empty_world, running_ids, driver_of, TurnResult, with_reply, ends, turn, work, quorum_refusal, declared_world, start_refusal, started_world, election_refusal, elected_world, election_answer, running_refusal, turn_result, change_refusal, changed_log, changed_world, registration, register_refusal, moved_world, client_refusal, client_world, next, after_events}
+use Rattle.kz_spec_machine.specs.Sound.{IsTime, IsSharedSound, Views, IsSoundDriver, IsLawful}
 use Rattle.kz_laws_trees.specs.RefusalLaws.{HeldHasMigration}
 use Rattle.kz_laws_trees.proofs.Standing.{claim_has_migration, write_keeps_migration, client_keeps_migration, sessions_keep_migration}
 use Rattle.kz_laws_machine.proofs.Groups.{Current}
@@ -46,7 +46,7 @@ begin_made : (s : Shared) (epoch now : ℤ) (r : Result (List MetaRecord) Unread
 begin_made s epoch now (Ok records) has = log_made s (append s.log epoch now (begin_record ∷ [])) has
 begin_made s epoch now (Err e) has = has
 
-asked_made : (s : Shared) (now : ℤ) (d : Driver) (x : Stage) → Kept s → Views s.log d.view → Records s → Records (shared_after s (epoch_or_zero d.epoch) now (request_at s now d x))
+asked_made : (s : Shared) (now : ℤ) (d : Driver) (x : Stage) → IsSharedSound s → Views s.log d.view → Records s → Records (shared_after s (epoch_or_zero d.epoch) now (request_at s now d x))
 asked_made s now d stage.Uninitialized kept views has = has
 asked_made s now d stage.Inactive kept views has = has
 asked_made s now d stage.WaitForControllerQuorum kept views has = has
@@ -67,15 +67,15 @@ asked_made s now d (stage.WriteDelta target ops) kept views has = write_made s (
 
 -- ---- steps and turns
 
-step_records : (s : Shared) (running : List ℤ) (now : ℤ) (d : Driver) → Kept s → Fine s d → Records s → Records (step s running now d).shared
+step_records : (s : Shared) (running : List ℤ) (now : ℤ) (d : Driver) → IsSharedSound s → IsSoundDriver s d → Records s → Records (step s running now d).shared
 unfolding step
 step_records s running now d kept fine has = asked_made s now d d.stage kept fine.views has
 
-either_records : (b : Bool) (x y : Turned) → Records x.shared → Records y.shared → Records (if b then x else y).shared
+either_records : (b : Bool) (x y : TurnResult) → Records x.shared → Records y.shared → Records (if b then x else y).shared
 either_records true x y first second = first
 either_records false x y first second = second
 
-pub turn_records : (n : ℕ) (s : Shared) (running : List ℤ) (now : ℤ) (d : Driver) → IsTime now → Kept s → Fine s d → Current s d → Records s → Records (turn n s running now d).shared
+pub turn_records : (n : ℕ) (s : Shared) (running : List ℤ) (now : ℤ) (d : Driver) → IsTime now → IsSharedSound s → IsSoundDriver s d → Current s d → Records s → Records (turn n s running now d).shared
 unfolding turn
 turn_records zero s running now d time kept fine current has = has
 turn_records (suc n) s running now d time kept fine current has =

@@ -20,7 +20,7 @@ use Rattle.kz_types.specs.declared.machine.Reply.{Reply}
 use Rattle.kz_types.specs.declared.machine.Reply.TheVariants as reply
 use Rattle.kz_spec_machine.specs.Driver.{Shared, Driver, state_of, is_one_of}
 use Rattle.kz_spec_machine.specs.Machine.{World, empty_world, running_ids, is_running, driver_of, with_driver, turn, work, first_of, unless, running_refusal, turn_result, unless_refused, next, after_events}
-use Rattle.kz_spec_machine.specs.Sound.{IsTime, IsLawful, Sound, Alone, AtMostOne, Each, Fine, IsCurrent, Kept}
+use Rattle.kz_spec_machine.specs.Sound.{IsTime, IsLawful, Sound, IsOneController, AtMostOne, Each, IsSoundDriver, IsCurrent, IsSharedSound}
 use Rattle.kz_spec_runs.specs.InStep.{last_reply, StaysInStep, ComesToRest}
 use Rattle.kz_laws_machine.proofs.Worlds.{OneOf, Lone, driver_is, own_of, placed, turn_of, next_kept, empty_lone}
 
@@ -28,7 +28,7 @@ use Rattle.kz_laws_machine.proofs.Worlds.{OneOf, Lone, driver_is, own_of, placed
 
 -- what is true when a turn has come to rest
 record RestKept (s : Shared) : Type 0 where
-  kept : Kept s
+  kept : IsSharedSound s
   rest : AtRest s
 
 no_turn : (a b : Bool) (x : Answer) (replies : List Reply) → first_of (unless a answer.UnknownController) (unless b answer.NotRunning) ≡ Some x → x ≡ answer.Turn replies → ⊥
@@ -137,27 +137,27 @@ running_of s [] one = tt
 running_of s (d ∷ []) one = one.declared
 running_of s (d ∷ e ∷ ds) one = one
 
-alone_of : (w : World) → Lone w → Alone w
+alone_of : (w : World) → Lone w → IsOneController w
 alone_of w lone = record {
   declared = lone.declared;
   running = running_of w.shared w.drivers lone.one;
   current = λ id d found. (own_of w.shared w.drivers id d lone.one found).current;
 }
 
-one_of : (s : Shared) (ds : List Driver) → AtMostOne s.declared ds → Each (Fine s) ds → ((id : ℤ) (d : Driver) → driver_of id ds ≡ Some d → d.claim ≢ None → IsCurrent s.tree d.claim) → OneOf s ds
+one_of : (s : Shared) (ds : List Driver) → AtMostOne s.declared ds → Each (IsSoundDriver s) ds → ((id : ℤ) (d : Driver) → driver_of id ds ≡ Some d → d.claim ≢ None → IsCurrent s.tree d.claim) → OneOf s ds
 one_of s [] running each current = tt
 one_of s (d ∷ []) running each current = record { fine = each d.id d (found_itself d); declared = running; current = current d.id d (found_itself d) }
 one_of s (d ∷ e ∷ ds) running each current = running
 
-lone_of : (w : World) → Sound w → Alone w → Lone w
+lone_of : (w : World) → Sound w → IsOneController w → Lone w
 lone_of w sound alone = record { kept = sound.kept; declared = alone.declared; one = one_of w.shared w.drivers alone.running sound.each alone.current }
 
-pub event_sound : (w : World) (e : Event) → IsLawful e → Sound w → Alone w → Sound (next w e).0 × Alone (next w e).0
+pub event_sound : (w : World) (e : Event) → IsLawful e → Sound w → IsOneController w → Sound (next w e).0 × IsOneController (next w e).0
 event_sound w e lawful sound alone =
     let lone = next_kept w e lawful (lone_of w sound alone) in
     (sound_of (next w e).0 lone, alone_of (next w e).0 lone)
 
-pub run_sound : (es : List Event) → All IsLawful es → Sound (after_events empty_world es) × Alone (after_events empty_world es)
+pub run_sound : (es : List Event) → All IsLawful es → Sound (after_events empty_world es) × IsOneController (after_events empty_world es)
 run_sound es lawful =
     let lone = after_kept es empty_world lawful empty_lone in
     (sound_of (after_events empty_world es) lone, alone_of (after_events empty_world es) lone)

@@ -38,9 +38,9 @@ use Rattle.kz_spec_stores.specs.Log.{Log, append, end_of, image_at, image_of, wi
 use Rattle.kz_spec_znodes.specs.Rendering.{render}
 use Rattle.kz_spec_znodes.specs.Translation.{Unreadable, translate}
 use Rattle.kz_spec_znodes.specs.Difference.{diff, chunk}
-use Rattle.kz_spec_machine.specs.Driver.{Shared, Driver, state_of, at_stage, resigned_driver, begins_again, epoch_or_zero, views_migrated, seen_in, shown_by, unless_fenced, unless_full_epoch, unless_bad_epoch, unless_full_record, after_look, claimed_version, claim_ops, remaining_at, is_last_write, write_ops, target_of, last_path, Request, nothing, read_log, list_brokers, look_up, read_page, write, add, begin_record, begin_request, next_records, write_request, request_at, with_tree, with_log, shared_after, missing_controller, missing_broker, having_read, wait_or_move, after_quorum, after_brokers, path_at, after_claim, after_append, after_translation, after_records, written_driver, is_claim_refused, after_write, writes, is_recorded_at, after_answer}
+use Rattle.kz_spec_machine.specs.Driver.{Shared, Driver, state_of, at_stage, resigned_driver, begins_again, epoch_or_zero, views_migrated, seen_in, shown_by, unless_fenced, unless_full_epoch, unless_bad_epoch, unless_full_record, after_look, claimed_version, claim_ops, remaining_at, is_last_write, write_ops, target_of, last_path, Request, nothing, read_log, list_brokers, look_up, read_page, write, add, begin_record, begin_request, next_records, write_request, request_at, with_tree, with_log, shared_after, missing_controller, missing_broker, driver_at_log_end, wait_or_move, after_quorum, after_brokers, path_at, after_claim, after_append, after_translation, after_records, written_driver, is_claim_refused, after_write, writes, is_recorded_at, after_answer}
 use Rattle.kz_spec_machine.specs.Machine.{is_held_tree}
-use Rattle.kz_spec_machine.specs.Sound.{IsId, IsEpochOrNone, IsStamped, TreeShape, LogShape, IsBatchEnd, Kept, IsTime, claim_version, IsCurrent, shown_in, Claimed, Claims, Epochs, Elected, Aims, Reads, Writes, Rests, AtStage, IsTranslated}
+use Rattle.kz_spec_machine.specs.Sound.{IsId, IsEpochOrNone, IsStamped, TreeShape, LogShape, IsBatchEnd, IsSharedSound, IsTime, claim_version, IsCurrent, shown_in, IsClaimOf, Claims, Epochs, WasElected, IsTargetOf, Reads, Writes, IsAtRest, AtStage, IsTranslated}
 use Rattle.kz_laws_values.proofs.Control.{recorded_is_read}
 use Rattle.kz_laws_trees.proofs.Multi.{multi_ran, shape_kept, write_keeps_shape, write_keeps_version, last_write, remaining_after_write}
 use Rattle.kz_laws_trees.specs.TreeLaws.{KeepsShape, Completed}
@@ -56,11 +56,11 @@ use Rattle.kz_laws_machine.proofs.Groups.{Base, Current, Owed, moves, stays, res
 abbrev Shaped : Shared → Type 0
 Shaped s = TreeShape s.tree × LogShape s.log
 
-with_tree_shaped : (s : Shared) (ops : List Op) (r : Result Tree TreeFault) → multi s.tree ops ≡ r → All KeepsShape ops → Kept s → Shaped (with_tree s r)
+with_tree_shaped : (s : Shared) (ops : List Op) (r : Result Tree TreeFault) → multi s.tree ops ≡ r → All KeepsShape ops → IsSharedSound s → Shaped (with_tree s r)
 with_tree_shaped s ops (Ok t) is keeps kept = (shape_kept s.tree t ops (multi_ran s.tree t ops is) keeps kept.tree, kept.log)
 with_tree_shaped s ops (Err e) is keeps kept = (kept.tree, kept.log)
 
-with_log_shaped : (s : Shared) (epoch now : ℤ) (items : List MetaRecord) (r : Result Log LogFault) → append s.log epoch now items ≡ r → Kept s → Shaped (with_log s r)
+with_log_shaped : (s : Shared) (epoch now : ℤ) (items : List MetaRecord) (r : Result Log LogFault) → append s.log epoch now items ≡ r → IsSharedSound s → Shaped (with_log s r)
 with_log_shaped s epoch now items (Ok l) is kept = (kept.tree, (append_appends s.log epoch now items l is kept.log).shape)
 with_log_shaped s epoch now items (Err e) is kept = (kept.tree, kept.log)
 
@@ -100,7 +100,7 @@ asked_keeps s now d stage.KraftControllerToBrokerComm = tt
 asked_keeps s now d stage.DualWrite = tt
 asked_keeps s now d (stage.WriteDelta target ops) = write_request_keeps s d.claim target
 
-pub made_shaped : (s : Shared) (epoch now : ℤ) (request : Request) → RequestKeeps request → Kept s → Shaped (shared_after s epoch now request)
+pub made_shaped : (s : Shared) (epoch now : ℤ) (request : Request) → RequestKeeps request → IsSharedSound s → Shaped (shared_after s epoch now request)
 made_shaped s epoch now nothing keeps kept = (kept.tree, kept.log)
 made_shaped s epoch now read_log keeps kept = (kept.tree, kept.log)
 made_shaped s epoch now list_brokers keeps kept = (kept.tree, kept.log)
@@ -166,7 +166,7 @@ full_record s d (Some r) rest is base current elected owed = chosen s d.id (not 
 version_low : (t : Tree) (r : Row) → TreeShape t → row_at epoch_path t.rows ≡ Some r → pos 0 ≤ℤ r.version
 version_low t r shape is = (All-contains (IsStamped t.zxid) t.rows r shape.stamped (found_is_contained bytes_order path_of_row epoch_path t.rows r is)).version
 
-looks : (s : Shared) (d : Driver) → Kept s → d.stage ≡ stage.ReadControlZnodes → Base s d → Current s d → d.epoch ≢ None → Owed s d.id (after_look (seen_in s.tree) d)
+looks : (s : Shared) (d : Driver) → IsSharedSound s → d.stage ≡ stage.ReadControlZnodes → Base s d → Current s d → d.epoch ≢ None → Owed s d.id (after_look (seen_in s.tree) d)
 looks s d kept is base current elected =
     let seen = seen_in s.tree in
     let last : Driver × Reply = (at_stage (stage.ClaimLeadership seen) d, reply.Looked) in
@@ -180,7 +180,7 @@ looks s d kept is base current elected =
 -- ---- the claim
 
 after_claim_stage : (b : Bool) (l : Log) (t : Tree) (d : Driver) → (b ≡ true → is_migrated_log l ≡ true) → d.epoch ≢ None → d.claim ≢ None
-    → Elected d.epoch (if b then stage.ReadLogForResync else stage.ScanForMigration []) × AtStage t l d (if b then stage.ReadLogForResync else stage.ScanForMigration [])
+    → WasElected d.epoch (if b then stage.ReadLogForResync else stage.ScanForMigration []) × AtStage t l d (if b then stage.ReadLogForResync else stage.ScanForMigration [])
 after_claim_stage true l t d migrated elected some = (elected, migrated refl)
 after_claim_stage false l t d migrated elected some = (elected, some)
 
@@ -199,7 +199,7 @@ claim_shown s d t seen now base time made-is =
 
 -- the claim that it has made
 claimed : (s : Shared) (d : Driver) (t : Tree) (seen : ClaimSeen) (now : ℤ) → Base s d → d.epoch ≢ None → IsTime now → ((x : Row) → seen.epoch ≡ Some x → pos 0 ≤ℤ x.version)
-    → claim_version t ≡ Some (claimed_version seen.epoch) → multi s.tree (claim_ops seen d now) ≡ Ok t → Claimed (claim_version t) (shown_in t) d.epoch (claimed_version seen.epoch)
+    → claim_version t ≡ Some (claimed_version seen.epoch) → multi s.tree (claim_ops seen d now) ≡ Ok t → IsClaimOf (claim_version t) (shown_in t) d.epoch (claimed_version seen.epoch)
 claimed s d t seen now base elected time low version made-is =
     let shown = claim_shown s d t seen now base time made-is in
     record {
@@ -254,8 +254,8 @@ claim_holds s d (Some claim) base is some = held_by s d claim base is
 abbrev pub HoldsThen : Shared → ℤ → ℤ → List MetaRecord → Type 0
 HoldsThen s epoch now items = is_migrated_log (with_batch s.log epoch now items) ≡ true → is_held_tree s.tree ≡ true
 
-appends : (s : Shared) (d : Driver) (now : ℤ) (items : List MetaRecord) (x next : Stage) (r : Result Log LogFault) → append s.log (epoch_or_zero d.epoch) now items ≡ r → d.stage ≡ x → Kept s → Base s d → Current s d
-    → Elected d.epoch x → AtStage s.tree s.log d x → Elected d.epoch next → StaysMigrated s.log (epoch_or_zero d.epoch) now items → HoldsThen s (epoch_or_zero d.epoch) now items → ((l : Log) → with_batch s.log (epoch_or_zero d.epoch) now items ≡ l → AtStage s.tree l (at_stage next d) next) → Owed (with_log s r) d.id (after_append next d r)
+appends : (s : Shared) (d : Driver) (now : ℤ) (items : List MetaRecord) (x next : Stage) (r : Result Log LogFault) → append s.log (epoch_or_zero d.epoch) now items ≡ r → d.stage ≡ x → IsSharedSound s → Base s d → Current s d
+    → WasElected d.epoch x → AtStage s.tree s.log d x → WasElected d.epoch next → StaysMigrated s.log (epoch_or_zero d.epoch) now items → HoldsThen s (epoch_or_zero d.epoch) now items → ((l : Log) → with_batch s.log (epoch_or_zero d.epoch) now items ≡ l → AtStage s.tree l (at_stage next d) next) → Owed (with_log s r) d.id (after_append next d r)
 appends s d now items x next (Ok l) made-is is kept base current elected at elected-next stays-so holds at-next =
     let a = append_appends s.log (epoch_or_zero d.epoch) now items l made-is kept.log in
     let grows = append_grows s.log (epoch_or_zero d.epoch) now items l a stays-so in
@@ -267,7 +267,7 @@ appends s d now items x next (Err log_fault.NoMemory) made-is is kept base curre
 appends s d now items x next (Err log_fault.Down) made-is is kept base current elected at elected-next stays-so holds at-next = stays s d x (reply.LogFailed log_fault.Down) is base current elected at (λ e. cc)
 appends s d now items x next (Err (log_fault.Full length)) made-is is kept base current elected at elected-next stays-so holds at-next = stays s d x (reply.LogFailed (log_fault.Full length)) is base current elected at (λ e. cc)
 
-begins : (s : Shared) (now : ℤ) (d : Driver) (rows : List Row) (r : Result (List MetaRecord) Unreadable) → translate rows ≡ r → d.stage ≡ stage.BeginMigration rows → Kept s → Base s d → Current s d → d.epoch ≢ None → d.claim ≢ None
+begins : (s : Shared) (now : ℤ) (d : Driver) (rows : List Row) (r : Result (List MetaRecord) Unreadable) → translate rows ≡ r → d.stage ≡ stage.BeginMigration rows → IsSharedSound s → Base s d → Current s d → d.epoch ≢ None → d.claim ≢ None
     → Owed (shared_after s (epoch_or_zero d.epoch) now (begin_request r)) d.id (after_translation s now d r)
 begins s now d rows (Err e) translated is kept base current elected claimed = moves s d (stage.ScanForMigration []) (reply.Untranslatable e.path e.why) base current elected claimed (λ i. cc)
 begins s now d rows (Ok records) translated is kept base current elected claimed =
@@ -285,7 +285,7 @@ all_plain : (records : List MetaRecord) → All IsTranslated records → All IsP
 all_plain records all = All-take IsPlain MAX_APPEND_RECORDS records (All-weaker IsTranslated IsPlain translated_plain records all)
 
 -- the driver that makes a log migrated has a claim
-fill_holds : (s : Shared) (d : Driver) (epoch now : ℤ) (records : List MetaRecord) → Kept s → Base s d → d.claim ≢ None → All IsTranslated records → HoldsThen s epoch now (next_records records)
+fill_holds : (s : Shared) (d : Driver) (epoch now : ℤ) (records : List MetaRecord) → IsSharedSound s → Base s d → d.claim ≢ None → All IsTranslated records → HoldsThen s epoch now (next_records records)
 fill_holds s d epoch now [] kept base claimed all migrated = claim_holds s d d.claim base refl claimed
 fill_holds s d epoch now (r ∷ rs) kept base claimed all migrated = base.agreement.holds (plain_was s.log epoch now (take MAX_APPEND_RECORDS (r ∷ rs)) kept.log (all_plain (r ∷ rs) all) migrated)
 
@@ -295,7 +295,7 @@ fill_stays l epoch now [] shape all is = commit_is_migrated l epoch now shape
 fill_stays l epoch now (r ∷ rs) shape all is =
     plain_stays l epoch now (take MAX_APPEND_RECORDS (r ∷ rs)) shape (all_plain (r ∷ rs) all) is
 
-after_records_elected : (records : List MetaRecord) (e : Option ℤ) → e ≢ None → Elected e (after_records records)
+after_records_elected : (records : List MetaRecord) (e : Option ℤ) → e ≢ None → WasElected e (after_records records)
 after_records_elected [] e elected = elected
 after_records_elected (r ∷ rs) e elected = elected
 
@@ -311,12 +311,12 @@ HoldsWrites t l d target ops = IsCurrent t d.claim → Writes t l target ops
 
 -- A stage of a driver that writes, the one with more to write, and the one after the last write.
 pub record WritesFrom (target : Recorded) (x : Stage) (more : List Op → Stage) (last : Stage) : Type 0 where
-  pub aims : (t : Tree) (l : Log) (d : Driver) → AtStage t l d x → Aims target d.id d.epoch d.view
-  pub elected : (e : Option ℤ) → Elected e x → e ≢ None
-  pub more_at : (t : Tree) (l : Log) (d : Driver) (ops : List Op) → Aims target d.id d.epoch d.view → HoldsWrites t l d target ops → AtStage t l d (more ops)
-  pub more_elected : (e : Option ℤ) (ops : List Op) → e ≢ None → Elected e (more ops)
-  pub last_at : (t : Tree) (l : Log) (d : Driver) → d.claim ≢ None → Rests t d.view d.recorded → AtStage t l d last
-  pub last_elected : (e : Option ℤ) → e ≢ None → Elected e last
+  pub aims : (t : Tree) (l : Log) (d : Driver) → AtStage t l d x → IsTargetOf target d.id d.epoch d.view
+  pub elected : (e : Option ℤ) → WasElected e x → e ≢ None
+  pub more_at : (t : Tree) (l : Log) (d : Driver) (ops : List Op) → IsTargetOf target d.id d.epoch d.view → HoldsWrites t l d target ops → AtStage t l d (more ops)
+  pub more_elected : (e : Option ℤ) (ops : List Op) → e ≢ None → WasElected e (more ops)
+  pub last_at : (t : Tree) (l : Log) (d : Driver) → d.claim ≢ None → IsAtRest t d.view d.recorded → AtStage t l d last
+  pub last_elected : (e : Option ℤ) → e ≢ None → WasElected e last
 
 all_from : (target : Recorded) (ops : List Op) → WritesFrom target (stage.WriteResync target ops) (λ rest. stage.WriteResync target rest) stage.KraftControllerToBrokerComm
 all_from target ops = record {
@@ -345,7 +345,7 @@ some_epoch l (Some x) c epochs is =
     subst IsEpochOrNone (sym same) (record { least = let a = epochs.0.least in omega (arith, ints); most = epochs.0.most })
 
 -- what the driver records is read as it was written
-reads : (s : Shared) (d : Driver) (target : Recorded) → LogShape s.log → Base s d → Aims target d.id d.epoch d.view → recorded_of (written_recorded target) ≡ Some target
+reads : (s : Shared) (d : Driver) (target : Recorded) → LogShape s.log → Base s d → IsTargetOf target d.id d.epoch d.view → recorded_of (written_recorded target) ≡ Some target
 reads s d target shape base aim =
     let id : IsId target.id = subst IsId (sym aim.id) base.id in
     let epoch = some_epoch s.log d.epoch target.controller_epoch base.epochs aim.controller_epoch in
@@ -359,7 +359,7 @@ reads s d target shape base aim =
 not_below : (n : ℤ) → pos 0 ≤ℤ n → int_le (pos 0) n ≡ true
 not_below n low = grind (arith, ints)
 
-rests_there : (s : Shared) (d : Driver) (t : Tree) (target : Recorded) → Kept s → Base s d → Aims target d.id d.epoch d.view → Completed t (image_at s.log target.offset) (written_recorded target) → Rests t d.view (Some target.offset)
+rests_there : (s : Shared) (d : Driver) (t : Tree) (target : Recorded) → IsSharedSound s → Base s d → IsTargetOf target d.id d.epoch d.view → Completed t (image_at s.log target.offset) (written_recorded target) → IsAtRest t d.view (Some target.offset)
 rests_there s d t target kept base aim done-all =
     let read = reads s d target kept.log base aim in
     record {
@@ -370,7 +370,7 @@ rests_there s d t target kept base aim done-all =
     }
 
 written_by : (s : Shared) (d : Driver) (claim : ℤ) (target : Recorded) (x : Stage) (more : List Op → Stage) (last : Stage) (t : Tree) → WritesFrom target x more last
-    → Kept s → Base s d → Current s d → d.claim ≡ Some claim → d.epoch ≢ None → Aims target d.id d.epoch d.view → multi s.tree (write_ops claim (remaining_at s.tree s.log target.offset) target) ≡ Ok t
+    → IsSharedSound s → Base s d → Current s d → d.claim ≡ Some claim → d.epoch ≢ None → IsTargetOf target d.id d.epoch d.view → multi s.tree (write_ops claim (remaining_at s.tree s.log target.offset) target) ≡ Ok t
     → Owed (record s { tree = t }) d.id (written_driver (remaining_at s.tree s.log target.offset) target more last d)
 written_by s d claim target x more last t from kept base current claimed elected aim made-is =
     let ops = remaining_at s.tree s.log target.offset in
@@ -405,7 +405,7 @@ written_by s d claim target x more last t from kept base current claimed elected
     (λ c. record { remaining = sym (remaining_after_write s.tree t (image_at s.log target.offset) claim target kept.tree made-is) })) (λ i. cc))
 
 writes_by : (s : Shared) (d : Driver) (claim : ℤ) (target : Recorded) (x : Stage) (more : List Op → Stage) (last : Stage) (r : Result Tree TreeFault) → WritesFrom target x more last
-    → d.stage ≡ x → Kept s → Base s d → Current s d → d.claim ≡ Some claim → Elected d.epoch x → AtStage s.tree s.log d x → multi s.tree (write_ops claim (remaining_at s.tree s.log target.offset) target) ≡ r
+    → d.stage ≡ x → IsSharedSound s → Base s d → Current s d → d.claim ≡ Some claim → WasElected d.epoch x → AtStage s.tree s.log d x → multi s.tree (write_ops claim (remaining_at s.tree s.log target.offset) target) ≡ r
     → Owed (with_tree s r) d.id (after_write claim (remaining_at s.tree s.log target.offset) target more last d r)
 writes_by s d claim target x more last (Ok t) from is kept base current claimed elected at made-is =
     written_by s d claim target x more last t from kept base current claimed (from.elected d.epoch elected) (from.aims s.tree s.log d at) made-is
@@ -422,7 +422,7 @@ writes_by s d claim target x more last (Err (tree_fault.Full length)) from is ke
 
 -- under its claim, if it has one
 writes_under : (s : Shared) (now : ℤ) (d : Driver) (m : Option ℤ) (target : Recorded) (x : Stage) (more : List Op → Stage) (last : Stage) → WritesFrom target x more last
-    → d.stage ≡ x → d.claim ≡ m → Kept s → Base s d → Current s d → Elected d.epoch x → AtStage s.tree s.log d x
+    → d.stage ≡ x → d.claim ≡ m → IsSharedSound s → Base s d → Current s d → WasElected d.epoch x → AtStage s.tree s.log d x
     → Owed (shared_after s (epoch_or_zero d.epoch) now (write_request m (remaining_at s.tree s.log target.offset) target)) d.id (writes s.tree m (remaining_at s.tree s.log target.offset) target more last d)
 writes_under s now d None target x more last from is claimed kept base current elected at = again s d (reply.Moved state.BecomeController) base (from.elected d.epoch elected) (λ i. cc)
 writes_under s now d (Some claim) target x more last from is claimed kept base current elected at =
@@ -437,14 +437,14 @@ recorded_at (Some o) offset is = ap (λ (x : ℤ). Some x) ((Decides-int_eq o of
 same_offset : (m : Option ℤ) (a b : ℤ) → m ≡ Some a → m ≡ Some b → a ≡ b
 same_offset m a b x y = cc
 
-goes_on_resting : (s : Shared) (d : Driver) → d.stage ≡ stage.DualWrite → Kept s → Base s d → Current s d → d.epoch ≢ None → AtStage s.tree s.log d stage.DualWrite → is_recorded_at d.recorded (end_of s.log) ≡ true
-    → Owed s d.id (having_read s.log d, reply.Idle)
+goes_on_resting : (s : Shared) (d : Driver) → d.stage ≡ stage.DualWrite → IsSharedSound s → Base s d → Current s d → d.epoch ≢ None → AtStage s.tree s.log d stage.DualWrite → is_recorded_at d.recorded (end_of s.log) ≡ true
+    → Owed s d.id (driver_at_log_end s.log d, reply.Idle)
 goes_on_resting s d is kept base current elected at up_to_date =
     let now = recorded_at d.recorded (end_of s.log) up_to_date in
     let old = at.1 (current at.0) in
     let position : d.view.position ≡ end_of s.log = same_offset d.recorded d.view.position (end_of s.log) old.view now in
     let image : area s.tree ≡ render (image_at s.log (end_of s.log)) = rest_area s.tree s.log d.view d.recorded base.agreement old ∙ ap (λ (o : ℤ). render (image_at s.log o)) position in
-    let e : Driver = having_read s.log d in
+    let e : Driver = driver_at_log_end s.log d in
     let base-now = base_read s d kept.log base in
     let resting : AtStage s.tree s.log e stage.DualWrite = (at.0, λ c. record { closed = old.closed; same = old.same; view = now; migrated = base.views.migrated old.migrated }) in
     record {
@@ -452,7 +452,7 @@ goes_on_resting s d is kept base current elected at up_to_date =
       own = record {
         id = base.id;
         epochs = base.epochs;
-        elected = subst (Elected d.epoch) (sym is) elected;
+        elected = subst (WasElected d.epoch) (sym is) elected;
         claims = base.claims;
         views = base-now.views;
         stage = subst (AtStage s.tree s.log e) (sym is) resting;
@@ -464,7 +464,7 @@ goes_on_resting s d is kept base current elected at up_to_date =
 
 -- what a driver at rest holds when it begins to write: the tree is as it was at the end of its old view
 change_writes : (s : Shared) (d : Driver) → LogShape s.log → Base s d → AtStage s.tree s.log d stage.DualWrite → IsCurrent s.tree d.claim
-    → Writes s.tree s.log (target_of (having_read s.log d)) (diff (render d.view.image) (render (having_read s.log d).view.image))
+    → Writes s.tree s.log (target_of (driver_at_log_end s.log d)) (diff (render d.view.image) (render (driver_at_log_end s.log d).view.image))
 change_writes s d shape base at current = record { remaining = ap (λ have. diff have (render (image_of s.log))) (ap render base.views.image ∙ sym (rest_area s.tree s.log d.view d.recorded base.agreement (at.1 current))) }
 
 -- ---- the migrated area is read
@@ -488,7 +488,7 @@ read_all t rows shape reads-so-far short =
     let rest : scan t (last_path rows) MAX_SCAN_ROWS ≡ reads-so-far.rest = page ∙ short_page MAX_SCAN_ROWS reads-so-far.rest (sym (ap (λ l. nat_lt (length l) MAX_SCAN_ROWS) page) ∙ short) in
     ap (λ l. map rendered_row (rows ++ l)) rest ∙ ap (map rendered_row) (sym reads-so-far.whole)
 
-area_writes : (s : Shared) (d : Driver) (target : Recorded) (rows : List Row) → Kept s → Base s d → Aims target d.id d.epoch d.view → Reads s.tree rows
+area_writes : (s : Shared) (d : Driver) (target : Recorded) (rows : List Row) → IsSharedSound s → Base s d → IsTargetOf target d.id d.epoch d.view → Reads s.tree rows
     → nat_lt (length (scan s.tree (last_path rows) MAX_SCAN_ROWS)) MAX_SCAN_ROWS ≡ true → Writes s.tree s.log target (diff (map rendered_row (rows ++ scan s.tree (last_path rows) MAX_SCAN_ROWS)) (render d.view.image))
 area_writes s d target rows kept base aim reads-so-far short = record {
   remaining = ap (λ have. diff have (render d.view.image)) (read_all s.tree rows kept.tree reads-so-far short)
@@ -502,19 +502,19 @@ paged_by s d false x y r first second = second refl
 
 -- ---- every stage
 
-pub owed : (s : Shared) (running : List ℤ) (now : ℤ) (d : Driver) (x : Stage) → IsTime now → d.stage ≡ x → Kept s → Base s d → Current s d → Elected d.epoch x → AtStage s.tree s.log d x
+pub owed : (s : Shared) (running : List ℤ) (now : ℤ) (d : Driver) (x : Stage) → IsTime now → d.stage ≡ x → IsSharedSound s → Base s d → Current s d → WasElected d.epoch x → AtStage s.tree s.log d x
     → Owed (shared_after s (epoch_or_zero d.epoch) now (request_at s now d x)) d.id (after_answer s running now d x)
 owed s running now d stage.Uninitialized time is kept base current elected at = moves s d stage.Inactive (reply.Moved state.Inactive) base current tt tt (λ i. cc)
 owed s running now d stage.Inactive time is kept base current elected at = record {
   agreement = base.agreement;
-  own = record { id = base.id; epochs = base.epochs; elected = subst (Elected d.epoch) (sym is) tt; claims = base.claims; views = base.views; stage = subst (AtStage s.tree s.log d) (sym is) tt };
+  own = record { id = base.id; epochs = base.epochs; elected = subst (WasElected d.epoch) (sym is) tt; claims = base.claims; views = base.views; stage = subst (AtStage s.tree s.log d) (sym is) tt };
   current = current;
   same = refl;
   rest = λ idle dual. absurd (let inactive = ap state_of is in cc);
 }
-owed s running now d stage.WaitForControllerQuorum time is kept base current elected at = quorum_waits s running (having_read s.log d) is (base_read s d kept.log base) current elected
+owed s running now d stage.WaitForControllerQuorum time is kept base current elected at = quorum_waits s running (driver_at_log_end s.log d) is (base_read s d kept.log base) current elected
 owed s running now d stage.WaitForBrokers time is kept base current elected at =
-    let e : Driver = having_read s.log d in
+    let e : Driver = driver_at_log_end s.log d in
     let base-now = base_read s d kept.log base in
     finalised s e (at_stage stage.ListBrokers e, reply.Looked) base-now (moves s e stage.ListBrokers reply.Looked base-now current elected tt (λ i. cc))
 owed s running now d stage.ListBrokers time is kept base current elected at = brokers_wait s d (missing_broker (broker_ids s.tree) d.view.image) base current elected
@@ -532,7 +532,7 @@ owed s running now d (stage.AppendRecords records) time is kept base current ele
     (fill_holds s d (epoch_or_zero d.epoch) now records kept base at.0 at.1)
     (λ l made-is. after_records_at records s.tree s.log l (epoch_or_zero d.epoch) now d kept.log at.0 at.1 made-is)
 owed s running now d stage.ReadLogForResync time is kept base current elected at =
-    let e : Driver = having_read s.log d in
+    let e : Driver = driver_at_log_end s.log d in
     let base-now = base_read s d kept.log base in
     finalised s e (at_stage (stage.ScanForResync (target_of e) []) e, reply.Looked) base-now
     (moves s e (stage.ScanForResync (target_of e) []) reply.Looked base-now current elected (aims s e kept.log base-now elected refl at, λ c. record { rest = migrated_rows s.tree; whole = refl }) (λ i. cc))
@@ -546,7 +546,7 @@ owed s running now d (stage.WriteResync target ops) time is kept base current el
     writes_under s now d d.claim target (stage.WriteResync target ops) (λ rest. stage.WriteResync target rest) stage.KraftControllerToBrokerComm (all_from target ops) is refl kept base current elected at
 owed s running now d stage.KraftControllerToBrokerComm time is kept base current elected at = moves s d stage.DualWrite (reply.Moved state.DualWrite) base current elected at (λ i. cc)
 owed s running now d stage.DualWrite time is kept base current elected at =
-    let e : Driver = having_read s.log d in
+    let e : Driver = driver_at_log_end s.log d in
     let base-now = base_read s d kept.log base in
     let ops = diff (render d.view.image) (render e.view.image) in
     finalised s e (if is_recorded_at e.recorded e.view.position then (e, reply.Idle) else (at_stage (stage.WriteDelta (target_of e) ops) e, reply.Looked)) base-now

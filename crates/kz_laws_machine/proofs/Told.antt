@@ -13,7 +13,7 @@ use Rattle.kz_spec_stores.specs.Log.{Log, image_at, is_migrated_log}
 use Rattle.kz_spec_znodes.specs.Rendering.{render, body_at}
 use Rattle.kz_spec_machine.specs.Driver.{Shared}
 use Rattle.kz_spec_machine.specs.Verdicts.{same_bodies, agrees_at, ends_from, paths_at, disagrees, closed_or_ahead, unless_disagrees, verdict_at, verdict_of, verdict}
-use Rattle.kz_spec_machine.specs.Sound.{IsBatchEnd, Kept}
+use Rattle.kz_spec_machine.specs.Sound.{IsBatchEnd, IsSharedSound}
 use Rattle.kz_laws_machine.proofs.Agreements.{closed_offset}
 
 same_itself : (m : Option (List ℕ)) → same_bodies m m ≡ true
@@ -65,7 +65,7 @@ told_at t l offset end same closed =
 at_least_zero : (o : ℤ) → pos 0 ≤ℤ o → int_le (pos 0) o ≡ true
 at_least_zero o low = grind (arith, ints)
 
-pub closed_told : (s : Shared) (r : Recorded) → Kept s → is_migrated_log s.log ≡ true → migration_record s.tree ≡ Some r → unclosed_path s.tree ≡ None → verdict s.tree s.log ≡ Closed r.offset
+pub closed_told : (s : Shared) (r : Recorded) → IsSharedSound s → is_migrated_log s.log ≡ true → migration_record s.tree ≡ Some r → unclosed_path s.tree ≡ None → verdict s.tree s.log ≡ Closed r.offset
 unfolding verdict
 closed_told s r kept migrated is closed =
     let low = closed_offset s.tree r is closed in

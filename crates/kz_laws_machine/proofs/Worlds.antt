@@ -24,8 +24,8 @@ use Rattle.kz_spec_znodes.specs.Difference.{diff}
 use Rattle.kz_spec_stores.specs.Log.{Log, empty_log, end_of, image_at, full_log, is_migrated_log, image_of, is_open_log}
 use Rattle.kz_spec_znodes.specs.Rendering.{render}
 use Rattle.kz_spec_machine.specs.Driver.{Shared, Driver, new_driver, elected_driver, is_one_of}
-use Rattle.kz_spec_machine.specs.Machine.{World, empty_world, running_ids, is_running, driver_of, with_driver, Turned, turn, work, outcome_unless, first_of, unless, over, full, running_refusal, leader_refusal, quorum_refusal, declared_world, start_refusal, started_world, election_records, next_epoch, elected_log, election_refusal, elected_world, election_answer, turn_result, bad_record, change_refusal, changed_log, changed_world, registration, register_refusal, with_tree, moved_world, is_held_tree, client_refusal, client_world, unless_refused, next}
-use Rattle.kz_spec_machine.specs.Sound.{IsId, IsTime, IsEpoch, IsEpochOrNone, TreeShape, LogShape, IsBatchEnd, Agreement, Kept, Aims, AtStage, Fine, IsLawful, IsSession, IsLawfulOp}
+use Rattle.kz_spec_machine.specs.Machine.{World, empty_world, running_ids, is_running, driver_of, with_driver, TurnResult, turn, work, outcome_unless, first_of, unless, over, full, running_refusal, leader_refusal, quorum_refusal, declared_world, start_refusal, started_world, election_records, next_epoch, elected_log, election_refusal, elected_world, election_answer, turn_result, bad_record, change_refusal, changed_log, changed_world, registration, register_refusal, with_tree, moved_world, is_held_tree, client_refusal, client_world, unless_refused, next}
+use Rattle.kz_spec_machine.specs.Sound.{IsId, IsTime, IsEpoch, IsEpochOrNone, TreeShape, LogShape, IsBatchEnd, Agreement, IsSharedSound, IsTargetOf, AtStage, IsSoundDriver, IsLawful, IsSession, IsLawfulOp}
 use Rattle.kz_laws_trees.specs.TreeLaws.{Unchanged}
 use Rattle.kz_laws_trees.proofs.Sessions.{begin_leaves, end_leaves}
 use Rattle.kz_laws_trees.proofs.Clients.{client_keeps_shape, client_leaves_recorded, client_leaves_held}
@@ -40,7 +40,7 @@ use Rattle.kz_laws_machine.proofs.Turns.{TurnKept, turned}
 -- ---- a world with at most one driver
 
 pub record Own (s : Shared) (d : Driver) : Type 0 where
-  pub fine : Fine s d
+  pub fine : IsSoundDriver s d
   pub declared : is_one_of s.declared d.id ≡ true
   pub current : Current s d
 
@@ -50,7 +50,7 @@ OneOf s (d ∷ []) = Own s d
 OneOf s (d ∷ e ∷ ds) = ⊥
 
 pub record Lone (w : World) : Type 0 where
-  pub kept : Kept w.shared
+  pub kept : IsSharedSound w.shared
   pub declared : length w.shared.declared ≤ 1
   pub one : OneOf w.shared w.drivers
 
@@ -75,7 +75,7 @@ own_of s (x ∷ y ∷ ds) id d one is = absurd one
 
 -- ---- a log that grows
 
-image_there : (s : Shared) (l : Log) (d : Driver) (target : Recorded) → Grows s.log l → d.view.position ≤ℤ end_of s.log → Aims target d.id d.epoch d.view → image_at l target.offset ≡ image_at s.log target.offset
+image_there : (s : Shared) (l : Log) (d : Driver) (target : Recorded) → Grows s.log l → d.view.position ≤ℤ end_of s.log → IsTargetOf target d.id d.epoch d.view → image_at l target.offset ≡ image_at s.log target.offset
 image_there s l d target grows within aim = grows.image target.offset (subst (λ (o : ℤ). o ≤ℤ end_of s.log) (sym aim.offset) within)
 
 at_grown : (s : Shared) (l : Log) (d : Driver) → Grows s.log l → d.view.position ≤ℤ end_of s.log → (x : _) → AtStage s.tree s.log d x → AtStage s.tree l d x
@@ -96,7 +96,7 @@ at_grown s l d grows within stage.KraftControllerToBrokerComm at = (at.0, λ c. 
 at_grown s l d grows within stage.DualWrite at = (at.0, λ c. let old = at.1 c in record { closed = old.closed; same = old.same; view = old.view; migrated = old.migrated })
 at_grown s l d grows within (stage.WriteDelta target ops) at = (at.0, λ c. record { remaining = (at.1 c).remaining ∙ ap (λ i. diff (area s.tree) (render i)) (sym (image_there s l d target grows within at.0)) })
 
-fine_grown : (s : Shared) (l : Log) (d : Driver) → Kept s → Grows s.log l → Fine s d → Fine (record s { log = l }) d
+fine_grown : (s : Shared) (l : Log) (d : Driver) → IsSharedSound s → Grows s.log l → IsSoundDriver s d → IsSoundDriver (record s { log = l }) d
 fine_grown s l d kept grows fine = record {
   id = fine.id;
   epochs = epochs_grown s.log l d.epoch grows fine.epochs;
@@ -149,7 +149,7 @@ only_one (i ∷ []) a b few is-a is-b = sym ((Decides-int_eq i a).0 (first (int_
     first false e = absurd (cc)
 only_one (i ∷ j ∷ is) a b few is-a is-b = absurd (omega arith)
 
-new_fine : (s : Shared) (id : ℤ) → LogShape s.log → IsId id → Fine s (new_driver id)
+new_fine : (s : Shared) (id : ℤ) → LogShape s.log → IsId id → IsSoundDriver s (new_driver id)
 new_fine s id shape is = record {
   id = is;
   epochs = tt;
@@ -232,7 +232,7 @@ election_was l now shape is = uncommitted_was l (next_epoch l) now (election_rec
 election_grows : (l : Log) (now : ℤ) → LogShape l → Grows l (elected_log l now)
 election_grows l now shape = grows_batch l (next_epoch l) now (election_records l) (omega (arith, ints)) (election_stays l now shape)
 
-elected_one : (s : Shared) (now : ℤ) (d : Driver) (b : Bool) → Kept s → int_lt s.log.epoch MAX_EPOCH ≡ true → Own s d
+elected_one : (s : Shared) (now : ℤ) (d : Driver) (b : Bool) → IsSharedSound s → int_lt s.log.epoch MAX_EPOCH ≡ true → Own s d
     → Own (record s { log = elected_log s.log now }) (if b then elected_driver (next_epoch s.log) d else d)
 elected_one s now d true kept less own =
     let l = elected_log s.log now in
@@ -248,7 +248,7 @@ elected_one s now d false kept less own = record {
   current = own.current;
 }
 
-elected_all : (s : Shared) (now id : ℤ) (ds : List Driver) → Kept s → int_lt s.log.epoch MAX_EPOCH ≡ true → OneOf s ds
+elected_all : (s : Shared) (now id : ℤ) (ds : List Driver) → IsSharedSound s → int_lt s.log.epoch MAX_EPOCH ≡ true → OneOf s ds
     → OneOf (record s { log = elected_log s.log now }) (map (λ (d : Driver). if int_eq d.id id then elected_driver (next_epoch s.log) d else d) ds)
 elected_all s now id [] kept less one = tt
 elected_all s now id (d ∷ []) kept less one = elected_one s now d (int_eq d.id id) kept less one
@@ -285,7 +285,7 @@ register_room w id records none =
     let b = first_none _ (full w.shared.log records) a.1 in
     full_none w.shared.log records (full_log w.shared.log records) refl b.1
 
-changed_one : (s : Shared) (l : Log) (ds : List Driver) → Kept s → Grows s.log l → OneOf s ds → OneOf (record s { log = l }) ds
+changed_one : (s : Shared) (l : Log) (ds : List Driver) → IsSharedSound s → Grows s.log l → OneOf s ds → OneOf (record s { log = l }) ds
 changed_one s l [] kept grows one = tt
 changed_one s l (d ∷ []) kept grows one = record { fine = fine_grown s l d kept grows one.fine; declared = one.declared; current = one.current }
 changed_one s l (d ∷ e ∷ ds) kept grows one = one
@@ -333,14 +333,14 @@ pub placed : (b : Bool) (d e : Driver) → b ≡ true → (if b then e else d) �
 placed true d e is = refl
 placed false d e is = absurd (cc)
 
-turned_one : (s : Shared) (t : Turned) (d : Driver) → OneOf s (d ∷ []) → TurnKept s d.id t → OneOf t.shared (with_driver t.driver (d ∷ []))
+turned_one : (s : Shared) (t : TurnResult) (d : Driver) → OneOf s (d ∷ []) → TurnKept s d.id t → OneOf t.shared (with_driver t.driver (d ∷ []))
 turned_one s t d one k = subst (Own t.shared) (sym (placed (int_eq d.id t.driver.id) d t.driver ((Decides-int_eq d.id t.driver.id).1 (sym k.same)))) (record {
   fine = k.own;
   declared = ap (λ ids. is_one_of ids t.driver.id) k.declared ∙ ap (is_one_of s.declared) k.same ∙ one.declared;
   current = k.current;
 })
 
-turned_world : (w : World) (t : Turned) (id : ℤ) (d : Driver) → Lone w → driver_of id w.drivers ≡ Some d → TurnKept w.shared d.id t → Lone (record { shared = t.shared; drivers = with_driver t.driver w.drivers })
+turned_world : (w : World) (t : TurnResult) (id : ℤ) (d : Driver) → Lone w → driver_of id w.drivers ≡ Some d → TurnKept w.shared d.id t → Lone (record { shared = t.shared; drivers = with_driver t.driver w.drivers })
 turned_world w t id d lone is k = record {
   kept = k.kept;
   declared = subst (λ (ids : List ℤ). length ids ≤ 1) (sym k.declared) lone.declared;

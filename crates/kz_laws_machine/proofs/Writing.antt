@@ -12,7 +12,7 @@ use Rattle.kz_spec_stores.specs.Tree.{Tree, multi}
 use Rattle.kz_spec_stores.specs.Log.{image_at}
 use Rattle.kz_spec_machine.specs.Driver.{Shared, Driver, remaining_at, is_last_write, write_ops, write, write_request, request_at, after_write, writes, after_answer, step}
 use Rattle.kz_spec_machine.specs.Machine.{empty_world, running_ids, turn, after_events}
-use Rattle.kz_spec_machine.specs.Sound.{Kept, claim_version, IsCurrent, shown_in, Claims, Fine}
+use Rattle.kz_spec_machine.specs.Sound.{IsSharedSound, claim_version, IsCurrent, shown_in, Claims, IsSoundDriver}
 use Rattle.kz_laws_trees.specs.RefusalLaws.{HasBases, HeldHasMigration}
 use Rattle.kz_laws_trees.proofs.NeverRefused.{write_taken, multi_fails}
 use Rattle.kz_laws_machine.specs.Laws.{IsReached, IsWriting, MayWrite, IsTaken}
@@ -24,8 +24,8 @@ use Rattle.kz_laws_machine.proofs.Recording.{turn_records, run_records}
 
 -- what holds at every moment of a run
 record Moment (s : Shared) (d : Driver) : Type 0 where
-  kept : Kept s
-  fine : Fine s d
+  kept : IsSharedSound s
+  fine : IsSoundDriver s d
   migration : HeldHasMigration s.tree
 
 moment_of : (s : Shared) (d : Driver) → IsReached s d → Moment s d

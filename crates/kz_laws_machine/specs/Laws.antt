@@ -16,7 +16,7 @@ use Rattle.kz_spec_stores.specs.Log.{is_migrated_log, end_of}
 use Rattle.kz_spec_machine.specs.Driver.{Shared, Driver, remaining_at, write, request_at, step}
 use Rattle.kz_spec_machine.specs.Machine.{World, empty_world, running_ids, driver_of, turn, is_held_tree, next, after_events}
 use Rattle.kz_spec_machine.specs.Verdicts.{verdict}
-use Rattle.kz_spec_machine.specs.Sound.{IsTime, Kept, IsCurrent, Fine, Sound, Alone, IsLawful}
+use Rattle.kz_spec_machine.specs.Sound.{IsTime, IsSharedSound, IsCurrent, IsSoundDriver, Sound, IsOneController, IsLawful}
 use Rattle.kz_laws_trees.specs.TreeLaws.{Unchanged}
 use Rattle.kz_laws_trees.specs.RefusalLaws.{HasBases, HeldHasMigration}
 use Rattle.kz_spec_runs.specs.InStep.{InStep, StaysInStep, script_events, ComesToRest}
@@ -27,8 +27,8 @@ ScriptsAreLawful = (bytes : List ℕ) → All IsLawful (script_events bytes)
 
 -- What the steps of the one driver rest on and keep: what is shared is sound, the driver is fine, and its claim is current.
 pub record Driven (s : Shared) (d : Driver) : Type 0 where
-  pub kept : Kept s
-  pub fine : Fine s d
+  pub kept : IsSharedSound s
+  pub fine : IsSoundDriver s d
   pub current : d.claim ≢ None → IsCurrent s.tree d.claim
 
 abbrev pub StepsKeepDriven : Type 0
@@ -39,7 +39,7 @@ TurnsKeepDriven = (n : ℕ) (s : Shared) (running : List ℤ) (now : ℤ) (d : D
 
 -- In a sound world with one controller, its driver is such a driver.
 abbrev pub OneIsDriven : Type 0
-OneIsDriven = (w : World) (id : ℤ) (d : Driver) → Sound w → Alone w → driver_of id w.drivers ≡ Some d → Driven w.shared d
+OneIsDriven = (w : World) (id : ℤ) (d : Driver) → Sound w → IsOneController w → driver_of id w.drivers ≡ Some d → Driven w.shared d
 
 -- The operations that such a driver holds are those that remain to be written.
 abbrev pub HeldOperationsRemain : Type 0
@@ -48,15 +48,15 @@ HeldOperationsRemain = (s : Shared) (d : Driver) (target : Recorded) (ops : List
 
 -- Where the tree is closed and the log migrated, a check tells so, with the offset that is recorded.
 abbrev pub ClosedIsTold : Type 0
-ClosedIsTold = (s : Shared) (r : Recorded) → Kept s → is_migrated_log s.log ≡ true → migration_record s.tree ≡ Some r → unclosed_path s.tree ≡ None → verdict s.tree s.log ≡ Closed r.offset
+ClosedIsTold = (s : Shared) (r : Recorded) → IsSharedSound s → is_migrated_log s.log ≡ true → migration_record s.tree ≡ Some r → unclosed_path s.tree ≡ None → verdict s.tree s.log ≡ Closed r.offset
 
 -- An event keeps a world sound, and one controller alone.
 abbrev pub EventsKeepSound : Type 0
-EventsKeepSound = (w : World) (e : Event) → IsLawful e → Sound w → Alone w → Sound (next w e).0 × Alone (next w e).0
+EventsKeepSound = (w : World) (e : Event) → IsLawful e → Sound w → IsOneController w → Sound (next w e).0 × IsOneController (next w e).0
 
 -- Every world of a run is sound, with one controller alone.
 abbrev pub RunsAreSound : Type 0
-RunsAreSound = (es : List Event) → All IsLawful es → Sound (after_events empty_world es) × Alone (after_events empty_world es)
+RunsAreSound = (es : List Event) → All IsLawful es → Sound (after_events empty_world es) × IsOneController (after_events empty_world es)
 
 -- After each turn of a run that comes to rest, the tree is in step with the log.
 abbrev pub RunsStayInStep : Type 0

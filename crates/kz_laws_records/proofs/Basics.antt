@@ -10,7 +10,7 @@ use Rattle.kz_types.specs.declared.record.ByteFault.TheVariants as bytes
 use Rattle.kz_types.specs.declared.record.CodecFault.{CodecFault}
 use Rattle.kz_types.specs.declared.record.CodecFault.TheVariants as codec
 use Rattle.kz_spec_values.specs.Fields.{Reading, Format, ◌>>=◌, front, end_of, past, unsigned_number, signed_number, id}
-use Rattle.kz_spec_values.specs.Forms.{field, with_field_fault, present, there, flag, flag_at, flag_byte}
+use Rattle.kz_spec_values.specs.Forms.{field, with_field_fault, non_null, there, flag, flag_at, flag_byte}
 use Rattle.kz_laws_records.proofs.Exact.{AreSmall, came, ok_same, Takes, Comes, Exact, small_front, mapped_exact}
 
 -- ---- tests
@@ -183,7 +183,7 @@ there_same {X = X} at (Some y) mid x next h =
     let e : (y, mid) ≡ (x, next) = ok_same (y, mid) (x, next) h in
     (ap (λ (p : X × Reading). Some p.0) e, ap (λ (p : X × Reading). p.1) e)
 
-present_given : {X : Type 0} (f : Format ByteFault (Option X)) → Exact f → (x : X) (r next : Reading) → AreSmall r.left → (present f).read r ≡ Ok (x, next) → Comes (present f) x r.left next.left
+present_given : {X : Type 0} (f : Format ByteFault (Option X)) → Exact f → (x : X) (r next : Reading) → AreSmall r.left → (non_null f).read r ≡ Ok (x, next) → Comes (non_null f) x r.left next.left
 present_given f ef x r next small h =
     let c = came (with_field_fault (f.read r)) (there r.at) (x, next) h in
     let one = ef.given c.value.0 r c.value.1 small (lifted_same (f.read r) c.value c.first) in
@@ -194,7 +194,7 @@ present_given f ef x r next small h =
       spelled = subst (λ o. f.spells o one.bytes) same.0 one.spelled;
     }
 
-pub present_exact : {X : Type 0} (f : Format ByteFault (Option X)) → Exact f → Exact (present f)
+pub present_exact : {X : Type 0} (f : Format ByteFault (Option X)) → Exact f → Exact (non_null f)
 present_exact f ef = record {
   taken = λ x bytes rest at s. ap (λ m. with_field_fault m >>= there at) (ef.taken (Some x) bytes rest at s);
   given = present_given f ef;

@@ -11,7 +11,7 @@ use Rattle.std.proofs.str.Faults.{Ranged, no_char}
 use Rattle.std.proofs.str.Valid.{of_one, of_two, of_three, of_four, longer}
 use Rattle.std.proofs.iter.FirstChar.{after_text, no_text}
 use lib.Seq.{take-add}
-use Rattle.kz_spec_values.specs.Fields.{char_size, possible, text_fault}
+use Rattle.kz_spec_values.specs.Fields.{char_size, text_beginning_length, text_fault}
 use Rattle.kz_laws_records.proofs.Basics.{cond_true, cond_false}
 use Rattle.kz_laws_records.proofs.Faults.{zeros, length-zeros}
 
@@ -254,12 +254,12 @@ stop_first bytes some h = record {
       (subst (λ x. Ranged (length others) x (get_or others 1 0) (get_or others 2 0) (get_or others 3 0)) (same_at 0 1 others bytes (omega arith) e) r));
 }
 
-possible_none : (bytes : List ℕ) (size : ℕ) → char_size (get_or bytes 0 0) ≡ size → (size < 1) ⊎ (length bytes < size) → possible bytes ≡ 0
+possible_none : (bytes : List ℕ) (size : ℕ) → char_size (get_or bytes 0 0) ≡ size → (size < 1) ⊎ (length bytes < size) → text_beginning_length bytes ≡ 0
 possible_none bytes size e out =
     cond_false (is_in_range 1 (length bytes) (char_size (get_or bytes 0 0))) _ _
     (ap (is_in_range 1 (length bytes)) e ∙ out_of_range 1 (length bytes) size out)
 
-possible_some : (bytes : List ℕ) (size count : ℕ) → char_size (get_or bytes 0 0) ≡ size → 1 ≤ size → size ≤ length bytes → utf8_error_len bytes ≡ Some count → possible bytes ≡ count
+possible_some : (bytes : List ℕ) (size count : ℕ) → char_size (get_or bytes 0 0) ≡ size → 1 ≤ size → size ≤ length bytes → utf8_error_len bytes ≡ Some count → text_beginning_length bytes ≡ count
 possible_some bytes size count e l u h =
     cond_true (is_in_range 1 (length bytes) (char_size (get_or bytes 0 0))) _ _ (ap (is_in_range 1 (length bytes)) e ∙ in_range 1 (length bytes) size l u)
     ∙ ap (λ o. unwrap_or o 0) h
@@ -357,26 +357,26 @@ module _ (bytes : List ℕ) (size low high : ℕ) (lead : Lead (get_or bytes 0 0
           not_whole p q (λ t. f) (λ t. subst Follows (same_at 3 4 others bytes (omega arith) e) (fourth more)));
     }
 
-    stop_after_third : 2 < size → low ≤ get_or bytes 1 0 → get_or bytes 1 0 ≤ high → Follows (get_or bytes 2 0) → Stop bytes (possible bytes)
+    stop_after_third : 2 < size → low ≤ get_or bytes 1 0 → get_or bytes 1 0 ≤ high → Follows (get_or bytes 2 0) → Stop bytes (text_beginning_length bytes)
     stop_after_third more p q f = ⊎_elim
         (λ four. subst (Stop bytes) (sym (possible_some bytes size 3 lead.counts (omega (arith, more)) long (error_three (omega (arith, four, long)) p q f))) (stop_fourth four p q f))
         (λ three. absurd (not_whole p q (λ t. f) (λ t. absurd (omega (arith, t, three)))))
         (order 3 size)
 
-    stop_after_second : low ≤ get_or bytes 1 0 → get_or bytes 1 0 ≤ high → Stop bytes (possible bytes)
+    stop_after_second : low ≤ get_or bytes 1 0 → get_or bytes 1 0 ≤ high → Stop bytes (text_beginning_length bytes)
     stop_after_second p q = ⊎_elim
         (λ more.
-        let two : (out : (get_or bytes 2 0 < 128) ⊎ (191 < get_or bytes 2 0)) → Stop bytes (possible bytes) = λ out. subst (Stop bytes) (sym (possible_some bytes size 2 lead.counts (omega (arith, more)) long (error_two (omega (arith, more, long)) p q out))) (stop_third more p q out) in
+        let two : (out : (get_or bytes 2 0 < 128) ⊎ (191 < get_or bytes 2 0)) → Stop bytes (text_beginning_length bytes) = λ out. subst (Stop bytes) (sym (possible_some bytes size 2 lead.counts (omega (arith, more)) long (error_two (omega (arith, more, long)) p q out))) (stop_third more p q out) in
         ⊎_elim (λ low_third. two (inl low_third)) (λ l. ⊎_elim (λ high_third. two (inr high_third)) (λ u. stop_after_third more p q (l, omega (arith, u))) (order 191 (get_or bytes 2 0))) (order (get_or bytes 2 0) 128))
         (λ two. absurd (not_whole p q (λ t. absurd (omega (arith, t, two))) (λ t. absurd (omega (arith, t, two)))))
         (order 2 size)
 
-    stop_in_size : Stop bytes (possible bytes)
+    stop_in_size : Stop bytes (text_beginning_length bytes)
     stop_in_size =
-        let one : (out : (get_or bytes 1 0 < low) ⊎ (high < get_or bytes 1 0)) → Stop bytes (possible bytes) = λ out. subst (Stop bytes) (sym (possible_some bytes size 1 lead.counts (omega (arith, lead.some)) long (error_one (omega (arith, lead.some, long)) out))) (stop_second out) in
+        let one : (out : (get_or bytes 1 0 < low) ⊎ (high < get_or bytes 1 0)) → Stop bytes (text_beginning_length bytes) = λ out. subst (Stop bytes) (sym (possible_some bytes size 1 lead.counts (omega (arith, lead.some)) long (error_one (omega (arith, lead.some, long)) out))) (stop_second out) in
         ⊎_elim (λ low_second. one (inl low_second)) (λ l. ⊎_elim (λ high_second. one (inr high_second)) (λ u. stop_after_second l u) (order high (get_or bytes 1 0))) (order (get_or bytes 1 0) low)
 
-  stop_short : 0 < length bytes → length bytes < size → Stop bytes (possible bytes)
+  stop_short : 0 < length bytes → length bytes < size → Stop bytes (text_beginning_length bytes)
   stop_short some short = subst (Stop bytes) (sym (possible_none bytes size lead.counts (inr short))) (record {
     within = some;
     other = zeros (length bytes);
@@ -386,17 +386,17 @@ module _ (bytes : List ℕ) (size low high : ℕ) (lead : Lead (get_or bytes 0 0
     none = λ others u l e. began bytes others 1 lead u l some (omega arith) e (λ s p q third fourth. omega (arith, s, short));
   })
 
-  stop_lead : 0 < length bytes → ((m : ℕ) → 0 < m → m ≤ length bytes → IsUtf8 (take m bytes) → ⊥) → Stop bytes (possible bytes)
+  stop_lead : 0 < length bytes → ((m : ℕ) → 0 < m → m ≤ length bytes → IsUtf8 (take m bytes) → ⊥) → Stop bytes (text_beginning_length bytes)
   stop_lead some longest = ⊎_elim (λ short. stop_short some short) (λ long. stop_in_size long longest) (order (length bytes) size)
 
 -- no character has this first byte
-stop_at_first : (bytes : List ℕ) → 0 < length bytes → char_size (get_or bytes 0 0) ≡ 0 → ((n y z w : ℕ) → Ranged n (get_or bytes 0 0) y z w → ⊥) → Stop bytes (possible bytes)
+stop_at_first : (bytes : List ℕ) → 0 < length bytes → char_size (get_or bytes 0 0) ≡ 0 → ((n y z w : ℕ) → Ranged n (get_or bytes 0 0) y z w → ⊥) → Stop bytes (text_beginning_length bytes)
 stop_at_first bytes some e h = subst (Stop bytes) (sym (possible_none bytes 0 e (inl (omega arith)))) (stop_first bytes some h)
 
 lead_at : (bytes : List ℕ) (x size low high : ℕ) → get_or bytes 0 0 ≡ x → Lead x size low high → Lead (get_or bytes 0 0) size low high
 lead_at bytes x size low high e lead = subst (λ b. Lead b size low high) (sym e) lead
 
-pub stop_at : (bytes : List ℕ) → 0 < length bytes → ((m : ℕ) → 0 < m → m ≤ length bytes → IsUtf8 (take m bytes) → ⊥) → Stop bytes (possible bytes)
+pub stop_at : (bytes : List ℕ) → 0 < length bytes → ((m : ℕ) → 0 < m → m ≤ length bytes → IsUtf8 (take m bytes) → ⊥) → Stop bytes (text_beginning_length bytes)
 stop_at bytes some longest =
     let x : ℕ = get_or bytes 0 0 in
     ⊎_elim (λ h. absurd (longest 1 (omega arith) some (of_one bytes 0 some h))) (λ l128.
@@ -455,7 +455,7 @@ valid_some bs e = ⊎_elim (λ h. h)
     (λ all. absurd (never_both (is_utf8 bs) (is_utf8-from_IsUtf8 bs (subst IsUtf8 (take_all (utf8_valid_len bs) bs all) (valid_front bs))) e))
     (order (utf8_valid_len bs) (length bs))
 
-stop_after : (bs : List ℕ) → is_utf8 bs ≡ false → Stop (drop (utf8_valid_len bs) bs) (possible (drop (utf8_valid_len bs) bs))
+stop_after : (bs : List ℕ) → is_utf8 bs ≡ false → Stop (drop (utf8_valid_len bs) bs) (text_beginning_length (drop (utf8_valid_len bs) bs))
 stop_after bs e =
     let n : ℕ = utf8_valid_len bs in
     let some = valid_some bs e in
@@ -470,7 +470,7 @@ pub text_stop : (bs : List ℕ) → is_utf8 bs ≡ false → Stop bs (text_fault
 text_stop bs e =
     let n : ℕ = utf8_valid_len bs in
     let after : List ℕ = drop n bs in
-    let count : ℕ = possible after in
+    let count : ℕ = text_beginning_length after in
     let s = stop_after bs e in
     let some = valid_some bs e in
     let left = length-drop n bs in

@@ -5,7 +5,7 @@ use Rattle.std.specs.Int.{Width}
 use Rattle.kz_types.specs.declared.record.ByteFault.{ByteFault}
 use Rattle.kz_types.specs.declared.record.CodecFault.{CodecFault}
 use Rattle.kz_spec_values.specs.Fields.{Format, format_through, front, unsigned_number, signed_number, id, uvarint, groups_of, IsGroups, items_with_count, nullable_text}
-use Rattle.kz_spec_values.specs.Forms.{field, present, flag, nullable_ints, ◌⊗◌, list_of, Each, items_written, AllFit, Tag, AreTags, tags_written, Known, nothing, both, field_of, Content, Says, tag, section, without_tags}
+use Rattle.kz_spec_values.specs.Forms.{field, non_null, flag, nullable_ints, ◌⊗◌, list_of, Each, items_written, AllFit, Tag, AreTags, tags_written, Known, nothing, both, field_of, Content, Says, tag, section, without_tags}
 use Rattle.kz_laws_records.proofs.Counted.{limit, more_groups}
 
 -- What is written for a value that fits spells it, where the value is short.
@@ -82,7 +82,7 @@ ints_writes = record { writes = λ value fits short. (fits.0, counted_spells 4 (
 pub field_writes : {X : Type 0} (f : Format ByteFault X) → Writes f any → Writes (field f) any
 field_writes f wf = record { writes = λ x fits short. wf.writes x fits tt }
 
-pub present_writes : {X : Type 0} (f : Format ByteFault (Option X)) → Writes f any → Writes (present f) any
+pub present_writes : {X : Type 0} (f : Format ByteFault (Option X)) → Writes f any → Writes (non_null f) any
 present_writes f wf = record { writes = λ x fits short. wf.writes (Some x) fits tt }
 
 pub flag_writes : Writes flag any

@@ -11,7 +11,7 @@ use Rattle.kz_types.specs.declared.record.ByteFault.{ByteFault}
 use Rattle.kz_spec_values.specs.Fields.{Format, varint, varlong, zigzag, groups_of, IsGroups}
 use Rattle.kz_spec_values.specs.Forms.{◌⊗◌, Each, items_written, AllFit}
 use Rattle.kz_spec_values.specs.Checksum.{polynomial, after_bit, after_bits, after_bytes, crc32c}
-use Rattle.kz_spec_values.specs.Batches.{base_offset, stated_length, leader_epoch, magic, stated_sum, compression, is_control, last_delta, base_time, stated_count, IsContent, part, no_attributes, measured_or_null, measured_written, IsMeasured, HasLength, bytes_with_length, header, headers, Content, content, value_of, entry, AreNumbered, IsBatch, batch_of, holding, records_written, header_written, summed_written, batch_written, Holds31, BatchFits}
+use Rattle.kz_spec_values.specs.Batches.{base_offset, stated_length, leader_epoch, magic, stated_sum, compression, is_control, last_delta, base_time, stated_count, IsContent, part, no_attributes, measured_or_null, measured_written, IsMeasured, HasLength, bytes_with_length, header, headers, Content, content, value_of, entry, AreNumbered, IsBatch, batch_of, content_with, records_written, header_written, summed_written, batch_written, Holds31, BatchFits}
 use Rattle.kz_laws_records.specs.Texts.{AreBytes}
 use Rattle.kz_laws_records.specs.WrittenContents.{contents_of}
 use Rattle.kz_laws_records.proofs.Exact.{AreSmall, small_from_bytes}
@@ -125,7 +125,7 @@ small_content : (a b c d e value : List ℕ) → AreSmall a → AreSmall b → A
 small_content a b c d e value sa sb sc sd se sv =
     (omega arith, small_joined a _ sa (small_joined b _ sb (small_joined c _ sc (small_joined (d ++ value) _ (small_joined d value sd sv) (small_joined e [] se tt)))))
 
-holding_short : (n : ℕ) (value : List ℕ) → n < 2 ^ 31 → Holds31 value → length (content.written (holding n value)) < 2 ^ 31
+holding_short : (n : ℕ) (value : List ℕ) → n < 2 ^ 31 → Holds31 value → length (content.written (content_with n value)) < 2 ^ 31
 holding_short n value lt holds =
     let zero_few = few_groups 0 (omega arith) in
     let one_few = few_groups 1 (omega arith) in
@@ -133,18 +133,18 @@ holding_short n value lt holds =
     let size_few = few_groups (2 * length value) (omega (arith, holds)) in
     short_content (groups_of 9 0) (groups_of 9 (2 * n)) (groups_of 9 1) (groups_of 9 (2 * length value)) (groups_of 9 0) value zero_few.few delta_few.few one_few.few size_few.few zero_few.few holds
 
-holding_fits : (n : ℕ) (value : List ℕ) → n < 2 ^ 31 → Holds31 value → entry.fits (holding n value)
+holding_fits : (n : ℕ) (value : List ℕ) → n < 2 ^ 31 → Holds31 value → entry.fits (content_with n value)
 holding_fits n value lt holds = (holding_short n value lt holds, (tt, (omega arith, (omega (arith, lt), (tt, (omega (arith, holds), (omega arith, tt)))))))
 
-holding_small : (n : ℕ) (value : List ℕ) → n < 2 ^ 31 → Holds31 value → AreSmall value → AreSmall (entry.written (holding n value))
+holding_small : (n : ℕ) (value : List ℕ) → n < 2 ^ 31 → Holds31 value → AreSmall value → AreSmall (entry.written (content_with n value))
 holding_small n value lt holds small =
     let zero_few = few_groups 0 (omega arith) in
     let one_few = few_groups 1 (omega arith) in
     let delta_few = few_groups (2 * n) (omega (arith, lt)) in
     let size_few = few_groups (2 * length value) (omega (arith, holds)) in
-    let whole = few_groups (2 * length (content.written (holding n value))) (omega (arith, holding_short n value lt holds)) in
-    small_joined (varint.written (pos (length (content.written (holding n value))))) (content.written (holding n value))
-    (small_groups (2 * length (content.written (holding n value))) (groups_of 9 (2 * length (content.written (holding n value)))) whole.groups)
+    let whole = few_groups (2 * length (content.written (content_with n value))) (omega (arith, holding_short n value lt holds)) in
+    small_joined (varint.written (pos (length (content.written (content_with n value))))) (content.written (content_with n value))
+    (small_groups (2 * length (content.written (content_with n value))) (groups_of 9 (2 * length (content.written (content_with n value)))) whole.groups)
     (small_content (groups_of 9 0) (groups_of 9 (2 * n)) (groups_of 9 1) (groups_of 9 (2 * length value)) (groups_of 9 0) value
     (small_groups 0 (groups_of 9 0) zero_few.groups) (small_groups (2 * n) (groups_of 9 (2 * n)) delta_few.groups) (small_groups 1 (groups_of 9 1) one_few.groups)
     (small_groups (2 * length value) (groups_of 9 (2 * length value)) size_few.groups) (small_groups 0 (groups_of 9 0) zero_few.groups) small)
@@ -152,7 +152,7 @@ holding_small n value lt holds small =
 -- the contents of records that hold these values at this offset delta and the next ones
 abbrev held : ℕ → List (List ℕ) → List Content
 held n [] = []
-held n (v ∷ vs) = holding n v ∷ held (n + 1) vs
+held n (v ∷ vs) = content_with n v ∷ held (n + 1) vs
 
 held_length : (n : ℕ) (vs : List (List ℕ)) → length (held n vs) ≡ length vs
 held_length n [] = refl
@@ -170,13 +170,13 @@ held_spelled : (n : ℕ) (vs : List (List ℕ)) → n + length vs < 2 ^ 31 → A
 held_spelled n [] lt fits = refl
 held_spelled n (v ∷ vs) lt fits =
     let here : n < 2 ^ 31 = omega (arith, lt) in
-    (entry.written (holding n v), records_written (n + 1) vs, refl, entry_spells (holding n v) (holding_fits n v here fits.0), held_spelled (n + 1) vs (omega (arith, lt)) fits.1)
+    (entry.written (content_with n v), records_written (n + 1) vs, refl, entry_spells (content_with n v) (holding_fits n v here fits.0), held_spelled (n + 1) vs (omega (arith, lt)) fits.1)
 
 records_small : (n : ℕ) (vs : List (List ℕ)) → n + length vs < 2 ^ 31 → AllFit Holds31 vs → All AreBytes vs → AreSmall (records_written n vs)
 records_small n [] lt fits small = tt
 records_small n (v ∷ vs) lt fits small =
     let here : n < 2 ^ 31 = omega (arith, lt) in
-    small_joined (entry.written (holding n v)) (records_written (n + 1) vs)
+    small_joined (entry.written (content_with n v)) (records_written (n + 1) vs)
     (holding_small n v here fits.0 (small_from_bytes v (All-head AreBytes v vs small)))
     (records_small (n + 1) vs (omega (arith, lt)) fits.1 (All-tail AreBytes v vs small))
 

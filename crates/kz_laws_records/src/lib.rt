@@ -13,7 +13,7 @@ ghost use Rattle.std.specs.List.{All};
 ghost use Rattle.kz_types.specs.declared.record.ByteFault.{ByteFault};
 ghost use Rattle.kz_types.specs.declared.record.MetaRecord.{MetaRecord};
 ghost use Rattle.kz_spec_values.specs.Fields.{Reading, front, unsigned_number, signed_number, id, uvarint, varint, varlong, items_with_count, nullable_bytes, nullable_text};
-ghost use Rattle.kz_spec_values.specs.Forms.{present, flag, nullable_ints};
+ghost use Rattle.kz_spec_values.specs.Forms.{non_null, flag, nullable_ints};
 ghost use Rattle.kz_spec_values.specs.Records.{Spells, Fits, LengthsFit, bytes_of_record, record_of};
 ghost use Rattle.kz_spec_values.specs.Batches.{BatchContents, IsBatch, BatchFits, batch_of, batch_written};
 ghost use Rattle.kz_laws_records.specs.Texts.{AreBytes};
@@ -41,11 +41,11 @@ pub fn fields_are_spelled()
     ensures varlong { ReadsSpellings varlong }
     ensures counted { (size : ℕ) → ReadsSpellings (items_with_count size) }
     ensures nullable_bytes { ReadsSpellings nullable_bytes }
-    ensures byte_field { ReadsSpellings (present nullable_bytes) }
+    ensures byte_field { ReadsSpellings (non_null nullable_bytes) }
     ensures nullable_text { ReadsSpellings nullable_text }
-    ensures text { ReadsSpellings (present nullable_text) }
+    ensures text { ReadsSpellings (non_null nullable_text) }
     ensures nullable_ints { ReadsSpellings nullable_ints }
-    ensures ints { ReadsSpellings (present nullable_ints) }
+    ensures ints { ReadsSpellings (non_null nullable_ints) }
 {}
 
 /// What is written for a field whose value fits, whatever follows, is read as it, and the reader stands after it.
@@ -63,11 +63,11 @@ pub fn written_fields_are_read()
     ensures varlong { ReadsWritten varlong }
     ensures counted { (size : ℕ) → ReadsWritten (items_with_count size) }
     ensures nullable_bytes { ReadsWritten nullable_bytes }
-    ensures byte_field { ReadsWritten (present nullable_bytes) }
+    ensures byte_field { ReadsWritten (non_null nullable_bytes) }
     ensures nullable_text { ReadsWritten nullable_text }
-    ensures text { ReadsWritten (present nullable_text) }
+    ensures text { ReadsWritten (non_null nullable_text) }
     ensures nullable_ints { ReadsWritten nullable_ints }
-    ensures ints { ReadsWritten (present nullable_ints) }
+    ensures ints { ReadsWritten (non_null nullable_ints) }
 {}
 
 /// A fault that reading a field answers stands at the first byte at which no spelling goes on: where the bytes are too few, some

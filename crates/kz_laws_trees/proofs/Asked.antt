@@ -6,7 +6,7 @@ use Rattle.kz_types.specs.declared.image_fault.ImageRule.TheVariants.{NotAllowed
 use Rattle.kz_types.specs.declared.record.MetaRecord.{MetaRecord}
 use Rattle.kz_types.specs.declared.record.MetaRecord.TheVariants as meta
 use Rattle.kz_spec_stores.specs.ImageRules.{is_kept_back}
-use Rattle.kz_spec_stores.specs.Image.{Image, image_with, broken, rule_against, Bad, unless_bad, first_bad}
+use Rattle.kz_spec_stores.specs.Image.{Image, image_with, broken_rule, rule_against, Bad, unless_bad, first_bad}
 use Rattle.kz_laws_trees.specs.LogLaws.{IsPlain}
 
 not_kept_back : (b : Bool) (rest : Option ImageRule) → (if b then Some NotAllowed else rest) ≡ None → b ≡ false
@@ -20,7 +20,7 @@ others_plain (meta.ZkMigrationState s) is = absurd (cc)
 others_plain r is = tt
 
 one_plain : (i : Image) (r : MetaRecord) → rule_against i r ≡ None → IsPlain r
-one_plain i r none = others_plain r (not_kept_back (is_kept_back r) (broken i r) none)
+one_plain i r none = others_plain r (not_kept_back (is_kept_back r) (broken_rule i r) none)
 
 neither_bad : (index : ℕ) (why : Option ImageRule) (rest : Option Bad) → unless_bad index why rest ≡ None → (why ≡ None) × (rest ≡ None)
 neither_bad index None rest none = (refl, none)

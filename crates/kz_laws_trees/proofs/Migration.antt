@@ -12,7 +12,7 @@ use Rattle.kz_types.specs.declared.record.MetaRecord.{MetaRecord}
 use Rattle.kz_types.specs.declared.record.MetaRecord.TheVariants as meta
 use Rattle.kz_types.specs.declared.image_fault.ImageRule.{ImageRule}
 use Rattle.kz_spec_stores.specs.Metadata.{Image, topic_named, is_migrated_state}
-use Rattle.kz_spec_stores.specs.ImageRules.{broken}
+use Rattle.kz_spec_stores.specs.ImageRules.{broken_rule}
 use Rattle.kz_spec_stores.specs.Image.{with_changed, topic_configured, configurations_after, effect, unless_broken, image_with}
 use Rattle.kz_spec_stores.specs.Settlement.{is_end, closes, is_marker, is_inside, first_close, is_ended_by, is_counted, counting_records}
 use Rattle.kz_spec_stores.specs.Log.{Log, last_of, last_end, end_of, entries_at_offsets, entries_of_batch, entries, record_count, all_entries_applied, image_at, image_of, is_migrated_log, new_batch, with_batch}
@@ -79,7 +79,7 @@ unless_broken_leaves None made i same = same
 unless_broken_leaves (Some rule) made i same = refl
 
 state_left : (epoch : ℤ) (r : MetaRecord) (i : Image) → IsPlain r → (image_with epoch r i).state ≡ i.state
-state_left epoch r i plain = unless_broken_leaves (broken i r) (effect epoch r i) i (effect_leaves epoch r i plain)
+state_left epoch r i plain = unless_broken_leaves (broken_rule i r) (effect epoch r i) i (effect_leaves epoch r i plain)
 
 abbrev AllPlain : List Entry → Type 0
 AllPlain [] = ⊤
@@ -223,8 +223,8 @@ state_or_before true s i new before = new
 state_or_before false s i new before = before
 
 -- a state of the migration breaks no rule
-state_unbroken : (s : ℤ) (i : Image) → broken i (meta.ZkMigrationState s) ≡ None
-unfolding broken
+state_unbroken : (s : ℤ) (i : Image) → broken_rule i (meta.ZkMigrationState s) ≡ None
+unfolding broken_rule
 state_unbroken s i = refl
 
 state_applied : (epoch s : ℤ) (i : Image) → image_with epoch (meta.ZkMigrationState s) i ≡ effect epoch (meta.ZkMigrationState s) i

@@ -9,7 +9,7 @@ use Rattle.kz_ordered.specs.Ordered.{Rises, AllBelow}
 use Rattle.kz_ordered.proofs.Append.{below_split}
 use Rattle.kz_spec_stores.specs.Metadata.{Image}
 use Rattle.kz_spec_stores.specs.Image.{effect, unless_broken, image_with, all_applied}
-use Rattle.kz_spec_stores.specs.ImageRules.{is_misnamed, lacks, repeats, is_misvalued, is_kept_back, broken, rule_against}
+use Rattle.kz_spec_stores.specs.ImageRules.{is_misnamed, lacks, repeats, is_misvalued, is_kept_back, broken_rule, rule_against}
 
 -- each of these records is accepted, in batches of this epoch
 abbrev pub Accepted : ℤ → List MetaRecord → Image → Type 0
@@ -29,12 +29,12 @@ pub record Keeps (i : Image) (r : MetaRecord) : Type 0 where
   pub new : repeats i r ≡ false
   pub valued : is_misvalued i r ≡ false
 
-unbroken : (i : Image) (r : MetaRecord) → Keeps i r → broken i r ≡ None
-unfolding broken
+unbroken : (i : Image) (r : MetaRecord) → Keeps i r → broken_rule i r ≡ None
+unfolding broken_rule
 unbroken i r k = rw (k.named, k.there, k.new, k.valued) refl
 
 unrefused : (i : Image) (r : MetaRecord) → Keeps i r → rule_against i r ≡ None
-unrefused i r k = ap (λ b. if b then Some NotAllowed else broken i r) k.plain ∙ unbroken i r k
+unrefused i r k = ap (λ b. if b then Some NotAllowed else broken_rule i r) k.plain ∙ unbroken i r k
 
 pub leads_one : (epoch : ℤ) (i : Image) (r : MetaRecord) → Keeps i r → Leads epoch (r ∷ []) i (effect epoch r i)
 leads_one epoch i r k = record { accepted = (unrefused i r k, tt); made = ap (λ o. unless_broken o (effect epoch r i) i) (unbroken i r k) }

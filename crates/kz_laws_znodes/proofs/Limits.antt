@@ -25,7 +25,7 @@ use Rattle.kz_spec_stores.specs.Metadata.{Image}
 use Rattle.kz_spec_stores.specs.InOrder.{IsInOrder}
 use Rattle.kz_spec_znodes.specs.Rendering.{bare, znode, partitions_path, assignment_of, partition_znodes, topic_config_znodes, topic_znodes, config_znode, quota_znodes, acl_key, acl_znode, producer_znodes, render}
 use Rattle.kz_laws_paths.proofs.Keys.{path_holds}
-use Rattle.kz_laws_znodes.specs.RoundTrip.{znodes_of, at_epoch, topic_at_epoch, grown, IsWritable, MayReturn, entries_of_resource}
+use Rattle.kz_laws_znodes.specs.RoundTrip.{znodes_of, at_epoch, topic_at_epoch, greatest_image, IsWritable, MayReturn, entries_of_resource}
 use Rattle.kz_laws_znodes.proofs.Within.{from_map, to_map}
 use Rattle.kz_laws_znodes.proofs.Shown.{Shown, shown_topic, shown_state, shown_topic_config, shown_config, shown_parent, shown_quotas, shown_user, shown_entries, shown_producer, shown_blank, shown_scaffold, shown}
 use Rattle.kz_laws_znodes.proofs.Held.{IsHeld, facts_of_acl, producer_held, blank_held}
@@ -223,8 +223,8 @@ module _ (i : Image) (o : IsInOrder i) (w : IsWritable i) (m : MayReturn i) wher
 
   -- what returns at the greatest epoch is rendered as the metadata that has grown
   pub returned_alike : (j : Image) → j.topics ≡ map (returned MAX_EPOCH) i.topics → j.broker_configs ≡ i.broker_configs → j.quotas ≡ i.quotas → j.users ≡ i.users
-      → ((row : AclRow) → entries_of_resource row j.acls ≡ entries_of_resource row i.acls) → j.next_producer ≡ said next_said (path_of key.Producer) rows → render j ≡ render (grown i)
-  returned_alike j topics configs quotas users acls next = rendered_alike j (grown i) (record {
+      → ((row : AclRow) → entries_of_resource row j.acls ≡ entries_of_resource row i.acls) → j.next_producer ≡ said next_said (path_of key.Producer) rows → render j ≡ render (greatest_image i)
+  returned_alike j topics configs quotas users acls next = rendered_alike j (greatest_image i) (record {
     topics = ap (flat_map topic_znodes) topics ∙ same_topics MAX_EPOCH i.topics;
     configs = configs;
     quotas = quotas;

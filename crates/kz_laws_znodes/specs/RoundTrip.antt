@@ -109,8 +109,8 @@ topic_at_epoch epoch t = record t { partitions = map (at_epoch epoch) t.partitio
 
 -- The greatest metadata that may return: each partition has the greatest controller epoch, and the next producer id stands
 -- after one more block of 1,000.
-abbrev pub grown : Image → Image
-grown i = record i { topics = map (topic_at_epoch MAX_EPOCH) i.topics; next_producer = option_map (λ next. next +ℤ pos 1000) i.next_producer }
+abbrev pub greatest_image : Image → Image
+greatest_image i = record i { topics = map (topic_at_epoch MAX_EPOCH) i.topics; next_producer = option_map (λ next. next +ℤ pos 1000) i.next_producer }
 
 abbrev pub HasEpoch : PartitionEntry → Type 0
 HasEpoch p = pos 0 ≤ℤ p.row.controller_epoch
@@ -124,7 +124,7 @@ HasRoom (Some next) = next ≤ℤ pos 9223372036854773808
 pub record MayReturn (i : Image) : Type 0 where
   pub epochs : All (λ (t : TopicEntry). All HasEpoch t.partitions) i.topics
   pub next : HasRoom i.next_producer
-  pub znodes : excess (grown i) ≡ None
+  pub znodes : excess (greatest_image i) ≡ None
   pub records : (rs : List MetaRecord) → all_records (znodes_of i) ≡ Ok rs → length rs + further_records ≤ MAX_RECORDS
 
 -- ---- what returns

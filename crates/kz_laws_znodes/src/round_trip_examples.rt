@@ -4,7 +4,7 @@
 ghost use Rattle.std.specs.Prelude.{◌≡◌, None};
 ghost use Rattle.kz_spec_stores.specs.InOrder.{IsInOrder};
 ghost use Rattle.kz_spec_znodes.specs.Rendering.{excess};
-ghost use Rattle.kz_laws_znodes.specs.RoundTrip.{IsWritable, MayReturn, grown};
+ghost use Rattle.kz_laws_znodes.specs.RoundTrip.{IsWritable, MayReturn, greatest_image};
 ghost use Rattle.kz_laws_znodes.specs.RoundTripExamples.{example_image};
 
 /// Worked metadata meets what the law asks for.

@@ -12,7 +12,7 @@ use Rattle.kz_types.specs.Limits.{number_of_limit}
 use Rattle.kz_types.specs.declared.log.BatchRow.{BatchRow}
 use Rattle.kz_types.specs.declared.log.Entry.{Entry}
 use Rattle.kz_types.specs.declared.record.MetaRecord.{MetaRecord}
-use Rattle.kz_spec_stores.specs.Log.{Log, IsLog, Follow, Climb, begins_after, end_of, image_at, full_log, with_batch, last_of, last_end, record_count, entries_at_offsets, entries, all_entries_applied}
+use Rattle.kz_spec_stores.specs.Log.{Log, IsLog, Follow, EpochsNeverFall, begins_after, end_of, image_at, full_log, with_batch, last_of, last_end, record_count, entries_at_offsets, entries, all_entries_applied}
 use Rattle.kz_spec_stores.specs.Settlement.{counting_records, closes, is_end, is_ended_by}
 use Rattle.kz_settle.specs.Settling.{closes_entry, is_open_after, records_of_pass, ends_by}
 use Rattle.kz_settle.proofs.Passing.{counted_is_pass}
@@ -35,11 +35,11 @@ pub Follow-push : (from : ℤ) (bs : List BatchRow) (b : BatchRow) → Follow fr
 Follow-push from [] b h first some = (first, some, tt)
 Follow-push from (x ∷ bs) b h first some = (h.0, h.1, Follow-push (last_of x) bs b h.2 first some)
 
-pub Climb-push : (least most more : ℤ) (bs : List BatchRow) (b : BatchRow) → Climb least most bs → most ≤ℤ more → least ≤ℤ b.epoch → most ≤ℤ b.epoch → b.epoch ≤ℤ more → Climb least more (bs ++ b ∷ [])
-Climb-push least most more [] b h rise low above high = (low, high, tt)
-Climb-push least most more (x ∷ bs) b h rise low above high =
+pub EpochsNeverFall-push : (least most more : ℤ) (bs : List BatchRow) (b : BatchRow) → EpochsNeverFall least most bs → most ≤ℤ more → least ≤ℤ b.epoch → most ≤ℤ b.epoch → b.epoch ≤ℤ more → EpochsNeverFall least more (bs ++ b ∷ [])
+EpochsNeverFall-push least most more [] b h rise low above high = (low, high, tt)
+EpochsNeverFall-push least most more (x ∷ bs) b h rise low above high =
     let under = h.1 in
-    (h.0, omega (arith, ints, under, rise), Climb-push x.epoch most more bs b h.2 rise (omega (arith, ints, under, above)) above high)
+    (h.0, omega (arith, ints, under, rise), EpochsNeverFall-push x.epoch most more bs b h.2 rise (omega (arith, ints, under, above)) above high)
 
 -- ---- the records with their offsets
 
@@ -150,7 +150,7 @@ is_log_added l epoch now items k elected climbs some free =
       base = k.base;
       base_image = k.base_image;
       follow = Follow-push l.base l.batches b k.follow refl some;
-      epochs = Climb-push (pos 1) l.epoch epoch l.batches b k.epochs climbs elected climbs (omega (arith, ints));
+      epochs = EpochsNeverFall-push (pos 1) l.epoch epoch l.batches b k.epochs climbs elected climbs (omega (arith, ints));
       end = subst (λ o. o ≤ℤ MAX_LONG) (sym last) room.1;
     }
 

@@ -13,9 +13,9 @@ use Rattle.kz_spec_stores.specs.Image.{Image}
 use Rattle.kz_spec_stores.specs.Log.{Log, View, Follow, IsLog, IsAt, IsViewOf, begins_after, last_of, last_end, last_epoch, end_of, entries_at_offsets, entries_of_batch, entries, entries_by, image_at, all_entries_applied, log_with_feed, feed_from, read_epoch, read_view}
 use Rattle.kz_spec_stores.specs.Settlement.{counting_records, open_begin, records_of_open}
 use Rattle.kz_settle.specs.Settling.{offset_of}
-use Rattle.kz_settle.specs.Stands.{Settling, Stands, AllBy}
+use Rattle.kz_settle.specs.Stands.{SettlerState, IsStateAfter, AllBy}
 use Rattle.kz_settle.proofs.Bounds.{counted_same}
-use Rattle.kz_log.specs.Building.{Building, building_of, building_from, view_of, Takes, Took}
+use Rattle.kz_log.specs.Building.{Building, building_of, building_from, view_of, Takes, IsBuiltFrom}
 use Rattle.kz_log.specs.Requests.{IsFeed}
 use Rattle.kz_log.specs.Views.{Fits, start_of, known_epoch, GoesOn}
 use Rattle.kz_log.proofs.Cuts.{Chain, chain_of, Chain-append, Follow-left, Follow-right, chain_end, entries-append, entries_rise, entries_end, cut_of, of_cut, by_here}
@@ -28,8 +28,8 @@ applied-append : (xs ys : List Entry) (i : Image) → all_entries_applied (xs ++
 applied-append [] ys i = refl
 applied-append (x ∷ xs) ys i = applied-append xs ys _
 
-stands_as : (pushed others given more : List Entry) (s : Settling) → pushed ≡ others → given ≡ more → Stands pushed given s → Stands others more s
-stands_as pushed others given more s is same h = subst (λ p. Stands p more s) is (subst (λ g. Stands pushed g s) same h)
+stands_as : (pushed others given more : List Entry) (s : SettlerState) → pushed ≡ others → given ≡ more → IsStateAfter pushed given s → IsStateAfter others more s
+stands_as pushed others given more s is same h = subst (λ p. IsStateAfter p more s) is (subst (λ g. IsStateAfter pushed g s) same h)
 
 takes_then : (es fs : List Entry) (a b c : Building) → Takes es a b → Takes fs b c → Takes (es ++ fs) a c
 takes_then es fs a b c t u pushed given rises s =
@@ -42,28 +42,28 @@ takes_then es fs a b c t u pushed given rises s =
       second.2 ∙ ap (all_entries_applied second.0) first.2 ∙ sym (applied-append first.0 second.0 a.image),
     )
 
-took_then : (es fs : List Entry) (a b c : Building) (p q e f : ℤ) → Took es p e a b → Took fs q f b c → Took (es ++ fs) q f a c
+took_then : (es fs : List Entry) (a b c : Building) (p q e f : ℤ) → IsBuiltFrom es p e a b → IsBuiltFrom fs q f b c → IsBuiltFrom (es ++ fs) q f a c
 took_then es fs a b c p q e f t u = record { takes = takes_then es fs a b c t.takes u.takes; popped = u.popped; position = u.position; epoch = u.epoch }
 
 -- ---- one entry
 
-emptied : (pushed given : List Entry) (s : Settling) → Stands pushed given s → Stands pushed (given ++ s.released) (record s { released = [] })
+emptied : (pushed given : List Entry) (s : SettlerState) → IsStateAfter pushed given s → IsStateAfter pushed (given ++ s.released) (record s { released = [] })
 emptied pushed given s h = record { begun = h.begun; kept = h.kept; counted = λ at by. append-nil (given ++ s.released) ∙ h.counted at by }
 
 -- what was handed out for an entry, and then what was released, is applied
-pub took_push : (e : Entry) (out : List Entry) (old new : Building) (mid : Settling)
-    → ((pushed given : List Entry) → Rises int_cmp offset_of (pushed ++ e ∷ []) → Stands pushed given old.settling → Stands (pushed ++ e ∷ []) (given ++ out) mid)
+pub took_push : (e : Entry) (out : List Entry) (old new : Building) (mid : SettlerState)
+    → ((pushed given : List Entry) → Rises int_cmp offset_of (pushed ++ e ∷ []) → IsStateAfter pushed given old.settling → IsStateAfter (pushed ++ e ∷ []) (given ++ out) mid)
     → new.settling ≡ record mid { released = [] } → new.image ≡ all_entries_applied (out ++ mid.released) old.image → new.position ≡ old.position → new.epoch ≡ old.epoch
-    → Took (e ∷ []) old.position old.epoch old new
+    → IsBuiltFrom (e ∷ []) old.position old.epoch old new
 took_push e out old new mid stands settled image position epoch = record {
   takes = λ pushed given rises s. (
     out ++ mid.released,
-    subst (λ n. Stands (pushed ++ e ∷ []) (given ++ (out ++ mid.released)) n) (sym settled)
+    subst (λ n. IsStateAfter (pushed ++ e ∷ []) (given ++ (out ++ mid.released)) n) (sym settled)
         (stands_as (pushed ++ e ∷ []) (pushed ++ e ∷ []) ((given ++ out) ++ mid.released) (given ++ (out ++ mid.released)) (record mid { released = [] }) refl (append_assoc given out mid.released)
         (emptied (pushed ++ e ∷ []) (given ++ out) mid (stands pushed given rises s))),
     image,
   );
-  popped = ap (λ (s : Settling). s.released) settled;
+  popped = ap (λ (s : SettlerState). s.released) settled;
   position = position;
   epoch = epoch;
 }
@@ -81,16 +81,16 @@ last_epoch-push : (epoch : ℤ) (bs : List BatchRow) (b : BatchRow) → last_epo
 last_epoch-push epoch [] b = refl
 last_epoch-push epoch (x ∷ bs) b = last_epoch-push x.epoch bs b
 
-took_to : (es fs : List Entry) (p q e f : ℤ) (old new : Building) → es ≡ fs → p ≡ q → e ≡ f → Took es p e old new → Took fs q f old new
+took_to : (es fs : List Entry) (p q e f : ℤ) (old new : Building) → es ≡ fs → p ≡ q → e ≡ f → IsBuiltFrom es p e old new → IsBuiltFrom fs q f old new
 took_to es fs p q e f old new is at by h = record { takes = subst (λ x. Takes x old new) is h.takes; popped = h.popped; position = h.position ∙ at; epoch = h.epoch ∙ by }
 
 -- a record pushed at the next offset, and its offset noted
 pub took_next : (position offset put writer epoch now : ℤ) (item : MetaRecord) (old mid new : Building) → offset ≡ position +ℤ pos 1 → put ≡ position +ℤ pos 1 → writer ≡ epoch
-    → Took (record { offset = offset; epoch = writer; item = item } ∷ []) position now old mid → new ≡ record mid { position = put }
-    → Took (record { offset = position +ℤ pos 1; epoch = epoch; item = item } ∷ []) (position +ℤ pos 1) now old new
+    → IsBuiltFrom (record { offset = offset; epoch = writer; item = item } ∷ []) position now old mid → new ≡ record mid { position = put }
+    → IsBuiltFrom (record { offset = position +ℤ pos 1; epoch = epoch; item = item } ∷ []) (position +ℤ pos 1) now old new
 took_next position offset put writer epoch now item old mid new is same by h made =
     let row : ℤ → ℤ → Entry = λ o e. record { offset = o; epoch = e; item = item } in
-    subst (λ n. Took (row (position +ℤ pos 1) epoch ∷ []) (position +ℤ pos 1) now old n) (sym made) (record {
+    subst (λ n. IsBuiltFrom (row (position +ℤ pos 1) epoch ∷ []) (position +ℤ pos 1) now old n) (sym made) (record {
       takes = subst (λ e. Takes (row (position +ℤ pos 1) e ∷ []) old mid) by (subst (λ o. Takes (row o writer ∷ []) old mid) is h.takes);
       popped = h.popped;
       position = same;
@@ -99,9 +99,9 @@ took_next position offset put writer epoch now item old mid new is same by h mad
 
 -- one record more of a batch
 pub batch_more : (b : BatchRow) (old mid new : Building) (done : List MetaRecord) (x : MetaRecord) (writer : ℤ) → b.first ≡ old.position +ℤ pos 1 → writer ≡ b.epoch
-    → Took (entries_at_offsets b.first b.epoch done) (old.position +ℤ pos (length done)) b.epoch old mid
-    → Took (record { offset = mid.position +ℤ pos 1; epoch = writer; item = x } ∷ []) (mid.position +ℤ pos 1) mid.epoch mid new
-    → Took (entries_at_offsets b.first b.epoch (done ++ x ∷ [])) (old.position +ℤ pos (length (done ++ x ∷ []))) b.epoch old new
+    → IsBuiltFrom (entries_at_offsets b.first b.epoch done) (old.position +ℤ pos (length done)) b.epoch old mid
+    → IsBuiltFrom (record { offset = mid.position +ℤ pos 1; epoch = writer; item = x } ∷ []) (mid.position +ℤ pos 1) mid.epoch mid new
+    → IsBuiltFrom (entries_at_offsets b.first b.epoch (done ++ x ∷ [])) (old.position +ℤ pos (length (done ++ x ∷ []))) b.epoch old new
 batch_more b old mid new done x writer first by h next =
     let row : ℤ → ℤ → Entry = λ o e. record { offset = o; epoch = e; item = x } in
     let at = h.position in
@@ -115,7 +115,7 @@ batch_more b old mid new done x writer first by h next =
     (took_then (entries_at_offsets b.first b.epoch done) (row (mid.position +ℤ pos 1) writer ∷ []) old mid new (old.position +ℤ pos (length done)) (mid.position +ℤ pos 1) b.epoch mid.epoch h next)
 
 pub batch_done : (b : BatchRow) (old new : Building) (done : List MetaRecord) → b.first ≡ old.position +ℤ pos 1 → done ≡ b.items
-    → Took (entries_at_offsets b.first b.epoch done) (old.position +ℤ pos (length done)) b.epoch old new → Took (entries_of_batch b) (last_of b) b.epoch old new
+    → IsBuiltFrom (entries_at_offsets b.first b.epoch done) (old.position +ℤ pos (length done)) b.epoch old new → IsBuiltFrom (entries_of_batch b) (last_of b) b.epoch old new
 batch_done b old new done first all h =
     let count : length done ≡ length b.items = ap length all in
     took_to (entries_at_offsets b.first b.epoch done) (entries_of_batch b) (old.position +ℤ pos (length done)) (last_of b) b.epoch b.epoch old new (ap (entries_at_offsets b.first b.epoch) all) (omega (arith, ints, first, count)) refl h
@@ -125,9 +125,9 @@ nothing_left [] h = refl
 nothing_left (x ∷ xs) h = absurd (omega arith)
 
 -- one batch more
-pub all_more : (old mid new : Building) (done : List BatchRow) (b : BatchRow) → Took (entries done) (last_end old.position done) (last_epoch old.epoch done) old mid
-    → Took (entries_of_batch b) (last_of b) b.epoch mid new
-    → Took (entries (done ++ b ∷ [])) (last_end old.position (done ++ b ∷ [])) (last_epoch old.epoch (done ++ b ∷ [])) old new
+pub all_more : (old mid new : Building) (done : List BatchRow) (b : BatchRow) → IsBuiltFrom (entries done) (last_end old.position done) (last_epoch old.epoch done) old mid
+    → IsBuiltFrom (entries_of_batch b) (last_of b) b.epoch mid new
+    → IsBuiltFrom (entries (done ++ b ∷ [])) (last_end old.position (done ++ b ∷ [])) (last_epoch old.epoch (done ++ b ∷ [])) old new
 all_more old mid new done b h next =
     took_to (entries done ++ entries_of_batch b) (entries (done ++ b ∷ [])) (last_of b) (last_end old.position (done ++ b ∷ [])) b.epoch (last_epoch old.epoch (done ++ b ∷ [])) old new
     (ap (λ es. entries done ++ es) (sym (append-nil (entries_of_batch b))) ∙ sym (entries-append done (b ∷ []))) (sym (last_end-append old.position done (b ∷ []))) (sym (last_epoch-push old.epoch done b))
@@ -150,10 +150,10 @@ on_ok (Err e) P Q p f = tt
 
 -- ---- the view that is built
 
-stands_new : Stands [] [] (record { begun = None; kept = []; released = [] })
+stands_new : IsStateAfter [] [] (record { begun = None; kept = []; released = [] })
 stands_new = record { begun = refl; kept = refl; counted = λ at by. refl }
 
-built_is_at : (l : Log) (b : Building) (given : List Entry) → Chain l.base l.batches → b.position ≡ end_of l → b.settling.released ≡ [] → Stands (entries l.batches) given b.settling
+built_is_at : (l : Log) (b : Building) (given : List Entry) → Chain l.base l.batches → b.position ≡ end_of l → b.settling.released ≡ [] → IsStateAfter (entries l.batches) given b.settling
     → b.image ≡ all_entries_applied given l.base_image → IsAt l (view_of b)
 built_is_at l b given chain at popped s image =
     let by : AllBy b.position (entries l.batches) = subst (λ p. AllBy p (entries l.batches)) (sym at) (entries_end l.base l.batches chain) in
@@ -168,7 +168,7 @@ built_is_at l b given chain at popped s image =
       kept = s.kept;
     })
 
-stands_at : (l : Log) (v : View) → Chain l.base l.batches → IsAt l v → end_of l ≡ v.position → Stands (entries l.batches) (counting_records (entries l.batches) v.position) (building_of v).settling
+stands_at : (l : Log) (v : View) → Chain l.base l.batches → IsAt l v → end_of l ≡ v.position → IsStateAfter (entries l.batches) (counting_records (entries l.batches) v.position) (building_of v).settling
 stands_at l v chain is at =
     let all : entries_by v.position (entries l.batches) ≡ entries l.batches = by_here l v.position l.batches [] (sym (append-nil l.batches)) at chain in
     let by : AllBy v.position (entries l.batches) = subst (λ p. AllBy p (entries l.batches)) at (entries_end l.base l.batches chain) in
@@ -179,7 +179,7 @@ stands_at l v chain is at =
     }
 
 is_at_of : (l : Log) (v : View) (base : Option (ℤ × Image)) (batches : List BatchRow) (b : Building) (epoch : ℤ) → GoesOn l v base → Follow (start_of v base) batches
-    → Took (entries batches) (last_end (start_of v base) batches) epoch (building_from base v) b → IsAt (log_with_feed l base batches) (view_of b)
+    → IsBuiltFrom (entries batches) (last_end (start_of v base) batches) epoch (building_from base v) b → IsAt (log_with_feed l base batches) (view_of b)
 unfolding image_at
 is_at_of l v None batches b epoch on follow took =
     let old = chain_of l.base l.batches on.0 in
@@ -191,7 +191,7 @@ is_at_of l v None batches b epoch on follow took =
     let rises = subst (λ es. Rises int_cmp offset_of es) joined (entries_rise l.base (l.batches ++ batches) chain) in
     let t = took.takes (entries l.batches) given rises (stands_at l v old on.1 at) in
     built_is_at whole b (given ++ t.0) chain (took.position ∙ ap (λ p. last_end p batches) (sym at) ∙ sym (last_end-append l.base l.batches batches)) took.popped
-    (subst (λ es. Stands es (given ++ t.0) b.settling) (sym joined) t.1)
+    (subst (λ es. IsStateAfter es (given ++ t.0) b.settling) (sym joined) t.1)
     (t.2 ∙ ap (all_entries_applied t.0) on.1.image ∙ sym (applied-append given t.0 l.base_image))
 is_at_of l v (Some base) batches b epoch on follow took =
     let chain = chain_of base.0 batches follow in
@@ -242,7 +242,7 @@ reads_of v n f at position epoch l k is read = reads_by l v n f k is read at pos
 -- ---- what a feed makes of a view
 
 -- what was built of a view and a feed is a view of the log after it
-pub advanced : (v n : View) (f : Feed) (b : Building) → Fits v f → Took (entries f.batches) f.end (last_epoch (known_epoch f.base v.epoch) f.batches) (building_from f.base v) b → n ≡ view_of b
+pub advanced : (v n : View) (f : Feed) (b : Building) → Fits v f → IsBuiltFrom (entries f.batches) f.end (last_epoch (known_epoch f.base v.epoch) f.batches) (building_from f.base v) b → n ≡ view_of b
     → (l : Log) → GoesOn l v f.base → IsAt (log_with_feed l f.base f.batches) n
 advanced v n f b fits took is l on =
     let epoch = last_epoch (known_epoch f.base v.epoch) f.batches in

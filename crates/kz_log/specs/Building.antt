@@ -6,14 +6,14 @@ use Rattle.kz_ordered.specs.Ordered.{Rises}
 use Rattle.kz_spec_stores.specs.Image.{Image}
 use Rattle.kz_spec_stores.specs.Log.{View, all_entries_applied}
 use Rattle.kz_settle.specs.Settling.{offset_of}
-use Rattle.kz_settle.specs.Stands.{Settling, Stands}
+use Rattle.kz_settle.specs.Stands.{SettlerState, IsStateAfter}
 
 -- The last offset that was taken, the epoch of its batch, the metadata, and what the settler holds.
 pub record Building : Type 0 where
   pub position : ℤ
   pub epoch : ℤ
   pub image : Image
-  pub settling : Settling
+  pub settling : SettlerState
 
 -- a view before further records are taken
 abbrev pub building_of : View → Building
@@ -31,12 +31,12 @@ view_of b = record { position = b.position; epoch = b.epoch; image = b.image; be
 -- What the entries that are taken make of a state. Whatever entries were pushed before, the settler stands after all of them,
 -- and the entries that it handed out since are in the metadata.
 abbrev pub Takes : List Entry → Building → Building → Type 0
-Takes es old new = (pushed given : List Entry) → Rises int_cmp offset_of (pushed ++ es) → Stands pushed given old.settling
-    → (more : List Entry) × Stands (pushed ++ es) (given ++ more) new.settling × (new.image ≡ all_entries_applied more old.image)
+Takes es old new = (pushed given : List Entry) → Rises int_cmp offset_of (pushed ++ es) → IsStateAfter pushed given old.settling
+    → (more : List Entry) × IsStateAfter (pushed ++ es) (given ++ more) new.settling × (new.image ≡ all_entries_applied more old.image)
 
 -- The entries are taken, and all that was released is handed out. The position is the last offset, and the epoch is that of
 -- the last batch.
-pub record Took (es : List Entry) (last writer : ℤ) (old new : Building) : Type 0 where
+pub record IsBuiltFrom (es : List Entry) (last writer : ℤ) (old new : Building) : Type 0 where
   pub takes : Takes es old new
   pub popped : new.settling.released ≡ []
   pub position : new.position ≡ last

@@ -4,7 +4,7 @@ ghost use Rattle.kz_types.specs.declared.limits.TheConstants.{MAX_LONG};
 ghost use Rattle.kz_spec_stores.specs.Image.{image_with};
 ghost use Rattle.kz_spec_stores.specs.Log.{Follow, all_entries_applied, entries, entries_of_batch, last_of, last_end, last_epoch};
 ghost use Rattle.kz_settle.specs.Stands.{LeavesNone, entries_of_answer};
-ghost use Rattle.kz_log.specs.Building.{Building, Took};
+ghost use Rattle.kz_log.specs.Building.{Building, IsBuiltFrom};
 
 use kz_image::Image;
 use kz_settle::{Settled, Settler};
@@ -74,7 +74,7 @@ impl Builder {
     // Pushes the next entry, and applies what it makes count.
     fn push(&mut self, e: Entry) -> Result<(), NoMemory>
         requires { self.old.settling.released ≡ [] }
-        ensures { OnOk result (Took (e ∷ []) self.old.position self.old.epoch self.old self.new) }
+        ensures { OnOk result (IsBuiltFrom (e ∷ []) self.old.position self.old.epoch self.old self.new) }
     {
         let settled = self.settler.push(e)?;
         self.apply_settled(settled)
@@ -96,7 +96,7 @@ impl Builder {
     fn take(&mut self, epoch: i32, item: MetaRecord) -> Result<(), NoMemory>
         requires popped { self.old.settling.released ≡ [] }
         requires fits { (self.old.position +ℤ pos 1) ≤ℤ MAX_LONG }
-        ensures { OnOk result (Took (record { offset = self.old.position +ℤ pos 1; epoch = epoch; item = item } ∷ []) (self.old.position +ℤ pos 1) self.old.epoch self.old self.new) }
+        ensures { OnOk result (IsBuiltFrom (record { offset = self.old.position +ℤ pos 1; epoch = epoch; item = item } ∷ []) (self.old.position +ℤ pos 1) self.old.epoch self.old self.new) }
     {
         let offset = next(self.position);
         self.push(Entry {
@@ -113,7 +113,7 @@ impl Builder {
         requires popped { self.old.settling.released ≡ [] }
         requires first { batch.first ≡ self.old.position +ℤ pos 1 }
         requires fits { last_of batch ≤ℤ MAX_LONG }
-        ensures { OnOk result (Took (entries_of_batch batch) (last_of batch) batch.epoch self.old self.new) }
+        ensures { OnOk result (IsBuiltFrom (entries_of_batch batch) (last_of batch) batch.epoch self.old self.new) }
     {
         let epoch = batch.epoch;
         self.set_epoch(epoch);
@@ -128,7 +128,7 @@ impl Builder {
         requires popped { self.old.settling.released ≡ [] }
         requires follow { Follow self.old.position batches.items }
         requires fits { last_end self.old.position batches.items ≤ℤ MAX_LONG }
-        ensures { OnOk result (Took (entries batches.items) (last_end self.old.position batches.items) (last_epoch self.old.epoch batches.items) self.old self.new) }
+        ensures { OnOk result (IsBuiltFrom (entries batches.items) (last_end self.old.position batches.items) (last_epoch self.old.epoch batches.items) self.old self.new) }
     {
         for batch in batches {
             self.take_batch(batch)?;

@@ -1,7 +1,7 @@
 //! What a controller knows of a log.
 ghost use Rattle.std.specs.Prelude.{◌≡◌, [], OnOk, OnErr, IfOk};
 ghost use Rattle.kz_spec_stores.specs.Log.{Log, new_view, IsLog, IsAt, IsViewOf, entries, log_with_feed, feed_from, last_epoch, read_view};
-ghost use Rattle.kz_log.specs.Building.{building_from, view_of, Took};
+ghost use Rattle.kz_log.specs.Building.{building_from, view_of, IsBuiltFrom};
 ghost use Rattle.kz_log.specs.Requests.{IsFeed};
 ghost use Rattle.kz_log.specs.Views.{Fits, GoesOn, known_epoch};
 
@@ -122,7 +122,7 @@ impl View {
     // What the view and a feed lead to.
     fn build(&self, feed: Feed) -> Result<Builder, NoMemory>
         requires { Fits self.now feed }
-        ensures { IfOk result (λ builder. Took (entries feed.batches) feed.end (last_epoch (known_epoch feed.base self.now.epoch) feed.batches) (building_from feed.base self.now) builder) }
+        ensures { IfOk result (λ builder. IsBuiltFrom (entries feed.batches) feed.end (last_epoch (known_epoch feed.base self.now.epoch) feed.batches) (building_from feed.base self.now) builder) }
     {
         let Feed {
             base,

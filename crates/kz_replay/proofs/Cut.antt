@@ -7,7 +7,7 @@ use Rattle.kz_types.specs.declared.limits.TheConstants.{MAX_INPUT_BYTES, MAX_LIN
 use Rattle.kz_spec_lines.specs.Lines.{Item, line, long, much, with_byte, with_front, items_from}
 use Rattle.kz_spec_runs.specs.Output.{Place, outcome, end_of_run, has_line_end, whole_lines, lines_of_items}
 use Rattle.kz_types.specs.declared.outside.Status.TheVariants as status
-use Rattle.kz_replay.specs.Pending.{State, coming, pending, pending_lines}
+use Rattle.kz_replay.specs.Pending.{State, lines_to_come, outcome_to_come, pending_lines}
 use Rattle.kz_replay.proofs.Outcomes.{outcome_long, outcome_much, written_end}
 
 front_byte : (l : List ℕ) (b : ℕ) (is : List Item) → with_front l (with_byte b is) ≡ with_front (l ++ b ∷ []) is
@@ -51,7 +51,7 @@ abbrev pub state : Place → List ℕ → ℕ → State
 state p l t = record { place = p; line = l; taken = t }
 
 -- a byte of a line
-coming_byte : (p : Place) (l : List ℕ) (t b : ℕ) (rest : List ℕ) → b ≢ 10 → length l < MAX_LINE_BYTES → t < MAX_INPUT_BYTES → coming (state p l t) (b ∷ rest) ≡ coming (state p (l ++ b ∷ []) (t + 1)) rest
+coming_byte : (p : Place) (l : List ℕ) (t b : ℕ) (rest : List ℕ) → b ≢ 10 → length l < MAX_LINE_BYTES → t < MAX_INPUT_BYTES → lines_to_come (state p l t) (b ∷ rest) ≡ lines_to_come (state p (l ++ b ∷ []) (t + 1)) rest
 coming_byte p l t b rest no_end room more =
     let step = items_byte (MAX_LINE_BYTES - length l) (MAX_INPUT_BYTES - t) b rest no_end (omega arith) (omega arith) in
     let here : MAX_LINE_BYTES - length l - 1 ≡ MAX_LINE_BYTES - length (l ++ b ∷ []) = omega (arith, length-append l (b ∷ [])) in
@@ -61,7 +61,7 @@ coming_byte p l t b rest no_end room more =
     ∙ ap (λ a. with_front (l ++ b ∷ []) (items_from (MAX_LINE_BYTES - length (l ++ b ∷ [])) a rest)) all
 
 -- the end of a line
-coming_end : (p q : Place) (l : List ℕ) (t : ℕ) (rest : List ℕ) → t < MAX_INPUT_BYTES → coming (state p l t) (10 ∷ rest) ≡ line l ∷ coming (state q [] (t + 1)) rest
+coming_end : (p q : Place) (l : List ℕ) (t : ℕ) (rest : List ℕ) → t < MAX_INPUT_BYTES → lines_to_come (state p l t) (10 ∷ rest) ≡ line l ∷ lines_to_come (state q [] (t + 1)) rest
 coming_end p q l t rest more =
     let all : MAX_INPUT_BYTES - t - 1 ≡ MAX_INPUT_BYTES - (t + 1) = omega arith in
     ap (with_front l) (items_end (MAX_LINE_BYTES - length l) (MAX_INPUT_BYTES - t) rest (omega arith)) ∙ front_line l _
@@ -70,24 +70,24 @@ coming_end p q l t rest more =
 -- ---- the outcome
 
 pub pending_byte : (p : Place) (l : List ℕ) (t b : ℕ) (rest : List ℕ) → b ≢ 10 → length l < MAX_LINE_BYTES → t < MAX_INPUT_BYTES
-    → pending (state p l t) (b ∷ rest) ≡ pending (state p (l ++ b ∷ []) (t + 1)) rest
+    → outcome_to_come (state p l t) (b ∷ rest) ≡ outcome_to_come (state p (l ++ b ∷ []) (t + 1)) rest
 pending_byte p l t b rest no_end room more = ap (outcome p) (coming_byte p l t b rest no_end room more)
 
-pub pending_end : (p q : Place) (l : List ℕ) (t : ℕ) (rest : List ℕ) → t < MAX_INPUT_BYTES → pending (state p l t) (10 ∷ rest) ≡ outcome p (line l ∷ coming (state q [] (t + 1)) rest)
+pub pending_end : (p q : Place) (l : List ℕ) (t : ℕ) (rest : List ℕ) → t < MAX_INPUT_BYTES → outcome_to_come (state p l t) (10 ∷ rest) ≡ outcome p (line l ∷ lines_to_come (state q [] (t + 1)) rest)
 pending_end p q l t rest more = ap (outcome p) (coming_end p q l t rest more)
 
 pub pending_long : (p : Place) (l : List ℕ) (t b : ℕ) (rest : List ℕ) → b ≢ 10 → MAX_LINE_BYTES ≤ length l
-    → pending (state p l t) (b ∷ rest) ≡ end_of_run (status.Limit (number_of_limit limits.LineBytes) MAX_LINE_BYTES)
+    → outcome_to_come (state p l t) (b ∷ rest) ≡ end_of_run (status.Limit (number_of_limit limits.LineBytes) MAX_LINE_BYTES)
 pending_long p l t b rest no_end full =
     ap (λ is. outcome p (with_front l is)) (items_long (MAX_LINE_BYTES - length l) (MAX_INPUT_BYTES - t) b rest no_end (omega arith)) ∙ ap (outcome p) (front_long l []) ∙ outcome_long p []
 
 pub pending_much : (p : Place) (l : List ℕ) (t b : ℕ) (rest : List ℕ) → b ≢ 10 → length l < MAX_LINE_BYTES → MAX_INPUT_BYTES ≤ t
-    → pending (state p l t) (b ∷ rest) ≡ end_of_run (status.Limit (number_of_limit limits.InputBytes) MAX_INPUT_BYTES)
+    → outcome_to_come (state p l t) (b ∷ rest) ≡ end_of_run (status.Limit (number_of_limit limits.InputBytes) MAX_INPUT_BYTES)
 pending_much p l t b rest no_end room full =
     ap (λ is. outcome p (with_front l is)) (items_much (MAX_LINE_BYTES - length l) (MAX_INPUT_BYTES - t) b rest no_end (omega arith) (omega arith)) ∙ ap (outcome p) (front_much l []) ∙ outcome_much p []
 
 pub pending_end_much : (p : Place) (l : List ℕ) (t : ℕ) (rest : List ℕ) → MAX_INPUT_BYTES ≤ t
-    → pending (state p l t) (10 ∷ rest) ≡ end_of_run (status.Limit (number_of_limit limits.InputBytes) MAX_INPUT_BYTES)
+    → outcome_to_come (state p l t) (10 ∷ rest) ≡ end_of_run (status.Limit (number_of_limit limits.InputBytes) MAX_INPUT_BYTES)
 pending_end_much p l t rest full =
     ap (λ is. outcome p (with_front l is)) (items_end_much (MAX_LINE_BYTES - length l) (MAX_INPUT_BYTES - t) rest (omega arith)) ∙ ap (outcome p) (front_much l []) ∙ outcome_much p []
 
@@ -101,7 +101,7 @@ end_later : (b : ℕ) (rest : List ℕ) → b ≢ 10 → has_line_end (b ∷ res
 end_later b rest no_end = rw (is_not b 10 no_end) refl
 
 lines_if : (s new : State) (b : ℕ) (rest : List ℕ) (ends : Bool) → has_line_end (b ∷ rest) ≡ ends → has_line_end rest ≡ ends
-    → (ends ≡ true → lines_of_items s.place (coming s (b ∷ whole_lines rest)) ≡ lines_of_items new.place (coming new (whole_lines rest)))
+    → (ends ≡ true → lines_of_items s.place (lines_to_come s (b ∷ whole_lines rest)) ≡ lines_of_items new.place (lines_to_come new (whole_lines rest)))
     → pending_lines s (b ∷ rest) ≡ pending_lines new rest
 lines_if s new b rest true here later same = rw (here, later) (same refl)
 lines_if s new b rest false here later same = rw (here, later) refl
@@ -112,15 +112,15 @@ lines_byte p l t b rest no_end room more =
     lines_if (state p l t) (state p (l ++ b ∷ []) (t + 1)) b rest (has_line_end rest) (end_later b rest no_end) refl (λ so. ap (lines_of_items p) (coming_byte p l t b (whole_lines rest) no_end room more))
 
 -- between two lines
-lines_between : (p : Place) (t : ℕ) (rest : List ℕ) (ends : Bool) → has_line_end rest ≡ ends → lines_of_items p (coming (state p [] t) (whole_lines rest)) ≡ pending_lines (state p [] t) rest
+lines_between : (p : Place) (t : ℕ) (rest : List ℕ) (ends : Bool) → has_line_end rest ≡ ends → lines_of_items p (lines_to_come (state p [] t) (whole_lines rest)) ≡ pending_lines (state p [] t) rest
 lines_between p t rest true is = rw is refl
 lines_between p t rest false is = rw (is, no_whole rest is) (written_end p)
 
-pub lines_at_start : (p : Place) (t : ℕ) (rest : List ℕ) → lines_of_items p (coming (state p [] t) (whole_lines rest)) ≡ pending_lines (state p [] t) rest
+pub lines_at_start : (p : Place) (t : ℕ) (rest : List ℕ) → lines_of_items p (lines_to_come (state p [] t) (whole_lines rest)) ≡ pending_lines (state p [] t) rest
 lines_at_start p t rest = lines_between p t rest (has_line_end rest) refl
 
 pub lines_end : (p q : Place) (l : List ℕ) (t : ℕ) (rest : List ℕ) → t < MAX_INPUT_BYTES
-    → pending_lines (state p l t) (10 ∷ rest) ≡ lines_of_items p (line l ∷ coming (state q [] (t + 1)) (whole_lines rest))
+    → pending_lines (state p l t) (10 ∷ rest) ≡ lines_of_items p (line l ∷ lines_to_come (state q [] (t + 1)) (whole_lines rest))
 lines_end p q l t rest more = ap (lines_of_items p) (coming_end p q l t (whole_lines rest) more)
 
 -- ---- the bytes of a last line

@@ -9,7 +9,7 @@ use Rattle.kz_types.specs.declared.machine.Answer.{Answer}
 use Rattle.kz_types.specs.declared.machine.Answer.TheVariants as answer
 use Rattle.kz_spec_lines.specs.Replies.{reply_text, reply_line, reply_lines}
 use Rattle.kz_spec_machine.specs.Driver.{Shared, Driver, step}
-use Rattle.kz_spec_machine.specs.Machine.{World, Turned, driver_of, ends, next, running_ids, running_refusal, turn, with_reply, work}
+use Rattle.kz_spec_machine.specs.Machine.{World, TurnResult, driver_of, ends, next, running_ids, running_refusal, turn, with_reply, work}
 use Rattle.kz_spec_machine.specs.Failures.{is_failed_step, is_failure, CutOffTurn, IsCutOff, IsLeft}
 use Rattle.kz_spec_runs.specs.Output.{Place, ending, steps_of}
 use Rattle.kz_spec_runs.specs.Endings.{IsFront}
@@ -35,7 +35,7 @@ no_line : (n : ℕ) (r : Reply) → is_failed_step r ≡ true → lines n (r ∷
 no_line n r failed = ap (λ t. reply_line n t ++ []) (failed_text r failed)
 
 -- the replies of a turn that goes on after its first step
-turned_on : (r : Reply) (t u : Turned) (b : Bool) → b ≡ false → (cond b t (with_reply r u)).replies ≡ r ∷ u.replies
+turned_on : (r : Reply) (t u : TurnResult) (b : Bool) → b ≡ false → (cond b t (with_reply r u)).replies ≡ r ∷ u.replies
 turned_on r t u b h = rw h refl
 
 turn_goes_on : (n : ℕ) (s : Shared) (running : List ℤ) (now : ℤ) (d : Driver) → ends (step s running now d).reply ≡ false

@@ -10,7 +10,7 @@ use Rattle.kz_replay.specs.declared.ending.Next.TheVariants as next_is
 use Rattle.kz_replay.specs.declared.ending.Stop.{Stop}
 use Rattle.kz_replay.specs.declared.ending.Stop.TheVariants as stop
 use Rattle.kz_replay.specs.Endings.{Stops}
-use Rattle.kz_replay.specs.Pending.{State, pending, pending_lines, Takes, GoesOn}
+use Rattle.kz_replay.specs.Pending.{State, outcome_to_come, pending_lines, Takes, GoesOn}
 
 after-append : (xs ys : List ℕ) (o : Outcome) → after xs (after ys o) ≡ after (xs ++ ys) o
 after-append xs ys o = ap (λ t. record { text = t; status = o.status }) (sym (append_assoc xs ys o.text))
@@ -24,7 +24,7 @@ one_by_one told joined joins a b d xs ys sent more first second rest =
 
 pub goes_on : (a b d : State) (xs ys sent more : List ℕ) → GoesOn a b xs sent → GoesOn b d ys more → GoesOn a d (xs ++ ys) (sent ++ more)
 goes_on a b d xs ys sent more first second = record {
-  begins = one_by_one pending after after-append a b d xs ys sent more first.begins second.begins;
+  begins = one_by_one outcome_to_come after after-append a b d xs ys sent more first.begins second.begins;
   lines = λ goes. one_by_one pending_lines (λ t u. t ++ u) (λ t u x. sym (append_assoc t u x)) a b d xs ys sent more (first.lines refl) (second.lines refl);
   count = λ goes. omega (arith, first.count refl, second.count refl, length-append xs ys);
 }
@@ -50,8 +50,8 @@ Stops-after o sent more (stop.Ends e) h = ap (after sent) h
 Stops-after o sent more stop.NoMemory h = front_after o sent more h
 Stops-after o sent more stop.SinkFailed h = front_after o sent more h
 
-pub stops_after : (a b : State) (xs ys sent more : List ℕ) (s : Stop) → GoesOn a b xs sent → Stops (pending b ys) more s → Stops (pending a (xs ++ ys)) (sent ++ more) s
-stops_after a b xs ys sent more s go h = subst (λ (o : Outcome). Stops o (sent ++ more) s) (sym (go.begins ys)) (Stops-after (pending b ys) sent more s h)
+pub stops_after : (a b : State) (xs ys sent more : List ℕ) (s : Stop) → GoesOn a b xs sent → Stops (outcome_to_come b ys) more s → Stops (outcome_to_come a (xs ++ ys)) (sent ++ more) s
+stops_after a b xs ys sent more s go h = subst (λ (o : Outcome). Stops o (sent ++ more) s) (sym (go.begins ys)) (Stops-after (outcome_to_come b ys) sent more s h)
 
 -- what was written before an end stands in front of it
 EndsAs-after : (o : Outcome) (lines sent more : List ℕ) (s : Status) → EndsAs o lines more s → EndsAs (after sent o) (sent ++ lines) (sent ++ more) s
@@ -64,11 +64,11 @@ EndsAs-after o lines sent more status.NoMemory h = front_after o sent more h
 EndsAs-after o lines sent more (status.Limit which number) h = ap (after sent) h
 
 -- at the end of the input
-pub ends_after : (a b : State) (bytes sent more : List ℕ) (s : Status) → GoesOn a b bytes sent → ((lines : List ℕ) → EndsAs (pending b []) lines more s)
-    → EndsAs (pending a (bytes ++ [])) (pending_lines a (bytes ++ [])) (sent ++ more) s
+pub ends_after : (a b : State) (bytes sent more : List ℕ) (s : Status) → GoesOn a b bytes sent → ((lines : List ℕ) → EndsAs (outcome_to_come b []) lines more s)
+    → EndsAs (outcome_to_come a (bytes ++ [])) (pending_lines a (bytes ++ [])) (sent ++ more) s
 ends_after a b bytes sent more s go h =
     subst (λ (o : Outcome). EndsAs o (pending_lines a (bytes ++ [])) (sent ++ more) s) (sym (go.begins []))
-    (subst (λ (t : List ℕ). EndsAs (after sent (pending b [])) t (sent ++ more) s) (sym (go.lines refl [])) (EndsAs-after (pending b []) (pending_lines b []) sent more s (h (pending_lines b []))))
+    (subst (λ (t : List ℕ). EndsAs (after sent (outcome_to_come b [])) t (sent ++ more) s) (sym (go.lines refl [])) (EndsAs-after (outcome_to_come b []) (pending_lines b []) sent more s (h (pending_lines b []))))
 
 -- a list, cut at one of its members
 pub cut_at : (xs rest : List ℕ) (i : ℕ) → i < length xs → take i xs ++ (get_or xs i 0 ∷ (drop (i + 1) xs ++ rest)) ≡ xs ++ rest

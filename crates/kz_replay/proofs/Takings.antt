@@ -8,7 +8,7 @@ use Rattle.kz_replay.specs.declared.ending.Next.{Next}
 use Rattle.kz_replay.specs.declared.ending.Next.TheVariants as next_is
 use Rattle.kz_replay.specs.Endings.{status_of, Begins}
 use Rattle.kz_replay.specs.Lines.{effect_of_line, Prints}
-use Rattle.kz_replay.specs.Pending.{State, coming, pending, pending_lines, Takes}
+use Rattle.kz_replay.specs.Pending.{State, lines_to_come, outcome_to_come, pending_lines, Takes}
 use Rattle.kz_replay.proofs.Cut.{state, pending_end, lines_end, lines_at_start}
 use Rattle.kz_replay.proofs.Outcomes.{begins_line, lines_of_line, begins_none, outcome_end}
 
@@ -19,7 +19,7 @@ ends_not : (e : Ending) → next_is.Ends e ≡ next_is.GoesOn → ⊥
 ends_not e is = cc
 
 -- the run ends at this byte, and nothing is printed
-pub ends_here : (s : State) (b : ℕ) (text : List ℕ) (what : Next) (e : Ending) → text ≡ [] → what ≡ next_is.Ends e → ((rest : List ℕ) → pending s (b ∷ rest) ≡ end_of_run (status_of e))
+pub ends_here : (s : State) (b : ℕ) (text : List ℕ) (what : Next) (e : Ending) → text ≡ [] → what ≡ next_is.Ends e → ((rest : List ℕ) → outcome_to_come s (b ∷ rest) ≡ end_of_run (status_of e))
     → Takes s s (b ∷ []) text what
 ends_here s b text what e none is h =
     subst (λ (t : List ℕ). Takes s s (b ∷ []) t what) (sym none)
@@ -27,7 +27,7 @@ ends_here s b text what e none is h =
     (record { begins = h; lines = λ goes. absurd (ends_not e goes); count = λ goes. absurd (ends_not e goes) }))
 
 -- the run goes on after it, and nothing is printed
-pub goes_here : (old new : State) (b : ℕ) (text : List ℕ) (what : Next) → text ≡ [] → what ≡ next_is.GoesOn → ((rest : List ℕ) → pending old (b ∷ rest) ≡ pending new rest)
+pub goes_here : (old new : State) (b : ℕ) (text : List ℕ) (what : Next) → text ≡ [] → what ≡ next_is.GoesOn → ((rest : List ℕ) → outcome_to_come old (b ∷ rest) ≡ outcome_to_come new rest)
     → ((rest : List ℕ) → pending_lines old (b ∷ rest) ≡ pending_lines new rest) → new.taken ≡ old.taken + 1 → Takes old new (b ∷ []) text what
 goes_here old new b text what none is same lines count =
     subst (λ (t : List ℕ). Takes old new (b ∷ []) t what) (sym none)
@@ -38,9 +38,9 @@ goes_here old new b text what none is same lines count =
 pub line_ends : (p q : Place) (l text : List ℕ) (t : ℕ) (what : Next) → t < MAX_INPUT_BYTES → Prints (effect_of_line p l) text what q → Takes (state p l t) (state q [] (t + 1)) (10 ∷ []) text what
 line_ends p q l text t what more h = record {
   begins = λ rest.
-      subst (λ (o : Outcome). Begins text what o (pending (state q [] (t + 1)) rest)) (sym (pending_end p q l t rest more)) (begins_line p q l text what h (coming (state q [] (t + 1)) rest));
+      subst (λ (o : Outcome). Begins text what o (outcome_to_come (state q [] (t + 1)) rest)) (sym (pending_end p q l t rest more)) (begins_line p q l text what h (lines_to_come (state q [] (t + 1)) rest));
   lines = λ goes rest.
-      lines_end p q l t rest more ∙ lines_of_line p q l text what h goes (coming (state q [] (t + 1)) (whole_lines rest)) ∙ ap (λ w. text ++ w) (lines_at_start q (t + 1) rest);
+      lines_end p q l t rest more ∙ lines_of_line p q l text what h goes (lines_to_come (state q [] (t + 1)) (whole_lines rest)) ∙ ap (λ w. text ++ w) (lines_at_start q (t + 1) rest);
   count = λ goes. refl;
 }
 

@@ -5,30 +5,30 @@ use Rattle.kz_types.specs.declared.outside.Status.{Status}
 use Rattle.kz_types.specs.declared.outside.Status.TheVariants as status
 use Rattle.kz_spec_runs.specs.Endings.{Agrees, EndsAs, EndsAtFailure, IsReplay}
 use Rattle.kz_spec_runs.specs.InStep.{StaysInStep, script_events}
-use Rattle.kz_spec_runs.specs.Output.{opening, outcome_of_replay}
+use Rattle.kz_spec_runs.specs.Output.{start_place, outcome_of_replay}
 use Rattle.kz_laws_machine.proofs.Lawful.{script_lawful}
 use Rattle.kz_laws_machine.proofs.Steady.{stays_in_step}
-use Rattle.kz_replay.specs.Pending.{State, pending, pending_lines}
-use Rattle.kz_replay.specs.Runs.{Side, Runs}
+use Rattle.kz_replay.specs.Pending.{State, outcome_to_come, pending_lines}
+use Rattle.kz_replay.specs.Runs.{StreamState, Runs}
 use Rattle.kz_replay.proofs.Cut.{state, lines_at_start}
 use Rattle.kz_replay.proofs.Runs.{always}
 
 -- a run that began at the first byte
-agrees : (s : State) → s ≡ state opening [] 0 → (script taken sent : List ℕ) (result : Status) → EndsAs (pending s script) (pending_lines s taken) sent result → Agrees script taken sent result
+agrees : (s : State) → s ≡ state start_place [] 0 → (script taken sent : List ℕ) (result : Status) → EndsAs (outcome_to_come s script) (pending_lines s taken) sent result → Agrees script taken sent result
 agrees s is script taken sent result h =
-    subst (λ (t : List ℕ). EndsAs (outcome_of_replay script) t sent result) (sym (lines_at_start opening 0 taken)) (subst (λ (x : State). EndsAs (pending x script) (pending_lines x taken) sent result) is h)
+    subst (λ (t : List ℕ). EndsAs (outcome_of_replay script) t sent result) (sym (lines_at_start start_place 0 taken)) (subst (λ (x : State). EndsAs (outcome_to_come x script) (pending_lines x taken) sent result) is h)
 
 -- what is told of a run from this state on
-abbrev pub Told : State → Side → Side → Side → Side → Status → List ℕ → Type 0
+abbrev pub Told : State → StreamState → StreamState → StreamState → StreamState → Status → List ℕ → Type 0
 Told s input input_now out out_now result script =
-    (taken : List ℕ) × (sent : List ℕ) × Consumes input.bytes input_now.bytes taken × Appends out.bytes out_now.bytes sent × EndsAs (pending s script) (pending_lines s taken) sent result
+    (taken : List ℕ) × (sent : List ℕ) × Consumes input.bytes input_now.bytes taken × Appends out.bytes out_now.bytes sent × EndsAs (outcome_to_come s script) (pending_lines s taken) sent result
 
-told_agrees : (o : Option (List ℕ)) (s : State) (input input_now out out_now : Side) (result : Status) → s ≡ state opening [] 0 → IfSome o (Told s input input_now out out_now result)
+told_agrees : (o : Option (List ℕ)) (s : State) (input input_now out out_now : StreamState) (result : Status) → s ≡ state start_place [] 0 → IfSome o (Told s input input_now out out_now result)
     → IfSome o (λ script. (taken : List ℕ) × (sent : List ℕ) × Consumes input.bytes input_now.bytes taken × Appends out.bytes out_now.bytes sent × Agrees script taken sent result)
 told_agrees None s input input_now out out_now result is h = tt
 told_agrees (Some script) s input input_now out out_now result is h = (h.0, h.1, h.2, h.3, agrees s is script h.0 h.1 result h.4)
 
-pub replays : (words : List (String Global)) (s : State) (input input_now out out_now : Side) (result : Status) → IsReplay words → s ≡ state opening [] 0 → result ≢ status.Usage
+pub replays : (words : List (String Global)) (s : State) (input input_now out out_now : StreamState) (result : Status) → IsReplay words → s ≡ state start_place [] 0 → result ≢ status.Usage
     → IfSome input.bytes (Told s input input_now out out_now result) → (result ≡ status.Done → IsAtEnd input_now.bytes)
     → EndsAtFailure status.ReadFault result input.faults input_now.faults input.last_failed input_now.last_failed
     → EndsAtFailure status.WriteFault result out.faults out_now.faults out.last_failed out_now.last_failed

@@ -14,20 +14,20 @@ pub record State : Type 0 where
   pub taken : ℕ
 
 -- the lines that come where these bytes follow
-abbrev pub coming : State → List ℕ → List Item
-coming s rest = with_front s.line (items_from (MAX_LINE_BYTES - length s.line) (MAX_INPUT_BYTES - s.taken) rest)
+abbrev pub lines_to_come : State → List ℕ → List Item
+lines_to_come s rest = with_front s.line (items_from (MAX_LINE_BYTES - length s.line) (MAX_INPUT_BYTES - s.taken) rest)
 
 -- the outcome where these bytes follow, and then the end of the input
-abbrev pub pending : State → List ℕ → Outcome
-pending s rest = outcome s.place (coming s rest)
+abbrev pub outcome_to_come : State → List ℕ → Outcome
+outcome_to_come s rest = outcome s.place (lines_to_come s rest)
 
 -- what is written for the lines that have ended, once these bytes are taken, too
 abbrev pub pending_lines : State → List ℕ → List ℕ
-pending_lines s rest = if has_line_end rest then lines_of_items s.place (coming s (whole_lines rest)) else []
+pending_lines s rest = if has_line_end rest then lines_of_items s.place (lines_to_come s (whole_lines rest)) else []
 
 -- From one state to another the run took these bytes, printed this, and then goes on or ends.
 pub record Takes (old new : State) (bytes text : List ℕ) (what : Next) : Type 0 where
-  pub begins : (rest : List ℕ) → Begins text what (pending old (bytes ++ rest)) (pending new rest)
+  pub begins : (rest : List ℕ) → Begins text what (outcome_to_come old (bytes ++ rest)) (outcome_to_come new rest)
   pub lines : what ≡ next_is.GoesOn → (rest : List ℕ) → pending_lines old (bytes ++ rest) ≡ text ++ pending_lines new rest
   pub count : what ≡ next_is.GoesOn → new.taken ≡ old.taken + length bytes
 

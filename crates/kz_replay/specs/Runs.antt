@@ -9,16 +9,16 @@ use Rattle.kz_spec_runs.specs.InStep.{StaysInStep, script_events}
 
 -- What a source or a sink tells: the bytes that are left, or taken so far, where they are told; how often a call has failed; and
 -- whether the last call did.
-pub record Side : Type 0 where
+pub record StreamState : Type 0 where
   pub bytes : Option (List ℕ)
   pub faults : ℕ
   pub last_failed : Bool
 
-abbrev pub side : {A : Type 0} → (A → Option (List ℕ)) → (A → ℕ) → (A → Bool) → A → Side
-side bytes faults last_failed a = record { bytes = bytes a; faults = faults a; last_failed = last_failed a }
+abbrev pub stream_state : {A : Type 0} → (A → Option (List ℕ)) → (A → ℕ) → (A → Bool) → A → StreamState
+stream_state bytes faults last_failed a = record { bytes = bytes a; faults = faults a; last_failed = last_failed a }
 
 -- The program runs with these words, on a source and a sink that tell this before and this after, and ends with this status.
-pub record Runs (words : List (String Global)) (input input_now out out_now : Side) (result : Status) : Type 0 where
+pub record Runs (words : List (String Global)) (input input_now out out_now : StreamState) (result : Status) : Type 0 where
   -- The words are refused exactly where they aren't the one word `replay`.
   pub usage : (result ≡ status.Usage) ↔ (IsReplay words → ⊥)
   -- Words that are refused leave the bytes of both sides as they were.

@@ -1,5 +1,5 @@
 //! The top call: the command that the program has.
-ghost use Rattle.kz_replay.specs.Runs.{side, Runs};
+ghost use Rattle.kz_replay.specs.Runs.{stream_state, Runs};
 
 use crate::program::run_on;
 use kz_io::{Sink, Source};
@@ -33,8 +33,8 @@ pub fn run<S: Source, K: Sink>(
     input: &mut S,
     out: &mut K,
 ) -> Status
-    ensures { Runs words.now (side S.left S.faults S.last_failed input.old) (side S.left S.faults S.last_failed input.new)
-        (side K.taken K.faults K.last_failed out.old) (side K.taken K.faults K.last_failed out.new) result }
+    ensures { Runs words.now (stream_state S.left S.faults S.last_failed input.old) (stream_state S.left S.faults S.last_failed input.new)
+        (stream_state K.taken K.faults K.last_failed out.old) (stream_state K.taken K.faults K.last_failed out.new) result }
 {
     run_on::<World<MemoryTree, MemoryLog>, S, K>(alloc, words, input, out)
 }

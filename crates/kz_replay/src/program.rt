@@ -2,8 +2,8 @@
 ghost use Rattle.std.specs.Prelude.{◌≡◌, ◌≢◌, ◌↔◌, [], List, ℕ, IfSome, IsTrue};
 ghost use Rattle.std.specs.Io.KnownBytes.{Appends, Consumes, IsAtEnd};
 ghost use Rattle.kz_spec_runs.specs.Endings.{EndsAs, EndsAtFailure, IsReplay};
-ghost use Rattle.kz_replay.specs.Pending.{pending, pending_lines};
-ghost use Rattle.kz_replay.specs.Runs.{side, Runs};
+ghost use Rattle.kz_replay.specs.Pending.{outcome_to_come, pending_lines};
+ghost use Rattle.kz_replay.specs.Runs.{stream_state, Runs};
 
 use crate::ending::stop_status;
 use crate::machine::Machine;
@@ -19,8 +19,8 @@ pub fn run_on<M: Machine, S: Source, K: Sink>(
     input: &mut S,
     out: &mut K,
 ) -> Status
-    ensures { Runs words.now (side S.left S.faults S.last_failed input.old) (side S.left S.faults S.last_failed input.new)
-        (side K.taken K.faults K.last_failed out.old) (side K.taken K.faults K.last_failed out.new) result }
+    ensures { Runs words.now (stream_state S.left S.faults S.last_failed input.old) (stream_state S.left S.faults S.last_failed input.new)
+        (stream_state K.taken K.faults K.last_failed out.old) (stream_state K.taken K.faults K.last_failed out.new) result }
 {
     if !is_replay(words) {
         return Status::Usage;
@@ -46,7 +46,7 @@ fn close<M: Machine, K: Sink>(stream: Stream<M>, out: &mut K) -> Status
     ensures ran { result ≢ Status.Usage }
     ensures no_read { result ≢ Status.ReadFault }
     ensures output { (sent : List ℕ) × Appends (K.taken out.old) (K.taken out.new) sent
-        × ((lines : List ℕ) → EndsAs (pending stream []) lines sent result) }
+        × ((lines : List ℕ) → EndsAs (outcome_to_come stream []) lines sent result) }
     ensures sink { EndsAtFailure Status.WriteFault result (K.faults out.old) (K.faults out.new) (K.last_failed out.old) (K.last_failed out.new) }
 {
     match stream.finish(out) {
@@ -60,7 +60,7 @@ fn pump<M: Machine, S: Source, K: Sink>(mut stream: Stream<M>, input: &mut S, ou
     ensures ran { result ≢ Status.Usage }
     ensures output { IfSome (S.left input.old) (λ script. (taken sent : List ℕ)
         × Consumes (S.left input.old) (S.left input.new) taken × Appends (K.taken out.old) (K.taken out.new) sent
-        × EndsAs (pending stream script) (pending_lines stream taken) sent result) }
+        × EndsAs (outcome_to_come stream script) (pending_lines stream taken) sent result) }
     ensures whole { result ≡ Status.Done → IsAtEnd (S.left input.new) }
     ensures source { EndsAtFailure Status.ReadFault result (S.faults input.old) (S.faults input.new) (S.last_failed input.old) (S.last_failed input.new) }
     ensures sink { EndsAtFailure Status.WriteFault result (K.faults out.old) (K.faults out.new) (K.last_failed out.old) (K.last_failed out.new) }

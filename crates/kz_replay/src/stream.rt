@@ -5,10 +5,10 @@ ghost use Rattle.kz_types.specs.declared.limits.TheConstants.{MAX_INPUT_BYTES, M
 ghost use Rattle.kz_types.specs.declared.outside.Status.TheVariants as status;
 ghost use Rattle.kz_spec_lines.specs.Lines.{with_front};
 ghost use Rattle.kz_spec_machine.specs.Machine.{empty_world};
-ghost use Rattle.kz_spec_runs.specs.Output.{Outcome, opening, end_of_run, outcome};
+ghost use Rattle.kz_spec_runs.specs.Output.{Outcome, start_place, end_of_run, outcome};
 ghost use Rattle.kz_replay.specs.Endings.{Begins, Stops, StopsAtSink};
 ghost use Rattle.kz_replay.specs.Kept.{IsKept};
-ghost use Rattle.kz_replay.specs.Pending.{State, pending, Takes, GoesOn};
+ghost use Rattle.kz_replay.specs.Pending.{State, outcome_to_come, Takes, GoesOn};
 
 use crate::ending::{Ending, Next, Printed, Stop};
 use crate::machine::Machine;
@@ -94,7 +94,7 @@ fn with_summary<M: Machine>(
 impl<M: Machine> Stream<M> {
     /// The stream before the first byte.
     pub fn new(alloc: Global, machine: M) -> Self
-        ensures { M.world machine ≡ empty_world → result ≡ record { place = opening; line = []; taken = 0 } }
+        ensures { M.world machine ≡ empty_world → result ≡ record { place = start_place; line = []; taken = 0 } }
     {
         Stream {
             alloc,
@@ -154,7 +154,7 @@ impl<M: Machine> Stream<M> {
         ensures ok { OnOk result ((sent : List ℕ) × Appends (K.taken out.old) (K.taken out.new) sent
             × GoesOn self.old self.new (byte ∷ []) sent) }
         ensures stop { IfErr result (λ stop. (sent : List ℕ) × Appends (K.taken out.old) (K.taken out.new) sent
-            × ((rest : List ℕ) → Stops (pending self.old (byte ∷ rest)) sent stop)) }
+            × ((rest : List ℕ) → Stops (outcome_to_come self.old (byte ∷ rest)) sent stop)) }
         ensures sink { StopsAtSink result (K.faults out.old) (K.faults out.new) (K.last_failed out.old) (K.last_failed out.new) }
     {
         let printed = match self.step(byte) {
@@ -171,7 +171,7 @@ impl<M: Machine> Stream<M> {
             × GoesOn self.old self.new piece.now sent) }
         ensures bound { OnOk result (self.new.taken ≤ MAX_INPUT_BYTES) }
         ensures stop { IfErr result (λ stop. (sent : List ℕ) × Appends (K.taken out.old) (K.taken out.new) sent
-            × ((rest : List ℕ) → Stops (pending self.old (piece.now ++ rest)) sent stop)) }
+            × ((rest : List ℕ) → Stops (outcome_to_come self.old (piece.now ++ rest)) sent stop)) }
         ensures sink { StopsAtSink result (K.faults out.old) (K.faults out.new) (K.last_failed out.old) (K.last_failed out.new) }
     {
         for byte in piece {
@@ -186,7 +186,7 @@ impl<M: Machine> Stream<M> {
 
     // What is printed for the rest of the last line, and the summary.
     fn close(self) -> Result<Printed, NoMemory>
-        ensures { IfOk result (λ p. Begins p.text.items p.next (pending self []) (end_of_run status.Done)) }
+        ensures { IfOk result (λ p. Begins p.text.items p.next (outcome_to_come self []) (end_of_run status.Done)) }
     {
         let Stream {
             alloc,
@@ -201,9 +201,9 @@ impl<M: Machine> Stream<M> {
     /// The end of the input: writes what there is to write for it.
     pub fn finish<K: Sink>(self, out: &mut K) -> Result<(), Stop>
         ensures ok { OnOk result ((sent : List ℕ) × Appends (K.taken out.old) (K.taken out.new) sent
-            × (pending self [] ≡ record { text = sent; status = status.Done })) }
+            × (outcome_to_come self [] ≡ record { text = sent; status = status.Done })) }
         ensures stop { IfErr result (λ stop. (sent : List ℕ) × Appends (K.taken out.old) (K.taken out.new) sent
-            × Stops (pending self []) sent stop) }
+            × Stops (outcome_to_come self []) sent stop) }
         ensures sink { StopsAtSink result (K.faults out.old) (K.faults out.new) (K.last_failed out.old) (K.last_failed out.new) }
     {
         let printed = match self.close() {

@@ -17,7 +17,7 @@ use Rattle.kz_settle.specs.declared.settled.Settled.TheVariants as settled
 use Rattle.kz_settle.specs.declared.marks.Marker.{Marker}
 use Rattle.kz_settle.specs.declared.marks.Marker.TheVariants as marker
 use Rattle.kz_settle.specs.Steps.{IsMarkerOf, after_close, answer_to_close, after_begin, after_plain, answer_to_plain, after_marker, answer_to_marker}
-use Rattle.kz_settle.specs.Stands.{Settling, Stands, AllBy, entries_of_answer}
+use Rattle.kz_settle.specs.Stands.{SettlerState, IsStateAfter, AllBy, entries_of_answer}
 use Rattle.kz_settle.proofs.Passing.{counted_is_pass, any_close, closed_after, open_among_is, is_open_at_end-is, record_inside, lt_from_less, lt_back, lt_itself, any_none, any_same, any-append, find_same, or_false, and_true, and_false, is_open_at_end-append}
 
 -- ---- one more entry, and the first End or Abort
@@ -326,7 +326,7 @@ counts_by a m o h k g = rw (h, k, g) refl
 waits_by : (o m : Bool) → o ≡ true → m ≡ false → (o && not m) ≡ true
 waits_by o m h k = rw (h, k) refl
 
-module _ (pushed given : List Entry) (e : Entry) (old : Settling) (h : Rises int_cmp offset_of (pushed ++ e ∷ [])) (s : Stands pushed given old) (popped : old.released ≡ []) where
+module _ (pushed given : List Entry) (e : Entry) (old : SettlerState) (h : Rises int_cmp offset_of (pushed ++ e ∷ [])) (s : IsStateAfter pushed given old) (popped : old.released ≡ []) where
   rises : Rises int_cmp offset_of pushed
   rises = Rises_left int_order offset_of pushed (e ∷ []) h
 
@@ -341,8 +341,8 @@ module _ (pushed given : List Entry) (e : Entry) (old : Settling) (h : Rises int
       sym (append-nil given) ∙ ap (λ r. given ++ r) (sym popped) ∙ s.counted at (all_left (λ (x : Entry). x.offset ≤ℤ at) pushed (e ∷ []) by) ∙ counted_is_pass pushed at rises
 
   -- from the records that wait and those that count, as one pass finds them
-  stands_by : (more : List Entry) (new : Settling) → new.begun ≡ open_begin (pushed ++ e ∷ []) → new.kept ≡ pending false (pushed ++ e ∷ [])
-      → ((at : ℤ) → AllBy at (pushed ++ e ∷ []) → (given ++ more) ++ new.released ≡ records_of_pass at false (pushed ++ e ∷ [])) → Stands (pushed ++ e ∷ []) (given ++ more) new
+  stands_by : (more : List Entry) (new : SettlerState) → new.begun ≡ open_begin (pushed ++ e ∷ []) → new.kept ≡ pending false (pushed ++ e ∷ [])
+      → ((at : ℤ) → AllBy at (pushed ++ e ∷ []) → (given ++ more) ++ new.released ≡ records_of_pass at false (pushed ++ e ∷ [])) → IsStateAfter (pushed ++ e ∷ []) (given ++ more) new
   stands_by more new b k c = record {
     begun = b;
     kept = k ∙ sym (kept_is_pending (pushed ++ e ∷ []) h);
@@ -358,7 +358,7 @@ module _ (pushed given : List Entry) (e : Entry) (old : Settling) (h : Rises int
   marker_not : (a b : Bool) → b ≡ true → (a && not b) ≡ false
   marker_not a b k = and_false a (not b) (ap not k)
 
-  pub stands_begin : is_begin e.item ≡ true → closes e.item ≡ false → Stands (pushed ++ e ∷ []) (given ++ []) (record old { begun = option_or old.begun (Some e.offset) })
+  pub stands_begin : is_begin e.item ≡ true → closes e.item ≡ false → IsStateAfter (pushed ++ e ∷ []) (given ++ []) (record old { begun = option_or old.begun (Some e.offset) })
   stands_begin begins plain =
       let m = marker_of_begin (is_begin e.item) (closes e.item) begins in
       stands_by [] (record old { begun = option_or old.begun (Some e.offset) })
@@ -376,14 +376,14 @@ module _ (pushed given : List Entry) (e : Entry) (old : Settling) (h : Rises int
       pass_abort at false pushed e closing ended (le_test e.offset at (all_last (λ (x : Entry). x.offset ≤ℤ at) pushed e by)) ∙ sym (append-nil (records_of_pass at false pushed))
 
   -- an End or Abort of the open transaction
-  pub stands_finish : (t : Bool) → is_begin e.item ≡ false → closes e.item ≡ true → is_end e.item ≡ t → Stands (pushed ++ e ∷ []) (given ++ []) (record { begun = None; kept = []; released = cond t old.kept [] })
+  pub stands_finish : (t : Bool) → is_begin e.item ≡ false → closes e.item ≡ true → is_end e.item ≡ t → IsStateAfter (pushed ++ e ∷ []) (given ++ []) (record { begun = None; kept = []; released = cond t old.kept [] })
   stands_finish t quiet closing ended =
       stands_by [] (record { begun = None; kept = []; released = cond t old.kept [] })
       (sym (begun_closing pushed e h quiet closing)) (sym (pending_closing false pushed e closing))
       (λ at by. nothing_more (cond t old.kept []) ∙ ap (λ g. g ++ cond t old.kept []) (count at by) ∙ ap (λ w. records_of_pass at false pushed ++ cond t w []) waits ∙ sym (closing_pass at t ended closing by))
 
   -- one outside every transaction
-  pub stands_outside : (t : Bool) → is_begin e.item ≡ false → closes e.item ≡ true → is_end e.item ≡ t → old.begun ≡ None → Stands (pushed ++ e ∷ []) (given ++ []) old
+  pub stands_outside : (t : Bool) → is_begin e.item ≡ false → closes e.item ≡ true → is_end e.item ≡ t → old.begun ≡ None → IsStateAfter (pushed ++ e ∷ []) (given ++ []) old
   stands_outside t quiet closing ended none =
       let shut : pending false pushed ≡ [] = pending_shut false pushed (inside ∙ ap is_some none) in
       stands_by [] old
@@ -392,7 +392,7 @@ module _ (pushed given : List Entry) (e : Entry) (old : Settling) (h : Rises int
       ∙ sym (append-nil (records_of_pass at false pushed)) ∙ ap (λ w. records_of_pass at false pushed ++ w) (sym (cond_empty t)) ∙ ap (λ w. records_of_pass at false pushed ++ cond t w []) (sym shut) ∙ sym (closing_pass at t ended closing by))
 
   -- a record that is no marker
-  pub stands_now : is_begin e.item ≡ false → closes e.item ≡ false → old.begun ≡ None → Stands (pushed ++ e ∷ []) (given ++ e ∷ []) old
+  pub stands_now : is_begin e.item ≡ false → closes e.item ≡ false → old.begun ≡ None → IsStateAfter (pushed ++ e ∷ []) (given ++ e ∷ []) old
   stands_now quiet plain none =
       let shut : is_open_at_end false pushed ≡ false = inside ∙ ap is_some none in
       stands_by (e ∷ []) old
@@ -403,7 +403,7 @@ module _ (pushed given : List Entry) (e : Entry) (old : Settling) (h : Rises int
       (le_test e.offset at (all_last (λ (x : Entry). x.offset ≤ℤ at) pushed e by)) (marker_plain (is_begin e.item) (closes e.item) quiet plain) shut))
       ∙ sym (pass_plain at false pushed e plain))
 
-  pub stands_kept : is_begin e.item ≡ false → closes e.item ≡ false → is_some old.begun ≡ true → Stands (pushed ++ e ∷ []) (given ++ []) (record old { kept = old.kept ++ e ∷ [] })
+  pub stands_kept : is_begin e.item ≡ false → closes e.item ≡ false → is_some old.begun ≡ true → IsStateAfter (pushed ++ e ∷ []) (given ++ []) (record old { kept = old.kept ++ e ∷ [] })
   stands_kept quiet plain some =
       let still : is_open_at_end false pushed ≡ true = inside ∙ some in
       stands_by [] (record old { kept = old.kept ++ e ∷ [] })
@@ -426,13 +426,13 @@ begin_does_not_close meta.EndTransaction h = false_is_true h
 begin_does_not_close (meta.AbortTransaction reason) h = false_is_true h
 begin_does_not_close r h = refl
 
-module _ (pushed given : List Entry) (e : Entry) (old new : Settling) (a : Settled) (h : Rises int_cmp offset_of (pushed ++ e ∷ [])) (s : Stands pushed given old) (popped : old.released ≡ []) where
-  stands_same : (b : Settled) (n : Settling) → a ≡ b → new ≡ n → Stands (pushed ++ e ∷ []) (given ++ entries_of_answer b) n → Stands (pushed ++ e ∷ []) (given ++ entries_of_answer a) new
+module _ (pushed given : List Entry) (e : Entry) (old new : SettlerState) (a : Settled) (h : Rises int_cmp offset_of (pushed ++ e ∷ [])) (s : IsStateAfter pushed given old) (popped : old.released ≡ []) where
+  stands_same : (b : Settled) (n : SettlerState) → a ≡ b → new ≡ n → IsStateAfter (pushed ++ e ∷ []) (given ++ entries_of_answer b) n → IsStateAfter (pushed ++ e ∷ []) (given ++ entries_of_answer a) new
   stands_same b n is made t =
-      subst (λ x. Stands (pushed ++ e ∷ []) (given ++ entries_of_answer x) new) (sym is) (subst (λ x. Stands (pushed ++ e ∷ []) (given ++ entries_of_answer b) x) (sym made) t)
+      subst (λ x. IsStateAfter (pushed ++ e ∷ []) (given ++ entries_of_answer x) new) (sym is) (subst (λ x. IsStateAfter (pushed ++ e ∷ []) (given ++ entries_of_answer b) x) (sym made) t)
 
   keep_by : (offset : Option ℤ) → old.begun ≡ offset → is_begin e.item ≡ false → closes e.item ≡ false → a ≡ answer_to_plain (is_some old.begun) e → new ≡ after_plain e old
-      → Stands (pushed ++ e ∷ []) (given ++ entries_of_answer a) new
+      → IsStateAfter (pushed ++ e ∷ []) (given ++ entries_of_answer a) new
   keep_by None was quiet plain is made =
       let i : is_some old.begun ≡ false = ap is_some was in
       stands_same (settled.Now e) old (is ∙ ap (λ t. answer_to_plain t e) i) (made ∙ ap (λ t. cond t (record old { kept = old.kept ++ e ∷ [] }) old) i) (stands_now pushed given e old h s popped quiet plain was)
@@ -441,7 +441,7 @@ module _ (pushed given : List Entry) (e : Entry) (old new : Settling) (a : Settl
       let n : Settling = record old { kept = old.kept ++ e ∷ [] } in
       stands_same settled.Kept n (is ∙ ap (λ t. answer_to_plain t e) i) (made ∙ ap (λ t. cond t n old) i) (stands_kept pushed given e old h s popped quiet plain i)
 
-  pub stands_keep : is_begin e.item ≡ false → closes e.item ≡ false → a ≡ answer_to_plain (is_some old.begun) e → new ≡ after_plain e old → Stands (pushed ++ e ∷ []) (given ++ entries_of_answer a) new
+  pub stands_keep : is_begin e.item ≡ false → closes e.item ≡ false → a ≡ answer_to_plain (is_some old.begun) e → new ≡ after_plain e old → IsStateAfter (pushed ++ e ∷ []) (given ++ entries_of_answer a) new
   stands_keep = keep_by old.begun refl
 
   none_of_answer : (t : Bool) → entries_of_answer (cond t settled.Released settled.Dropped) ≡ []
@@ -449,7 +449,7 @@ module _ (pushed given : List Entry) (e : Entry) (old new : Settling) (a : Settl
   none_of_answer false = refl
 
   finish_by : (offset : Option ℤ) (t : Bool) → old.begun ≡ offset → is_begin e.item ≡ false → closes e.item ≡ true → is_end e.item ≡ t → a ≡ answer_to_close (is_some old.begun) t → new ≡ after_close t old
-      → Stands (pushed ++ e ∷ []) (given ++ entries_of_answer a) new
+      → IsStateAfter (pushed ++ e ∷ []) (given ++ entries_of_answer a) new
   finish_by None t was quiet closing ended is made =
       let i : is_some old.begun ≡ false = ap is_some was in
       stands_same settled.Dropped old (is ∙ ap (λ b. answer_to_close b t) i) (made ∙ ap (λ b. cond b (record { begun = None; kept = []; released = cond t old.kept [] }) old) i)
@@ -458,9 +458,9 @@ module _ (pushed given : List Entry) (e : Entry) (old new : Settling) (a : Settl
       let i : is_some old.begun ≡ true = ap is_some was in
       let n : Settling = record { begun = None; kept = []; released = cond t old.kept [] } in
       stands_same (answer_to_close true t) n (is ∙ ap (λ b. answer_to_close b t) i) (made ∙ ap (λ b. cond b n old) i)
-      (subst (λ g. Stands (pushed ++ e ∷ []) (given ++ g) n) (sym (none_of_answer t)) (stands_finish pushed given e old h s popped t quiet closing ended))
+      (subst (λ g. IsStateAfter (pushed ++ e ∷ []) (given ++ g) n) (sym (none_of_answer t)) (stands_finish pushed given e old h s popped t quiet closing ended))
 
-  pub stands_turn : (m : Marker) (offset : ℤ) → offset ≡ e.offset → IsMarkerOf e.item (Some m) → a ≡ answer_to_marker m (is_some old.begun) → new ≡ after_marker m offset old → Stands (pushed ++ e ∷ []) (given ++ entries_of_answer a) new
+  pub stands_turn : (m : Marker) (offset : ℤ) → offset ≡ e.offset → IsMarkerOf e.item (Some m) → a ≡ answer_to_marker m (is_some old.begun) → new ≡ after_marker m offset old → IsStateAfter (pushed ++ e ∷ []) (given ++ entries_of_answer a) new
   stands_turn marker.Begin offset at m is made =
       stands_same settled.Kept (after_begin e.offset old) is (made ∙ ap (λ o. after_begin o old) at) (stands_begin pushed given e old h s popped m (begin_does_not_close e.item m))
   stands_turn marker.End offset at m is made = finish_by old.begun true refl m.0 m.1 m.2 is made

@@ -7,7 +7,7 @@ use Rattle.kz_settle.specs.declared.settled.Settled.TheVariants as settled
 
 -- The offset of the open transaction's Begin, the records of that transaction, and the records that were released and are
 -- still to be popped.
-pub record Settling : Type 0 where
+pub record SettlerState : Type 0 where
   pub begun : Option ℤ
   pub kept : List Entry
   pub released : List Entry
@@ -18,7 +18,7 @@ AllBy at es = All (λ (e : Entry). e.offset ≤ℤ at) es
 
 -- After these entries were pushed, and these were handed out, a settler has this open transaction and these records of it,
 -- and the records that count are those handed out and then those still to be popped.
-pub record Stands (pushed given : List Entry) (s : Settling) : Type 0 where
+pub record IsStateAfter (pushed given : List Entry) (s : SettlerState) : Type 0 where
   pub begun : s.begun ≡ open_begin pushed
   pub kept : s.kept ≡ records_of_open pushed
   pub counted : (at : ℤ) → AllBy at pushed → given ++ s.released ≡ counting_records pushed at
@@ -38,7 +38,7 @@ answer_to inside e =
     else (if inside then settled.Kept else settled.Now e))
 
 -- Where an answer isn't Released, nothing is to be popped.
-abbrev pub LeavesNone : Settled → Settling → Type 0
+abbrev pub LeavesNone : Settled → SettlerState → Type 0
 LeavesNone settled.Released s = ⊤
 LeavesNone (settled.Now e) s = s.released ≡ []
 LeavesNone settled.Kept s = s.released ≡ []

@@ -8,7 +8,7 @@ use Rattle.kz_settle.specs.declared.settled.Settled.{Settled}
 use Rattle.kz_settle.specs.declared.settled.Settled.TheVariants as settled
 use Rattle.kz_settle.specs.declared.marks.Marker.{Marker}
 use Rattle.kz_settle.specs.declared.marks.Marker.TheVariants as marker
-use Rattle.kz_settle.specs.Stands.{Settling}
+use Rattle.kz_settle.specs.Stands.{SettlerState}
 
 -- the marker that a record is
 abbrev pub IsMarkerOf : MetaRecord → Option Marker → Type 0
@@ -18,7 +18,7 @@ IsMarkerOf r (Some marker.End) = (is_begin r ≡ false) × (closes r ≡ true) �
 IsMarkerOf r (Some marker.Abort) = (is_begin r ≡ false) × (closes r ≡ true) × (is_end r ≡ false)
 
 -- the settler after an End or Abort
-abbrev pub after_close : Bool → Settling → Settling
+abbrev pub after_close : Bool → SettlerState → SettlerState
 after_close ends s = if is_some s.begun then record { begun = None; kept = []; released = if ends then s.kept else [] } else s
 
 -- the answer to an End or Abort
@@ -26,11 +26,11 @@ abbrev pub answer_to_close : Bool → Bool → Settled
 answer_to_close inside ends = if inside && ends then settled.Released else settled.Dropped
 
 -- the settler after a Begin
-abbrev pub after_begin : ℤ → Settling → Settling
+abbrev pub after_begin : ℤ → SettlerState → SettlerState
 after_begin offset s = record s { begun = option_or s.begun (Some offset) }
 
 -- the settler after a record that is no marker
-abbrev pub after_plain : Entry → Settling → Settling
+abbrev pub after_plain : Entry → SettlerState → SettlerState
 after_plain e s = if is_some s.begun then record s { kept = s.kept ++ e ∷ [] } else s
 
 -- the answer to a record that is no marker
@@ -38,7 +38,7 @@ abbrev pub answer_to_plain : Bool → Entry → Settled
 answer_to_plain inside e = if inside then settled.Kept else settled.Now e
 
 -- the settler after a marker at an offset
-abbrev pub after_marker : Marker → ℤ → Settling → Settling
+abbrev pub after_marker : Marker → ℤ → SettlerState → SettlerState
 after_marker marker.Begin offset s = after_begin offset s
 after_marker marker.End offset s = after_close true s
 after_marker marker.Abort offset s = after_close false s

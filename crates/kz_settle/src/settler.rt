@@ -4,7 +4,7 @@ ghost use Rattle.std.specs.Ordering.{int_cmp};
 ghost use Rattle.kz_ordered.specs.Ordered.{Rises};
 ghost use Rattle.kz_types.specs.declared.log.Entry.{Entry as EntryValue};
 ghost use Rattle.kz_settle.specs.Settling.{offset_of};
-ghost use Rattle.kz_settle.specs.Stands.{Settling, Stands, answer_to, entries_of_answer, LeavesNone};
+ghost use Rattle.kz_settle.specs.Stands.{SettlerState, IsStateAfter, answer_to, entries_of_answer, LeavesNone};
 ghost use Rattle.kz_settle.specs.Steps.{after_close, answer_to_close, after_begin, after_plain, answer_to_plain, after_marker, answer_to_marker};
 
 use crate::Settled;
@@ -25,7 +25,7 @@ pub struct Settler {
 }
 
 impl Model for Settler {
-    ghost Value = { Settling };
+    ghost Value = { SettlerState };
 
     ghost view = { λ s. record { begun = s.begun; kept = s.kept.items; released = s.released.items } };
 }
@@ -57,7 +57,7 @@ impl Settler {
     /// A settler to which nothing was pushed.
     pub fn new(alloc: Global) -> Self
         ensures value { result ≡ record { begun = None; kept = []; released = [] } }
-        ensures stands { Stands [] [] result }
+        ensures stands { IsStateAfter [] [] result }
     {
         Settler {
             begun: None,
@@ -136,8 +136,8 @@ impl Settler {
         ensures answer { IfOk result (λ answer. answer ≡ answer_to (is_some self.old.begun) e) }
 
         // What was handed out and what is still to be popped are together the records that count.
-        ensures stands { IfOk result (λ answer. (pushed given : List EntryValue) → Rises int_cmp offset_of (pushed ++ e ∷ []) → Stands pushed given self.old
-            → Stands (pushed ++ e ∷ []) (given ++ entries_of_answer answer) self.new) }
+        ensures stands { IfOk result (λ answer. (pushed given : List EntryValue) → Rises int_cmp offset_of (pushed ++ e ∷ []) → IsStateAfter pushed given self.old
+            → IsStateAfter (pushed ++ e ∷ []) (given ++ entries_of_answer answer) self.new) }
         ensures none { IfOk result (λ answer. LeavesNone answer self.new) }
         ensures err { OnErr result (self.new ≡ self.old) }
     {
@@ -155,7 +155,7 @@ impl Settler {
     pub fn pop(&mut self) -> Option<Entry>
         ensures next { self.old ≡ record self.new { released = option_to_list result ++ self.new.released } }
         ensures none { IfNone result (self.old.released ≡ []) }
-        ensures stands { (pushed given : List EntryValue) → Stands pushed given self.old → Stands pushed (given ++ option_to_list result) self.new }
+        ensures stands { (pushed given : List EntryValue) → IsStateAfter pushed given self.old → IsStateAfter pushed (given ++ option_to_list result) self.new }
     {
         self.released.pop_front()
     }

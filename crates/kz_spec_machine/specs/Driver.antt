@@ -319,8 +319,8 @@ abbrev pub missing_broker : List ℤ → Image → Option ℤ
 missing_broker ids i = least (filter (λ id. not (is_migrating i id)) ids)
 
 -- the driver that has read the log to its end
-abbrev pub having_read : Log → Driver → Driver
-having_read l d = record d { view = read_view l d.view }
+abbrev pub driver_at_log_end : Log → Driver → Driver
+driver_at_log_end l d = record d { view = read_view l d.view }
 
 -- a driver that sees that the migration is over resigns
 abbrev pub unless_finalised : Driver → Driver × Reply → Driver × Reply
@@ -416,19 +416,19 @@ after_rest before d = unless_finalised d (
 abbrev pub after_answer : Shared → List ℤ → ℤ → Driver → Stage → Driver × Reply
 after_answer s running now d stage.Uninitialized = (at_stage stage.Inactive d, reply.Moved state.Inactive)
 after_answer s running now d stage.Inactive = (d, reply.Idle)
-after_answer s running now d stage.WaitForControllerQuorum = after_quorum s.declared running (having_read s.log d)
-after_answer s running now d stage.WaitForBrokers = unless_finalised (having_read s.log d) (at_stage stage.ListBrokers (having_read s.log d), reply.Looked)
+after_answer s running now d stage.WaitForControllerQuorum = after_quorum s.declared running (driver_at_log_end s.log d)
+after_answer s running now d stage.WaitForBrokers = unless_finalised (driver_at_log_end s.log d) (at_stage stage.ListBrokers (driver_at_log_end s.log d), reply.Looked)
 after_answer s running now d stage.ListBrokers = after_brokers (missing_broker (broker_ids s.tree) d.view.image) d
 after_answer s running now d stage.ReadControlZnodes = after_look (seen_in s.tree) d
 after_answer s running now d (stage.ClaimLeadership seen) = after_claim seen d (claim_ops seen d now) (multi s.tree (claim_ops seen d now))
 after_answer s running now d (stage.ScanForMigration rows) = after_page rows (scan s.tree (last_path rows) MAX_SCAN_ROWS) (λ all. stage.ScanForMigration all) (λ all. stage.BeginMigration all) d
 after_answer s running now d (stage.BeginMigration rows) = after_translation s now d (translate rows)
 after_answer s running now d (stage.AppendRecords records) = after_append (after_records records) d (append s.log (epoch_or_zero d.epoch) now (next_records records))
-after_answer s running now d stage.ReadLogForResync = after_log (having_read s.log d)
+after_answer s running now d stage.ReadLogForResync = after_log (driver_at_log_end s.log d)
 after_answer s running now d (stage.ScanForResync target rows) = after_page rows (scan s.tree (last_path rows) MAX_SCAN_ROWS) (λ all. stage.ScanForResync target all) (λ all. stage.WriteResync target (diff (map rendered_row all) (render d.view.image))) d
 after_answer s running now d (stage.WriteResync target ops) = writes s.tree d.claim (remaining_at s.tree s.log target.offset) target (λ rest. stage.WriteResync target rest) stage.KraftControllerToBrokerComm d
 after_answer s running now d stage.KraftControllerToBrokerComm = (at_stage stage.DualWrite d, reply.Moved state.DualWrite)
-after_answer s running now d stage.DualWrite = after_rest d.view.image (having_read s.log d)
+after_answer s running now d stage.DualWrite = after_rest d.view.image (driver_at_log_end s.log d)
 after_answer s running now d (stage.WriteDelta target ops) = writes s.tree d.claim (remaining_at s.tree s.log target.offset) target (λ rest. stage.WriteDelta target rest) stage.DualWrite d
 
 -- ---- the driver that gets no answer
@@ -447,13 +447,13 @@ without_answer (add records) d = resigned_driver d
 -- ---- one step
 
 -- What is shared, the driver, and its reply.
-pub record Stepped : Type 0 where
+pub record StepResult : Type 0 where
   pub shared : Shared
   pub driver : Driver
   pub reply : Reply
 
 -- One step whose request is delivered: at most one request, and its answer.
-unfoldable pub step : Shared → List ℤ → ℤ → Driver → Stepped
+unfoldable pub step : Shared → List ℤ → ℤ → Driver → StepResult
 step s running now d = record {
   shared = shared_after s (epoch_or_zero d.epoch) now (request_at s now d d.stage);
   driver = (after_answer s running now d d.stage).0;

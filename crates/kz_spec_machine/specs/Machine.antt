@@ -32,7 +32,7 @@ use Rattle.kz_spec_stores.specs.Image.{empty_image, all_applied, is_migrated_sta
 use Rattle.kz_spec_stores.specs.Log.{Log, empty_log, end_of, begun_of, image_at, image_of, is_migrated_log, is_open_log, batch_ends, with_batch, with_next_epoch, full_log}
 use Rattle.kz_spec_znodes.specs.Rendering.{Excess, render, excess}
 use Rattle.kz_spec_znodes.specs.Translation.{Unreadable, translate}
-use Rattle.kz_spec_machine.specs.Driver.{Shared, Driver, new_driver, elected_driver, is_one_of, least, shown_by, path_of_op, Request, nothing, request_at, Stepped, step}
+use Rattle.kz_spec_machine.specs.Driver.{Shared, Driver, new_driver, elected_driver, is_one_of, least, shown_by, path_of_op, Request, nothing, request_at, StepResult, step}
 use Rattle.kz_spec_machine.specs.Verdicts.{verdict}
 
 -- ---- worlds
@@ -103,16 +103,16 @@ ends (reply.LogFailed fault) = true
 ends reply.NoMemory = true
 
 -- What is shared, the driver, and the replies of its steps.
-pub record Turned : Type 0 where
+pub record TurnResult : Type 0 where
   pub shared : Shared
   pub driver : Driver
   pub replies : List Reply
 
-abbrev pub with_reply : Reply → Turned → Turned
+abbrev pub with_reply : Reply → TurnResult → TurnResult
 with_reply r t = record t { replies = r ∷ t.replies }
 
 -- At most so many steps, up to and with the first whose reply ends the turn.
-unfoldable pub turn : ℕ → Shared → List ℤ → ℤ → Driver → Turned
+unfoldable pub turn : ℕ → Shared → List ℤ → ℤ → Driver → TurnResult
 turn zero s running now d = record { shared = s; driver = d; replies = [] }
 turn (suc n) s running now d =
     if ends (step s running now d).reply
@@ -243,7 +243,7 @@ election_answer w now = answer.Elected (next_epoch w.shared.log) (end_of (electe
 -- ---- turn
 
 -- the world after a turn of one driver, and its replies
-abbrev pub turned_world : World → Turned → World × Answer
+abbrev pub turned_world : World → TurnResult → World × Answer
 turned_world w t = (record { shared = t.shared; drivers = with_driver t.driver w.drivers }, answer.Turn t.replies)
 
 abbrev pub turn_result : World → ℤ → Option Driver → World × Answer

@@ -155,7 +155,7 @@ pub record Agreement (t : Tree) (l : Log) : Type 0 where
   pub end : (r : Recorded) → migration_record t ≡ Some r → pos 0 ≤ℤ r.offset → IsBatchEnd l r.offset
   pub same : (r : Recorded) → migration_record t ≡ Some r → unclosed_path t ≡ None → area t ≡ render (image_at l r.offset)
 
-pub record Kept (s : Shared) : Type 0 where
+pub record IsSharedSound (s : Shared) : Type 0 where
   pub tree : TreeShape s.tree
   pub log : LogShape s.log
   pub agreement : Agreement s.tree s.log
@@ -176,7 +176,7 @@ shown_in t = shown_by (row_at control_path t.rows)
 
 -- A claim is never above the data version, and a KRaft controller holds the tree; while it is current, `/controller` shows
 -- the driver's epoch.
-pub record Claimed (version shown epoch : Option ℤ) (v : ℤ) : Type 0 where
+pub record IsClaimOf (version shown epoch : Option ℤ) (v : ℤ) : Type 0 where
   pub least : pos 0 ≤ℤ v
   pub low : (now : ℤ) → version ≡ Some now → v ≤ℤ now
   pub there : version ≢ None
@@ -185,7 +185,7 @@ pub record Claimed (version shown epoch : Option ℤ) (v : ℤ) : Type 0 where
 
 abbrev pub Claims : Option ℤ → Option ℤ → Option ℤ → Option ℤ → Type 0
 Claims version shown epoch None = ⊤
-Claims version shown epoch (Some v) = Claimed version shown epoch v
+Claims version shown epoch (Some v) = IsClaimOf version shown epoch v
 
 -- What a driver knows of the log is the metadata at a batch end, and a migration that it knows of stays committed.
 pub record Views (l : Log) (v : View) : Type 0 where
@@ -200,13 +200,13 @@ Epochs log_epoch None = ⊤
 Epochs log_epoch (Some e) = IsEpoch e × (e ≤ℤ log_epoch)
 
 -- A driver that does anything was elected and hasn't resigned.
-abbrev pub Elected : Option ℤ → Stage → Type 0
-Elected epoch stage.Uninitialized = ⊤
-Elected epoch stage.Inactive = ⊤
-Elected epoch s = epoch ≢ None
+abbrev pub WasElected : Option ℤ → Stage → Type 0
+WasElected epoch stage.Uninitialized = ⊤
+WasElected epoch stage.Inactive = ⊤
+WasElected epoch s = epoch ≢ None
 
 -- what a driver that writes will record: its view's end of the log, which is migrated
-pub record Aims (target : Recorded) (own : ℤ) (own_epoch : Option ℤ) (v : View) : Type 0 where
+pub record IsTargetOf (target : Recorded) (own : ℤ) (own_epoch : Option ℤ) (v : View) : Type 0 where
   pub id : target.id ≡ own
   pub controller_epoch : Some target.controller_epoch ≡ own_epoch
   pub offset : target.offset ≡ v.position
@@ -224,7 +224,7 @@ pub record Writes (t : Tree) (l : Log) (target : Recorded) (ops : List Op) : Typ
   pub remaining : ops ≡ remaining_at t l target.offset
 
 -- A current driver that rests: the tree is closed, and what it recorded is what the driver recorded, where its view ends.
-pub record Rests (t : Tree) (v : View) (offset : Option ℤ) : Type 0 where
+pub record IsAtRest (t : Tree) (v : View) (offset : Option ℤ) : Type 0 where
   pub closed : unclosed_path t ≡ None
   pub same : option_map (λ (r : Recorded). r.offset) (migration_record t) ≡ offset
   pub view : offset ≡ Some v.position
@@ -247,18 +247,18 @@ AtStage t l d (stage.ScanForMigration rows) = d.claim ≢ None
 AtStage t l d (stage.BeginMigration rows) = d.claim ≢ None
 AtStage t l d (stage.AppendRecords records) = (d.claim ≢ None) × All IsTranslated records
 AtStage t l d stage.ReadLogForResync = is_migrated_log l ≡ true
-AtStage t l d (stage.ScanForResync target rows) = Aims target d.id d.epoch d.view × (IsCurrent t d.claim → Reads t rows)
-AtStage t l d (stage.WriteResync target ops) = Aims target d.id d.epoch d.view × (IsCurrent t d.claim → Writes t l target ops)
-AtStage t l d stage.KraftControllerToBrokerComm = (d.claim ≢ None) × (IsCurrent t d.claim → Rests t d.view d.recorded)
-AtStage t l d stage.DualWrite = (d.claim ≢ None) × (IsCurrent t d.claim → Rests t d.view d.recorded)
-AtStage t l d (stage.WriteDelta target ops) = Aims target d.id d.epoch d.view × (IsCurrent t d.claim → Writes t l target ops)
+AtStage t l d (stage.ScanForResync target rows) = IsTargetOf target d.id d.epoch d.view × (IsCurrent t d.claim → Reads t rows)
+AtStage t l d (stage.WriteResync target ops) = IsTargetOf target d.id d.epoch d.view × (IsCurrent t d.claim → Writes t l target ops)
+AtStage t l d stage.KraftControllerToBrokerComm = (d.claim ≢ None) × (IsCurrent t d.claim → IsAtRest t d.view d.recorded)
+AtStage t l d stage.DualWrite = (d.claim ≢ None) × (IsCurrent t d.claim → IsAtRest t d.view d.recorded)
+AtStage t l d (stage.WriteDelta target ops) = IsTargetOf target d.id d.epoch d.view × (IsCurrent t d.claim → Writes t l target ops)
 AtStage t l d s = ⊤
 
 -- What one driver believes, against what is shared. No other driver is named.
-pub record Fine (s : Shared) (d : Driver) : Type 0 where
+pub record IsSoundDriver (s : Shared) (d : Driver) : Type 0 where
   pub id : IsId d.id
   pub epochs : Epochs s.log.epoch d.epoch
-  pub elected : Elected d.epoch d.stage
+  pub elected : WasElected d.epoch d.stage
   pub claims : Claims (claim_version s.tree) (shown_in s.tree) d.epoch d.claim
   pub views : Views s.log d.view
   pub stage : AtStage s.tree s.log d d.stage
@@ -268,8 +268,8 @@ abbrev pub Each : (Driver → Type 0) → List Driver → Type 0
 Each P drivers = (id : ℤ) (d : Driver) → driver_of id drivers ≡ Some d → P d
 
 pub record Sound (w : World) : Type 0 where
-  pub kept : Kept w.shared
-  pub each : Each (Fine w.shared) w.drivers
+  pub kept : IsSharedSound w.shared
+  pub each : Each (IsSoundDriver w.shared) w.drivers
 
 -- ---- one controller
 
@@ -280,7 +280,7 @@ AtMostOne declared (d ∷ []) = is_one_of declared d.id ≡ true
 AtMostOne declared (d ∷ e ∷ ds) = ⊥
 
 -- While one controller alone is declared, it alone runs, and its claim stays current.
-pub record Alone (w : World) : Type 0 where
+pub record IsOneController (w : World) : Type 0 where
   pub declared : length w.shared.declared ≤ 1
   pub running : AtMostOne w.shared.declared w.drivers
   pub current : (id : ℤ) (d : Driver) → driver_of id w.drivers ≡ Some d → d.claim ≢ None → IsCurrent w.shared.tree d.claim

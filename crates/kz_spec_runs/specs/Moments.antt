@@ -5,7 +5,7 @@ use Rattle.kz_types.specs.declared.outside.Status.{Status}
 use Rattle.kz_spec_lines.specs.Lines.{Item, line, long, much, items, is_passed_over}
 use Rattle.kz_spec_lines.specs.Events.{line_event}
 use Rattle.kz_spec_machine.specs.Machine.{Pair, pair_of, next, event_pairs}
-use Rattle.kz_spec_runs.specs.Output.{Place, opening, place_after_line, place_after_event, written_for, ending, summary}
+use Rattle.kz_spec_runs.specs.Output.{Place, start_place, place_after_line, place_after_event, written_for, ending, summary}
 
 -- The lines that stand whole, the lines that are being written, of which some front may stand, and the tree and the log.
 pub record Moment : Type 0 where
@@ -53,4 +53,4 @@ moments p (line l ∷ is) = if is_passed_over l then moments (place_after_line p
 
 -- The moments of a replay of these bytes.
 abbrev pub replayed_moments : List ℕ → List Moment
-replayed_moments bytes = moments opening (items bytes)
+replayed_moments bytes = moments start_place (items bytes)

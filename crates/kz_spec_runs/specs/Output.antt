@@ -43,8 +43,8 @@ pub record Place : Type 0 where
   pub steps : ℕ
   pub world : World
 
-abbrev pub opening : Place
-opening = record { lines = 0; events = 0; steps = 0; world = empty_world }
+abbrev pub start_place : Place
+start_place = record { lines = 0; events = 0; steps = 0; world = empty_world }
 
 -- the place after a line that is passed over
 abbrev pub place_after_line : Place → Place
@@ -141,8 +141,8 @@ lines_of_items p (line l ∷ is) = if is_passed_over l then lines_of_items (plac
 -- What a replay has written once it has taken these bytes, and before it knows what follows: all lines of the events whose
 -- lines have ended.
 abbrev pub written_so_far : List ℕ → List ℕ
-written_so_far bytes = lines_of_items opening (items (whole_lines bytes))
+written_so_far bytes = lines_of_items start_place (items (whole_lines bytes))
 
 -- What `replay` makes of its input.
 abbrev pub outcome_of_replay : List ℕ → Outcome
-outcome_of_replay bytes = outcome opening (items bytes)
+outcome_of_replay bytes = outcome start_place (items bytes)

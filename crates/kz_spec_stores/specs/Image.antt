@@ -28,7 +28,7 @@ use Rattle.kz_types.specs.Paths.{path_of}
 use Rattle.kz_ordered.specs.Order.{bytes_cmp}
 use Rattle.kz_ordered.specs.Ordered.{find, put, without}
 pub use Rattle.kz_spec_stores.specs.Metadata.{Image, empty_image, is_migrated_state, name_of_topic, number_of_partition, name_of_configuration, name_of_pair, path_of_quotas, key_of_quota, name_of_user, mechanism_of_pair, id_of_acl, id_of_broker, same_id, topic_named, topic_with, partition_at, pairs_at}
-pub use Rattle.kz_spec_stores.specs.ImageRules.{is_broker_config, rule_number, new_row, changed_row, quota_key, broken, rule_against}
+pub use Rattle.kz_spec_stores.specs.ImageRules.{is_broker_config, rule_number, new_row, changed_row, quota_key, broken_rule, rule_against}
 
 -- ---- topics
 
@@ -154,7 +154,7 @@ unless_broken (Some rule) made i = i
 
 -- The metadata after a record of a batch of this epoch; one that breaks a rule changes nothing.
 abbrev pub image_with : ℤ → MetaRecord → Image → Image
-image_with epoch r i = unless_broken (broken i r) (effect epoch r i) i
+image_with epoch r i = unless_broken (broken_rule i r) (effect epoch r i) i
 
 -- the metadata after these records, one after another
 abbrev pub all_applied : ℤ → List MetaRecord → Image → Image

@@ -223,9 +223,9 @@ first_broken [] = None
 first_broken (c ∷ cs) = if c.0 then Some c.1 else first_broken cs
 
 -- The first rule that a record of the log breaks. One that breaks a rule changes nothing.
-unfoldable pub broken : Image → MetaRecord → Option ImageRule
-broken i r = first_broken ((is_misnamed r, BadName) ∷ (lacks i r, Absent) ∷ (repeats i r, Exists) ∷ (is_misvalued i r, BadValue) ∷ [])
+unfoldable pub broken_rule : Image → MetaRecord → Option ImageRule
+broken_rule i r = first_broken ((is_misnamed r, BadName) ∷ (lacks i r, Absent) ∷ (repeats i r, Exists) ∷ (is_misvalued i r, BadValue) ∷ [])
 
 -- The first rule that a record breaks which a controller is asked for.
 abbrev pub rule_against : Image → MetaRecord → Option ImageRule
-rule_against i r = if is_kept_back r then Some NotAllowed else broken i r
+rule_against i r = if is_kept_back r then Some NotAllowed else broken_rule i r

@@ -52,9 +52,9 @@ Follow from [] = ⊤
 Follow from (b ∷ bs) = (b.first ≡ from +ℤ pos 1) × (0 < length b.items) × Follow (last_of b) bs
 
 -- The epochs of batches never fall, from this one on, and none is above the other.
-abbrev pub Climb : ℤ → ℤ → List BatchRow → Type 0
-Climb least most [] = ⊤
-Climb least most (b ∷ bs) = (least ≤ℤ b.epoch) × (b.epoch ≤ℤ most) × Climb b.epoch most bs
+abbrev pub EpochsNeverFall : ℤ → ℤ → List BatchRow → Type 0
+EpochsNeverFall least most [] = ⊤
+EpochsNeverFall least most (b ∷ bs) = (least ≤ℤ b.epoch) × (b.epoch ≤ℤ most) × EpochsNeverFall b.epoch most bs
 
 -- What is true of every log: its epoch isn't negative; its base is at least -1, and where it is -1 the base image is empty;
 -- the batches follow each other from the base on, in epochs of at least 1 that never fall and aren't above the log's; and
@@ -64,7 +64,7 @@ pub record IsLog (l : Log) : Type 0 where
   pub base : negsuc 0 ≤ℤ l.base
   pub base_image : l.base ≡ negsuc 0 → l.base_image ≡ empty_image
   pub follow : Follow l.base l.batches
-  pub epochs : Climb (pos 1) l.epoch l.batches
+  pub epochs : EpochsNeverFall (pos 1) l.epoch l.batches
   pub end : end_of l ≤ℤ MAX_LONG
 
 -- records with the offsets from this one on

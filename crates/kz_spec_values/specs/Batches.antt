@@ -248,12 +248,12 @@ batch_of bytes =
 -- ---- writing
 
 -- the content of the record that holds a value at this offset delta: no key, no header, and the base timestamp
-abbrev pub holding : ℕ → List ℕ → Content
-holding n value = (tt, (pos 0, (pos n, (None, (value, [])))))
+abbrev pub content_with : ℕ → List ℕ → Content
+content_with n value = (tt, (pos 0, (pos n, (None, (value, [])))))
 
 abbrev pub records_written : ℕ → List (List ℕ) → List ℕ
 records_written n [] = []
-records_written n (v ∷ vs) = entry.written (holding n v) ++ records_written (n + 1) vs
+records_written n (v ∷ vs) = entry.written (content_with n v) ++ records_written (n + 1) vs
 
 -- from the attributes to the count of records: attributes, last delta, base and greatest timestamp, producer id,
 -- producer epoch, base sequence, count

@@ -166,12 +166,12 @@ abbrev pub char_size : ℕ → ℕ
 char_size b = if nat_lt b 128 then 1 else (if nat_lt b 194 then 0 else (if nat_lt b 224 then 2 else (if nat_lt b 240 then 3 else (if nat_lt b 245 then 4 else 0))))
 
 -- Of bytes that begin with no character: how many of them a text of this length may begin with.
-abbrev pub possible : List ℕ → ℕ
-possible bytes = if nat_le 1 (char_size (slice_index bytes 0)) && nat_le (char_size (slice_index bytes 0)) (length bytes) then unwrap_or (utf8_error_len bytes) 0 else 0
+abbrev pub text_beginning_length : List ℕ → ℕ
+text_beginning_length bytes = if nat_le 1 (char_size (slice_index bytes 0)) && nat_le (char_size (slice_index bytes 0)) (length bytes) then unwrap_or (utf8_error_len bytes) 0 else 0
 
 -- the place of the first byte at which no text of this length goes on
 abbrev pub text_fault : List ℕ → ℕ
-text_fault bytes = utf8_valid_len bytes + possible (drop (utf8_valid_len bytes) bytes)
+text_fault bytes = utf8_valid_len bytes + text_beginning_length (drop (utf8_valid_len bytes) bytes)
 
 -- A text that was taken, whose bytes end at this place.
 abbrev pub text_or_fault : ℕ → Option (List ℕ) → Result (Option (List ℕ)) ByteFault

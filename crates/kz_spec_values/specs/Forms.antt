@@ -29,8 +29,8 @@ there at (None, r) = Err (BadField at)
 there at (Some x, r) = Ok (x, r)
 
 -- a field that can't be null
-abbrev pub present : {X : Type 0} → Format ByteFault (Option X) → Format CodecFault X
-present f = record {
+abbrev pub non_null : {X : Type 0} → Format ByteFault (Option X) → Format CodecFault X
+non_null f = record {
   spells = λ x bytes. f.spells (Some x) bytes;
   read = λ r. with_field_fault (f.read r) >>= there r.at;
   written = λ x. f.written (Some x);

@@ -21,7 +21,7 @@ use Rattle.kz_types.specs.declared.record.CodecFault.{CodecFault}
 use Rattle.kz_types.specs.declared.record.CodecFault.TheVariants.{UnknownKey, UnknownVersion, BadField, Rest, NoMemory}
 use Rattle.kz_types.specs.QuotaEntities.{user_first}
 use Rattle.kz_spec_values.specs.Fields.{Reading, Format, format_through, ◌>>=◌, uvarint, unsigned_number, signed_number, id, nullable_bytes, nullable_text}
-use Rattle.kz_spec_values.specs.Forms.{with_field_fault, field, present, flag, nullable_ints, ◌⊗◌, list_of, AllFit, nothing, Known, Content, both, plain, text_content, tag, section, without_tags}
+use Rattle.kz_spec_values.specs.Forms.{with_field_fault, field, non_null, flag, nullable_ints, ◌⊗◌, list_of, AllFit, nothing, Known, Content, both, plain, text_content, tag, section, without_tags}
 
 -- ---- the fields, under the names of Kafka's schemas
 
@@ -44,16 +44,16 @@ abbrev pub uuid : Format CodecFault Id
 uuid = field id
 
 abbrev pub string : Format CodecFault (List ℕ)
-string = present nullable_text
+string = non_null nullable_text
 
 abbrev pub nullable_string : Format CodecFault (Option (List ℕ))
 nullable_string = field nullable_text
 
 abbrev pub bytes : Format CodecFault (List ℕ)
-bytes = present nullable_bytes
+bytes = non_null nullable_bytes
 
 abbrev pub ints : Format CodecFault (List ℤ)
-ints = present nullable_ints
+ints = non_null nullable_ints
 
 -- ---- the records: their fields in order
 

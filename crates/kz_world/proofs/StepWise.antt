@@ -22,8 +22,8 @@ use Rattle.kz_spec_stores.specs.Tree.{Tree, multi, broker_ids}
 use Rattle.kz_spec_stores.specs.Log.{Log, View, IsViewOf, append}
 use Rattle.kz_spec_stores.specs.Image.{Image}
 use Rattle.kz_spec_znodes.specs.Translation.{Unreadable, translate}
-use Rattle.kz_spec_machine.specs.Driver.{Shared, Driver, Stepped, step, request_at, after_answer, Request, nothing, read_log, list_brokers, look_up, read_page, write, add, unless_finalised, wait_or_move, after_quorum, after_brokers, missing_controller, missing_broker, having_read, seen_in, after_look, shown_by, unless_fenced, unless_full_epoch, unless_bad_epoch, unless_full_record, epoch_or_zero, claim_ops, after_claim, after_translation, after_append, begin_record, next_records, after_records, after_rest, is_recorded_at, writes, after_write, written_driver, is_last_write, is_claim_refused, write_ops, remaining_at}
-use Rattle.kz_spec_machine.specs.Machine.{Turned, ends, turn, with_reply}
+use Rattle.kz_spec_machine.specs.Driver.{Shared, Driver, StepResult, step, request_at, after_answer, Request, nothing, read_log, list_brokers, look_up, read_page, write, add, unless_finalised, wait_or_move, after_quorum, after_brokers, missing_controller, missing_broker, driver_at_log_end, seen_in, after_look, shown_by, unless_fenced, unless_full_epoch, unless_bad_epoch, unless_full_record, epoch_or_zero, claim_ops, after_claim, after_translation, after_append, begin_record, next_records, after_records, after_rest, is_recorded_at, writes, after_write, written_driver, is_last_write, is_claim_refused, write_ops, remaining_at}
+use Rattle.kz_spec_machine.specs.Machine.{TurnResult, ends, turn, with_reply}
 use Rattle.kz_spec_machine.specs.Failures.{is_failed_step, IsCutOff}
 use Rattle.kz_driver.specs.declared.fault.StepFault.{StepFault}
 use Rattle.kz_driver.specs.declared.fault.StepFault.TheVariants as step_fault
@@ -119,19 +119,19 @@ rests before d = finalised d.id d _ refl (chosen (is_recorded_at d.recorded d.vi
 has_id : (s : Shared) (running : List ℤ) (now : ℤ) (d : Driver) (st : Stage) → HasId d.id (after_answer s running now d st)
 has_id s running now d stage.Uninitialized = refl
 has_id s running now d stage.Inactive = refl
-has_id s running now d stage.WaitForControllerQuorum = quorum s.declared running (having_read s.log d)
-has_id s running now d stage.WaitForBrokers = finalised d.id (having_read s.log d) _ refl refl
+has_id s running now d stage.WaitForControllerQuorum = quorum s.declared running (driver_at_log_end s.log d)
+has_id s running now d stage.WaitForBrokers = finalised d.id (driver_at_log_end s.log d) _ refl refl
 has_id s running now d stage.ListBrokers = brokers (missing_broker (broker_ids s.tree) d.view.image) d
 has_id s running now d stage.ReadControlZnodes = looks (seen_in s.tree) d
 has_id s running now d (stage.ClaimLeadership seen) = claims seen d (claim_ops seen d now) (multi s.tree (claim_ops seen d now))
 has_id s running now d (stage.ScanForMigration rows) = refl
 has_id s running now d (stage.BeginMigration rows) = translates s now d (translate rows)
 has_id s running now d (stage.AppendRecords records) = appends (after_records records) d (append s.log (epoch_or_zero d.epoch) now (next_records records))
-has_id s running now d stage.ReadLogForResync = finalised d.id (having_read s.log d) _ refl refl
+has_id s running now d stage.ReadLogForResync = finalised d.id (driver_at_log_end s.log d) _ refl refl
 has_id s running now d (stage.ScanForResync target rows) = refl
 has_id s running now d (stage.WriteResync target ops) = under s.tree d.claim (remaining_at s.tree s.log target.offset) target (λ rest. stage.WriteResync target rest) stage.KraftControllerToBrokerComm d
 has_id s running now d stage.KraftControllerToBrokerComm = refl
-has_id s running now d stage.DualWrite = rests d.view.image (having_read s.log d)
+has_id s running now d stage.DualWrite = rests d.view.image (driver_at_log_end s.log d)
 has_id s running now d (stage.WriteDelta target ops) = under s.tree d.claim (remaining_at s.tree s.log target.offset) target (λ rest. stage.WriteDelta target rest) stage.DualWrite d
 
 step_id : (s : Shared) (running : List ℤ) (now : ℤ) (d : Driver) → (step s running now d).driver.id ≡ d.id
@@ -140,18 +140,18 @@ step_id s running now d = has_id s running now d d.stage
 
 -- a step that is known keeps the id
 pub same_id : (s : Shared) (running : List ℤ) (now : ℤ) (d : Driver) (t : Shared) (e : Driver) (r : Reply) → step s running now d ≡ record { shared = t; driver = e; reply = r } → e.id ≡ d.id
-same_id s running now d t e r is = sym (ap (λ (x : Stepped). x.driver.id) is) ∙ step_id s running now d
+same_id s running now d t e r is = sym (ap (λ (x : StepResult). x.driver.id) is) ∙ step_id s running now d
 
 -- ---- the turn
 
-abbrev pub stepped : Shared → Driver → Reply → Stepped
+abbrev pub stepped : Shared → Driver → Reply → StepResult
 stepped s d r = record { shared = s; driver = d; reply = r }
 
-abbrev pub turned : Shared → Driver → List Reply → Turned
+abbrev pub turned : Shared → Driver → List Reply → TurnResult
 turned s d rs = record { shared = s; driver = d; replies = rs }
 
 -- a turn by its first step
-abbrev by_step : ℕ → List ℤ → ℤ → Stepped → Turned
+abbrev by_step : ℕ → List ℤ → ℤ → StepResult → TurnResult
 by_step n running now p = cond (ends p.reply) (turned p.shared p.driver (p.reply ∷ [])) (with_reply p.reply (turn n p.shared running now p.driver))
 
 first_step : (n : ℕ) (s : Shared) (running : List ℤ) (now : ℤ) (d : Driver) → turn (suc n) s running now d ≡ by_step n running now (step s running now d)
@@ -216,7 +216,7 @@ unfolding IsCutOff
 cut_after zero s running now d q mid next [] t e is on h = absurd h
 cut_after (suc k) s running now d q mid next [] t e is on h = absurd h
 cut_after k s running now d q mid next (p ∷ ps) t e is on h =
-    (sym (ap (λ (x : Stepped). x.reply) is), on, subst (λ (x : Stepped). IsCutOff k x.shared running now x.driver (p ∷ ps) t e) (sym is) h)
+    (sym (ap (λ (x : StepResult). x.reply) is), on, subst (λ (x : StepResult). IsCutOff k x.shared running now x.driver (p ∷ ps) t e) (sym is) h)
 
 -- a step fails
 fails_here : (k : ℕ) (s : Shared) (running : List ℤ) (now : ℤ) (d : Driver) (r : Reply) (t : Shared) (e : Driver) → is_failed_step r ≡ true → t ≡ s → e ≡ d → IsCutOff (suc k) s running now d (r ∷ []) t e
@@ -243,7 +243,7 @@ all_disks frames running now m [] n rest new same h = subst (λ (x : Moment). Tu
 all_disks frames running now m (q ∷ qs) n rest new steps h = (
   steps.0.disks,
   steps.1.disks,
-  subst (λ (x : Stepped). TurnDisks x.shared running now x.driver frames (qs ++ rest) steps.0.disks new) (sym steps.1.made) (all_disks frames running now steps.0 qs n rest new steps.2 h),
+  subst (λ (x : StepResult). TurnDisks x.shared running now x.driver frames (qs ++ rest) steps.0.disks new) (sym steps.1.made) (all_disks frames running now steps.0 qs n rest new steps.2 h),
 )
 
 -- and a last one

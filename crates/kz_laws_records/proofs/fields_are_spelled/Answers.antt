@@ -1,6 +1,6 @@
 use Rattle.std.specs.Int.{w8, w16, w32, w64}
 use Rattle.kz_spec_values.specs.Fields.{front, unsigned_number, signed_number, id, uvarint, varint, varlong, items_with_count, nullable_bytes, nullable_text}
-use Rattle.kz_spec_values.specs.Forms.{present, flag, nullable_ints}
+use Rattle.kz_spec_values.specs.Forms.{non_null, flag, nullable_ints}
 use Rattle.kz_laws_records.proofs.Basics.{front_exact, bytes_8, bytes_16, bytes_32, bytes_64, signs_8, signs_16, signs_32, signs_64, unsigned_exact, signed_exact, id_exact, present_exact, flag_exact}
 use Rattle.kz_laws_records.proofs.Counted.{uvarint_exact, counted_exact, text_exact, ints_exact}
 use Rattle.kz_laws_records.proofs.BatchParts.{varint_exact, varlong_exact}
@@ -47,16 +47,16 @@ pub returns-clause-nullable_bytes : goal.returns-clause-nullable_bytes
 returns-clause-nullable_bytes c = reads_spellings nullable_bytes (counted_exact 1)
 
 pub returns-clause-byte_field : goal.returns-clause-byte_field
-returns-clause-byte_field c = reads_spellings (present nullable_bytes) (present_exact nullable_bytes (counted_exact 1))
+returns-clause-byte_field c = reads_spellings (non_null nullable_bytes) (present_exact nullable_bytes (counted_exact 1))
 
 pub returns-clause-nullable_text : goal.returns-clause-nullable_text
 returns-clause-nullable_text c = reads_spellings nullable_text text_exact
 
 pub returns-clause-text : goal.returns-clause-text
-returns-clause-text c = reads_spellings (present nullable_text) (present_exact nullable_text text_exact)
+returns-clause-text c = reads_spellings (non_null nullable_text) (present_exact nullable_text text_exact)
 
 pub returns-clause-nullable_ints : goal.returns-clause-nullable_ints
 returns-clause-nullable_ints c = reads_spellings nullable_ints ints_exact
 
 pub returns-clause-ints : goal.returns-clause-ints
-returns-clause-ints c = reads_spellings (present nullable_ints) (present_exact nullable_ints ints_exact)
+returns-clause-ints c = reads_spellings (non_null nullable_ints) (present_exact nullable_ints ints_exact)

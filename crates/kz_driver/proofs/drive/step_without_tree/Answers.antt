@@ -11,7 +11,7 @@ use Rattle.kz_spec_stores.specs.Tree.{empty_tree}
 use Rattle.kz_spec_stores.specs.Requests.{Either}
 use Rattle.kz_spec_stores.specs.Log.{Log, append, end_of}
 use Rattle.kz_spec_znodes.specs.Translation.{translate}
-use Rattle.kz_spec_machine.specs.Driver.{Shared, begin_request, epoch_or_zero, at_stage, having_read, after_quorum, unless_finalised, after_translation, after_append, after_records, next_records}
+use Rattle.kz_spec_machine.specs.Driver.{Shared, begin_request, epoch_or_zero, at_stage, driver_at_log_end, after_quorum, unless_finalised, after_translation, after_append, after_records, next_records}
 use Rattle.kz_driver.specs.Rows.{driver_of}
 use Rattle.kz_driver.specs.Appends.{log_after, log_after_begin}
 use Rattle.kz_driver.specs.Drivers.{HasEpoch, IsKept, shared_of}
@@ -41,8 +41,8 @@ pub returns-in-WaitForControllerQuorum-clause-kept : goal.returns-in-WaitForCont
 returns-in-WaitForControllerQuorum-clause-kept g c =
     let l = g.L.MetaLog.log c.args.log.now in
     let elected = subst (HasEpoch c.args.row.now.epoch) c.in-WaitForControllerQuorum.is c.requires.kept.elected in
-    kept_step c.wait_for_quorum.result c.args.row.now c.wait_for_quorum.new.row (after_quorum c.args.peers.now.declared c.args.peers.now.running (having_read (g.L.MetaLog.log c.args.log.now) (driver_of c.args.row.now))) c.wait_for_quorum.ensures.ok c.wait_for_quorum.ensures.err c.requires.kept
-    (quorum_keeps c.args.peers.now.declared c.args.peers.now.running (having_read (g.L.MetaLog.log c.args.log.now) (driver_of c.args.row.now)) elected
+    kept_step c.wait_for_quorum.result c.args.row.now c.wait_for_quorum.new.row (after_quorum c.args.peers.now.declared c.args.peers.now.running (driver_at_log_end (g.L.MetaLog.log c.args.log.now) (driver_of c.args.row.now))) c.wait_for_quorum.ensures.ok c.wait_for_quorum.ensures.err c.requires.kept
+    (quorum_keeps c.args.peers.now.declared c.args.peers.now.running (driver_at_log_end (g.L.MetaLog.log c.args.log.now) (driver_of c.args.row.now)) elected
     (subst (IsKept c.args.row.now.epoch (end_of l)) (sym c.in-WaitForControllerQuorum.is) (free_kept c.args.row.now.epoch (end_of l) stage.WaitForControllerQuorum elected (tt, tt, tt))))
 
 pub returns-in-WaitForBrokers-clause-ok : goal.returns-in-WaitForBrokers-clause-ok
@@ -51,8 +51,8 @@ returns-in-WaitForBrokers-clause-ok g c t =
 
 pub returns-in-WaitForBrokers-clause-kept : goal.returns-in-WaitForBrokers-clause-kept
 returns-in-WaitForBrokers-clause-kept g c =
-    kept_step c.wait_for_brokers.result c.args.row.now c.wait_for_brokers.new.row (unless_finalised (having_read (g.L.MetaLog.log c.args.log.now) (driver_of c.args.row.now)) (at_stage stage.ListBrokers (having_read (g.L.MetaLog.log c.args.log.now) (driver_of c.args.row.now)), reply.Looked)) c.wait_for_brokers.ensures.ok c.wait_for_brokers.ensures.err c.requires.kept
-    (finalised_keeps (having_read (g.L.MetaLog.log c.args.log.now) (driver_of c.args.row.now)) (at_stage stage.ListBrokers (having_read (g.L.MetaLog.log c.args.log.now) (driver_of c.args.row.now)), reply.Looked) (free_kept c.args.row.now.epoch (end_of (g.L.MetaLog.log c.args.log.now)) stage.ListBrokers (subst (HasEpoch c.args.row.now.epoch) c.in-WaitForBrokers.is c.requires.kept.elected) (tt, tt, tt)))
+    kept_step c.wait_for_brokers.result c.args.row.now c.wait_for_brokers.new.row (unless_finalised (driver_at_log_end (g.L.MetaLog.log c.args.log.now) (driver_of c.args.row.now)) (at_stage stage.ListBrokers (driver_at_log_end (g.L.MetaLog.log c.args.log.now) (driver_of c.args.row.now)), reply.Looked)) c.wait_for_brokers.ensures.ok c.wait_for_brokers.ensures.err c.requires.kept
+    (finalised_keeps (driver_at_log_end (g.L.MetaLog.log c.args.log.now) (driver_of c.args.row.now)) (at_stage stage.ListBrokers (driver_at_log_end (g.L.MetaLog.log c.args.log.now) (driver_of c.args.row.now)), reply.Looked) (free_kept c.args.row.now.epoch (end_of (g.L.MetaLog.log c.args.log.now)) stage.ListBrokers (subst (HasEpoch c.args.row.now.epoch) c.in-WaitForBrokers.is c.requires.kept.elected) (tt, tt, tt)))
 
 pub returns-in-ReadLogForResync-clause-ok : goal.returns-in-ReadLogForResync-clause-ok
 returns-in-ReadLogForResync-clause-ok g c t =

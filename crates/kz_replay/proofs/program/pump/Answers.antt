@@ -5,7 +5,7 @@ use Rattle.kz_types.specs.declared.outside.Status.{Status}
 use Rattle.kz_types.specs.declared.outside.Status.TheVariants as status
 use Rattle.kz_spec_runs.specs.Endings.{EndsAs}
 use Rattle.kz_replay.specs.Endings.{Stops}
-use Rattle.kz_replay.specs.Pending.{pending, pending_lines}
+use Rattle.kz_replay.specs.Pending.{outcome_to_come, pending_lines}
 use Rattle.kz_replay.proofs.Runs.{told, always, goes_on, stops_after, ends_after, lines_taken}
 use Rattle.kz_replay.proofs.Statuses.{Stops-EndsAs}
 use Rattle.kz_replay.proofs.program.pump.Goals as goal
@@ -20,7 +20,7 @@ returns-in-Err-clause-output g c =
     always (g.S.Source.left c.args.input.now)
     (λ script.
     (taken : List ℕ) × (sent : List ℕ) × Consumes (g.S.Source.left c.args.input.now) (g.S.Source.left c.read.new.self) taken
-    × Appends (g.K.Sink.taken c.args.out.now) (g.K.Sink.taken c.loop-turn.out) sent × EndsAs (pending c.args.stream script) (pending_lines c.args.stream taken) sent status.ReadFault)
+    × Appends (g.K.Sink.taken c.args.out.now) (g.K.Sink.taken c.loop-turn.out) sent × EndsAs (outcome_to_come c.args.stream script) (pending_lines c.args.stream taken) sent status.ReadFault)
     (λ script. (inv.0, inv.1, left, inv.3, lines_taken c.args.stream c.loop-turn.stream inv.0 inv.1 inv.4))
 
 pub returns-then-count-eq0-clause-output : goal.returns-then-count-eq0-clause-output
@@ -43,9 +43,9 @@ returns-in-Err-feed-clause-output g c =
       inv.1 ++ h.0,
       read,
       Appends-trans _ _ _ inv.1 h.0 inv.3 h.1,
-      subst (λ (s : Status). EndsAs (pending c.args.stream ((inv.0 ++ got) ++ rest)) (pending_lines c.args.stream (inv.0 ++ got)) (inv.1 ++ h.0) s) (sym c.stop_status.ensures)
-          (Stops-EndsAs (pending c.args.stream ((inv.0 ++ got) ++ rest)) (pending_lines c.args.stream (inv.0 ++ got)) (inv.1 ++ h.0) c.in-Err-feed.stop
-          (subst (λ (t : List ℕ). Stops (pending c.args.stream t) (inv.1 ++ h.0) c.in-Err-feed.stop) (sym (append_assoc inv.0 got rest))
+      subst (λ (s : Status). EndsAs (outcome_to_come c.args.stream ((inv.0 ++ got) ++ rest)) (pending_lines c.args.stream (inv.0 ++ got)) (inv.1 ++ h.0) s) (sym c.stop_status.ensures)
+          (Stops-EndsAs (outcome_to_come c.args.stream ((inv.0 ++ got) ++ rest)) (pending_lines c.args.stream (inv.0 ++ got)) (inv.1 ++ h.0) c.in-Err-feed.stop
+          (subst (λ (t : List ℕ). Stops (outcome_to_come c.args.stream t) (inv.1 ++ h.0) c.in-Err-feed.stop) (sym (append_assoc inv.0 got rest))
           (stops_after c.args.stream c.loop-turn.stream inv.0 (got ++ rest) inv.1 h.0 c.in-Err-feed.stop inv.4 (h.2 rest)))),
     ))
 

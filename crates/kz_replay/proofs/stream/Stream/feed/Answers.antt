@@ -2,7 +2,7 @@ use Rattle.std.proofs.Common.{ℕ, ◌+◌, List, [], ◌∷◌, ◌++◌, take,
 use Rattle.std.proofs.KnownBytes.{Appends-trans}
 use Rattle.std.proofs.lemmas.List.{take_more}
 use Rattle.kz_replay.specs.Endings.{Stops}
-use Rattle.kz_replay.specs.Pending.{pending, GoesOn}
+use Rattle.kz_replay.specs.Pending.{outcome_to_come, GoesOn}
 use Rattle.kz_replay.proofs.Runs.{goes_on, stops_after, cut_at}
 use Rattle.kz_replay.proofs.stream.Stream.feed.Goals as goal
 
@@ -15,7 +15,7 @@ returns-in-Err-clause-stop g c =
       inv.0 ++ h.0,
       Appends-trans _ _ _ inv.0 h.0 inv.1 h.1,
       λ rest.
-          subst (λ (t : List ℕ). Stops (pending c.args.self.now t) (inv.0 ++ h.0) c.in-Err.stop) (cut_at piece rest i c.loop-byte-test.true)
+          subst (λ (t : List ℕ). Stops (outcome_to_come c.args.self.now t) (inv.0 ++ h.0) c.in-Err.stop) (cut_at piece rest i c.loop-byte-test.true)
           (stops_after c.args.self.now c.loop-byte.self (take i piece) (get_or piece i 0 ∷ (drop (i + 1) piece ++ rest)) inv.0 h.0 c.in-Err.stop inv.2 (h.2 (drop (i + 1) piece ++ rest))),
     )
 

@@ -5,7 +5,7 @@ use mir.Val.{SFits}
 use Rattle.kz_types.specs.declared.log.Entry.{Entry}
 use Rattle.kz_ordered.specs.Ordered.{Rises}
 use Rattle.kz_settle.specs.Settling.{offset_of}
-use Rattle.kz_settle.specs.Stands.{Stands, entries_of_answer}
+use Rattle.kz_settle.specs.Stands.{IsStateAfter, entries_of_answer}
 use Rattle.kz_settle.specs.Steps.{answer_to_plain, after_plain}
 use Rattle.kz_settle.proofs.Stepping.{stands_keep, stands_turn, if_ok_both}
 use Rattle.kz_settle.proofs.settler.Settler.push.Goals as goal
@@ -16,7 +16,7 @@ returns-in-None-clause-stands c =
     let old = c.args.self.now in
     let new = c.keep.new.self in
     if_ok_both c.keep.result (λ a. a ≡ answer_to_plain (is_some old.begun) e) (λ _. new ≡ after_plain e old)
-    (λ a. (pushed given : List Entry) → Rises int_cmp offset_of (pushed ++ e ∷ []) → Stands pushed given old → Stands (pushed ++ e ∷ []) (given ++ entries_of_answer a) new)
+    (λ a. (pushed given : List Entry) → Rises int_cmp offset_of (pushed ++ e ∷ []) → IsStateAfter pushed given old → IsStateAfter (pushed ++ e ∷ []) (given ++ entries_of_answer a) new)
     c.keep.ensures.answer c.keep.ensures.value
     (λ a is made pushed given h s. stands_keep pushed given e old new a h s c.requires c.in-None.ensures.0 c.in-None.ensures.1 is made)
 
