@@ -4,8 +4,8 @@ ghost use Rattle.kz_types.specs.declared.fault.TreeFault.TheVariants.{Limit};
 ghost use Rattle.kz_ordered.specs.Order.{bytes_cmp};
 ghost use Rattle.kz_ordered.specs.Ordered.{Rises};
 ghost use Rattle.kz_spec_stores.specs.Requests.{Disk, Multi, Either, ReadsDisk, answer_of_tree_fault};
-ghost use Rattle.kz_spec_stores.specs.Tree.{multi, scan, look, broker_ids, path_of_row};
-ghost use Rattle.kz_spec_machine.specs.Driver.{path_of_op, path_at};
+ghost use Rattle.kz_spec_stores.specs.Tree.{path_of_op, multi, scan, look, broker_ids, path_of_row};
+ghost use Rattle.kz_spec_machine.specs.Driver.{path_at};
 ghost use Rattle.kz_driver.specs.Claims.{tree_after};
 ghost use Rattle.kz_driver.specs.Disks.{OnTreeFault, IsTreeRead, IsTreeChange};
 
