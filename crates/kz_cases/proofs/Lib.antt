@@ -1,0 +1,3 @@
+pub mod Digits
+mod Fits
+pub mod Runs

@@ -1,0 +1,45 @@
+use Rattle.std.proofs.Common.{◌≡◌, ◌+◌, ◌<◌, true, false, not, cond, length, IfSome, subst, ap, ◌∙◌, sym, arith}
+use Rattle.std.specs.Io.Iter.{split_known_bytes, split_byte}
+use Rattle.std.specs.Io.BufRead.{first_piece, DropsThrough}
+use Rattle.kz_cases.specs.Tables.{passes, fails, IsOutcome}
+use Rattle.kz_cases.proofs.Runs.{line_judged, all_judged, value_of, one_more}
+use Rattle.kz_cases.proofs.table.judge_table.Goals.{then-branch, else-branch}
+use Rattle.kz_cases.proofs.table.judge_table.Goals as goal
+
+pub returns-in_default : goal.returns-in_default
+returns-in_default g c =
+    all_judged (g.R.Read.remaining c.args.table) (split_known_bytes g.R.Read.remaining c.loop-number.lines) (g.W.Write.contents c.args.out.now) (g.W.Write.contents c.loop-number.out) (g.W.Write.contents c.write_summary.new.out)
+    c.loop-number.passed c.loop-number.failed c.loop-number.invariant.0 c.in_default.ensures.steps.2 c.in_ok-write_summary.ensures
+
+pub loop-number-preserved : goal.loop-number-preserved
+loop-number-preserved g c =
+    let known = split_known_bytes g.R.Read.remaining c.loop-number.lines in
+    let new = split_known_bytes g.R.Read.remaining c.next.new.self in
+    let line = c.in_ok-line.line.items in
+    let judged = c.in_ok-judge_line.ensures in
+    let o = judged.0 in
+    let read : IfSome known (λ xs. (0 < length xs) × (line ≡ first_piece 10 xs)) × DropsThrough known new 10 =
+    subst (λ b. IfSome known (λ xs. (0 < length xs) × (line ≡ first_piece b xs)) × DropsThrough known new b) c.loop-number.invariant.2
+    (value_of (λ x. IfSome known (λ xs. (0 < length xs) × (x.items ≡ first_piece (split_byte c.loop-number.lines) xs)) × DropsThrough known new (split_byte c.loop-number.lines)) c.in-Some.line c.in_ok-line.line c.in_ok-line.was c.in-Some.ensures.steps.2) in
+    let tally : (c.if-branch.passed ≡ c.loop-number.passed + cond (passes o) 1 0) × (c.if-branch.failed ≡ c.loop-number.failed + cond (fails o) 1 0) =
+    elim c.if-branch.branch [
+      | then-branch w ↦
+        let e : passes o ≡ true = sym judged.3 ∙ w.if-branch.true in
+        let yes : cond (passes o) 1 0 ≡ 1 = ap (λ b. cond b 1 0) e in
+        let no : cond (fails o) 1 0 ≡ 0 = ap (λ b. cond (not b) 1 0) e in
+        let more = w.passed-is in
+        let same = w.failed-is in
+        (omega arith, omega arith)
+      | else-branch w ↦
+        let e : passes o ≡ false = sym judged.3 ∙ w.if-branch.false in
+        let no : cond (passes o) 1 0 ≡ 0 = ap (λ b. cond b 1 0) e in
+        let yes : cond (fails o) 1 0 ≡ 1 = ap (λ b. cond (not b) 1 0) e in
+        let more = w.failed-is in
+        let same = w.passed-is in
+        (omega arith, omega arith)
+    ] in
+    let one = one_more (passes o) in
+    (line_judged (g.R.Read.remaining c.args.table) known new (g.W.Write.contents c.args.out.now) (g.W.Write.contents c.loop-number.out) (g.W.Write.contents c.judge_line.new.out)
+        c.loop-number.passed c.loop-number.failed c.if-branch.passed c.if-branch.failed c.loop-number.number line o c.loop-number.invariant.0 (sym c.loop-number.invariant.1)
+        read.0 read.1 (subst (λ l. IsOutcome l o) c.deref.ensures.value judged.1) judged.2 tally.0 tally.1,
+     omega (arith, one, tally.0, tally.1, c.loop-number.invariant.1), c.in-Some.ensures.steps.1 ∙ c.loop-number.invariant.2)
