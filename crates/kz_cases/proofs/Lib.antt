@@ -1,3 +1,3 @@
 pub mod Digits
-mod Fits
+pub mod FewBytes
 pub mod Runs

@@ -1,7 +1,7 @@
 //! Cases of record batches as bytes.
 use crate::hexadecimal::unhex;
 use crate::lengths::batch_fits;
-use crate::texts::hex_value;
+use crate::texts::{fault_case, given, hex_value};
 use crate::values::is_told;
 use kz_batch::{Batch, BatchFault, write_batch};
 use kz_bytes::Reader;
@@ -40,15 +40,6 @@ fn values_of(alloc: Global, batch: &Batch<'_>) -> Result<Vec<Vec<u8>>, NoMemory>
     Ok(values)
 }
 
-// Values in hexadecimal.
-fn value_texts(alloc: Global, values: &[Vec<u8>]) -> Result<Value, NoMemory> {
-    let mut texts = Vec::new(alloc);
-    for value in values {
-        texts.push(hex_value(alloc, value)?)?;
-    }
-    Ok(Value::Array(texts))
-}
-
 // The last offset: with a batch's first one it can pass 63 bits, and then 64 without a sign hold it.
 fn offset_value(alloc: Global, offset: i128) -> Result<Value, NoMemory> {
     if let Ok(offset) = i64::try_from(offset) {
@@ -60,29 +51,34 @@ fn offset_value(alloc: Global, offset: i128) -> Result<Value, NoMemory> {
     }
 }
 
-// The members that tell of a batch, with its sum as this value.
-fn batch_members(
+// Puts what the header of a batch says.
+fn put_header(
+    members: &mut Map<String, Value>,
     alloc: Global,
     batch: &Batch<'_>,
+) -> Result<(), NoMemory> {
+    put_flag(members, alloc, "control", batch.is_control())?;
+    put_whole(members, alloc, "epoch", batch.epoch() as i64)?;
+    put_whole(members, alloc, "first", batch.first())?;
+    let last = offset_value(alloc, batch.last())?;
+    serde_json::put(members, alloc, "last", last)?;
+    put_whole(members, alloc, "time", batch.time())
+}
+
+// Puts how many records a batch states, and its values in hexadecimal.
+fn put_values(
+    members: &mut Map<String, Value>,
+    alloc: Global,
     count: i32,
-    sum: Value,
     values: &[Vec<u8>],
-) -> Result<Map<String, Value>, NoMemory> {
-    let mut members: Map<String, Value> = Map::new(alloc);
-    put_flag(&mut members, alloc, "control", batch.is_control())?;
-    put_whole(&mut members, alloc, "count", count as i64)?;
-    put_whole(&mut members, alloc, "epoch", batch.epoch() as i64)?;
-    put_whole(&mut members, alloc, "first", batch.first())?;
-    serde_json::put(
-        &mut members,
-        alloc,
-        "last",
-        offset_value(alloc, batch.last())?,
-    )?;
-    serde_json::put(&mut members, alloc, "sum", sum)?;
-    put_whole(&mut members, alloc, "time", batch.time())?;
-    serde_json::put(&mut members, alloc, "values", value_texts(alloc, values)?)?;
-    Ok(members)
+) -> Result<(), NoMemory> {
+    let mut texts = Vec::new(alloc);
+    for value in values {
+        texts.push(hex_value(alloc, value)?)?;
+    }
+    put_whole(members, alloc, "count", count as i64)?;
+    serde_json::put(members, alloc, "values", Value::Array(texts))?;
+    Ok(())
 }
 
 // Whether these bytes are written for a batch of these values.
@@ -97,54 +93,6 @@ fn is_written(
     }
     let written = write_batch(alloc, batch.first(), batch.epoch(), batch.time(), values)?;
     Ok(written.as_slice() == bytes)
-}
-
-// What a call answers to the bytes of a case without a name.
-fn batch_case(
-    alloc: Global,
-    case: &Value,
-    hex: &str,
-    bytes: &[u8],
-) -> Result<Option<Value>, NoMemory> {
-    let batch = match Batch::read(bytes) {
-        Ok(batch) => batch,
-        Err(fault) => {
-            let fault = fault_value(alloc, fault)?;
-            return Ok(Some(json!(in alloc; {"call": "read_batch", "hex": hex, "fault": fault})?));
-        }
-    };
-    let Some(stated) = header_of(bytes) else {
-        return Ok(None);
-    };
-    let values = values_of(alloc, &batch)?;
-    let sum = Value::from(stated.sum);
-    let mut members = batch_members(alloc, &batch, stated.count, sum, &values)?;
-    put_text(&mut members, alloc, "call", "read_batch")?;
-    put_text(&mut members, alloc, "hex", hex)?;
-    if case.get("written").is_some() {
-        let written = is_told(case) && is_written(alloc, &batch, &values, bytes)?;
-        put_flag(&mut members, alloc, "written", written)?;
-    }
-    Ok(Some(Value::Object(members)))
-}
-
-// What a call answers to bytes, as one value.
-fn answer_value(alloc: Global, bytes: &[u8]) -> Result<Option<Value>, NoMemory> {
-    let batch = match Batch::read(bytes) {
-        Ok(batch) => batch,
-        Err(fault) => {
-            let fault = fault_name(fault);
-            return Ok(Some(json!(in alloc; {"answer": fault, "held": []})?));
-        }
-    };
-    let Some(stated) = header_of(bytes) else {
-        return Ok(None);
-    };
-    let values = values_of(alloc, &batch)?;
-    let sum = hex_value(alloc, &stated.sum.to_be_bytes())?;
-    let mut members = batch_members(alloc, &batch, stated.count, sum, &values)?;
-    put_text(&mut members, alloc, "answer", "Ok")?;
-    Ok(Some(Value::Object(members)))
 }
 
 fn fault_name(fault: BatchFault) -> &'static str {
@@ -169,6 +117,75 @@ fn fault_value(alloc: Global, fault: BatchFault) -> Result<Value, NoMemory> {
     Ok(value)
 }
 
+// The answer where the bytes of a case without a name are a batch.
+fn batch_case(
+    alloc: Global,
+    case: &Value,
+    hex: &str,
+    bytes: &[u8],
+    batch: &Batch<'_>,
+) -> Result<Option<Value>, NoMemory> {
+    let Some(stated) = header_of(bytes) else {
+        return Ok(None);
+    };
+    let mut members = given(alloc, "read_batch", "hex", hex)?;
+    put_header(&mut members, alloc, batch)?;
+    let values = values_of(alloc, batch)?;
+    put_values(&mut members, alloc, stated.count, &values)?;
+    put_whole(&mut members, alloc, "sum", stated.sum as i64)?;
+    if case.get("written").is_some() {
+        let written = is_told(case) && is_written(alloc, batch, &values, bytes)?;
+        put_flag(&mut members, alloc, "written", written)?;
+    }
+    Ok(Some(Value::Object(members)))
+}
+
+// What a call answers to the bytes of a case without a name.
+fn plain_case(
+    alloc: Global,
+    case: &Value,
+    hex: &str,
+    bytes: &[u8],
+) -> Result<Option<Value>, NoMemory> {
+    match Batch::read(bytes) {
+        Ok(batch) => batch_case(alloc, case, hex, bytes, &batch),
+        Err(fault) => {
+            let fault = fault_value(alloc, fault)?;
+            Ok(Some(fault_case(alloc, "read_batch", hex, fault)?))
+        }
+    }
+}
+
+// What a batch holds, as one value.
+fn batch_value(
+    alloc: Global,
+    bytes: &[u8],
+    batch: &Batch<'_>,
+) -> Result<Option<Value>, NoMemory> {
+    let Some(stated) = header_of(bytes) else {
+        return Ok(None);
+    };
+    let mut members = Map::new(alloc);
+    put_text(&mut members, alloc, "answer", "Ok")?;
+    put_header(&mut members, alloc, batch)?;
+    let values = values_of(alloc, batch)?;
+    put_values(&mut members, alloc, stated.count, &values)?;
+    let sum = hex_value(alloc, &stated.sum.to_be_bytes())?;
+    serde_json::put(&mut members, alloc, "sum", sum)?;
+    Ok(Some(Value::Object(members)))
+}
+
+// What a call answers to bytes, as one value.
+fn answer_value(alloc: Global, bytes: &[u8]) -> Result<Option<Value>, NoMemory> {
+    match Batch::read(bytes) {
+        Ok(batch) => batch_value(alloc, bytes, &batch),
+        Err(fault) => {
+            let fault = fault_name(fault);
+            Ok(Some(json!(in alloc; {"answer": fault, "held": []})?))
+        }
+    }
+}
+
 // What a call answers to bytes, in a case that has a name and `answer`.
 fn named_case(
     alloc: Global,
@@ -176,12 +193,13 @@ fn named_case(
     hex: &str,
     bytes: &[u8],
 ) -> Result<Option<Value>, NoMemory> {
-    match answer_value(alloc, bytes)? {
-        Some(answer) => Ok(Some(json!(in alloc;
-            {"call": "read_batch", "name": name, "hex": hex, "answer": answer}
-        )?)),
-        None => Ok(None),
-    }
+    let Some(answer) = answer_value(alloc, bytes)? else {
+        return Ok(None);
+    };
+    let mut members = given(alloc, "read_batch", "hex", hex)?;
+    put_text(&mut members, alloc, "name", name)?;
+    serde_json::put(&mut members, alloc, "answer", answer)?;
+    Ok(Some(Value::Object(members)))
 }
 
 /// What bytes in hexadecimal are: the numbers of a batch and its values; or `fault`, with its numbers. Where the case has
@@ -196,6 +214,6 @@ pub fn read_batch_case(alloc: Global, case: &Value) -> Result<Option<Value>, NoM
     };
     match text_member(case, "name") {
         Some(name) => named_case(alloc, name, hex, &bytes),
-        None => batch_case(alloc, case, hex, &bytes),
+        None => plain_case(alloc, case, hex, &bytes),
     }
 }

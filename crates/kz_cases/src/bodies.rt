@@ -4,16 +4,14 @@ ghost use Rattle.kz_types.specs.Quotas.{is_quota};
 ghost use Rattle.kz_spec_values.specs.Bodies.{is_of_kind};
 ghost use Rattle.kz_json.specs.Entries.{are_quotas, keeps_quotas};
 
-use crate::keys::{key_in, key_value};
-use crate::texts::{base64_value, given};
+use crate::fields::body_value;
+use crate::keys::{key_at, key_value};
+use crate::texts::given;
 use kz_json::{read_body, write_body};
-use kz_record_fields::{bytes_at, ints_value, put_text, text_member};
+use kz_record_fields::{bytes_at, put_text, put_text_or_null, text_member};
 use kz_script::body_text;
-use kz_types::{
-    AclRow, AssignmentRow, Body, BodyFault, EntityKey, Id, NoMemory, Pair, QuotaRow, QuotaValue,
-    ScramPair, Text,
-};
-use serde_json::{Map, Value, json};
+use kz_types::{Body, BodyFault, EntityKey, NoMemory, QuotaRow, QuotaValue, Text};
+use serde_json::{Map, Value};
 use std::alloc::Global;
 
 // Whether a quota is in its range.
@@ -57,160 +55,39 @@ fn is_of_kind(key: &EntityKey, body: &Body) -> bool
     }
 }
 
-// The text that is written for a body, or null where it isn't its entity's or a quota is out of its range.
-fn written_value(alloc: Global, key: &EntityKey, body: &Body) -> Result<Value, NoMemory> {
+// The text that is written for a body, or `None` where it isn't its entity's or a quota is out of its range.
+fn written_text(alloc: Global, key: &EntityKey, body: &Body) -> Result<Option<Text>, NoMemory> {
     if !is_of_kind(key, body) || !keeps_quotas(body) {
-        return Ok(Value::Null);
+        return Ok(None);
     }
     let Ok(text) = write_body(alloc, key, body) else {
         return Err(NoMemory);
     };
-    match Text::new(alloc, &text)? {
-        Some(text) => Ok(Value::try_from_str(alloc, text.as_str())?),
-        None => Ok(Value::Null),
-    }
+    Text::new(alloc, &text)
 }
 
-fn row_value(alloc: Global, row: &AssignmentRow) -> Result<Value, NoMemory> {
-    let replicas = ints_value(alloc, row.replicas.as_slice())?;
-    let adding = ints_value(alloc, row.adding.as_slice())?;
-    let removing = ints_value(alloc, row.removing.as_slice())?;
-    let number = row.number;
-    Ok(json!(in alloc;
-        {"number": number, "replicas": replicas, "adding": adding, "removing": removing}
-    )?)
+// The members that each answer to a body begins with: the call, the bytes in base64, and the key.
+fn asked(alloc: Global, key: &EntityKey, bytes: &str) -> Result<Map<String, Value>, NoMemory> {
+    let mut members = given(alloc, "body", "bytes", bytes)?;
+    let key = key_value(alloc, key)?;
+    serde_json::put(&mut members, alloc, "key", key)?;
+    Ok(members)
 }
 
-fn topic_value(alloc: Global, id: &Id, rows: &[AssignmentRow]) -> Result<Value, NoMemory> {
-    let mut values = Vec::new(alloc);
-    for row in rows {
-        values.push(row_value(alloc, row)?)?;
-    }
-    let partitions = Value::Array(values);
-    let text = id.text();
-    let Some(id) = Text::new(alloc, &text)? else {
-        return Ok(Value::Null);
-    };
-    let id = id.as_str();
-    Ok(json!(in alloc; {"body": "Topic", "id": id, "partitions": partitions})?)
-}
-
-fn config_value(alloc: Global, pairs: &[Pair]) -> Result<Value, NoMemory> {
-    let mut members: Map<String, Value> = Map::new(alloc);
-    for pair in pairs {
-        let value = Value::try_from_str(alloc, pair.value.as_str())?;
-        serde_json::put(&mut members, alloc, pair.name.as_str(), value)?;
-    }
-    let pairs = Value::Object(members);
-    Ok(json!(in alloc; {"body": "Config", "pairs": pairs})?)
-}
-
-fn credential_value(alloc: Global, pair: &ScramPair) -> Result<Value, NoMemory> {
-    let salt = base64_value(alloc, pair.value.salt.as_slice())?;
-    let stored_key = base64_value(alloc, pair.value.stored_key.as_slice())?;
-    let server_key = base64_value(alloc, pair.value.server_key.as_slice())?;
-    let iterations = pair.value.iterations;
-    Ok(json!(in alloc;
-        {"salt": salt, "storedKey": stored_key, "serverKey": server_key, "iterations": iterations}
-    )?)
-}
-
-fn credentials_value(alloc: Global, scrams: &[ScramPair]) -> Result<Value, NoMemory> {
-    let mut members: Map<String, Value> = Map::new(alloc);
-    for pair in scrams {
-        let mechanism = pair.mechanism;
-        let name = format!(in alloc; "{mechanism}")?;
-        let value = credential_value(alloc, pair)?;
-        serde_json::put(&mut members, alloc, name.as_str(), value)?;
-    }
-    Ok(Value::Object(members))
-}
-
-fn quotas_value(
-    alloc: Global,
-    quotas: &[QuotaRow],
-    scrams: &[ScramPair],
-) -> Result<Value, NoMemory> {
-    let mut members: Map<String, Value> = Map::new(alloc);
-    for row in quotas {
-        let (whole, micros) = (row.value.whole, row.value.micros);
-        let value = json!(in alloc; [whole, micros])?;
-        serde_json::put(&mut members, alloc, row.key.as_str(), value)?;
-    }
-    let quotas = Value::Object(members);
-    let scrams = credentials_value(alloc, scrams)?;
-    Ok(json!(in alloc; {"body": "Quota", "quotas": quotas, "scrams": scrams})?)
-}
-
-fn acls_value(alloc: Global, rows: &[AclRow]) -> Result<Value, NoMemory> {
-    let mut values = Vec::new(alloc);
-    for row in rows {
-        let (principal, host) = (row.principal.as_str(), row.host.as_str());
-        let (operation, permission) = (row.operation, row.permission);
-        let value = json!(in alloc;
-            {"principal": principal, "host": host, "operation": operation, "permission": permission}
-        )?;
-        values.push(value)?;
-    }
-    let rows = Value::Array(values);
-    Ok(json!(in alloc; {"body": "Acls", "rows": rows})?)
-}
-
-fn body_value(alloc: Global, body: &Body) -> Result<Value, NoMemory> {
-    match body {
-        Body::Topic { id, partitions } => topic_value(alloc, id, partitions.as_slice()),
-        Body::State {
-            leader,
-            leader_epoch,
-            controller_epoch,
-            isr,
-            recovery,
-        } => {
-            let isr = ints_value(alloc, isr.as_slice())?;
-            let (leader, leader_epoch) = (*leader, *leader_epoch);
-            let (controller_epoch, recovery) = (*controller_epoch, *recovery);
-            Ok(json!(in alloc; {
-                "body": "State", "leader": leader, "leader_epoch": leader_epoch,
-                "controller_epoch": controller_epoch, "isr": isr, "recovery": recovery
-            })?)
-        }
-        Body::Config { pairs } => config_value(alloc, pairs.as_slice()),
-        Body::Quota { quotas, scrams } => quotas_value(alloc, quotas.as_slice(), scrams.as_slice()),
-        Body::Acls { rows } => acls_value(alloc, rows.as_slice()),
-        Body::Producer { broker, start, end } => {
-            let (broker, start, end) = (*broker, *start, *end);
-            Ok(json!(in alloc; {"body": "Producer", "broker": broker, "start": start, "end": end})?)
-        }
-        Body::Blank => Ok(json!(in alloc; {"body": "Blank"})?),
-    }
-}
-
-// The key that a case gives.
-fn key_at(alloc: Global, case: &Value) -> Result<Option<EntityKey>, NoMemory> {
-    match case.get("key") {
-        Some(key) => key_in(alloc, key),
-        None => Ok(None),
-    }
-}
-
-// The answer where the bytes are a body.
+// The answer where the bytes are a body, with the text that is written for it where the case tells it.
 fn ok_case(
     alloc: Global,
-    case: &Value,
     key: &EntityKey,
     bytes: &str,
     body: &Body,
+    is_told: bool,
 ) -> Result<Value, NoMemory> {
-    let mut members = given(alloc, "body", "bytes", bytes)?;
-    serde_json::put(&mut members, alloc, "key", key_value(alloc, key)?)?;
-    serde_json::put(&mut members, alloc, "ok", body_value(alloc, body)?)?;
-    if case.get("written").is_some() {
-        serde_json::put(
-            &mut members,
-            alloc,
-            "written",
-            written_value(alloc, key, body)?,
-        )?;
+    let mut members = asked(alloc, key, bytes)?;
+    let fields = body_value(alloc, body)?;
+    serde_json::put(&mut members, alloc, "ok", fields)?;
+    if is_told {
+        let text = written_text(alloc, key, body)?;
+        put_text_or_null(&mut members, alloc, "written", &text)?;
     }
     Ok(Value::Object(members))
 }
@@ -222,13 +99,26 @@ fn fault_case(
     bytes: &str,
     fault: &BodyFault,
 ) -> Result<Value, NoMemory> {
+    let mut members = asked(alloc, key, bytes)?;
     let Some(fault) = body_text(alloc, fault)? else {
         return Err(NoMemory);
     };
-    let mut members = given(alloc, "body", "bytes", bytes)?;
-    serde_json::put(&mut members, alloc, "key", key_value(alloc, key)?)?;
     put_text(&mut members, alloc, "fault", fault.as_str())?;
     Ok(Value::Object(members))
+}
+
+// The answer to the body of an entity, given in base64 and as bytes.
+fn answer(
+    alloc: Global,
+    key: &EntityKey,
+    text: &str,
+    bytes: &[u8],
+    is_told: bool,
+) -> Result<Value, NoMemory> {
+    match read_body(alloc, key, bytes) {
+        Ok(body) => ok_case(alloc, key, text, &body, is_told),
+        Err(fault) => fault_case(alloc, key, text, &fault),
+    }
 }
 
 /// What bytes in base64 say as the body of an entity: `ok`, and `written`, the text that is written for it, where the
@@ -240,11 +130,9 @@ pub fn body_case(alloc: Global, case: &Value) -> Result<Option<Value>, NoMemory>
     let Some(bytes) = bytes_at(alloc, case, "bytes")? else {
         return Ok(None);
     };
-    let Some(key) = key_at(alloc, case)? else {
+    let Some(key) = key_at(alloc, case, "key")? else {
         return Ok(None);
     };
-    match read_body(alloc, &key, bytes.as_slice()) {
-        Ok(body) => Ok(Some(ok_case(alloc, case, &key, text, &body)?)),
-        Err(fault) => Ok(Some(fault_case(alloc, &key, text, &fault)?)),
-    }
+    let is_told = case.get("written").is_some();
+    Ok(Some(answer(alloc, &key, text, bytes.as_slice(), is_told)?))
 }

@@ -1,88 +1,82 @@
 //! Keys of entities, as cases write them: a list of the entity's name and its fields.
 use kz_members::{number, whole};
 use kz_types::{EntityKey, NoMemory, Text};
-use serde_json::{Value, json};
+use serde_json::Value;
 use std::alloc::Global;
 
-// A key of one field.
-fn one_field(alloc: Global, entity: &str, field: Value) -> Result<Value, NoMemory> {
-    Ok(json!(in alloc; [entity, field])?)
-}
-
-// A key of two fields.
-fn two_fields(alloc: Global, entity: &str, first: Value, second: Value) -> Result<Value, NoMemory> {
-    Ok(json!(in alloc; [entity, first, second])?)
-}
-
-fn text_value(alloc: Global, text: &Text) -> Result<Value, NoMemory> {
-    Ok(Value::try_from_str(alloc, text.as_str())?)
-}
-
-// A name that may be absent.
-fn name_value(alloc: Global, name: &Option<Text>) -> Result<Value, NoMemory> {
-    match name {
-        Some(name) => text_value(alloc, name),
-        None => Ok(Value::Null),
+fn entity_name(key: &EntityKey) -> &'static str {
+    match key {
+        EntityKey::Topic { .. } => "Topic",
+        EntityKey::Partition { .. } => "Partition",
+        EntityKey::TopicConfig { .. } => "TopicConfig",
+        EntityKey::BrokerConfig { .. } => "BrokerConfig",
+        EntityKey::Client { .. } => "Client",
+        EntityKey::User { .. } => "User",
+        EntityKey::UserClient { .. } => "UserClient",
+        EntityKey::Ip { .. } => "Ip",
+        EntityKey::Acl { .. } => "Acl",
+        EntityKey::Producer => "Producer",
     }
 }
 
-fn partition_value(alloc: Global, topic: &Text, number: i32) -> Result<Value, NoMemory> {
-    let topic = text_value(alloc, topic)?;
-    two_fields(alloc, "Partition", topic, Value::from(number))
+fn push_text(values: &mut Vec<Value>, alloc: Global, text: &str) -> Result<(), NoMemory> {
+    values.push(Value::try_from_str(alloc, text)?)?;
+    Ok(())
 }
 
-fn broker_value(alloc: Global, broker: &Option<i32>) -> Result<Value, NoMemory> {
-    let broker = match broker {
-        Some(broker) => Value::from(*broker),
+// A name that may be absent, as null.
+fn push_name(values: &mut Vec<Value>, alloc: Global, name: &Option<Text>) -> Result<(), NoMemory> {
+    match name {
+        Some(name) => push_text(values, alloc, name.as_str()),
+        None => push_number(values, None),
+    }
+}
+
+// A number that may be absent, as null.
+fn push_number(values: &mut Vec<Value>, number: Option<i32>) -> Result<(), NoMemory> {
+    let value = match number {
+        Some(number) => Value::from(number),
         None => Value::Null,
     };
-    one_field(alloc, "BrokerConfig", broker)
+    values.push(value)?;
+    Ok(())
 }
 
-fn user_client_value(
-    alloc: Global,
-    user: &Option<Text>,
-    client: &Option<Text>,
-) -> Result<Value, NoMemory> {
-    let user = name_value(alloc, user)?;
-    let client = name_value(alloc, client)?;
-    two_fields(alloc, "UserClient", user, client)
-}
-
-fn acl_value(alloc: Global, pattern: i8, kind: i8, name: &Text) -> Result<Value, NoMemory> {
-    Ok(json!(in alloc; ["Acl", pattern, kind, name.as_str()])?)
-}
-
-/// A key, written.
-pub fn key_value(alloc: Global, key: &EntityKey) -> Result<Value, NoMemory> {
+fn push_fields(values: &mut Vec<Value>, alloc: Global, key: &EntityKey) -> Result<(), NoMemory> {
     match key {
-        EntityKey::Topic { name } => one_field(alloc, "Topic", text_value(alloc, name)?),
-        EntityKey::Partition { topic, number } => partition_value(alloc, topic, *number),
-        EntityKey::TopicConfig { name } => one_field(
-            alloc,
-            "TopicConfig",
-            text_value(alloc, name)?,
-        ),
-        EntityKey::BrokerConfig { broker } => broker_value(alloc, broker),
-        EntityKey::Client { client } => one_field(alloc, "Client", name_value(alloc, client)?),
-        EntityKey::User { user } => one_field(alloc, "User", name_value(alloc, user)?),
-        EntityKey::UserClient { user, client } => user_client_value(alloc, user, client),
-        EntityKey::Ip { address } => one_field(alloc, "Ip", name_value(alloc, address)?),
+        EntityKey::Topic { name } => push_text(values, alloc, name.as_str()),
+        EntityKey::Partition { topic, number } => {
+            push_text(values, alloc, topic.as_str())?;
+            push_number(values, Some(*number))
+        }
+        EntityKey::TopicConfig { name } => push_text(values, alloc, name.as_str()),
+        EntityKey::BrokerConfig { broker } => push_number(values, *broker),
+        EntityKey::Client { client } => push_name(values, alloc, client),
+        EntityKey::User { user } => push_name(values, alloc, user),
+        EntityKey::UserClient { user, client } => {
+            push_name(values, alloc, user)?;
+            push_name(values, alloc, client)
+        }
+        EntityKey::Ip { address } => push_name(values, alloc, address),
         EntityKey::Acl {
             pattern,
             kind,
             name,
-        } => acl_value(alloc, *pattern, *kind, name),
-        EntityKey::Producer => Ok(json!(in alloc; ["Producer"])?),
+        } => {
+            push_number(values, Some(*pattern as i32))?;
+            push_number(values, Some(*kind as i32))?;
+            push_text(values, alloc, name.as_str())
+        }
+        EntityKey::Producer => Ok(()),
     }
 }
 
-// A name that must be there.
-fn name_in(alloc: Global, value: &Value) -> Result<Option<Text>, NoMemory> {
-    match value.as_str() {
-        Some(name) => Ok(Some(Text::from_str(alloc, name)?)),
-        None => Ok(None),
-    }
+/// A key, written.
+pub fn key_value(alloc: Global, key: &EntityKey) -> Result<Value, NoMemory> {
+    let mut values = Vec::new(alloc);
+    push_text(&mut values, alloc, entity_name(key))?;
+    push_fields(&mut values, alloc, key)?;
+    Ok(Value::Array(values))
 }
 
 // A name that may be absent, as null.
@@ -100,34 +94,6 @@ fn code_in(value: &Value) -> Option<i8> {
     Some(code as i8)
 }
 
-// A key of one field.
-fn key_of_one(alloc: Global, entity: &str, field: &Value) -> Result<Option<EntityKey>, NoMemory> {
-    match entity {
-        "Topic" => match name_in(alloc, field)? {
-            Some(name) => Ok(Some(EntityKey::Topic { name })),
-            None => Ok(None),
-        },
-        "TopicConfig" => match name_in(alloc, field)? {
-            Some(name) => Ok(Some(EntityKey::TopicConfig { name })),
-            None => Ok(None),
-        },
-        "BrokerConfig" => Ok(broker_key(field)),
-        "Client" => match name_or_null_in(alloc, field)? {
-            Some(client) => Ok(Some(EntityKey::Client { client })),
-            None => Ok(None),
-        },
-        "User" => match name_or_null_in(alloc, field)? {
-            Some(user) => Ok(Some(EntityKey::User { user })),
-            None => Ok(None),
-        },
-        "Ip" => match name_or_null_in(alloc, field)? {
-            Some(address) => Ok(Some(EntityKey::Ip { address })),
-            None => Ok(None),
-        },
-        _ => Ok(None),
-    }
-}
-
 fn broker_key(field: &Value) -> Option<EntityKey> {
     if field.is_null() {
         return Some(EntityKey::BrokerConfig { broker: None });
@@ -138,42 +104,76 @@ fn broker_key(field: &Value) -> Option<EntityKey> {
     })
 }
 
-// A key of two fields.
-fn key_of_two(
-    alloc: Global,
-    entity: &str,
-    first: &Value,
-    second: &Value,
-) -> Result<Option<EntityKey>, NoMemory> {
+// A key of one name.
+fn key_of_name(entity: &str, name: Text) -> Option<EntityKey> {
     match entity {
-        "Partition" => match (name_in(alloc, first)?, number(second, 0)) {
-            (Some(topic), Some(number)) => Ok(Some(EntityKey::Partition { topic, number })),
-            _ => Ok(None),
-        },
-        "UserClient" => match (
-            name_or_null_in(alloc, first)?,
-            name_or_null_in(alloc, second)?,
-        ) {
-            (Some(user), Some(client)) => Ok(Some(EntityKey::UserClient { user, client })),
-            _ => Ok(None),
-        },
+        "Topic" => Some(EntityKey::Topic { name }),
+        "TopicConfig" => Some(EntityKey::TopicConfig { name }),
+        "Client" => Some(EntityKey::Client { client: Some(name) }),
+        "User" => Some(EntityKey::User { user: Some(name) }),
+        "Ip" => Some(EntityKey::Ip {
+            address: Some(name),
+        }),
+        _ => None,
+    }
+}
+
+// A key whose one name is absent.
+fn key_of_null(entity: &str) -> Option<EntityKey> {
+    match entity {
+        "Client" => Some(EntityKey::Client { client: None }),
+        "User" => Some(EntityKey::User { user: None }),
+        "Ip" => Some(EntityKey::Ip { address: None }),
+        _ => None,
+    }
+}
+
+// A key of one field.
+fn key_of_one(alloc: Global, entity: &str, field: &Value) -> Result<Option<EntityKey>, NoMemory> {
+    if entity == "BrokerConfig" {
+        return Ok(broker_key(field));
+    }
+    match name_or_null_in(alloc, field)? {
+        Some(Some(name)) => Ok(key_of_name(entity, name)),
+        Some(None) => Ok(key_of_null(entity)),
+        None => Ok(None),
+    }
+}
+
+fn partition_key(
+    alloc: Global,
+    topic: &Value,
+    partition: &Value,
+) -> Result<Option<EntityKey>, NoMemory> {
+    let Some(number) = number(partition, 0) else {
+        return Ok(None);
+    };
+    match name_or_null_in(alloc, topic)? {
+        Some(Some(topic)) => Ok(Some(EntityKey::Partition { topic, number })),
         _ => Ok(None),
     }
 }
 
-// A key of three fields.
-fn key_of_three(
+fn user_client_key(
     alloc: Global,
-    entity: &str,
-    first: &Value,
-    second: &Value,
-    third: &Value,
+    user: &Value,
+    client: &Value,
 ) -> Result<Option<EntityKey>, NoMemory> {
-    if entity != "Acl" {
+    let Some(user) = name_or_null_in(alloc, user)? else {
         return Ok(None);
-    }
-    match (code_in(first), code_in(second), name_in(alloc, third)?) {
-        (Some(pattern), Some(kind), Some(name)) => Ok(Some(EntityKey::Acl {
+    };
+    let Some(client) = name_or_null_in(alloc, client)? else {
+        return Ok(None);
+    };
+    Ok(Some(EntityKey::UserClient { user, client }))
+}
+
+fn acl_key(alloc: Global, fields: [&Value; 3]) -> Result<Option<EntityKey>, NoMemory> {
+    let (Some(pattern), Some(kind)) = (code_in(fields[0]), code_in(fields[1])) else {
+        return Ok(None);
+    };
+    match name_or_null_in(alloc, fields[2])? {
+        Some(Some(name)) => Ok(Some(EntityKey::Acl {
             pattern,
             kind,
             name,
@@ -182,27 +182,25 @@ fn key_of_three(
     }
 }
 
-/// The key that a JSON value is, or `None` where it is none.
-pub fn key_in(alloc: Global, value: &Value) -> Result<Option<EntityKey>, NoMemory> {
-    let Some(parts) = value.as_array() else {
+// A key of these fields.
+fn key_of(alloc: Global, entity: &str, fields: &[Value]) -> Result<Option<EntityKey>, NoMemory> {
+    match (entity, fields) {
+        ("Producer", []) => Ok(Some(EntityKey::Producer)),
+        ("Partition", [topic, number]) => partition_key(alloc, topic, number),
+        ("UserClient", [user, client]) => user_client_key(alloc, user, client),
+        ("Acl", [pattern, kind, name]) => acl_key(alloc, [pattern, kind, name]),
+        (_, [field]) => key_of_one(alloc, entity, field),
+        _ => Ok(None),
+    }
+}
+
+/// The key that a member of a case is, or `None` where it is none.
+pub fn key_at(alloc: Global, case: &Value, name: &str) -> Result<Option<EntityKey>, NoMemory> {
+    let Some(Value::Array(parts)) = case.get(name) else {
         return Ok(None);
     };
-    let (entity, fields) = match parts.as_slice() {
-        [] => return Ok(None),
-        [entity, fields @ ..] => (entity, fields),
-    };
-    let Some(entity) = entity.as_str() else {
-        return Ok(None);
-    };
-    match fields {
-        [] => if entity == "Producer" {
-            Ok(Some(EntityKey::Producer))
-        } else {
-            Ok(None)
-        },
-        [field] => key_of_one(alloc, entity, field),
-        [first, second] => key_of_two(alloc, entity, first, second),
-        [first, second, third] => key_of_three(alloc, entity, first, second, third),
+    match parts.as_slice() {
+        [Value::String(entity), fields @ ..] => key_of(alloc, entity.as_str(), fields),
         _ => Ok(None),
     }
 }

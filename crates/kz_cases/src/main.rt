@@ -19,6 +19,7 @@
 mod batches;
 mod bodies;
 mod case;
+mod fields;
 mod hexadecimal;
 mod judged;
 mod keys;

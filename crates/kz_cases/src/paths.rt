@@ -1,7 +1,8 @@
 //! Cases of paths.
 use crate::keys::key_value;
+use crate::texts::given;
 use kz_path::{key_of, kind};
-use kz_record_fields::{bytes_at, text_member};
+use kz_record_fields::{bytes_at, put_text, text_member};
 use kz_types::{Kind, NoMemory, PathFault, ZPath};
 use serde_json::{Value, json};
 use std::alloc::Global;
@@ -20,15 +21,13 @@ fn kind_name(kind: Kind) -> &'static str {
 
 // What a path is and, where it holds an entity, its key.
 fn kind_case(alloc: Global, text: &str, path: &ZPath) -> Result<Value, NoMemory> {
-    let name = kind_name(kind(path));
-    let value = match key_of(alloc, path)? {
-        Some(key) => {
-            let key = key_value(alloc, &key)?;
-            json!(in alloc; {"call": "path", "bytes": text, "kind": name, "key": key})?
-        }
-        None => json!(in alloc; {"call": "path", "bytes": text, "kind": name})?,
-    };
-    Ok(value)
+    let mut members = given(alloc, "path", "bytes", text)?;
+    put_text(&mut members, alloc, "kind", kind_name(kind(path)))?;
+    if let Some(key) = key_of(alloc, path)? {
+        let key = key_value(alloc, &key)?;
+        serde_json::put(&mut members, alloc, "key", key)?;
+    }
+    Ok(Value::Object(members))
 }
 
 /// What bytes in base64 are as a path: its kind and, where it holds an entity, `key`; or `bad_name`, the place of the

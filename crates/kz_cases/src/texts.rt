@@ -4,7 +4,6 @@ ghost use Rattle.serde_json.specs.View.{members_view};
 ghost use Rattle.kz_cases.specs.Answers.{given};
 
 use crate::hexadecimal::hex_text;
-use base64::engine::general_purpose::STANDARD;
 use kz_record_fields::put_text;
 use kz_types::NoMemory;
 use serde_json::{Map, Value};
@@ -31,7 +30,14 @@ pub fn hex_value(alloc: Global, bytes: &[u8]) -> Result<Value, NoMemory> {
     Ok(Value::try_from_str(alloc, text.as_str())?)
 }
 
-/// Bytes in base64 with its padding.
-pub fn base64_value(alloc: Global, bytes: &[u8]) -> Result<Value, NoMemory> {
-    Ok(Value::String(STANDARD.encode(alloc, bytes)?))
+/// The answer where bytes in hexadecimal can't be read.
+pub fn fault_case(
+    alloc: Global,
+    call: &str,
+    hex: &str,
+    fault: Value,
+) -> Result<Value, NoMemory> {
+    let mut members = given(alloc, call, "hex", hex)?;
+    serde_json::put(&mut members, alloc, "fault", fault)?;
+    Ok(Value::Object(members))
 }

@@ -1,34 +1,32 @@
 //! Cases of records as bytes.
 use crate::hexadecimal::unhex;
 use crate::lengths::lengths_fit;
+use crate::texts::{fault_case, given};
 use kz_codec::{read_value, write_value};
-use kz_record_fields::text_member;
+use kz_record_fields::{put_flag, text_member};
 use kz_record_json::{record_of, write_item};
 use kz_types::{CodecFault, MetaRecord, NoMemory};
 use serde_json::{Value, json};
 use std::alloc::Global;
 
-/// What bytes in hexadecimal spell: `record`; or `fault`, with its numbers. Where the case has `written` as true, it is true
-/// exactly where the bytes are what is written for the record that the case has.
-pub fn read_value_case(alloc: Global, case: &Value) -> Result<Option<Value>, NoMemory> {
-    let Some(hex) = text_member(case, "hex") else {
-        return Ok(None);
+/// Whether a case tells that its bytes are what is written. Where it has `written` as false, it tells nothing of this.
+pub fn is_told(case: &Value) -> bool {
+    matches!(case.get("written"), Some(Value::Bool(true)))
+}
+
+// Whether these bytes are written for the record that a case has. `false` where it has none.
+fn is_written(alloc: Global, case: &Value, bytes: &[u8]) -> Result<bool, NoMemory> {
+    let Some(value) = case.get("record") else {
+        return Ok(false);
     };
-    let Some(bytes) = unhex(alloc, hex)? else {
-        return Ok(None);
+    let Some(record) = record_of(alloc, value)? else {
+        return Ok(false);
     };
-    let answer = match read_value(alloc, &bytes) {
-        Ok(record) => {
-            let record = write_item(alloc, &record)?;
-            let written = is_told(case) && is_written(alloc, case.get("record"), &bytes)?;
-            json!(in alloc; {"call": "read_value", "hex": hex, "record": record, "written": written})?
-        }
-        Err(fault) => {
-            let fault = fault_value(alloc, fault)?;
-            json!(in alloc; {"call": "read_value", "hex": hex, "fault": fault})?
-        }
-    };
-    Ok(Some(answer))
+    if !lengths_fit(&record) {
+        return Ok(false);
+    }
+    let written = write_value(alloc, &record)?;
+    Ok(written.as_slice() == bytes)
 }
 
 fn fault_value(alloc: Global, fault: CodecFault) -> Result<Value, NoMemory> {
@@ -45,27 +43,37 @@ fn fault_value(alloc: Global, fault: CodecFault) -> Result<Value, NoMemory> {
     Ok(value)
 }
 
-/// Whether a case tells that its bytes are what is written. Where it has `written` as false, it tells nothing of this.
-pub fn is_told(case: &Value) -> bool {
-    matches!(case.get("written"), Some(Value::Bool(true)))
+// The answer where the bytes are a record.
+fn record_case(
+    alloc: Global,
+    hex: &str,
+    record: &MetaRecord,
+    is_written: bool,
+) -> Result<Value, NoMemory> {
+    let mut members = given(alloc, "read_value", "hex", hex)?;
+    let record = write_item(alloc, record)?;
+    serde_json::put(&mut members, alloc, "record", record)?;
+    put_flag(&mut members, alloc, "written", is_written)?;
+    Ok(Value::Object(members))
 }
 
-// Whether these bytes are written for the record that a JSON value is. `false` where it is no record.
-fn is_written(alloc: Global, value: Option<&Value>, bytes: &[u8]) -> Result<bool, NoMemory> {
-    let Some(value) = value else {
-        return Ok(false);
+/// What bytes in hexadecimal spell: `record`; or `fault`, with its numbers. Where the case has `written` as true, it is true
+/// exactly where the bytes are what is written for the record that the case has.
+pub fn read_value_case(alloc: Global, case: &Value) -> Result<Option<Value>, NoMemory> {
+    let Some(hex) = text_member(case, "hex") else {
+        return Ok(None);
     };
-    match record_of(alloc, value)? {
-        Some(record) => is_spelling(alloc, &record, bytes),
-        None => Ok(false),
+    let Some(bytes) = unhex(alloc, hex)? else {
+        return Ok(None);
+    };
+    match read_value(alloc, &bytes) {
+        Ok(record) => {
+            let is_written = is_told(case) && is_written(alloc, case, &bytes)?;
+            Ok(Some(record_case(alloc, hex, &record, is_written)?))
+        }
+        Err(fault) => {
+            let fault = fault_value(alloc, fault)?;
+            Ok(Some(fault_case(alloc, "read_value", hex, fault)?))
+        }
     }
-}
-
-// Whether these bytes are written for a record.
-fn is_spelling(alloc: Global, record: &MetaRecord, bytes: &[u8]) -> Result<bool, NoMemory> {
-    if !lengths_fit(alloc, record)? {
-        return Ok(false);
-    }
-    let written = write_value(alloc, record)?;
-    Ok(written.as_slice() == bytes)
 }
