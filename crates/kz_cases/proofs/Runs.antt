@@ -117,6 +117,16 @@ pub one_more : (b : Bool) → cond b 1 0 + cond (not b) 1 0 ≡ 1
 one_more true = refl
 one_more false = refl
 
+pub one_passed : (o : Outcome) (p f p2 f2 : ℕ) → passes o ≡ true → p2 ≡ p + 1 → f2 ≡ f → (p2 ≡ p + cond (passes o) 1 0) × (f2 ≡ f + cond (fails o) 1 0)
+one_passed o p f p2 f2 e more same =
+    let none : f ≡ f + 0 = omega arith in
+    (more ∙ ap (λ (b : Bool). p + cond b 1 0) (sym e), same ∙ none ∙ ap (λ (b : Bool). f + cond (not b) 1 0) (sym e))
+
+pub one_failed : (o : Outcome) (p f p2 f2 : ℕ) → passes o ≡ false → p2 ≡ p → f2 ≡ f + 1 → (p2 ≡ p + cond (passes o) 1 0) × (f2 ≡ f + cond (fails o) 1 0)
+one_failed o p f p2 f2 e same more =
+    let none : p ≡ p + 0 = omega arith in
+    (same ∙ none ∙ ap (λ (b : Bool). p + cond b 1 0) (sym e), more ∙ ap (λ (b : Bool). f + cond (not b) 1 0) (sym e))
+
 -- one more line is judged
 pub line_judged : (table known new before now then_ : Option (List ℕ)) (p f p2 f2 number : ℕ) (line : List ℕ) (o : Outcome) → Progress table known before now p f → number ≡ p + f + 1
     → IfSome known (λ xs. (0 < length xs) × (line ≡ first_piece 10 xs)) → DropsThrough known new 10 → IsOutcome line o → Appends now then_ (told number o)

@@ -2,7 +2,7 @@ use Rattle.std.proofs.Common.{◌≡◌, ◌+◌, ◌<◌, true, false, not, con
 use Rattle.std.specs.Io.Iter.{split_known_bytes, split_byte}
 use Rattle.std.specs.Io.BufRead.{first_piece, DropsThrough}
 use Rattle.kz_cases.specs.Tables.{passes, fails, IsOutcome}
-use Rattle.kz_cases.proofs.Runs.{line_judged, all_judged, value_of, one_more}
+use Rattle.kz_cases.proofs.Runs.{line_judged, all_judged, value_of, one_more, one_passed, one_failed}
 use Rattle.kz_cases.proofs.table.judge_table.Goals.{then-branch, else-branch}
 use Rattle.kz_cases.proofs.table.judge_table.Goals as goal
 
@@ -23,20 +23,8 @@ loop-number-preserved g c =
     (value_of (λ x. IfSome known (λ xs. (0 < length xs) × (x.items ≡ first_piece (split_byte c.loop-number.lines) xs)) × DropsThrough known new (split_byte c.loop-number.lines)) c.in-Some.line c.in_ok-line.line c.in_ok-line.was c.in-Some.ensures.steps.2) in
     let tally : (c.if-branch.passed ≡ c.loop-number.passed + cond (passes o) 1 0) × (c.if-branch.failed ≡ c.loop-number.failed + cond (fails o) 1 0) =
     elim c.if-branch.branch [
-      | then-branch w ↦
-        let e : passes o ≡ true = sym judged.3 ∙ w.if-branch.true in
-        let yes : cond (passes o) 1 0 ≡ 1 = ap (λ b. cond b 1 0) e in
-        let no : cond (fails o) 1 0 ≡ 0 = ap (λ b. cond (not b) 1 0) e in
-        let more = w.passed-is in
-        let same = w.failed-is in
-        (omega arith, omega arith)
-      | else-branch w ↦
-        let e : passes o ≡ false = sym judged.3 ∙ w.if-branch.false in
-        let no : cond (passes o) 1 0 ≡ 0 = ap (λ b. cond b 1 0) e in
-        let yes : cond (fails o) 1 0 ≡ 1 = ap (λ b. cond (not b) 1 0) e in
-        let more = w.failed-is in
-        let same = w.passed-is in
-        (omega arith, omega arith)
+      | then-branch w ↦ one_passed o c.loop-number.passed c.loop-number.failed c.if-branch.passed c.if-branch.failed (sym judged.3 ∙ w.if-branch.true) w.passed-is w.failed-is
+      | else-branch w ↦ one_failed o c.loop-number.passed c.loop-number.failed c.if-branch.passed c.if-branch.failed (sym judged.3 ∙ w.if-branch.false) w.passed-is w.failed-is
     ] in
     let one = one_more (passes o) in
     (line_judged (g.R.Read.remaining c.args.table) known new (g.W.Write.contents c.args.out.now) (g.W.Write.contents c.loop-number.out) (g.W.Write.contents c.judge_line.new.out)
