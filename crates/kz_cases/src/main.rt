@@ -3,6 +3,10 @@
 //! the lines that the code answers otherwise, by their numbers from 1 on, and at the end how many lines passed and failed.
 //! It ends with 0 where none failed, with 1 where one did, and with 2 where reading, writing or memory failed.
 //!
+//! `specs/Tables.antt` says what is printed of a table, and `specs/Answers.antt` what the code answers to names, parts of
+//! paths, ids and quotas. What it answers to records, batches, paths and bodies has no stated contract: the program tests
+//! calls whose contracts say it.
+//!
 //! | `call` | Given | Answered |
 //! |---|---|---|
 //! | `read_value` | `hex`: bytes | `record`, as a line of a script has it, and `written`: true where the bytes are what is written for it, false where the line doesn't tell; or `fault`, a list of its name and numbers |
