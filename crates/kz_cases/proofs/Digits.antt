@@ -1,5 +1,5 @@
 -- Digits, and which bytes are texts.
-use Rattle.std.proofs.Common.{◌≡◌, ℕ, ◌+◌, ◌*◌, ◌/◌, ◌%◌, ◌<◌, Bool, true, false, cond, ltb, List, [], ◌∷◌, ◌++◌, All, None, Some, refl, ap, arith}
+use Rattle.std.proofs.Common.{◌≡◌, ℕ, ◌+◌, ◌/◌, ◌%◌, ◌<◌, Bool, true, false, cond, ltb, List, [], ◌∷◌, ◌++◌, All, None, Some, refl, ap, arith}
 use Rattle.std.specs.Str.{IsUtf8}
 use Rattle.std.proofs.lemmas.Str.{is_utf8-from_IsUtf8, IsUtf8-from_ascii}
 use Rattle.std.proofs.lemmas.Str.Ascii.{IsAscii-from_all}
@@ -33,7 +33,7 @@ hex_is_small (b ∷ bs) small =
     let head : b < 256 = All-head (λ (c : ℕ). c < 256) b bs small in
     let rest = hex_is_small bs (All-tail (λ (c : ℕ). c < 256) b bs small) in
     All-cons (λ (c : ℕ). c < 128) (hex_digit (b / 16)) (hex_digit (b % 16) ∷ hex bs) (digit_is_small (b / 16) (omega arith))
-        (All-cons (λ (c : ℕ). c < 128) (hex_digit (b % 16)) (hex bs) (digit_is_small (b % 16) (omega arith)) rest)
+    (All-cons (λ (c : ℕ). c < 128) (hex_digit (b % 16)) (hex bs) (digit_is_small (b % 16) (omega arith)) rest)
 
 -- Digits of bytes are a text.
 pub hex_is_text : (bs : List ℕ) → All (λ b. b < 256) bs → IsUtf8 (hex bs)

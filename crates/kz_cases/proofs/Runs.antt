@@ -8,7 +8,7 @@ use Rattle.std.specs.List.{count_by}
 use Rattle.std.specs.Io.KnownBytes.{Appends, IsAtEnd}
 use Rattle.std.specs.Io.BufRead.{take_through, drop_through, strip_last, first_piece, DropsThrough}
 use Rattle.std.proofs.KnownBytes.{Appends-trans}
-use Rattle.kz_cases.specs.Tables.{Outcome, lines_of, with_byte, passes, fails, told, all_told, summary, report, IsOutcome, AreOutcomes, IsReported}
+use Rattle.kz_cases.specs.Tables.{Outcome, lines_of, with_byte, passes, fails, told, all_told, summary, IsOutcome, AreOutcomes, IsReported}
 
 -- the value of a call that succeeded
 pub value_of : {X E : Type 0} (P : X → Type 0) (r : Result X E) (x : X) → r ≡ Ok x → IfOk r P → P x

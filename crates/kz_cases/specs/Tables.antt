@@ -1,5 +1,5 @@
 -- Tables of cases: their lines, the outcome of each line, and what is printed of them.
-use Rattle.std.specs.Prelude.{◌≡◌, ℕ, ◌+◌, ◌==◌, Bool, true, false, not, List, [], ◌∷◌, ◌++◌, length, Option, Some, None, option_map, IfSome, if◌then◌else◌, codes, decimal}
+use Rattle.std.specs.Prelude.{◌≡◌, ℕ, ◌+◌, ◌==◌, Bool, false, not, List, [], ◌∷◌, ◌++◌, Option, Some, None, IfSome, if◌then◌else◌, codes, decimal}
 use Rattle.std.specs.Str.{bytes_eq}
 use Rattle.std.specs.List.{count_by}
 use Rattle.std.specs.Io.KnownBytes.{Appends}

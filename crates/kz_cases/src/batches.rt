@@ -157,11 +157,7 @@ fn plain_case(
 }
 
 // What a batch holds, as one value.
-fn batch_value(
-    alloc: Global,
-    bytes: &[u8],
-    batch: &Batch<'_>,
-) -> Result<Option<Value>, NoMemory> {
+fn batch_value(alloc: Global, bytes: &[u8], batch: &Batch<'_>) -> Result<Option<Value>, NoMemory> {
     let Some(stated) = header_of(bytes) else {
         return Ok(None);
     };

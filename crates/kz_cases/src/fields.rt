@@ -1,8 +1,6 @@
 //! The fields of bodies, as cases write them.
 use kz_record_fields::{put_bytes, put_id, put_ints, put_text, put_whole};
-use kz_types::{
-    AclRow, AssignmentRow, Body, Id, NoMemory, Pair, QuotaRow, ScramPair, ScramRow,
-};
+use kz_types::{AclRow, AssignmentRow, Body, Id, NoMemory, Pair, QuotaRow, ScramPair, ScramRow};
 use serde_json::{Map, Value, json};
 use std::alloc::Global;
 
@@ -63,8 +61,18 @@ fn config_value(alloc: Global, rows: &[Pair]) -> Result<Value, NoMemory> {
 fn credential_value(alloc: Global, scram: &ScramRow) -> Result<Value, NoMemory> {
     let mut members = Map::new(alloc);
     put_bytes(&mut members, alloc, "salt", scram.salt.as_slice())?;
-    put_bytes(&mut members, alloc, "storedKey", scram.stored_key.as_slice())?;
-    put_bytes(&mut members, alloc, "serverKey", scram.server_key.as_slice())?;
+    put_bytes(
+        &mut members,
+        alloc,
+        "storedKey",
+        scram.stored_key.as_slice(),
+    )?;
+    put_bytes(
+        &mut members,
+        alloc,
+        "serverKey",
+        scram.server_key.as_slice(),
+    )?;
     put_whole(&mut members, alloc, "iterations", scram.iterations as i64)?;
     Ok(Value::Object(members))
 }

@@ -122,11 +122,7 @@ fn put_fault(
 }
 
 // Puts what a text is as a quota: its numbers and the text that is written for it, or the fault.
-fn put_reading(
-    members: &mut Map<String, Value>,
-    alloc: Global,
-    text: &str,
-) -> Result<(), NoMemory>
+fn put_reading(members: &mut Map<String, Value>, alloc: Global, text: &str) -> Result<(), NoMemory>
     ensures { OnOk result (members_view members.new.entries ≡ quota_members (quota_of text.now) (members_view members.old.entries)) }
 {
     match QuotaValue::read(text.as_bytes()) {

@@ -31,12 +31,7 @@ pub fn hex_value(alloc: Global, bytes: &[u8]) -> Result<Value, NoMemory> {
 }
 
 /// The answer where bytes in hexadecimal can't be read.
-pub fn fault_case(
-    alloc: Global,
-    call: &str,
-    hex: &str,
-    fault: Value,
-) -> Result<Value, NoMemory> {
+pub fn fault_case(alloc: Global, call: &str, hex: &str, fault: Value) -> Result<Value, NoMemory> {
     let mut members = given(alloc, call, "hex", hex)?;
     serde_json::put(&mut members, alloc, "fault", fault)?;
     Ok(Value::Object(members))

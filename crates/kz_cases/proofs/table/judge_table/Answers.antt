@@ -1,4 +1,4 @@
-use Rattle.std.proofs.Common.{◌≡◌, ◌+◌, ◌<◌, true, false, not, cond, length, IfSome, subst, ap, ◌∙◌, sym, arith}
+use Rattle.std.proofs.Common.{◌≡◌, ◌+◌, ◌<◌, cond, length, IfSome, subst, ◌∙◌, sym, arith}
 use Rattle.std.specs.Io.Iter.{split_known_bytes, split_byte}
 use Rattle.std.specs.Io.BufRead.{first_piece, DropsThrough}
 use Rattle.kz_cases.specs.Tables.{passes, fails, IsOutcome}
@@ -26,8 +26,10 @@ loop-number-preserved g c =
       | then-branch w ↦ one_passed o c.loop-number.passed c.loop-number.failed c.if-branch.passed c.if-branch.failed (sym judged.3 ∙ w.if-branch.true) w.passed-is w.failed-is
       | else-branch w ↦ one_failed o c.loop-number.passed c.loop-number.failed c.if-branch.passed c.if-branch.failed (sym judged.3 ∙ w.if-branch.false) w.passed-is w.failed-is
     ] in
-    let one = one_more (passes o) in
-    (line_judged (g.R.Read.remaining c.args.table) known new (g.W.Write.contents c.args.out.now) (g.W.Write.contents c.loop-number.out) (g.W.Write.contents c.judge_line.new.out)
-        c.loop-number.passed c.loop-number.failed c.if-branch.passed c.if-branch.failed c.loop-number.number line o c.loop-number.invariant.0 (sym c.loop-number.invariant.1)
-        read.0 read.1 (subst (λ l. IsOutcome l o) c.deref.ensures.value judged.1) judged.2 tally.0 tally.1,
-     omega (arith, one, tally.0, tally.1, c.loop-number.invariant.1), c.in-Some.ensures.steps.1 ∙ c.loop-number.invariant.2)
+    let one = one_more (passes o) in (
+      line_judged (g.R.Read.remaining c.args.table) known new (g.W.Write.contents c.args.out.now) (g.W.Write.contents c.loop-number.out) (g.W.Write.contents c.judge_line.new.out)
+          c.loop-number.passed c.loop-number.failed c.if-branch.passed c.if-branch.failed c.loop-number.number line o c.loop-number.invariant.0 (sym c.loop-number.invariant.1)
+          read.0 read.1 (subst (λ l. IsOutcome l o) c.deref.ensures.value judged.1) judged.2 tally.0 tally.1,
+      omega (arith, one, tally.0, tally.1, c.loop-number.invariant.1),
+      c.in-Some.ensures.steps.1 ∙ c.loop-number.invariant.2,
+    )
