@@ -6,7 +6,7 @@ use Rattle.std.specs.Io.KnownBytes.{Appends}
 use Rattle.serde_json.specs.Data.{Data}
 use Rattle.serde_json.specs.Written.{compact_text, has_float, IsInOrder}
 use Rattle.kz_spec_values.specs.Bodies.{json_of}
-use Rattle.kz_cases.specs.Answers.{IsAnswer}
+use Rattle.kz_case_answers.specs.Answers.{IsAnswer}
 
 -- ---- lines
 

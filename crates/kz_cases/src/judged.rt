@@ -4,7 +4,7 @@ ghost use Rattle.serde_json.specs.View.{view};
 ghost use Rattle.kz_cases.specs.Tables.{passes, came_text, difference, IsTextOf, IsTextIfAny, IsJudged, IsOutcome};
 ghost use Rattle.kz_cases.specs.Outcomes.{outcome_of};
 
-use crate::case::answered;
+use kz_case_answers::answered;
 use kz_members::read_json;
 use kz_types::NoMemory;
 use serde_json::Value;

@@ -3,9 +3,9 @@
 //! the lines that the code answers otherwise, by their numbers from 1 on, and at the end how many lines passed and failed.
 //! It ends with 0 where none failed, with 1 where one did, and with 2 where reading, writing or memory failed.
 //!
-//! `specs/Tables.antt` says what is printed of a table, and `specs/Answers.antt` what the code answers to names, parts of
-//! paths, ids and quotas. What it answers to records, batches, paths and bodies has no stated contract: the program tests
-//! calls whose contracts say it.
+//! `specs/Tables.antt` says what is printed of a table, and `specs/Answers.antt` of `kz_case_answers` what the code answers to
+//! names, parts of paths, ids and quotas. What it answers to records, batches, paths and bodies has no stated contract: the
+//! program tests calls whose contracts say it.
 //!
 //! | `call` | Given | Answered |
 //! |---|---|---|
@@ -20,19 +20,8 @@
 //! | `body` | `key`: a list of the entity's name and its fields; `bytes` in base64 | `ok`: the fields of the body, and perhaps `written`, its text; or `fault`, as a line of a reply has it |
 #![tactic(auto)]
 
-mod batches;
-mod bodies;
-mod case;
-mod fields;
-mod hexadecimal;
 mod judged;
-mod keys;
-mod lengths;
-mod names;
-mod paths;
 mod table;
-mod texts;
-mod values;
 
 use std::io::{self, BufReader, Print};
 use std::process::ExitCode;

@@ -1,8 +1,8 @@
 -- What the code answers to cases, as JSON values.
-use Rattle.std.specs.Prelude.{◌≡◌, ℕ, ◌+◌, ◌/◌, ◌%◌, nat_lt, Bool, false, pos, List, [], ◌∷◌, Option, Some, None, option_map, option_and_then, Result, Ok, Err, if◌then◌else◌, codes}
-use Rattle.std.specs.Str.{bytes_eq, is_utf8}
+use Rattle.std.specs.Prelude.{◌≡◌, ℕ, Bool, false, pos, List, [], ◌∷◌, Option, Some, None, option_map, option_and_then, Result, Ok, Err, codes}
+use Rattle.std.specs.Str.{bytes_eq}
 use Rattle.std.specs.List.{list_any}
-use Rattle.serde_json.specs.Data.{Data, Members, no_members, object}
+use Rattle.serde_json.specs.Data.{Data, Members, object}
 use Rattle.kz_types.specs.Paths.{part_for_name, name_of_part}
 use Rattle.kz_types.specs.Ids.{id_of}
 use Rattle.kz_types.specs.declared.row.QuotaValue.{QuotaValue}
@@ -11,27 +11,9 @@ use Rattle.kz_types.specs.declared.value_fault.QuotaFault.TheVariants.{NotNumber
 use Rattle.kz_spec_quotas.specs.Quotas.{quota_of, quota_text}
 use Rattle.kz_spec_lines.specs.Json.{text_member, by_name}
 use Rattle.kz_spec_lines.specs.Members.{with_text, with_whole, with_text_or_null}
-
--- ---- bytes in hexadecimal
-
--- the digit of a value below 16, in lower case
-abbrev pub hex_digit : ℕ → ℕ
-hex_digit n = if nat_lt n 10 then 48 + n else 87 + n
-
--- bytes, each as two digits
-abbrev pub hex : List ℕ → List ℕ
-hex [] = []
-hex (b ∷ bs) = hex_digit (b / 16) ∷ hex_digit (b % 16) ∷ hex bs
+use Rattle.kz_case_fields.specs.Texts.{hex, given, text_of}
 
 -- ---- answers
-
--- The members that each answer to a text repeats: the call, and the text under its name.
-abbrev pub given : List ℕ → List ℕ → List ℕ → Members
-given call name text = with_text name text (with_text (codes "call") call no_members)
-
--- bytes that are UTF-8
-abbrev pub text_of : List ℕ → Option (List ℕ)
-text_of bytes = if is_utf8 bytes then Some bytes else None
 
 -- the part of a path that a name is written as
 abbrev pub sanitise_answer : Data → Option Data

@@ -1,7 +1,5 @@
 //! Cases of records as bytes.
-use crate::hexadecimal::unhex;
-use crate::lengths::lengths_fit;
-use crate::texts::{fault_case, given};
+use kz_case_fields::{fault_case, given, lengths_fit, unhex};
 use kz_codec::{read_value, write_value};
 use kz_record_fields::{put_flag, text_member};
 use kz_record_json::{record_of, write_item};

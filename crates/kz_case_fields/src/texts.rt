@@ -1,7 +1,7 @@
 //! Parts of the answers to cases.
 ghost use Rattle.std.specs.Prelude.{◌≡◌, IfOk};
 ghost use Rattle.serde_json.specs.View.{members_view};
-ghost use Rattle.kz_cases.specs.Answers.{given};
+ghost use Rattle.kz_case_fields.specs.Texts.{given};
 
 use crate::hexadecimal::hex_text;
 use kz_record_fields::put_text;

@@ -5,7 +5,7 @@ use Rattle.std.proofs.lemmas.Str.{is_utf8-from_IsUtf8, IsUtf8-from_ascii}
 use Rattle.std.proofs.lemmas.Str.Ascii.{IsAscii-from_all}
 use Rattle.std.proofs.lemmas.List.Elements.{All-nil, All-cons, All-head, All-tail}
 use Rattle.kz_types.proofs.PathRules.{is_utf8_false}
-use Rattle.kz_cases.specs.Answers.{hex_digit, hex, text_of}
+use Rattle.kz_case_fields.specs.Texts.{hex_digit, hex, text_of}
 
 pub is_text : (bytes : List ℕ) → IsUtf8 bytes → text_of bytes ≡ Some bytes
 is_text bytes h = ap (λ b. cond b (Some bytes) None) (is_utf8-from_IsUtf8 bytes h)

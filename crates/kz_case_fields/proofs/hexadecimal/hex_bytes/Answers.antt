@@ -1,9 +1,9 @@
 use Rattle.std.proofs.Common.{◌≡◌, ◌+◌, ◌/◌, ◌%◌, [], ◌∷◌, ◌++◌, take, get_or, ap, ◌∙◌, append_assoc, arith}
 use Rattle.std.proofs.lemmas.Grind.{common_steps}
 use Rattle.std.proofs.lemmas.List.{take_more}
-use Rattle.kz_cases.specs.Answers.{hex_digit, hex}
-use Rattle.kz_cases.proofs.Digits.{hex_more}
-use Rattle.kz_cases.proofs.hexadecimal.hex_bytes.Goals as goal
+use Rattle.kz_case_fields.specs.Texts.{hex_digit, hex}
+use Rattle.kz_case_fields.proofs.Digits.{hex_more}
+use Rattle.kz_case_fields.proofs.hexadecimal.hex_bytes.Goals as goal
 
 pub loop-byte-preserved : goal.loop-byte-preserved
 loop-byte-preserved c =

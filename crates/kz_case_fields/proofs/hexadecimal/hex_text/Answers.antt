@@ -2,9 +2,9 @@ use Rattle.std.proofs.Common.{◌<◌, arith}
 use Rattle.std.specs.Str.{IsUtf8}
 use Rattle.std.proofs.lemmas.Grind.{common_steps}
 use Rattle.std.proofs.lemmas.List.Elements.{All-from_get_or}
-use Rattle.kz_cases.specs.Answers.{hex}
-use Rattle.kz_cases.proofs.Digits.{hex_is_text}
-use Rattle.kz_cases.proofs.hexadecimal.hex_text.Goals as goal
+use Rattle.kz_case_fields.specs.Texts.{hex}
+use Rattle.kz_case_fields.proofs.Digits.{hex_is_text}
+use Rattle.kz_case_fields.proofs.hexadecimal.hex_text.Goals as goal
 
 pub unreachable-requires : goal.unreachable-requires
 unreachable-requires c =

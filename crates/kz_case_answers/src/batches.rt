@@ -1,10 +1,8 @@
 //! Cases of record batches as bytes.
-use crate::hexadecimal::unhex;
-use crate::lengths::batch_fits;
-use crate::texts::{fault_case, given, hex_value};
 use crate::values::is_told;
 use kz_batch::{Batch, BatchFault, write_batch};
 use kz_bytes::Reader;
+use kz_case_fields::{batch_fits, fault_case, given, hex_value, unhex};
 use kz_record_fields::{put_flag, put_text, put_whole, text_member};
 use kz_types::NoMemory;
 use serde_json::{Map, Value, json};

@@ -4,9 +4,7 @@ ghost use Rattle.kz_types.specs.Quotas.{is_quota};
 ghost use Rattle.kz_spec_values.specs.Bodies.{is_of_kind};
 ghost use Rattle.kz_json.specs.Entries.{are_quotas, keeps_quotas};
 
-use crate::fields::body_value;
-use crate::keys::{key_at, key_value};
-use crate::texts::given;
+use kz_case_fields::{body_value, given, key_at, key_value};
 use kz_json::{read_body, write_body};
 use kz_record_fields::{bytes_at, put_text, put_text_or_null, text_member};
 use kz_script::body_text;

@@ -1,6 +1,5 @@
 //! Cases of paths.
-use crate::keys::key_value;
-use crate::texts::given;
+use kz_case_fields::{given, key_value};
 use kz_path::{key_of, kind};
 use kz_record_fields::{bytes_at, put_text, text_member};
 use kz_types::{Kind, NoMemory, PathFault, ZPath};

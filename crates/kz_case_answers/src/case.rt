@@ -1,7 +1,7 @@
 //! A case of a table, as the code answers it.
 ghost use Rattle.std.specs.Prelude.{◌≡◌, IfOk, option_map};
 ghost use Rattle.serde_json.specs.View.{view};
-ghost use Rattle.kz_cases.specs.Answers.{IsAnswer, IsAnswerTo};
+ghost use Rattle.kz_case_answers.specs.Answers.{IsAnswer, IsAnswerTo};
 
 use crate::batches::read_batch_case;
 use crate::bodies::body_case;

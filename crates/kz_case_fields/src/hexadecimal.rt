@@ -1,6 +1,6 @@
 //! Bytes in hexadecimal.
 ghost use Rattle.std.specs.Prelude.{◌≡◌, ◌<◌, IfSome, IfOk};
-ghost use Rattle.kz_cases.specs.Answers.{hex_digit, hex};
+ghost use Rattle.kz_case_fields.specs.Texts.{hex_digit, hex};
 
 use kz_types::{NoMemory, Text};
 use std::alloc::Global;
