@@ -18,7 +18,7 @@ use serde_json::{Map, Value};
 use std::alloc::Global;
 
 // The text that bytes are.
-#[tactic(auto, using(crate::proofs::Digits::is_text, crate::proofs::Digits::is_no_text))]
+#[tactic(auto, using(kz_case_fields::proofs::Digits::is_text, kz_case_fields::proofs::Digits::is_no_text))]
 fn text_of(alloc: Global, bytes: &[u8]) -> Result<Option<Text>, NoMemory>
     ensures { IfOk result (λ text. text ≡ text_of bytes.now) }
 {
