@@ -150,8 +150,8 @@ fn items_come_in_order(rt: HostRuntime) {
     assert!(rt; are_from_to(&made(&rt, list.copies(rt.alloc())), 0, 1500));
     assert!(rt; number_of(list.first()) == Some(0));
     assert!(rt; number_of(list.last()) == Some(1499));
-    for (after, next) in NEXT {
-        assert!(rt; next_number(&list, after) == next);
+    for (after, next) in &NEXT {
+        assert!(rt; next_number(&list, *after) == *next);
     }
     let mut next = 0u32;
     for item in list.items() {
