@@ -17,10 +17,11 @@ use std::marker::Model;
 /// A list of items by rising keys of bytes, no two with one key. Contracts see the list.
 ///
 /// It is kept as blocks of 1 to [`MAX_BLOCK_ITEMS`](crate::MAX_BLOCK_ITEMS) items. A copy of the list has the same blocks:
-/// one more pointer for each. The first change of a block that several lists have copies the pointers to its items; a
-/// further change of it by the same list copies nothing. Blocks aren't merged when they shrink; one without items goes.
+/// it costs a pointer for each. A change copies at most the pointers to the items of one block, and only where another list
+/// has that block or the block is full. Blocks aren't merged when they shrink, and only one without items goes. So after
+/// many items were taken out there may be more blocks than the items need, at worst one for each.
 ///
-/// No clause speaks of what is shared, of what a call costs, or of when memory runs out. The comments say what a call costs.
+/// The comments say what each call costs. No clause does, nor what lists share, nor when memory runs out.
 #[derive(Drop)]
 pub struct Blocks<T: Keyed> {
     alloc: Global,
@@ -154,9 +155,9 @@ impl<T: Keyed + Drop> Blocks<T> {
 
     /// Puts an item at its place, instead of the one with its key. The block of that place is found by halves. Where no
     /// other list has it, the pointers after the place are moved; else the pointers of this one block are copied. A full
-    /// block becomes two, and the pointers to blocks are moved.
+    /// block becomes two, and the pointers to the blocks after it are moved.
     ///
-    /// At `Err`, memory ran out, and the list is as it was; the item is dropped.
+    /// At `Err`, memory ran out, and the list is as it was. The item is gone then.
     pub fn put(&mut self, item: T) -> Result<(), NoMemory>
         ensures ok { OnOk result (self.new ≡ put_in bytes_cmp T.key item self.old) }
         ensures err { OnErr result (self.new ≡ self.old) }
@@ -165,10 +166,11 @@ impl<T: Keyed + Drop> Blocks<T> {
         put_item(self.alloc, &mut self.blocks, item)
     }
 
-    /// Takes the item of this key out. Where there is none, the list stays as it is. It costs what `put` does.
+    /// Takes the item of this key out. Where there is none, the list stays as it is. It costs what `put` does, but no block
+    /// becomes two.
     ///
-    /// At `Err`, memory ran out, and the list is as it was. Only a block that another list has too is copied, and takes
-    /// memory. That a list with blocks of its own never answers `Err` isn't promised: contracts don't see who shares.
+    /// At `Err`, memory ran out, and the list is as it was. It takes memory only where another list has the block. That a
+    /// list whose blocks no other list has never answers `Err` isn't promised, since contracts don't see what lists share.
     pub fn without(&mut self, key: &[u8]) -> Result<(), NoMemory>
         ensures ok { OnOk result (self.new ≡ without_in bytes_cmp T.key key.now self.old) }
         ensures err { OnErr result (self.new ≡ self.old) }
