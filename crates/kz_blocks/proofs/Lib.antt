@@ -1,0 +1,4 @@
+pub mod ItemsOf
+pub mod BlockFor
+pub mod Changes
+pub mod AfterLemmas
