@@ -6,7 +6,7 @@ use Rattle.std.proofs.lemmas.List.{take-append-le, drop-append-le, append-nil, t
 use Rattle.std.proofs.lemmas.Slice.Eq.{bytes_eq-Decides}
 use Rattle.kz_types.proofs.NumberLemmas.{bytes_eq-true}
 use Rattle.kz_spec_values.specs.Checksum.{crc32c}
-use Rattle.kz_spec_files.specs.Frames.{Found, Frame, Seal, Damaged, End, Framed, Journal, after_frame, going_on, size_before, found_at, journal_within, journal_from, journal_of, summed_header, plain_header, with_frame, with_seal, frame_written, seal_written, open_gate, seal_mark, end_after}
+use Rattle.kz_spec_files.specs.Frames.{Found, Frame, Seal, Damaged, End, Framed, Journal, after_frame, going_on, size_before, found_at, journal_within, journal_from, journal_of, summed_header, plain_header, journal_with_frame, journal_with_seal, frame_written, seal_written, open_gate, seal_mark, end_after}
 use Rattle.kz_laws_files.specs.Fronts.{IsFront, after_all, sum_of}
 use Rattle.kz_laws_files.proofs.Found.{IsFrameAt, IsSealAt, five, frame_found, seal_found, frame_at, seal_at, cases_found, nothing_here, frame_longer, frame_length, seal_longer, frame_written_at, seal_written_at}
 
@@ -204,7 +204,7 @@ pub record Grows (letter : ℕ) (front : List ℕ) (summed : Bool) (made : Journ
   pub is : journal_of letter front ≡ made
 
 pub frame_more : (letter : ℕ) (front piece p : List ℕ) (summed : Bool) → IsFront letter front summed → IsFrameAt summed piece p → length piece ≡ size_before summed + length p
-    → Grows letter (front ++ piece) summed (with_frame p (journal_of letter front))
+    → Grows letter (front ++ piece) summed (journal_with_frame p (journal_of letter front))
 frame_more letter front piece p summed f at_gate long =
     let file = front ++ piece in
     let j = journal_of letter front in
@@ -221,7 +221,7 @@ frame_more letter front piece p summed f at_gate long =
       is = read ∙ (λ i. record { frames = j.frames ++ record { at = sym f.ends i; payload = p } ∷ []; end = sym f.ends i + size_before (sym f.sums i) + length p; summed = sym f.sums i; damaged = sym f.whole i });
     }
 
-pub seal_more : (letter : ℕ) (front piece : List ℕ) (summed : Bool) → IsFront letter front summed → IsSealAt summed front piece → length piece ≡ 9 → Grows letter (front ++ piece) true (with_seal (journal_of letter front))
+pub seal_more : (letter : ℕ) (front piece : List ℕ) (summed : Bool) → IsFront letter front summed → IsSealAt summed front piece → length piece ≡ 9 → Grows letter (front ++ piece) true (journal_with_seal (journal_of letter front))
 seal_more letter front piece summed f at_gate long =
     let file = front ++ piece in
     let j = journal_of letter front in
@@ -243,13 +243,13 @@ written_length true p = omega arith
 written_length false p = omega arith
 
 pub frame_is_read : (letter : ℕ) (front p : List ℕ) (summed : Bool) → IsFront letter front summed → length p < seal_mark → (summed ≡ true → sum_of p < 2 ^ 32)
-    → IsFront letter (front ++ open_gate ∷ frame_written summed p) summed × (journal_of letter (front ++ open_gate ∷ frame_written summed p) ≡ with_frame p (journal_of letter front))
+    → IsFront letter (front ++ open_gate ∷ frame_written summed p) summed × (journal_of letter (front ++ open_gate ∷ frame_written summed p) ≡ journal_with_frame p (journal_of letter front))
 frame_is_read letter front p summed f few fits =
     let g = frame_more letter front (open_gate ∷ frame_written summed p) p summed f (frame_written_at summed p few fits) (written_length summed p) in
     (g.front_is, g.is)
 
 pub seal_is_read : (letter : ℕ) (front : List ℕ) → IsFront letter front false → crc32c front < 2 ^ 32
-    → IsFront letter (front ++ open_gate ∷ seal_written front) true × (journal_of letter (front ++ open_gate ∷ seal_written front) ≡ with_seal (journal_of letter front))
+    → IsFront letter (front ++ open_gate ∷ seal_written front) true × (journal_of letter (front ++ open_gate ∷ seal_written front) ≡ journal_with_seal (journal_of letter front))
 seal_is_read letter front f fits =
     let g = seal_more letter front (open_gate ∷ seal_written front) false f (seal_written_at front fits) refl in
     (g.front_is, g.is)

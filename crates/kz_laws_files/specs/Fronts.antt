@@ -2,7 +2,7 @@
 use Rattle.std.specs.Prelude.{◌≡◌, ℕ, ◌+◌, ◌^◌, ◌<◌, Bool, true, false, List, ◌∷◌, ◌++◌, length}
 use Rattle.std.specs.Int.{w32, to_be_bytes}
 use Rattle.kz_spec_values.specs.Checksum.{crc32c}
-use Rattle.kz_spec_files.specs.Frames.{Journal, Framed, End, found_at, journal_from, journal_of, with_frame, with_seal, frame_written, seal_written, open_gate, seal_mark}
+use Rattle.kz_spec_files.specs.Frames.{Journal, Framed, End, found_at, journal_from, journal_of, journal_with_frame, journal_with_seal, frame_written, seal_written, open_gate, seal_mark}
 
 -- These bytes are whole as a journal: a gate stands at their end, and frames have sums there or not.
 pub record IsFront (letter : ℕ) (front : List ℕ) (summed : Bool) : Type 0 where
@@ -32,10 +32,10 @@ sum_of payload = crc32c (to_be_bytes w32 (length payload) ++ payload)
 abbrev pub FrameIsRead : Type 0
 FrameIsRead = (letter : ℕ) (front payload : List ℕ) (summed : Bool) → IsFront letter front summed → length payload < seal_mark → (summed ≡ true → sum_of payload < 2 ^ 32)
     → IsFront letter (front ++ open_gate ∷ frame_written summed payload) summed
-    × (journal_of letter (front ++ open_gate ∷ frame_written summed payload) ≡ with_frame payload (journal_of letter front))
+    × (journal_of letter (front ++ open_gate ∷ frame_written summed payload) ≡ journal_with_frame payload (journal_of letter front))
 
 -- So does a seal, in a file of format 01 that has none.
 abbrev pub SealIsRead : Type 0
 SealIsRead = (letter : ℕ) (front : List ℕ) → IsFront letter front false → crc32c front < 2 ^ 32
     → IsFront letter (front ++ open_gate ∷ seal_written front) true
-    × (journal_of letter (front ++ open_gate ∷ seal_written front) ≡ with_seal (journal_of letter front))
+    × (journal_of letter (front ++ open_gate ∷ seal_written front) ≡ journal_with_seal (journal_of letter front))

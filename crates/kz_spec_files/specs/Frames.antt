@@ -2,7 +2,7 @@
 --
 -- There are two formats. In a file of format 02 each frame has a sum. In one of format 01 frames have none up to a seal, and
 -- have one after it.
-use Rattle.std.specs.Prelude.{◌≡◌, ◌⊎◌, ℕ, zero, suc, ◌+◌, ◌-◌, ◌<◌, Bool, true, false, not, nat_lt, ◌==◌, ◌&&◌, ◌||◌, List, [], ◌∷◌, ◌++◌, length, take, drop, slice_index, bytes_eq, if◌then◌else◌, codes}
+use Rattle.std.specs.Prelude.{◌≡◌, ◌⊎◌, ℕ, zero, suc, ◌+◌, ◌-◌, Bool, true, false, not, nat_lt, ◌==◌, ◌&&◌, ◌||◌, List, [], ◌∷◌, ◌++◌, length, take, drop, bytes_eq, if◌then◌else◌, codes}
 use Rattle.std.specs.Int.{w32, to_be_bytes}
 use Rattle.kz_spec_values.specs.Batches.{number_at}
 use Rattle.kz_spec_values.specs.Checksum.{crc32c}
@@ -145,32 +145,22 @@ seal_written before = to_be_bytes w32 seal_mark ++ to_be_bytes w32 (crc32c befor
 
 -- ---- appends, and what a stop leaves of them
 
--- The frames end in a closed gate that stands in the file: what was behind them has been repaired.
-pub record IsAtRest (letter : ℕ) (file : List ℕ) : Type 0 where
-  pub whole : (journal_of letter file).damaged ≡ false
-  pub gate_stands : (journal_of letter file).end < length file
-  pub closed : slice_index file (journal_of letter file).end ≡ closed_gate
-
 -- the place of the next gate after a frame with this payload
 abbrev pub end_after : Journal → List ℕ → ℕ
 end_after j payload = j.end + size_before j.summed + length payload
 
 -- the journal with one frame more
-abbrev pub with_frame : List ℕ → Journal → Journal
-with_frame payload j = record j { frames = j.frames ++ record { at = j.end; payload = payload } ∷ []; end = end_after j payload }
+abbrev pub journal_with_frame : List ℕ → Journal → Journal
+journal_with_frame payload j = record j { frames = j.frames ++ record { at = j.end; payload = payload } ∷ []; end = end_after j payload }
 
 -- the journal with a seal more
-abbrev pub with_seal : Journal → Journal
-with_seal j = record j { end = j.end + 9; summed = true }
-
--- how long the file is once a frame with this payload is appended
-abbrev pub length_with : List ℕ → Journal → ℕ → ℕ
-length_with payload j size = if nat_lt size (end_after j payload + 1) then end_after j payload + 1 else size
+abbrev pub journal_with_seal : Journal → Journal
+journal_with_seal j = record j { end = j.end + 9; summed = true }
 
 -- A stop in an append leaves the frames from before it, or these and the new one whole.
 abbrev pub LeftByAppend : ℕ → List ℕ → Journal → List ℕ → Type 0
-LeftByAppend letter payload before left = (journal_of letter left ≡ before) ⊎ (journal_of letter left ≡ with_frame payload before)
+LeftByAppend letter payload before left = (journal_of letter left ≡ before) ⊎ (journal_of letter left ≡ journal_with_frame payload before)
 
 -- A stop in a seal leaves the file without it, or with it whole.
 abbrev pub LeftBySeal : ℕ → Journal → List ℕ → Type 0
-LeftBySeal letter before left = (journal_of letter left ≡ before) ⊎ (journal_of letter left ≡ with_seal before)
+LeftBySeal letter before left = (journal_of letter left ≡ before) ⊎ (journal_of letter left ≡ journal_with_seal before)
