@@ -6,6 +6,9 @@ ghost use Rattle.kz_disk.specs.Disks.{StaysTold, IsWithin, IsLength, StandAt, wi
 
 use kz_types::Failed;
 
+/// The most bytes of a disk.
+pub(crate) const MAX_LENGTH: u64 = 9_223_372_036_854_775_807;
+
 /// A place for bytes that outlives a stop, for the most part.
 ///
 /// Where contents are told, contracts say what a read gives and what a stop leaves. Of a disk that tells nothing, as a real
@@ -32,11 +35,12 @@ pub trait Disk {
     /// Whether the last call failed; false before the first.
     ghost last_failed: { Self → Bool };
 
-    /// How many bytes there are.
+    /// How many bytes there are. A disk has fewer than 2^63, as the offsets of a file are signed numbers of 64 bits.
     ///
     /// `Failed`: the count of faults rose in this call.
     fn len(&mut self) -> Result<u64, Failed>
         ensures value { IfOk result (λ n. IsLength (told self.old) n) }
+        ensures small { IfOk result (λ n. n < 2 ^ 63) }
         ensures same { told self.new ≡ told self.old }
         ensures stop { LeavesNoMore (may_leave self.old) (may_leave self.new) }
         ensures time { Elapses (moment self.old) (moment self.new) (left_since self.old) (left_since self.new) (may_leave self.new) }

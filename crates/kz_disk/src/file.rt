@@ -4,6 +4,7 @@ ghost use Rattle.kz_types.specs.Causes.{Rose};
 ghost use Rattle.kz_disk.specs.Files.{file_faults, file_failed, file_syncs};
 
 use crate::Disk;
+use crate::disk::MAX_LENGTH;
 use kz_types::Failed;
 use std::fs::File;
 use std::os::unix::fs::FileExt;
@@ -74,8 +75,12 @@ impl Disk for FileDisk {
     fn len(&mut self) -> Result<u64, Failed> {
         match self.file.metadata() {
             Ok(metadata) => {
+                let len = metadata.len();
+                if len > MAX_LENGTH {
+                    return Err(self.refuse());
+                }
                 self.failed = false;
-                Ok(metadata.len())
+                Ok(len)
             }
             Err(_) => Err(self.refuse()),
         }

@@ -5,6 +5,7 @@ ghost use Rattle.kz_disk.specs.Changes.{contents_after, are_within};
 use crate::Disk;
 use crate::calls::Calls;
 use crate::changes::{Change, put_piece};
+use crate::disk::MAX_LENGTH;
 use kz_types::{Failed, NoMemory};
 use std::alloc::Global;
 
@@ -92,7 +93,11 @@ impl Disk for MemoryDisk {
 
     fn len(&mut self) -> Result<u64, Failed> {
         self.calls.begin()?;
-        Ok(self.bytes.len() as u64)
+        let len = self.bytes.len() as u64;
+        if len > MAX_LENGTH {
+            return Err(self.calls.refuse());
+        }
+        Ok(len)
     }
 
     fn read_at(&mut self, at: u64, buf: &mut [u8]) -> Result<(), Failed> {
