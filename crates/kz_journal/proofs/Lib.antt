@@ -1,0 +1,3 @@
+mod Crashes
+mod Files
+mod Created

@@ -1,0 +1,55 @@
+//! Calls of a disk whose effect outlives a stop.
+ghost use Rattle.std.specs.Prelude.{◌≡◌, ◌+◌, ◌^◌, ◌<◌, ℕ, List, Some, true, length, option_map, OnOk, OnErr, ◌∷◌, []};
+ghost use Rattle.kz_types.specs.Causes.{HasCause};
+ghost use Rattle.kz_disk.specs.Disks.{IsWithin, with_piece, LeavesTorn, NothingPends, LeavesOnly};
+ghost use Rattle.kz_journal.specs.Appends.{IsTornOr, with_open_gate, IsCutAppend};
+
+use kz_disk::Disk;
+use kz_types::Failed;
+
+// The byte of an open gate.
+const OPEN_GATE: u8 = 0xA5;
+
+// The byte of a closed gate.
+pub(crate) const CLOSED_GATE: u8 = 0;
+
+/// Writes a piece, and makes it outlive a stop.
+pub(crate) fn write_durably<D: Disk>(disk: &mut D, at: u64, piece: &[u8]) -> Result<(), Failed>
+    requires within { IsWithin (D.told disk.old) at }
+    requires fits { at + length piece.now < 2 ^ 64 }
+    ensures written { OnOk result (D.told disk.new ≡ option_map (with_piece at piece.now) (D.told disk.old)) }
+    ensures durable { OnOk result (NothingPends (D.told disk.new) (D.may_leave disk.new)) }
+    ensures stop { LeavesTorn at (length piece.now) (D.may_leave disk.old) (D.may_leave disk.new) }
+    ensures any_moment { LeavesOnly D.moment D.left_since disk.old disk.new (IsTornOr (D.may_leave disk.old) at (length piece.now)) }
+    ensures cause { HasCause (D.faults disk.old) (D.faults disk.new) result }
+    ensures failed { OnErr result (D.last_failed disk.new ≡ true) }
+{
+    let Ok(()) = disk.write_at(at, piece) else {
+        return Err(Failed);
+    };
+    let Ok(()) = disk.sync() else {
+        return Err(Failed);
+    };
+    Ok(())
+}
+
+/// Writes bytes behind a closed gate, and then opens the gate: the bytes outlive a stop before the gate is touched.
+pub(crate) fn write_behind<D: Disk>(disk: &mut D, gate: u64, behind: &[u8]) -> Result<(), Failed>
+    requires within { IsWithin (D.told disk.old) (gate + 1) }
+    requires fits { gate + 1 + length behind.now < 2 ^ 64 }
+    requires settled { NothingPends (D.told disk.old) (D.may_leave disk.old) }
+    ensures written { OnOk result (D.told disk.new ≡ option_map (with_open_gate gate behind.now) (D.told disk.old)) }
+    ensures durable { OnOk result (NothingPends (D.told disk.new) (D.may_leave disk.new)) }
+    ensures any_moment { (file : List ℕ) → D.told disk.old ≡ Some file
+        → LeavesOnly D.moment D.left_since disk.old disk.new (IsCutAppend gate behind.now file) }
+    ensures cause { HasCause (D.faults disk.old) (D.faults disk.new) result }
+    ensures failed { OnErr result (D.last_failed disk.new ≡ true) }
+{
+    let Ok(()) = write_durably(disk, gate + 1, behind) else {
+        return Err(Failed);
+    };
+    let Ok(()) = write_durably(disk, gate, &[OPEN_GATE]) else {
+        return Err(Failed);
+    };
+    Ok(())
+}
