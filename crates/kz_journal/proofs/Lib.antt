@@ -1,3 +1,9 @@
 mod Crashes
 mod Files
 mod Created
+mod Heads
+mod FoundTests
+mod Gates
+mod Reading
+mod Shutting
+mod Steps
