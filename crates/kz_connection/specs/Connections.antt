@@ -30,6 +30,10 @@ Counts (Answered answer) old new = new ≡ old
 Counts Lost old new = Rose old new
 Counts Expired old new = Rose old new
 
+-- After a request: its plan is spent, so the next request is delivered, and the count tells whether it was answered.
+abbrev pub IsSpent : {T : Type 0} → Arrival → Wired T → Wired T → Type 0
+IsSpent arrival old new = (new.plan ≡ plan.Deliver) × Counts arrival old.faults new.faults
+
 -- the store's answer arrived
 abbrev pub IsAnswered : Arrival → Type 0
 IsAnswered (Answered answer) = ⊤

@@ -20,13 +20,13 @@ pub record Disks : Type 0 where
 abbrev pub disks_of : Disk → Disk → Disks
 disks_of tree log = record { tree = tree; log = log }
 
--- the bytes of the frame that each store's file gets for a change
-pub record Frames : Type 0 where
+-- the bytes of the payload of the frame that each store's file gets for a change
+pub record Payloads : Type 0 where
   pub tree : Tree → TreeChange → ℕ
   pub log : Log → LogChange → ℕ
 
-abbrev pub frames_of : (Tree → TreeChange → ℕ) → (Log → LogChange → ℕ) → Frames
-frames_of tree log = record { tree = tree; log = log }
+abbrev pub payloads_of : (Tree → TreeChange → ℕ) → (Log → LogChange → ℕ) → Payloads
+payloads_of tree log = record { tree = tree; log = log }
 
 -- ---- the answer of a store, by the result of the step that asked it
 
@@ -73,13 +73,13 @@ IsTreeRead result old new = OnTree (λ answer. ReadsDisk answer old new) Done re
 abbrev pub IsLogRead : {A : Type 0} → Result A StepFault → Disk → Disk → Type 0
 IsLogRead result old new = OnLog (λ answer. ReadsDisk answer old new) Done result
 
--- the tree is asked for a change, which the definition answers with `made`, and for which its file gets a frame of so many bytes
+-- the tree is asked for a change, which the definition answers with `made`, and for which its file gets a frame whose payload has so many bytes
 abbrev pub IsTreeChange : {A B E : Type 0} → Result B E → ℕ → Result A StepFault → Disk → Disk → Type 0
-IsTreeChange made frame result old new = OnTree (λ answer. ChangesDisk (IsTaken made) frame answer old new) (answer_of_made made) result
+IsTreeChange made payload result old new = OnTree (λ answer. ChangesDisk (IsTaken made) payload answer old new) (answer_of_made made) result
 
 -- the same of the log
 abbrev pub IsLogChange : {A B E : Type 0} → Result B E → ℕ → Result A StepFault → Disk → Disk → Type 0
-IsLogChange made frame result old new = OnLog (λ answer. ChangesDisk (IsTaken made) frame answer old new) (answer_of_made made) result
+IsLogChange made payload result old new = OnLog (λ answer. ChangesDisk (IsTaken made) payload answer old new) (answer_of_made made) result
 
 -- ---- one request of a driver
 
@@ -100,11 +100,11 @@ ReadsLog result old new = IsLogRead result old.log new.log × (new.tree ≡ old.
 
 -- the tree is asked for a change
 abbrev pub ChangesTree : {A B E : Type 0} → Result B E → ℕ → Result A StepFault → Disks → Disks → Type 0
-ChangesTree made frame result old new = IsTreeChange made frame result old.tree new.tree × (new.log ≡ old.log)
+ChangesTree made payload result old new = IsTreeChange made payload result old.tree new.tree × (new.log ≡ old.log)
 
 -- the log is asked for a change
 abbrev pub ChangesLog : {A B E : Type 0} → Result B E → ℕ → Result A StepFault → Disks → Disks → Type 0
-ChangesLog made frame result old new = IsLogChange made frame result old.log new.log × (new.tree ≡ old.tree)
+ChangesLog made payload result old new = IsLogChange made payload result old.log new.log × (new.tree ≡ old.tree)
 
 -- A write finds the log down: where the log's base has passed the driver's view, the write reads the log for what it is to write.
 pub record FindsLogDown {A : Type 0} (position base : ℤ) (result : Result A StepFault) (old new : Disks) : Type 0 where
@@ -114,16 +114,16 @@ pub record FindsLogDown {A : Type 0} (position base : ℤ) (result : Result A St
   pub same : new ≡ old
 
 -- What a request of a driver does to the disks: it is of one store, and the other isn't touched.
-abbrev pub RequestDisks : {A : Type 0} → Shared → ℤ → ℤ → ℤ → Frames → Request → Result A StepFault → Disks → Disks → Type 0
-RequestDisks s epoch now position frames nothing result old new = AsksNothing result old new
-RequestDisks s epoch now position frames read_log result old new = ReadsLog result old new
-RequestDisks s epoch now position frames list_brokers result old new = ReadsTree result old new
-RequestDisks s epoch now position frames look_up result old new = ReadsTree result old new
-RequestDisks s epoch now position frames (read_page after) result old new = ReadsTree result old new
-RequestDisks s epoch now position frames (write ops) result old new =
-    ChangesTree (multi s.tree ops) (frames.tree s.tree (Multi ops)) result old new ⊎ FindsLogDown position s.log.base result old new
-RequestDisks s epoch now position frames (add records) result old new =
-    ChangesLog (append s.log epoch now records) (frames.log s.log (Append epoch now records)) result old new
+abbrev pub RequestDisks : {A : Type 0} → Shared → ℤ → ℤ → ℤ → Payloads → Request → Result A StepFault → Disks → Disks → Type 0
+RequestDisks s epoch now position payloads nothing result old new = AsksNothing result old new
+RequestDisks s epoch now position payloads read_log result old new = ReadsLog result old new
+RequestDisks s epoch now position payloads list_brokers result old new = ReadsTree result old new
+RequestDisks s epoch now position payloads look_up result old new = ReadsTree result old new
+RequestDisks s epoch now position payloads (read_page after) result old new = ReadsTree result old new
+RequestDisks s epoch now position payloads (write ops) result old new =
+    ChangesTree (multi s.tree ops) (payloads.tree s.tree (Multi ops)) result old new ⊎ FindsLogDown position s.log.base result old new
+RequestDisks s epoch now position payloads (add records) result old new =
+    ChangesLog (append s.log epoch now records) (payloads.log s.log (Append epoch now records)) result old new
 
 -- ---- a step
 
@@ -139,8 +139,8 @@ IsAnswered (Ok told) = ⊤
 IsAnswered (Err fault) = ⊥
 
 -- What a step does to the disks: what its one request does; and it is answered where it takes nothing.
-pub record StepDisks (s : Shared) (now : ℤ) (d : Driver) (frames : Frames) (result : Result Reply StepFault) (old new : Disks) : Type 0 where
-  pub request : RequestDisks s (epoch_or_zero d.epoch) now d.view.position frames (request_at s now d d.stage) result old new
+pub record StepDisks (s : Shared) (now : ℤ) (d : Driver) (payloads : Payloads) (result : Result Reply StepFault) (old new : Disks) : Type 0 where
+  pub request : RequestDisks s (epoch_or_zero d.epoch) now d.view.position payloads (request_at s now d d.stage) result old new
   pub answered : takes_nothing d.stage ≡ true → IsAnswered result
 
 -- What a stop may leave of the two stores where a disk failed in this step: the value from before it, or the one that the

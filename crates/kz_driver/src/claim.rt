@@ -116,7 +116,7 @@ fn ask_claim<T: ZTree>(
     ensures said { IfOk result (λ claimed. claimed ≡ claim_outcome seen.now ops.now (multi (T.tree tree.old) ops.now)) }
     ensures tree { IfOk result (λ claimed. T.tree tree.new ≡ tree_after (multi (T.tree tree.old) ops.now) (T.tree tree.old)) }
     ensures err { OnErr result (T.tree tree.new ≡ T.tree tree.old) }
-    ensures disk { IsTreeChange (multi (T.tree tree.old) ops.now) (T.frame_bytes (T.tree tree.old) (Multi ops.now)) result (T.disk tree.old) (T.disk tree.new) }
+    ensures disk { IsTreeChange (multi (T.tree tree.old) ops.now) (T.payload_bytes (T.tree tree.old) (Multi ops.now)) result (T.disk tree.old) (T.disk tree.new) }
     ensures stop { IsErrOf result (StepFault.Tree TreeFault.Device) → Either (T.tree tree.old) (tree_after (multi (T.tree tree.old) ops.now) (T.tree tree.old)) (T.left tree.new) }
 {
     let number = claimed_number(alloc, seen.epoch.as_ref())?;
@@ -165,7 +165,7 @@ fn try_claim<T: ZTree>(
     ensures said { IfOk result (λ claimed. claimed ≡ claim_outcome seen.now (claim_ops seen.now (driver_of driver.now) now) (multi (T.tree tree.old) (claim_ops seen.now (driver_of driver.now) now))) }
     ensures tree { IfOk result (λ claimed. T.tree tree.new ≡ tree_after (multi (T.tree tree.old) (claim_ops seen.now (driver_of driver.now) now)) (T.tree tree.old)) }
     ensures err { OnErr result (T.tree tree.new ≡ T.tree tree.old) }
-    ensures disk { IsTreeChange (multi (T.tree tree.old) (claim_ops seen.now (driver_of driver.now) now)) (T.frame_bytes (T.tree tree.old) (Multi (claim_ops seen.now (driver_of driver.now) now))) result (T.disk tree.old) (T.disk tree.new) }
+    ensures disk { IsTreeChange (multi (T.tree tree.old) (claim_ops seen.now (driver_of driver.now) now)) (T.payload_bytes (T.tree tree.old) (Multi (claim_ops seen.now (driver_of driver.now) now))) result (T.disk tree.old) (T.disk tree.new) }
     ensures stop { IsErrOf result (StepFault.Tree TreeFault.Device) → Either (T.tree tree.old) (tree_after (multi (T.tree tree.old) (claim_ops seen.now (driver_of driver.now) now)) (T.tree tree.old)) (T.left tree.new) }
 {
     let ops = ops_of_claim(alloc, driver, seen, now)?;
@@ -186,7 +186,7 @@ pub fn claim<T: ZTree>(
         T.tree tree.new ≡ tree_after (multi (T.tree tree.old) (claim_ops seen (driver_of row.old) now)) (T.tree tree.old)) }
     ensures view { row.new.view ≡ row.old.view }
     ensures err { OnErr result ((row.new ≡ row.old) × (T.tree tree.new ≡ T.tree tree.old)) }
-    ensures disk { (seen : ClaimSeenValue) → row.old.stage ≡ stage.ClaimLeadership seen → IsTreeChange (multi (T.tree tree.old) (claim_ops seen (driver_of row.old) now)) (T.frame_bytes (T.tree tree.old) (Multi (claim_ops seen (driver_of row.old) now))) result (T.disk tree.old) (T.disk tree.new) }
+    ensures disk { (seen : ClaimSeenValue) → row.old.stage ≡ stage.ClaimLeadership seen → IsTreeChange (multi (T.tree tree.old) (claim_ops seen (driver_of row.old) now)) (T.payload_bytes (T.tree tree.old) (Multi (claim_ops seen (driver_of row.old) now))) result (T.disk tree.old) (T.disk tree.new) }
     ensures stop { (seen : ClaimSeenValue) → row.old.stage ≡ stage.ClaimLeadership seen → IsErrOf result (StepFault.Tree TreeFault.Device) → Either (T.tree tree.old) (tree_after (multi (T.tree tree.old) (claim_ops seen (driver_of row.old) now)) (T.tree tree.old)) (T.left tree.new) }
 {
     let Stage::ClaimLeadership { seen } = &row.stage else {

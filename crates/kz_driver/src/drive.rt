@@ -5,7 +5,7 @@ ghost use Rattle.kz_spec_stores.specs.Tree.{Tree};
 ghost use Rattle.kz_spec_stores.specs.Log.{View as ViewValue, IsViewOf};
 ghost use Rattle.kz_spec_machine.specs.Driver.{Driver as DriverValue, new_driver, elected_driver, step};
 ghost use Rattle.kz_spec_machine.specs.Failures.{is_failed_step};
-ghost use Rattle.kz_driver.specs.Disks.{disks_of, frames_of, StepDisks, StepLeaves};
+ghost use Rattle.kz_driver.specs.Disks.{disks_of, payloads_of, StepDisks, StepLeaves};
 ghost use Rattle.kz_driver.specs.Drivers.{IsKept, asks_tree, shared_of, after_uninitialized, after_broker_comm};
 ghost use Rattle.kz_driver.specs.Rows.{driver_of};
 
@@ -99,9 +99,10 @@ impl Driver {
         &self.row.view
     }
 
-    /// One step: at most one request of the tree or the log, and what follows its answer. The driver's view is one of the
-    /// log, and what others know of the log stays known. A refusal of the tree or the log is an answer, which the reply
-    /// tells. At `Err` nothing has changed. `Tree` and `Log`: the disk below that store failed, in this step or in an earlier
+    /// One step: at most one request of the tree or the log, and what follows its answer. A write whose view the log's base
+    /// has passed reads the log first, and may find it down. The driver's view is one of the log, and what others know of the
+    /// log stays known. A refusal of the tree or the log is an answer, which the reply tells. At `Err` nothing has changed but
+    /// the disks. `Tree` and `Log`: the disk below that store failed, in this step or in an earlier
     /// request, or its file is full; `NoMemory` comes in no step of UNINITIALIZED, INACTIVE and KRAFT_CONTROLLER_TO_BROKER_COMM.
     /// Where a disk failed in this step, a stop leaves the tree or the log from before, or the one that the step would have
     /// made.
@@ -119,7 +120,7 @@ impl Driver {
         ensures err { OnErr result ((self.new ≡ self.old) × (T.tree tree.new ≡ T.tree tree.old) × (L.log log.new ≡ L.log log.old)) }
         ensures view { IsViewOf (L.log log.new) self.new.view }
         ensures views { (v : ViewValue) → IsViewOf (L.log log.old) v → IsViewOf (L.log log.new) v }
-        ensures disks { StepDisks (shared_of (T.tree tree.old) (L.log log.old) peers.now.declared) now self.old (frames_of T.frame_bytes L.frame_bytes) result
+        ensures disks { StepDisks (shared_of (T.tree tree.old) (L.log log.old) peers.now.declared) now self.old (payloads_of T.payload_bytes L.payload_bytes) result
             (disks_of (T.disk tree.old) (L.disk log.old)) (disks_of (T.disk tree.new) (L.disk log.new)) }
         ensures stop { StepLeaves result (shared_of (T.tree tree.old) (L.log log.old) peers.now.declared)
             (step (shared_of (T.tree tree.old) (L.log log.old) peers.now.declared) peers.now.running now self.old).shared (T.left tree.new) (L.left log.new) }
@@ -161,7 +162,7 @@ fn step_without_tree<L: MetaLog>(
     ensures view { IsViewOf (L.log log.new) row.new.view }
     ensures views { (v : ViewValue) → IsViewOf (L.log log.old) v → IsViewOf (L.log log.new) v }
     ensures err { OnErr result ((row.new ≡ row.old) × (L.log log.new ≡ L.log log.old)) }
-    ensures disks { (t : Tree) (tree_disk : Disk) (tree_frame : Tree → TreeChange → ℕ) → StepDisks (shared_of t (L.log log.old) peers.now.declared) now (driver_of row.old) (frames_of tree_frame L.frame_bytes) result
+    ensures disks { (t : Tree) (tree_disk : Disk) (tree_payload : Tree → TreeChange → ℕ) → StepDisks (shared_of t (L.log log.old) peers.now.declared) now (driver_of row.old) (payloads_of tree_payload L.payload_bytes) result
         (disks_of tree_disk (L.disk log.old)) (disks_of tree_disk (L.disk log.new)) }
     ensures stop { (t : Tree) → IsErrOf result (StepFault.Log LogFault.Failed)
         → Either (L.log log.old) (step (shared_of t (L.log log.old) peers.now.declared) peers.now.running now (driver_of row.old)).shared.log (L.left log.new) }
@@ -197,7 +198,7 @@ fn step_row<T: ZTree, L: MetaLog>(
     ensures view { IsViewOf (L.log log.new) row.new.view }
     ensures views { (v : ViewValue) → IsViewOf (L.log log.old) v → IsViewOf (L.log log.new) v }
     ensures err { OnErr result ((row.new ≡ row.old) × (T.tree tree.new ≡ T.tree tree.old) × (L.log log.new ≡ L.log log.old)) }
-    ensures disks { StepDisks (shared_of (T.tree tree.old) (L.log log.old) peers.now.declared) now (driver_of row.old) (frames_of T.frame_bytes L.frame_bytes) result
+    ensures disks { StepDisks (shared_of (T.tree tree.old) (L.log log.old) peers.now.declared) now (driver_of row.old) (payloads_of T.payload_bytes L.payload_bytes) result
         (disks_of (T.disk tree.old) (L.disk log.old)) (disks_of (T.disk tree.new) (L.disk log.new)) }
     ensures stop { StepLeaves result (shared_of (T.tree tree.old) (L.log log.old) peers.now.declared)
         (step (shared_of (T.tree tree.old) (L.log log.old) peers.now.declared) peers.now.running now (driver_of row.old)).shared (T.left tree.new) (L.left log.new) }

@@ -59,7 +59,7 @@ pub fn append_batch<L: MetaLog>(
     ensures log { IfOk result (λ said. L.log log.new ≡ log_after (append (L.log log.old) (epoch_or_zero driver.now.epoch) now items.now) (L.log log.old)) }
     ensures views { (v : ViewValue) → IsViewOf (L.log log.old) v → IsViewOf (L.log log.new) v }
     ensures err { OnErr result (L.log log.new ≡ L.log log.old) }
-    ensures disk { IsLogChange (append (L.log log.old) (epoch_or_zero driver.now.epoch) now items.now) (L.frame_bytes (L.log log.old) (Append (epoch_or_zero driver.now.epoch) now items.now)) result (L.disk log.old) (L.disk log.new) }
+    ensures disk { IsLogChange (append (L.log log.old) (epoch_or_zero driver.now.epoch) now items.now) (L.payload_bytes (L.log log.old) (Append (epoch_or_zero driver.now.epoch) now items.now)) result (L.disk log.old) (L.disk log.new) }
     ensures stop { IsErrOf result (StepFault.Log LogFault.Failed) → Either (L.log log.old) (log_after (append (L.log log.old) (epoch_or_zero driver.now.epoch) now items.now) (L.log log.old)) (L.left log.new) }
 {
     match log.append(epoch_of(driver), now, items) {

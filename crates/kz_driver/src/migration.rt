@@ -11,7 +11,7 @@ ghost use Rattle.kz_spec_stores.specs.Requests.{Disk, TreeChange, Append, Either
 ghost use Rattle.kz_spec_stores.specs.Log.{Log, View as ViewValue, IsViewOf, append};
 ghost use Rattle.kz_spec_znodes.specs.Translation.{translate};
 ghost use Rattle.kz_spec_machine.specs.Driver.{epoch_or_zero, begin_record, begin_request, commit_records, next_records, after_records, after_append, after_translation};
-ghost use Rattle.kz_driver.specs.Disks.{disks_of, frames_of, IsLogChange, RequestDisks};
+ghost use Rattle.kz_driver.specs.Disks.{disks_of, payloads_of, IsLogChange, RequestDisks};
 ghost use Rattle.kz_driver.specs.Rows.{driver_of};
 ghost use Rattle.kz_driver.specs.Appends.{IsAppendAnswer, log_after, log_after_begin};
 ghost use Rattle.kz_driver.specs.Drivers.{shared_of};
@@ -70,7 +70,7 @@ pub fn append_next_batch<L: MetaLog>(
     ensures log { IfOk result (λ said. L.log log.new ≡ log_after (append (L.log log.old) (epoch_or_zero driver.now.epoch) now (next_records records.now)) (L.log log.old)) }
     ensures views { (v : ViewValue) → IsViewOf (L.log log.old) v → IsViewOf (L.log log.new) v }
     ensures err { OnErr result (L.log log.new ≡ L.log log.old) }
-    ensures disk { IsLogChange (append (L.log log.old) (epoch_or_zero driver.now.epoch) now (next_records records.now)) (L.frame_bytes (L.log log.old) (Append (epoch_or_zero driver.now.epoch) now (next_records records.now))) result (L.disk log.old) (L.disk log.new) }
+    ensures disk { IsLogChange (append (L.log log.old) (epoch_or_zero driver.now.epoch) now (next_records records.now)) (L.payload_bytes (L.log log.old) (Append (epoch_or_zero driver.now.epoch) now (next_records records.now))) result (L.disk log.old) (L.disk log.new) }
     ensures stop { IsErrOf result (StepFault.Log LogFault.Failed) → Either (L.log log.old) (log_after (append (L.log log.old) (epoch_or_zero driver.now.epoch) now (next_records records.now)) (L.log log.old)) (L.left log.new) }
 {
     if records.is_empty() {
@@ -95,7 +95,7 @@ fn begin_with<L: MetaLog>(
     ensures view { row.new.view ≡ row.old.view }
     ensures views { (v : ViewValue) → IsViewOf (L.log log.old) v → IsViewOf (L.log log.new) v }
     ensures err { OnErr result ((row.new ≡ row.old) × (L.log log.new ≡ L.log log.old)) }
-    ensures disk { IsLogChange (append (L.log log.old) (epoch_or_zero row.old.epoch) now (begin_record ∷ [])) (L.frame_bytes (L.log log.old) (Append (epoch_or_zero row.old.epoch) now (begin_record ∷ []))) result (L.disk log.old) (L.disk log.new) }
+    ensures disk { IsLogChange (append (L.log log.old) (epoch_or_zero row.old.epoch) now (begin_record ∷ [])) (L.payload_bytes (L.log log.old) (Append (epoch_or_zero row.old.epoch) now (begin_record ∷ []))) result (L.disk log.old) (L.disk log.new) }
     ensures stop { IsErrOf result (StepFault.Log LogFault.Failed) → Either (L.log log.old) (log_after (append (L.log log.old) (epoch_or_zero row.old.epoch) now (begin_record ∷ [])) (L.log log.old)) (L.left log.new) }
 {
     let first = begin_records(alloc)?;
@@ -123,7 +123,7 @@ pub fn begin_migration<L: MetaLog>(
     ensures view { row.new.view ≡ row.old.view }
     ensures views { (v : ViewValue) → IsViewOf (L.log log.old) v → IsViewOf (L.log log.new) v }
     ensures err { OnErr result ((row.new ≡ row.old) × (L.log log.new ≡ L.log log.old)) }
-    ensures disks { (rows : List RowValue) → row.old.stage ≡ stage.BeginMigration rows → (t : Tree) (ids : List ℤ) (tree_disk : Disk) (tree_frame : Tree → TreeChange → ℕ) → RequestDisks (shared_of t (L.log log.old) ids) (epoch_or_zero row.old.epoch) now row.old.view.position (frames_of tree_frame L.frame_bytes) (begin_request (translate rows)) result (disks_of tree_disk (L.disk log.old)) (disks_of tree_disk (L.disk log.new)) }
+    ensures disks { (rows : List RowValue) → row.old.stage ≡ stage.BeginMigration rows → (t : Tree) (ids : List ℤ) (tree_disk : Disk) (tree_payload : Tree → TreeChange → ℕ) → RequestDisks (shared_of t (L.log log.old) ids) (epoch_or_zero row.old.epoch) now row.old.view.position (payloads_of tree_payload L.payload_bytes) (begin_request (translate rows)) result (disks_of tree_disk (L.disk log.old)) (disks_of tree_disk (L.disk log.new)) }
     ensures stop { (rows : List RowValue) → row.old.stage ≡ stage.BeginMigration rows → IsErrOf result (StepFault.Log LogFault.Failed) → Either (L.log log.old) (log_after_begin (L.log log.old) (epoch_or_zero row.old.epoch) now (translate rows)) (L.left log.new) }
 {
     let Stage::BeginMigration { rows } = &row.stage else {
@@ -193,7 +193,7 @@ pub fn append_records<L: MetaLog>(
     ensures view { row.new.view ≡ row.old.view }
     ensures views { (v : ViewValue) → IsViewOf (L.log log.old) v → IsViewOf (L.log log.new) v }
     ensures err { OnErr result ((row.new ≡ row.old) × (L.log log.new ≡ L.log log.old)) }
-    ensures disk { (records : List MetaRecordValue) → row.old.stage ≡ stage.AppendRecords records → IsLogChange (append (L.log log.old) (epoch_or_zero row.old.epoch) now (next_records records)) (L.frame_bytes (L.log log.old) (Append (epoch_or_zero row.old.epoch) now (next_records records))) result (L.disk log.old) (L.disk log.new) }
+    ensures disk { (records : List MetaRecordValue) → row.old.stage ≡ stage.AppendRecords records → IsLogChange (append (L.log log.old) (epoch_or_zero row.old.epoch) now (next_records records)) (L.payload_bytes (L.log log.old) (Append (epoch_or_zero row.old.epoch) now (next_records records))) result (L.disk log.old) (L.disk log.new) }
     ensures stop { (records : List MetaRecordValue) → row.old.stage ≡ stage.AppendRecords records → IsErrOf result (StepFault.Log LogFault.Failed) → Either (L.log log.old) (log_after (append (L.log log.old) (epoch_or_zero row.old.epoch) now (next_records records)) (L.log log.old)) (L.left log.new) }
 {
     let Stage::AppendRecords { records } = &row.stage else {

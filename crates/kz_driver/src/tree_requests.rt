@@ -4,8 +4,8 @@ ghost use Rattle.kz_types.specs.declared.fault.TreeFault.TheVariants.{Limit};
 ghost use Rattle.kz_ordered.specs.Order.{bytes_cmp};
 ghost use Rattle.kz_ordered.specs.Ordered.{Rises};
 ghost use Rattle.kz_spec_stores.specs.Requests.{Disk, Multi, Either, ReadsDisk, answer_of_tree_fault};
-ghost use Rattle.kz_spec_stores.specs.Tree.{multi, scan, look, broker_ids, path_of_row};
-ghost use Rattle.kz_spec_machine.specs.Driver.{path_of_op, path_at};
+ghost use Rattle.kz_spec_stores.specs.Tree.{path_of_op, multi, scan, look, broker_ids, path_of_row};
+ghost use Rattle.kz_spec_machine.specs.Driver.{path_at};
 ghost use Rattle.kz_driver.specs.Claims.{tree_after};
 ghost use Rattle.kz_driver.specs.Disks.{OnTreeFault, IsTreeRead, IsTreeChange};
 
@@ -23,7 +23,7 @@ pub fn ask<T: ZTree>(tree: &mut T, ops: &[Op]) -> Result<Option<TreeFault>, Step
         (multi (T.tree tree.old) ops.now ≡ Ok (T.tree tree.new))
         (λ f. (multi (T.tree tree.old) ops.now ≡ Err f) × (T.tree tree.new ≡ T.tree tree.old))) }
     ensures same { OnErr result (T.tree tree.new ≡ T.tree tree.old) }
-    ensures disk { IsTreeChange (multi (T.tree tree.old) ops.now) (T.frame_bytes (T.tree tree.old) (Multi ops.now)) result (T.disk tree.old) (T.disk tree.new) }
+    ensures disk { IsTreeChange (multi (T.tree tree.old) ops.now) (T.payload_bytes (T.tree tree.old) (Multi ops.now)) result (T.disk tree.old) (T.disk tree.new) }
     ensures stop { IsErrOf result (StepFault.Tree TreeFault.Device) → Either (T.tree tree.old) (tree_after (multi (T.tree tree.old) ops.now) (T.tree tree.old)) (T.left tree.new) }
 {
     match tree.multi(ops) {

@@ -10,7 +10,7 @@ ghost use Rattle.kz_spec_znodes.specs.Rendering.{render};
 ghost use Rattle.kz_spec_znodes.specs.Difference.{diff};
 ghost use Rattle.kz_spec_machine.specs.Driver.{begins_again, remaining_at, write_ops, write_request, writes};
 ghost use Rattle.kz_driver.specs.Claims.{tree_after};
-ghost use Rattle.kz_driver.specs.Disks.{disks_of, frames_of, IsLogRead, IsTreeChange, RequestDisks};
+ghost use Rattle.kz_driver.specs.Disks.{disks_of, payloads_of, IsLogRead, IsTreeChange, RequestDisks};
 ghost use Rattle.kz_driver.specs.Drivers.{IsElected, IsKept, shared_of};
 ghost use Rattle.kz_driver.specs.Rows.{driver_of};
 ghost use Rattle.kz_driver.specs.Writes.{IsRemainderFault, more_of, last_of, outcome_of_taken, outcome_of_refused, write_outcome, after_write_outcome, tree_after_write};
@@ -162,7 +162,7 @@ fn ask_write<T: ZTree>(
     ensures said { IfOk result (λ written. written ≡ write_outcome claim ops.items target.now (multi (T.tree tree.old) (write_ops claim ops.items target.now))) }
     ensures tree { IfOk result (λ written. T.tree tree.new ≡ tree_after (multi (T.tree tree.old) (write_ops claim ops.items target.now)) (T.tree tree.old)) }
     ensures err { OnErr result (T.tree tree.new ≡ T.tree tree.old) }
-    ensures disk { IsTreeChange (multi (T.tree tree.old) (write_ops claim ops.items target.now)) (T.frame_bytes (T.tree tree.old) (Multi (write_ops claim ops.items target.now))) result (T.disk tree.old) (T.disk tree.new) }
+    ensures disk { IsTreeChange (multi (T.tree tree.old) (write_ops claim ops.items target.now)) (T.payload_bytes (T.tree tree.old) (Multi (write_ops claim ops.items target.now))) result (T.disk tree.old) (T.disk tree.new) }
     ensures stop { IsErrOf result (StepFault.Tree TreeFault.Device) → Either (T.tree tree.old) (tree_after (multi (T.tree tree.old) (write_ops claim ops.items target.now)) (T.tree tree.old)) (T.left tree.new) }
 {
     let made = write_ops(alloc, claim, &ops, target)?;
@@ -254,7 +254,7 @@ pub fn write<T: ZTree, L: MetaLog>(
     ensures view { row.new.view ≡ row.old.view }
     ensures err { OnErr result ((row.new ≡ row.old) × (T.tree tree.new ≡ T.tree tree.old)) }
     ensures same { L.log log.new ≡ L.log log.old }
-    ensures disks { (ids : List ℤ) (epoch time : ℤ) → RequestDisks (shared_of (T.tree tree.old) (L.log log.old) ids) epoch time row.old.view.position (frames_of T.frame_bytes L.frame_bytes)
+    ensures disks { (ids : List ℤ) (epoch time : ℤ) → RequestDisks (shared_of (T.tree tree.old) (L.log log.old) ids) epoch time row.old.view.position (payloads_of T.payload_bytes L.payload_bytes)
         (write_request row.old.claim (remaining_at (T.tree tree.old) (L.log log.old) target.offset) target) result (disks_of (T.disk tree.old) (L.disk log.old)) (disks_of (T.disk tree.new) (L.disk log.new)) }
     ensures stop { IsErrOf result (StepFault.Tree TreeFault.Device) → Either (T.tree tree.old) (tree_after_write (T.tree tree.old) row.old.claim (remaining_at (T.tree tree.old) (L.log log.old) target.offset) target) (T.left tree.new) }
 {

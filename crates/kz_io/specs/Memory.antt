@@ -1,6 +1,7 @@
 -- Sources and sinks in memory.
-use Rattle.std.specs.Prelude.{ℕ, Bool, ◌==◌, List, drop}
+use Rattle.std.specs.Prelude.{◌≡◌, ◌↔◌, ℕ, ◌+◌, ◌-◌, ◌^◌, min, Bool, ◌==◌, List, length, drop, Result, IfOk, IsErr, IsTrue, if◌then◌else◌}
 use Rattle.std.specs.List.{list_any}
+use Rattle.kz_types.specs.declared.outside.Failed.{Failed}
 use Rattle.kz_io.specs.declared.memory.MemorySource.{MemorySource}
 use Rattle.kz_io.specs.declared.memory.MemorySink.{MemorySink}
 
@@ -51,3 +52,16 @@ sink_failed s = s.failed
 -- a call of this number is listed
 abbrev pub is_listed : ℕ → List ℕ → Bool
 is_listed call calls = list_any (λ n. n == call) calls
+
+-- A read by the list of a source: it fails exactly where its number is listed, and gives as many bytes as are left and find
+-- room. The next read has the next number, up to the greatest of 64 bits, and the list stays.
+abbrev pub ReadsByList : MemorySource → MemorySource → ℕ → Result ℕ Failed → Type 0
+ReadsByList old new room result = (IsErr result ↔ IsTrue (is_listed (source_call old) (source_plan old))) × IfOk result (λ n. n ≡ min (length (source_left old)) room)
+    × (source_call new ≡ min (source_call old + 1) (2 ^ 64 - 1)) × (source_plan new ≡ source_plan old)
+
+-- A write by the lists of a sink: it fails where its number is listed, and takes nothing of the piece or all of it, by the
+-- other list. The next write has the next number, up to the greatest of 64 bits, and the lists stay.
+abbrev pub WritesByLists : MemorySink → MemorySink → List ℕ → Result ℕ Failed → Type 0
+WritesByLists old new piece result = (IsTrue (is_listed (sink_call old) (sink_plan old)) → IsErr result)
+    × IfOk result (λ n. n ≡ (if is_listed (sink_call old) (sink_none old) then 0 else length piece))
+    × (sink_call new ≡ min (sink_call old + 1) (2 ^ 64 - 1)) × (sink_plan new ≡ sink_plan old) × (sink_none new ≡ sink_none old)

@@ -52,13 +52,13 @@ fn copy_front(from: &[u8], to: &mut [u8]) -> usize
 }
 
 impl Source for MemorySource {
-    ghost use Rattle.std.specs.Prelude.{◌≡◌, ◌+◌, ◌-◌, ◌^◌, ◌↔◌, Some, min, length, IfOk, IsErr, IsTrue};
+    ghost use Rattle.std.specs.Prelude.{◌≡◌, Some, length};
     ghost use Rattle.std.specs.Io.{ReadsAtMost};
     ghost use Rattle.std.specs.Result.{is_err};
     ghost use Rattle.std.specs.Io.KnownBytes.{ReadConsumes};
     ghost use Rattle.kz_types.specs.Causes.{HasCause};
     ghost use Rattle.kz_io.specs.Told.{StaysTold};
-    ghost use Rattle.kz_io.specs.Memory.{source_left, source_call, source_plan, source_faults, source_failed, is_listed};
+    ghost use Rattle.kz_io.specs.Memory.{source_left, source_faults, source_failed, ReadsByList};
 
     ghost left = { λ s. Some (source_left s) };
 
@@ -75,10 +75,7 @@ impl Source for MemorySource {
         ensures told { StaysTold (Some (source_left self.old)) (Some (source_left self.new)) }
         ensures cause { HasCause (source_faults self.old) (source_faults self.new) result }
         ensures failed { source_failed self.new ≡ is_err result }
-        ensures fails { IsErr result ↔ IsTrue (is_listed (source_call self.old) (source_plan self.old)) }
-        ensures count { IfOk result (λ n. n ≡ min (length (source_left self.old)) (length buf.old)) }
-        ensures call { source_call self.new ≡ min (source_call self.old + 1) (2 ^ 64 - 1) }
-        ensures plan { source_plan self.new ≡ source_plan self.old }
+        ensures by_list { ReadsByList self.old self.new (length buf.old) result }
     {
         let call = self.calls;
         self.calls = call.saturating_add(1);
@@ -138,11 +135,11 @@ impl MemorySink {
 }
 
 impl Sink for MemorySink {
-    ghost use Rattle.std.specs.Prelude.{◌≡◌, ◌+◌, ◌-◌, ◌^◌, ◌≤◌, Some, min, length, MatchResult, IfOk, IsErr, IsTrue, if◌then◌else◌};
+    ghost use Rattle.std.specs.Prelude.{◌≡◌, ◌≤◌, Some, length, MatchResult};
     ghost use Rattle.std.specs.Io.KnownBytes.{WriteAppends};
     ghost use Rattle.kz_types.specs.Causes.{WriteHasCause};
     ghost use Rattle.kz_io.specs.Told.{StaysTold, is_failed_write};
-    ghost use Rattle.kz_io.specs.Memory.{sink_taken, sink_call, sink_plan, sink_none, sink_faults, sink_failed, is_listed};
+    ghost use Rattle.kz_io.specs.Memory.{sink_taken, sink_faults, sink_failed, WritesByLists};
 
     ghost taken = { λ s. Some (sink_taken s) };
 
@@ -159,11 +156,7 @@ impl Sink for MemorySink {
         ensures told { StaysTold (Some (sink_taken self.old)) (Some (sink_taken self.new)) }
         ensures cause { WriteHasCause (sink_faults self.old) (sink_faults self.new) result piece.now }
         ensures failed { sink_failed self.new ≡ is_failed_write result piece.now }
-        ensures fails { IsTrue (is_listed (sink_call self.old) (sink_plan self.old)) → IsErr result }
-        ensures count { IfOk result (λ n. n ≡ (if is_listed (sink_call self.old) (sink_none self.old) then 0 else length piece.now)) }
-        ensures call { sink_call self.new ≡ min (sink_call self.old + 1) (2 ^ 64 - 1) }
-        ensures plan { sink_plan self.new ≡ sink_plan self.old }
-        ensures kept { sink_none self.new ≡ sink_none self.old }
+        ensures by_lists { WritesByLists self.old self.new piece.now result }
     {
         let call = self.calls;
         self.calls = call.saturating_add(1);

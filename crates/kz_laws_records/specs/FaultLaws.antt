@@ -1,8 +1,9 @@
 -- What the laws of faults say of a format.
+use Rattle.std.specs.Int.{w8, w16, w32, w64}
 use Rattle.std.specs.Prelude.{◌≡◌, ℕ, ◌+◌, List, [], ◌∷◌, ◌++◌, length, Err}
 use Rattle.kz_types.specs.declared.record.ByteFault.{ByteFault}
 use Rattle.kz_types.specs.declared.record.ByteFault.TheVariants.{Short, Overlong, NotUtf8}
-use Rattle.kz_spec_values.specs.Fields.{Reading, Format, end_of, nullable_bytes, nullable_text}
+use Rattle.kz_spec_values.specs.Fields.{Reading, Format, end_of, front, unsigned_number, signed_number, id, uvarint, varint, varlong, items_with_count, nullable_bytes, nullable_text}
 use Rattle.kz_laws_records.specs.Texts.{AreBytes}
 
 -- Some spelling begins with these bytes.
@@ -35,3 +36,18 @@ abbrev pub IsFirstTextFault : Reading → ByteFault → Type 0
 IsFirstTextFault r (Short place) = (place ≡ end_of r) × GoesOn nullable_bytes r.left
 IsFirstTextFault r (Overlong place) = IsFirstBad nullable_text r place
 IsFirstTextFault r (NotUtf8 place) = IsFirstBad nullable_text r place
+
+-- Each fault of each field stands at the first byte at which no spelling goes on. A text is judged once its bytes are taken.
+pub record FaultsOfFields : Type 0 where
+  pub part : (n : ℕ) → FaultsAreFirst (front n)
+  pub i8 : FaultsAreFirst (signed_number w8)
+  pub i16 : FaultsAreFirst (signed_number w16)
+  pub u16 : FaultsAreFirst (unsigned_number w16)
+  pub i32 : FaultsAreFirst (signed_number w32)
+  pub i64 : FaultsAreFirst (signed_number w64)
+  pub id : FaultsAreFirst id
+  pub uvarint : FaultsAreFirst uvarint
+  pub varint : FaultsAreFirst varint
+  pub varlong : FaultsAreFirst varlong
+  pub counted : (size : ℕ) → FaultsAreFirst (items_with_count size)
+  pub nullable_text : (r : Reading) (fault : ByteFault) → AreBytes r.left → nullable_text.read r ≡ Err fault → IsFirstTextFault r fault

@@ -7,18 +7,15 @@
 #![tactic(auto)]
 
 ghost use Rattle.std.specs.Prelude.{◌≡◌, ◌++◌, ℕ, ℤ, List, [], Ok, Err};
-ghost use Rattle.std.specs.Int.{w8, w16, w32, w64};
+ghost use Rattle.std.specs.Int.{w32, w64};
 ghost use Rattle.std.specs.Int.RustNames.{FitsSigned};
 ghost use Rattle.std.specs.List.{All};
-ghost use Rattle.kz_types.specs.declared.record.ByteFault.{ByteFault};
 ghost use Rattle.kz_types.specs.declared.record.MetaRecord.{MetaRecord};
-ghost use Rattle.kz_spec_values.specs.Fields.{Reading, front, unsigned_number, signed_number, id, uvarint, varint, varlong, items_with_count, nullable_bytes, nullable_text};
-ghost use Rattle.kz_spec_values.specs.Forms.{non_null, flag, nullable_ints};
 ghost use Rattle.kz_spec_values.specs.Records.{Spells, Fits, LengthsFit, bytes_of_record, record_of};
 ghost use Rattle.kz_spec_values.specs.Batches.{BatchContents, IsBatch, BatchFits, batch_of, batch_written};
 ghost use Rattle.kz_laws_records.specs.Texts.{AreBytes};
-ghost use Rattle.kz_laws_records.specs.FieldLaws.{ReadsSpellings, ReadsWritten};
-ghost use Rattle.kz_laws_records.specs.FaultLaws.{FaultsAreFirst, IsFirstTextFault};
+ghost use Rattle.kz_laws_records.specs.FieldLaws.{HoldsOfFields, ReadsSpellings, ReadsWritten};
+ghost use Rattle.kz_laws_records.specs.FaultLaws.{FaultsOfFields};
 ghost use Rattle.kz_laws_records.specs.WrittenContents.{contents_of};
 
 mod fits;
@@ -28,64 +25,19 @@ pub use fits::held_record_is_spelled;
 /// Fields: bytes that spell a value are read as it, whatever follows; a value that is read of bytes is spelled by exactly the bytes
 /// that were passed; and bytes spell at most one value.
 pub fn fields_are_spelled()
-    ensures part { (n : ℕ) → ReadsSpellings (front n) }
-    ensures i8 { ReadsSpellings (signed_number w8) }
-    ensures i16 { ReadsSpellings (signed_number w16) }
-    ensures u16 { ReadsSpellings (unsigned_number w16) }
-    ensures i32 { ReadsSpellings (signed_number w32) }
-    ensures i64 { ReadsSpellings (signed_number w64) }
-    ensures id { ReadsSpellings id }
-    ensures flag { ReadsSpellings flag }
-    ensures uvarint { ReadsSpellings uvarint }
-    ensures varint { ReadsSpellings varint }
-    ensures varlong { ReadsSpellings varlong }
-    ensures counted { (size : ℕ) → ReadsSpellings (items_with_count size) }
-    ensures nullable_bytes { ReadsSpellings nullable_bytes }
-    ensures byte_field { ReadsSpellings (non_null nullable_bytes) }
-    ensures nullable_text { ReadsSpellings nullable_text }
-    ensures text { ReadsSpellings (non_null nullable_text) }
-    ensures nullable_ints { ReadsSpellings nullable_ints }
-    ensures ints { ReadsSpellings (non_null nullable_ints) }
+    ensures { HoldsOfFields (λ E X f. ReadsSpellings f) }
 {}
 
 /// What is written for a field whose value fits, whatever follows, is read as it, and the reader stands after it.
 pub fn written_fields_are_read()
-    ensures part { (n : ℕ) → ReadsWritten (front n) }
-    ensures i8 { ReadsWritten (signed_number w8) }
-    ensures i16 { ReadsWritten (signed_number w16) }
-    ensures u16 { ReadsWritten (unsigned_number w16) }
-    ensures i32 { ReadsWritten (signed_number w32) }
-    ensures i64 { ReadsWritten (signed_number w64) }
-    ensures id { ReadsWritten id }
-    ensures flag { ReadsWritten flag }
-    ensures uvarint { ReadsWritten uvarint }
-    ensures varint { ReadsWritten varint }
-    ensures varlong { ReadsWritten varlong }
-    ensures counted { (size : ℕ) → ReadsWritten (items_with_count size) }
-    ensures nullable_bytes { ReadsWritten nullable_bytes }
-    ensures byte_field { ReadsWritten (non_null nullable_bytes) }
-    ensures nullable_text { ReadsWritten nullable_text }
-    ensures text { ReadsWritten (non_null nullable_text) }
-    ensures nullable_ints { ReadsWritten nullable_ints }
-    ensures ints { ReadsWritten (non_null nullable_ints) }
+    ensures { HoldsOfFields (λ E X f. ReadsWritten f) }
 {}
 
 /// A fault that reading a field answers stands at the first byte at which no spelling goes on: where the bytes are too few, some
 /// spelling begins with them; else some spelling begins with the bytes before the place, and none with these and the byte there.
 /// A text is judged once its bytes are taken, so a cut one is too short whatever its bytes.
 pub fn fault_is_the_first_byte()
-    ensures part { (n : ℕ) → FaultsAreFirst (front n) }
-    ensures i8 { FaultsAreFirst (signed_number w8) }
-    ensures i16 { FaultsAreFirst (signed_number w16) }
-    ensures u16 { FaultsAreFirst (unsigned_number w16) }
-    ensures i32 { FaultsAreFirst (signed_number w32) }
-    ensures i64 { FaultsAreFirst (signed_number w64) }
-    ensures id { FaultsAreFirst id }
-    ensures uvarint { FaultsAreFirst uvarint }
-    ensures varint { FaultsAreFirst varint }
-    ensures varlong { FaultsAreFirst varlong }
-    ensures counted { (size : ℕ) → FaultsAreFirst (items_with_count size) }
-    ensures nullable_text { (r : Reading) (fault : ByteFault) → AreBytes r.left → nullable_text.read r ≡ Err fault → IsFirstTextFault r fault }
+    ensures { FaultsOfFields }
 {}
 
 /// What spells a record is read as that record, and bytes that are read as a record spell it.

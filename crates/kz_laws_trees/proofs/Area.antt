@@ -13,9 +13,8 @@ use Rattle.kz_ordered.proofs.Order.{bytes_order}
 use Rattle.kz_ordered.proofs.Lookup.{find-put_same, find-put_other, find-without_same, find-without_other, key_of_found, same_items}
 use Rattle.kz_ordered.proofs.Maps.{find-map, Rises-map, Rises-filter, find-filter_absent, find-filter_found}
 use Rattle.kz_ordered.proofs.Difference.{Rises-edited}
-use Rattle.kz_spec_stores.specs.Tree.{path_of_row, row_at, created_row, set_row, set_refusal, after_op, op_refusal, rendered_row, path_of_rendered}
+use Rattle.kz_spec_stores.specs.Tree.{path_of_op, path_of_row, row_at, created_row, set_row, set_refusal, after_op, op_refusal, rendered_row, path_of_rendered}
 use Rattle.kz_spec_znodes.specs.Difference.{op_of}
-use Rattle.kz_laws_trees.specs.TreeLaws.{path_of_op}
 use Rattle.kz_laws_trees.proofs.Rows.{still, same, other, compare, others_kept, op_rises, created_found, set_found, deleted_found}
 
 -- the paths and bodies of the migrated area of these znodes

@@ -13,13 +13,13 @@ use Rattle.kz_ordered.proofs.Order.{bytes_order}
 use Rattle.kz_ordered.proofs.Lookup.{find-put_other, find-without_other, key_of_found, same_items}
 use Rattle.kz_ordered.proofs.Maps.{Rises-filter, find-filter_absent, find-filter_found}
 use Rattle.kz_spec_values.specs.Control.{control_path, epoch_path, migration_path, recorded_of, written_control, written_recorded}
-use Rattle.kz_spec_stores.specs.Tree.{Tree, path_of_row, row_at, parent_of, with_child_change, after_set, set_row, created_row, after_op, set_refusal, multi, migrated_rows, area, migration_record, has_offset, is_later, unclosed_path}
+use Rattle.kz_spec_stores.specs.Tree.{path_of_op, Tree, path_of_row, row_at, parent_of, with_child_change, after_set, set_row, created_row, after_op, set_refusal, multi, migrated_rows, area, migration_record, has_offset, is_later, unclosed_path}
 use Rattle.kz_spec_stores.specs.Image.{Image}
 use Rattle.kz_spec_znodes.specs.Rendering.{render}
 use Rattle.kz_spec_znodes.specs.Difference.{diff, chunk}
 use Rattle.kz_spec_machine.specs.Driver.{Driver, epoch_or_zero, views_migrated, epoch_op, control_ops, migration_ops, base_op, base_ops, record_before_offsets, claim_ops, is_last_write, record_ops, write_ops}
 use Rattle.kz_spec_machine.specs.Sound.{TreeShape}
-use Rattle.kz_laws_trees.specs.TreeLaws.{path_of_op, Left}
+use Rattle.kz_laws_trees.specs.TreeLaws.{Left}
 use Rattle.kz_laws_trees.proofs.Rows.{still, op_rises, set_found, created_found}
 use Rattle.kz_laws_trees.proofs.Area.{area_of}
 use Rattle.kz_laws_trees.proofs.Runs.{ran, Passes, passes_left, passes_right, ran_append, ran_keeps, Avoids, avoids_append, Outside, area_ran_left}

@@ -13,7 +13,7 @@ use Rattle.kz_types.specs.declared.tree.Op.TheVariants.{Create, Set, Delete}
 use Rattle.kz_types.specs.declared.driver.ClaimSeen.{ClaimSeen}
 use Rattle.kz_types.specs.Paths.{base_paths, control_paths, is_below}
 use Rattle.kz_spec_values.specs.Control.{control_path, epoch_path, migration_path, written_epoch, written_control, written_recorded}
-use Rattle.kz_spec_stores.specs.Tree.{Tree, area, row_at, after_op, op_refusal, Refusal, code, limit, first_refusal, fits_version, set_refusal, created_row, multi, is_root}
+use Rattle.kz_spec_stores.specs.Tree.{path_of_op, Tree, area, row_at, after_op, op_refusal, Refusal, code, limit, first_refusal, fits_version, set_refusal, created_row, multi, is_root}
 use Rattle.kz_types.specs.declared.machine.Recorded.{Recorded}
 use Rattle.kz_spec_stores.specs.Image.{Image}
 use Rattle.kz_spec_znodes.specs.Rendering.{render}
@@ -22,7 +22,7 @@ use Rattle.kz_laws_values.specs.Ranges.{IsLong, IsEpoch}
 use Rattle.kz_laws_values.proofs.Control.{control_is_read}
 use Rattle.kz_spec_machine.specs.Driver.{Driver, epoch_or_zero, views_migrated, epoch_op, epoch_number, control_ops, migration_ops, base_op, base_ops, record_before_offsets, claimed_version, claim_ops, shown_by, write_ops}
 use Rattle.kz_spec_machine.specs.Sound.{claim_version, shown_in}
-use Rattle.kz_laws_trees.specs.TreeLaws.{path_of_op, KeepsShape}
+use Rattle.kz_laws_trees.specs.TreeLaws.{KeepsShape}
 use Rattle.kz_laws_trees.proofs.Rows.{still, set_found, created_found}
 use Rattle.kz_laws_trees.proofs.Runs.{ran, ran_append, Avoids, avoids_append, ran_keeps}
 use Rattle.kz_laws_trees.proofs.Multi.{Ran, multi_ran, differ, version_still, control_outside, rest_of_write_avoids}

@@ -46,7 +46,7 @@ not_some f None is = refl
 not_some f (Some x) is = absurd (cc)
 
 none_told : (test : Op → Bool) (refusal : List ℕ → Answer) (ops : List Op) → option_map refusal (first_told test ops) ≡ None → Passes test ops
-none_told test refusal ops is = none_found test ops (not_some Rattle.kz_spec_machine.specs.Driver.path_of_op (find test ops) (not_some refusal (first_told test ops) is))
+none_told test refusal ops is = none_found test ops (not_some Rattle.kz_spec_stores.specs.Tree.path_of_op (find test ops) (not_some refusal (first_told test ops) is))
 
 first_none : (a b : Option Answer) → first_of a b ≡ None → (a ≡ None) × (b ≡ None)
 first_none None b is = (refl, is)

@@ -14,9 +14,8 @@ use Rattle.kz_ordered.specs.Ordered.{Rises}
 use Rattle.kz_ordered.proofs.Order.{bytes_order}
 use Rattle.kz_ordered.proofs.Lookup.{found_is_contained, key_of_found}
 use Rattle.kz_spec_values.specs.Control.{control_path, epoch_path, migration_path, shown_epoch}
-use Rattle.kz_spec_stores.specs.Tree.{path_of_row, row_at, parent_of, is_root, has_parent, is_ephemeral, may_own, count_beside, limit_beside, Refusal, code, limit, create_refusal, op_refusal, after_set, after_op}
+use Rattle.kz_spec_stores.specs.Tree.{path_of_op, path_of_row, row_at, parent_of, is_root, has_parent, is_ephemeral, may_own, count_beside, limit_beside, Refusal, code, limit, create_refusal, op_refusal, after_set, after_op}
 use Rattle.kz_spec_machine.specs.Sound.{HaveParents, Lasts, ParentsStay, IsNotRoot, IsUnreserved, IsOwned}
-use Rattle.kz_laws_trees.specs.TreeLaws.{path_of_op}
 use Rattle.kz_laws_trees.proofs.Rows.{still, same, other, compare, others_kept, op_rises, set_found, deleted_found}
 use Rattle.kz_laws_trees.proofs.Runs.{ran, Passes}
 use Rattle.kz_laws_trees.proofs.Each.{Keeps}

@@ -23,13 +23,13 @@ use Rattle.kz_ordered.specs.Difference.{Edit, drop_key, make, alter, all_edited,
 use Rattle.kz_ordered.proofs.Order.{bytes_order}
 use Rattle.kz_ordered.proofs.Difference.{difference_leads, prefix_leaves_rest}
 use Rattle.kz_spec_values.specs.Control.{control_path, epoch_path, migration_path, shown_epoch, recorded_of, written_recorded}
-use Rattle.kz_spec_stores.specs.Tree.{Tree, path_of_row, row_at, op_refusal, set_refusal, set_row, with_zxid, after_ops, multi, migrated_rows, area, has_offset, is_later, first_path, unclosed_below, unclosed_path, path_of_rendered}
+use Rattle.kz_spec_stores.specs.Tree.{path_of_op, Tree, path_of_row, row_at, op_refusal, set_refusal, set_row, with_zxid, after_ops, multi, migrated_rows, area, has_offset, is_later, first_path, unclosed_below, unclosed_path, path_of_rendered}
 use Rattle.kz_spec_stores.specs.Image.{Image}
 use Rattle.kz_spec_znodes.specs.Rendering.{render}
 use Rattle.kz_spec_znodes.specs.Difference.{same_body, op_of, diff, chunk}
 use Rattle.kz_spec_machine.specs.Driver.{is_last_write, record_ops, write_ops}
 use Rattle.kz_spec_machine.specs.Sound.{IsStamped, HaveParents, Lasts, ParentsStay, IsNotRoot, IsUnreserved, IsOwned, IsSmall, Limits, TreeShape, claim_version}
-use Rattle.kz_laws_trees.specs.TreeLaws.{path_of_op, KeepsShape, Completed}
+use Rattle.kz_laws_trees.specs.TreeLaws.{KeepsShape, Completed}
 use Rattle.kz_laws_trees.proofs.Rows.{still, set_found}
 use Rattle.kz_laws_trees.proofs.Area.{area_of, area_rises, area_left}
 use Rattle.kz_laws_trees.proofs.Runs.{ran, Passes, passed, ran_is, ran_append, passes_left, passes_right, ran_rises, Avoids, avoids_append, ran_keeps, Inside, Outside, area_ran, area_ran_left, inside_take, avoids_inside}

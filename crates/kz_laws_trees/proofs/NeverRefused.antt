@@ -18,14 +18,13 @@ use Rattle.kz_ordered.specs.Difference.{Edit, all_edited, difference}
 use Rattle.kz_ordered.proofs.Order.{bytes_order}
 use Rattle.kz_ordered.proofs.Difference.{prefix_leaves_rest}
 use Rattle.kz_spec_values.specs.Control.{migration_path, epoch_path, written_recorded}
-use Rattle.kz_spec_stores.specs.Tree.{Tree, row_at, fits_version, Refusal, code, limit, check_refusal, op_refusal, after_op, rows_unless_refused, after_ops, with_zxid, multi, area, path_of_rendered}
+use Rattle.kz_spec_stores.specs.Tree.{path_of_op, Tree, row_at, fits_version, Refusal, code, limit, check_refusal, op_refusal, after_op, rows_unless_refused, after_ops, with_zxid, multi, area, path_of_rendered}
 use Rattle.kz_spec_stores.specs.Image.{Image}
 use Rattle.kz_spec_stores.specs.InOrder.{IsInOrder}
 use Rattle.kz_spec_znodes.specs.Rendering.{render}
 use Rattle.kz_spec_znodes.specs.Difference.{same_body, op_of, diff}
 use Rattle.kz_spec_machine.specs.Driver.{is_last_write, record_ops, write_ops}
 use Rattle.kz_spec_machine.specs.Sound.{Lasts, IsNotRoot, TreeShape, claim_version}
-use Rattle.kz_laws_trees.specs.TreeLaws.{path_of_op}
 use Rattle.kz_laws_trees.specs.RefusalLaws.{HasBases, IsOfOperation}
 use Rattle.kz_laws_trees.proofs.Rows.{op_rises}
 use Rattle.kz_laws_trees.proofs.Area.{area_of, area_rises, area_changed, edit_path, path_of_edit}

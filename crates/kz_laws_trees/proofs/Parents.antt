@@ -13,9 +13,8 @@ use Rattle.kz_ordered.specs.Order.{bytes_cmp}
 use Rattle.kz_ordered.specs.Ordered.{Rises}
 use Rattle.kz_ordered.proofs.Order.{bytes_order}
 use Rattle.kz_ordered.proofs.Lookup.{found_is_contained, key_of_found}
-use Rattle.kz_spec_stores.specs.Tree.{path_of_row, row_at, parent_of, is_root, has_parent, has_children, is_ephemeral, may_own, fits_version, count_beside, limit_beside, Refusal, code, limit, first_refusal, create_refusal, set_refusal, delete_refusal, op_refusal, after_op}
+use Rattle.kz_spec_stores.specs.Tree.{path_of_op, path_of_row, row_at, parent_of, is_root, has_parent, has_children, is_ephemeral, may_own, fits_version, count_beside, limit_beside, Refusal, code, limit, first_refusal, create_refusal, set_refusal, delete_refusal, op_refusal, after_op}
 use Rattle.kz_spec_machine.specs.Sound.{HaveParents}
-use Rattle.kz_laws_trees.specs.TreeLaws.{path_of_op}
 use Rattle.kz_laws_trees.proofs.Rows.{still, same, other, compare, others_kept, op_rises, created_found, set_found, deleted_found}
 use Rattle.kz_laws_trees.proofs.Runs.{ran, Passes}
 

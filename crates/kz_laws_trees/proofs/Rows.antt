@@ -7,8 +7,7 @@ use Rattle.kz_ordered.specs.Order.{bytes_cmp}
 use Rattle.kz_ordered.specs.Ordered.{Rises}
 use Rattle.kz_ordered.proofs.Order.{bytes_order, below, equal, above, place, less_differs, less_differs_back}
 use Rattle.kz_ordered.proofs.Lookup.{find-put_same, find-put_other, find-without_same, find-without_other, Rises-put, Rises-without, key_of_found}
-use Rattle.kz_spec_stores.specs.Tree.{path_of_row, row_at, put_row, parent_of, created_row, set_row, with_child_change, after_set, after_op}
-use Rattle.kz_laws_trees.specs.TreeLaws.{path_of_op}
+use Rattle.kz_spec_stores.specs.Tree.{path_of_op, path_of_row, row_at, put_row, parent_of, created_row, set_row, with_child_change, after_set, after_op}
 
 -- all of a znode but the transaction of its children
 abbrev pub still : Row → Row

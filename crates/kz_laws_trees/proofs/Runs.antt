@@ -9,9 +9,8 @@ use Rattle.kz_types.specs.Paths.{is_migrated}
 use Rattle.kz_ordered.specs.Order.{bytes_cmp}
 use Rattle.kz_ordered.specs.Ordered.{Rises}
 use Rattle.kz_ordered.specs.Difference.{Edit, drop_key, make, alter, all_edited}
-use Rattle.kz_spec_stores.specs.Tree.{path_of_row, row_at, after_op, after_ops, rows_unless_refused, Refusal, code, limit, op_refusal, path_of_rendered}
+use Rattle.kz_spec_stores.specs.Tree.{path_of_op, path_of_row, row_at, after_op, after_ops, rows_unless_refused, Refusal, code, limit, op_refusal, path_of_rendered}
 use Rattle.kz_spec_znodes.specs.Difference.{op_of}
-use Rattle.kz_laws_trees.specs.TreeLaws.{path_of_op}
 use Rattle.kz_laws_trees.proofs.Rows.{still, others_kept, op_rises}
 use Rattle.kz_laws_trees.proofs.Area.{area_of, edit_path, area_changed, area_left}
 

@@ -11,7 +11,7 @@ use Rattle.kz_types.specs.Paths.{is_migrated}
 use Rattle.kz_ordered.specs.Order.{bytes_cmp}
 use Rattle.kz_ordered.specs.Difference.{all_edited, difference}
 use Rattle.kz_spec_values.specs.Control.{control_path, shown_epoch, recorded_of, written_recorded}
-use Rattle.kz_spec_stores.specs.Tree.{Tree, created_row, multi, begin_session, end_session, migrated_rows, area, migration_record, has_offset, unclosed_path, path_of_rendered}
+use Rattle.kz_spec_stores.specs.Tree.{path_of_op, Tree, created_row, multi, begin_session, end_session, migrated_rows, area, migration_record, has_offset, unclosed_path, path_of_rendered}
 use Rattle.kz_spec_stores.specs.Image.{Image}
 use Rattle.kz_spec_znodes.specs.Rendering.{render}
 use Rattle.kz_spec_znodes.specs.Difference.{same_body, diff}
@@ -19,13 +19,6 @@ use Rattle.kz_spec_machine.specs.Driver.{Driver, epoch_or_zero, views_migrated, 
 use Rattle.kz_spec_machine.specs.Machine.{is_held_tree, client_refusal}
 use Rattle.kz_spec_machine.specs.Sound.{IsNotRoot, IsUnreserved, Lasts, TreeShape, claim_version, shown_in, IsSession, IsLawfulOp}
 use Rattle.kz_laws_values.specs.Ranges.{IsLong, IsEpoch}
-
--- the path of an operation
-abbrev pub path_of_op : Op → List ℕ
-path_of_op (Create path body owner) = path
-path_of_op (Set path body version) = path
-path_of_op (Delete path version) = path
-path_of_op (Check path version) = path
 
 -- ---- any multi
 

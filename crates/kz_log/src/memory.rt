@@ -34,7 +34,7 @@ impl MetaLog for MemoryLog {
 
     ghost disk = { λ l. no_disk };
 
-    ghost frame_bytes = { λ log change. 0 };
+    ghost payload_bytes = { λ log change. 0 };
 
     ghost left = { λ l found. ⊥ };
 

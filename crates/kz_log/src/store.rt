@@ -26,8 +26,8 @@ pub trait MetaLog {
     /// first request on that answers `Failed`, and its file, where it has one.
     ghost disk: { Self → Disk };
 
-    /// The bytes of the frame that the store's file gets for a change of a log. Nothing refuses the change.
-    ghost frame_bytes: { Log → LogChange → ℕ };
+    /// The bytes of the payload of the frame that the store's file gets for a change of a log. Nothing refuses the change.
+    ghost payload_bytes: { Log → LogChange → ℕ };
 
     /// What a stop at this moment may leave: a log, or `None` where what is left stands for none. A store in memory leaves
     /// nothing.
@@ -56,7 +56,7 @@ pub trait MetaLog {
         ensures ok { IfOk result (λ end. (logs.append (log self.old) epoch now items.now ≡ Ok (log self.new)) × (end ≡ end_of (log self.new))) }
         ensures refused { IfErr result (IsRefusal (logs.append (log self.old) epoch now items.now)) }
         ensures same { OnErr result (log self.new ≡ log self.old) }
-        ensures disk { ChangesDisk (IsTaken (logs.append (log self.old) epoch now items.now)) (frame_bytes (log self.old) (Append epoch now items.now)) (answer_by answer_of_log_fault result) (disk self.old) (disk self.new) }
+        ensures disk { ChangesDisk (IsTaken (logs.append (log self.old) epoch now items.now)) (payload_bytes (log self.old) (Append epoch now items.now)) (answer_by answer_of_log_fault result) (disk self.old) (disk self.new) }
         ensures stop { IsErrOf result LogFault.Failed → Between (log self.old) (logs.append (log self.old) epoch now items.now) (left self.new) };
 
     /// A controller is elected: the epoch rises by one, and a batch of that epoch is appended. Refused are, in this order:
@@ -67,7 +67,7 @@ pub trait MetaLog {
         ensures ok { IfOk result (λ elected. (logs.elect (log self.old) now items.now ≡ Ok (log self.new)) × IsElected (log self.new) elected) }
         ensures refused { IfErr result (IsRefusal (logs.elect (log self.old) now items.now)) }
         ensures same { OnErr result (log self.new ≡ log self.old) }
-        ensures disk { ChangesDisk (IsTaken (logs.elect (log self.old) now items.now)) (frame_bytes (log self.old) (Elect now items.now)) (answer_by answer_of_log_fault result) (disk self.old) (disk self.new) }
+        ensures disk { ChangesDisk (IsTaken (logs.elect (log self.old) now items.now)) (payload_bytes (log self.old) (Elect now items.now)) (answer_by answer_of_log_fault result) (disk self.old) (disk self.new) }
         ensures stop { IsErrOf result LogFault.Failed → Between (log self.old) (logs.elect (log self.old) now items.now) (left self.new) };
 
     /// The batches after an offset, and, where the offset is below the base, the base with its metadata. It makes no call of
@@ -83,7 +83,7 @@ pub trait MetaLog {
         ensures ok { OnOk result (log self.new ≡ logs.reset (log self.old)) }
         ensures refused { IfErr result (IsRefusal (made_by_reset (log self.old))) }
         ensures same { OnErr result (log self.new ≡ log self.old) }
-        ensures disk { ChangesDisk (IsTaken (made_by_reset (log self.old))) (frame_bytes (log self.old) Reset) (answer_by answer_of_log_fault result) (disk self.old) (disk self.new) }
+        ensures disk { ChangesDisk (IsTaken (made_by_reset (log self.old))) (payload_bytes (log self.old) Reset) (answer_by answer_of_log_fault result) (disk self.old) (disk self.new) }
         ensures stop { IsErrOf result LogFault.Failed → Between (log self.old) (made_by_reset (log self.old)) (left self.new) };
 
     /// What the store holds is a log.

@@ -5,7 +5,7 @@ ghost use Rattle.kz_types.specs.Causes.{Rose};
 ghost use Rattle.kz_spec_stores.specs.Log as logs;
 ghost use Rattle.kz_spec_stores.specs.Log.{end_of, feed_from};
 ghost use Rattle.kz_spec_stores.specs.Requests.{Append, Done, answer_by, answer_of_log_fault, IsTaken, ChangesDisk, ReadsDisk, Between};
-ghost use Rattle.kz_connection.specs.Connections.{Counts, EndsBy, OverConnection, without_sessions};
+ghost use Rattle.kz_connection.specs.Connections.{IsSpent, EndsBy, OverConnection, without_sessions};
 ghost use Rattle.kz_log.specs.Requests.{IsFeed, IsRefusal};
 ghost use Rattle.kz_log.specs.Wires.{arrival_of, IfStore, IsUnanswered, IsAfterAppend};
 ghost use Rattle.kz_log.specs.Lending.{lends_log};
@@ -102,16 +102,14 @@ impl<L: MetaLog> LogWire<L> {
         now: i64,
         items: &[MetaRecord],
     ) -> Result<i64, LogWireFault>
-        requires some { 0 < length items.now }
-        requires elected { pos 1 ≤ℤ epoch }
+        requires { (0 < length items.now) × (pos 1 ≤ℤ epoch) }
         ensures ok { IfOk result (λ end. (logs.append (L.log self.old.inner) epoch now items.now ≡ Ok (L.log self.new.inner)) × (end ≡ end_of (L.log self.new.inner))) }
         ensures refused { IfErr result (IfStore (IsRefusal (logs.append (L.log self.old.inner) epoch now items.now))) }
         ensures same { IfErr result (IfStore (λ fault. L.log self.new.inner ≡ L.log self.old.inner)) }
         ensures by_plan { EndsBy (without_sessions self.old.plan) (arrival_of result) (self.new.inner ≡ self.old.inner)
             (IsUnanswered (IsAfterAppend (L.log self.old.inner) (logs.append (L.log self.old.inner) epoch now items.now) (L.log self.new.inner)) result) }
-        ensures spent { self.new.plan ≡ Plan.Deliver }
-        ensures counted { Counts (arrival_of result) self.old.faults self.new.faults }
-        ensures disk { OverConnection (ChangesDisk (IsTaken (logs.append (L.log self.old.inner) epoch now items.now)) (L.frame_bytes (L.log self.old.inner) (Append epoch now items.now)))
+        ensures spent { IsSpent (arrival_of result) self.old self.new }
+        ensures disk { OverConnection (ChangesDisk (IsTaken (logs.append (L.log self.old.inner) epoch now items.now)) (L.payload_bytes (L.log self.old.inner) (Append epoch now items.now)))
             (answer_by answer_of_log_fault (logs.append (L.log self.old.inner) epoch now items.now)) (without_sessions self.old.plan) (arrival_of result) (L.disk self.old.inner) (L.disk self.new.inner) }
         ensures stop { IsErrOf result (LogWireFault.Log LogFault.Failed) → Between (L.log self.old.inner) (logs.append (L.log self.old.inner) epoch now items.now) (L.left self.new.inner) }
     {
@@ -136,8 +134,7 @@ impl<L: MetaLog> LogWire<L> {
         ensures ok { IfOk result (λ feed. IsFeed (feed_from (L.log self.old.inner) after) feed) }
         ensures same { L.log self.new.inner ≡ L.log self.old.inner }
         ensures by_plan { EndsBy (without_sessions self.old.plan) (arrival_of result) (self.new.inner ≡ self.old.inner) (IsUnanswered ⊤ result) }
-        ensures spent { self.new.plan ≡ Plan.Deliver }
-        ensures counted { Counts (arrival_of result) self.old.faults self.new.faults }
+        ensures spent { IsSpent (arrival_of result) self.old self.new }
         ensures disk { OverConnection ReadsDisk Done (without_sessions self.old.plan) (arrival_of result) (L.disk self.old.inner) (L.disk self.new.inner) }
     {
         match self.connection.take_plan() {

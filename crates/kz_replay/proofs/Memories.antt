@@ -21,7 +21,7 @@ use Rattle.kz_spec_machine.specs.Machine.{World, ends, driver_of, running_ids, r
 use Rattle.kz_spec_machine.specs.Failures.{is_tree_failure, is_log_failure, is_failed_step, is_failure, IsCutOff, CutOffTurn, IsLeft}
 use Rattle.kz_driver.specs.declared.fault.StepFault.{StepFault}
 use Rattle.kz_driver.specs.declared.fault.StepFault.TheVariants as step_fault
-use Rattle.kz_driver.specs.Disks.{Disks, disks_of, Frames, IsOfStore, answer_of_made, OnTree, OnLog, AsksNothing, ReadsTree, ReadsLog, ChangesTree, ChangesLog, RequestDisks}
+use Rattle.kz_driver.specs.Disks.{Disks, disks_of, Payloads, IsOfStore, answer_of_made, OnTree, OnLog, AsksNothing, ReadsTree, ReadsLog, ChangesTree, ChangesLog, RequestDisks}
 use Rattle.kz_world.specs.Disks.{TurnDisks, DriverTurnDisks, TurnEventDisks, UnlessRefused, ResultDisks, EventDisks}
 use Rattle.kz_world.specs.Faults.{result_of_reply}
 use Rattle.kz_world.specs.Refusals.{records_refusal}
@@ -38,17 +38,17 @@ IsCalm Failed = ⊥
 IsCalm Down = ⊥
 IsCalm a = ⊤
 
-change_calm : (taken : Type 0) (frame : ℕ) (a : StoreAnswer) (old new : Disk) → old.down ≡ false → new.down ≡ false → ChangesDisk taken frame a old new → IsCalm a
-change_calm taken frame Done old new up after h = tt
-change_calm taken frame Refused old new up after h = tt
-change_calm taken frame NoMemory old new up after h = tt
-change_calm taken frame Failed old new up after h = absurd (differ (sym after ∙ h.4))
-change_calm taken frame Down old new up after h = absurd (differ (sym up ∙ h.0))
-change_calm taken frame (Full length) old new up after h = tt
+change_calm : (taken : Type 0) (payload : ℕ) (a : StoreAnswer) (old new : Disk) → old.down ≡ false → new.down ≡ false → ChangesDisk taken payload a old new → IsCalm a
+change_calm taken payload Done old new up after h = tt
+change_calm taken payload Refused old new up after h = tt
+change_calm taken payload NoMemory old new up after h = tt
+change_calm taken payload Failed old new up after h = absurd (differ (sym after ∙ h.4))
+change_calm taken payload Down old new up after h = absurd (differ (sym up ∙ h.0))
+change_calm taken payload (Full length) old new up after h = tt
 
-made_up : {B E : Type 0} (made : Result B E) (taken : Type 0) (frame : ℕ) (old new : Disk) → old.down ≡ false → ChangesDisk taken frame (answer_of_made made) old new → new.down ≡ false
-made_up (Ok b) taken frame old new up h = ap (λ (d : Disk). d.down) h.2 ∙ up
-made_up (Err e) taken frame old new up h = ap (λ (d : Disk). d.down) h.1 ∙ up
+made_up : {B E : Type 0} (made : Result B E) (taken : Type 0) (payload : ℕ) (old new : Disk) → old.down ≡ false → ChangesDisk taken payload (answer_of_made made) old new → new.down ≡ false
+made_up (Ok b) taken payload old new up h = ap (λ (d : Disk). d.down) h.2 ∙ up
+made_up (Err e) taken payload old new up h = ap (λ (d : Disk). d.down) h.1 ∙ up
 
 -- ---- both disks
 
@@ -95,29 +95,29 @@ log_read_fine (Err (step_fault.Log (log_fault.Full length))) old new up h = λ _
 log_read_fine (Err (step_fault.Tree f)) old new up h = absurd h.0
 log_read_fine (Err step_fault.NoMemory) old new up h = λ _. tt
 
-tree_change_fine : {A B E : Type 0} (made : Result B E) (frame : ℕ) (r : Result A StepFault) (old new : Disks) → IsUp old → ChangesTree made frame r old new → IsFine r new
-tree_change_fine made frame (Ok told) old new up h = (made_up made (IsTaken made) frame old.tree new.tree up.0 h.0, ap (λ (d : Disk). d.down) h.1 ∙ up.1)
-tree_change_fine made frame (Err (step_fault.Tree f)) old new up h = λ after. change_calm (IsTaken made) frame (answer_of_tree_fault f) old.tree new.tree up.0 after.0 h.0.1
-tree_change_fine made frame (Err (step_fault.Log f)) old new up h = absurd h.0
-tree_change_fine made frame (Err step_fault.NoMemory) old new up h = λ _. tt
+tree_change_fine : {A B E : Type 0} (made : Result B E) (payload : ℕ) (r : Result A StepFault) (old new : Disks) → IsUp old → ChangesTree made payload r old new → IsFine r new
+tree_change_fine made payload (Ok told) old new up h = (made_up made (IsTaken made) payload old.tree new.tree up.0 h.0, ap (λ (d : Disk). d.down) h.1 ∙ up.1)
+tree_change_fine made payload (Err (step_fault.Tree f)) old new up h = λ after. change_calm (IsTaken made) payload (answer_of_tree_fault f) old.tree new.tree up.0 after.0 h.0.1
+tree_change_fine made payload (Err (step_fault.Log f)) old new up h = absurd h.0
+tree_change_fine made payload (Err step_fault.NoMemory) old new up h = λ _. tt
 
-log_change_fine : {A B E : Type 0} (made : Result B E) (frame : ℕ) (r : Result A StepFault) (old new : Disks) → IsUp old → ChangesLog made frame r old new → IsFine r new
-log_change_fine made frame (Ok told) old new up h = (ap (λ (d : Disk). d.down) h.1 ∙ up.0, made_up made (IsTaken made) frame old.log new.log up.1 h.0)
-log_change_fine made frame (Err (step_fault.Log f)) old new up h = λ after. change_calm (IsTaken made) frame (answer_of_log_fault f) old.log new.log up.1 after.1 h.0.1
-log_change_fine made frame (Err (step_fault.Tree f)) old new up h = absurd h.0
-log_change_fine made frame (Err step_fault.NoMemory) old new up h = λ _. tt
+log_change_fine : {A B E : Type 0} (made : Result B E) (payload : ℕ) (r : Result A StepFault) (old new : Disks) → IsUp old → ChangesLog made payload r old new → IsFine r new
+log_change_fine made payload (Ok told) old new up h = (ap (λ (d : Disk). d.down) h.1 ∙ up.0, made_up made (IsTaken made) payload old.log new.log up.1 h.0)
+log_change_fine made payload (Err (step_fault.Log f)) old new up h = λ after. change_calm (IsTaken made) payload (answer_of_log_fault f) old.log new.log up.1 after.1 h.0.1
+log_change_fine made payload (Err (step_fault.Tree f)) old new up h = absurd h.0
+log_change_fine made payload (Err step_fault.NoMemory) old new up h = λ _. tt
 
 -- ---- a step
 
-request_fine : (s : Shared) (epoch now position : ℤ) (frames : Frames) (asks : Request) (r : Result Reply StepFault) (old new : Disks) → IsUp old → RequestDisks s epoch now position frames asks r old new → IsFine r new
-request_fine s epoch now position frames nothing r old new up h = nothing_fine r old new up h
-request_fine s epoch now position frames read_log r old new up h = log_read_fine r old new up h
-request_fine s epoch now position frames list_brokers r old new up h = tree_read_fine r old new up h
-request_fine s epoch now position frames look_up r old new up h = tree_read_fine r old new up h
-request_fine s epoch now position frames (read_page after) r old new up h = tree_read_fine r old new up h
-request_fine s epoch now position frames (write ops) r old new up h =
-    elim h [ inl changes ↦ tree_change_fine (multi s.tree ops) (frames.tree s.tree (Multi ops)) r old new up changes | inr finds ↦ absurd (differ (sym up.1 ∙ finds.down)) ]
-request_fine s epoch now position frames (add records) r old new up h = log_change_fine (append s.log epoch now records) (frames.log s.log (Append epoch now records)) r old new up h
+request_fine : (s : Shared) (epoch now position : ℤ) (payloads : Payloads) (asks : Request) (r : Result Reply StepFault) (old new : Disks) → IsUp old → RequestDisks s epoch now position payloads asks r old new → IsFine r new
+request_fine s epoch now position payloads nothing r old new up h = nothing_fine r old new up h
+request_fine s epoch now position payloads read_log r old new up h = log_read_fine r old new up h
+request_fine s epoch now position payloads list_brokers r old new up h = tree_read_fine r old new up h
+request_fine s epoch now position payloads look_up r old new up h = tree_read_fine r old new up h
+request_fine s epoch now position payloads (read_page after) r old new up h = tree_read_fine r old new up h
+request_fine s epoch now position payloads (write ops) r old new up h =
+    elim h [ inl changes ↦ tree_change_fine (multi s.tree ops) (payloads.tree s.tree (Multi ops)) r old new up changes | inr finds ↦ absurd (differ (sym up.1 ∙ finds.down)) ]
+request_fine s epoch now position payloads (add records) r old new up h = log_change_fine (append s.log epoch now records) (payloads.log s.log (Append epoch now records)) r old new up h
 
 -- a reply that tells a fault without a disk
 calm_tree : (f : TreeFault) → IsCalm (answer_of_tree_fault f) → is_disk_fault_of_tree f ≡ false
@@ -171,17 +171,17 @@ quiet_last (reply.TreeFailed f) new up h = tree_reply_quiet f new up h
 quiet_last (reply.LogFailed f) new up h = log_reply_quiet f new up h
 quiet_last r new up h = refl
 
-cut_quiet : (n : ℕ) (s : Shared) (running : List ℤ) (now : ℤ) (d : Driver) (replies : List Reply) (shared : Shared) (driver : Driver) (frames : Frames) (old new : Disks) → IsUp old → IsUp new
-    → IsCutOff n s running now d replies shared driver → TurnDisks s running now d frames replies old new → list_any tells_disk_fault replies ≡ false
+cut_quiet : (n : ℕ) (s : Shared) (running : List ℤ) (now : ℤ) (d : Driver) (replies : List Reply) (shared : Shared) (driver : Driver) (payloads : Payloads) (old new : Disks) → IsUp old → IsUp new
+    → IsCutOff n s running now d replies shared driver → TurnDisks s running now d payloads replies old new → list_any tells_disk_fault replies ≡ false
 unfolding IsCutOff
-cut_quiet zero s running now d replies shared driver frames old new up after cut h = absurd cut
-cut_quiet (suc n) s running now d [] shared driver frames old new up after cut h = absurd cut
-cut_quiet (suc n) s running now d (r ∷ []) shared driver frames old new up after cut h =
-    let fine = request_fine s (epoch_or_zero d.epoch) now d.view.position frames (request_at s now d d.stage) (result_of_reply r) old h.0 up h.1 in
+cut_quiet zero s running now d replies shared driver payloads old new up after cut h = absurd cut
+cut_quiet (suc n) s running now d [] shared driver payloads old new up after cut h = absurd cut
+cut_quiet (suc n) s running now d (r ∷ []) shared driver payloads old new up after cut h =
+    let fine = request_fine s (epoch_or_zero d.epoch) now d.view.position payloads (request_at s now d d.stage) (result_of_reply r) old h.0 up h.1 in
     rw (quiet_last r h.0 (subst IsUp h.2 after) fine) refl
-cut_quiet (suc n) s running now d (r ∷ q ∷ rs) shared driver frames old new up after cut h =
-    let fine = request_fine s (epoch_or_zero d.epoch) now d.view.position frames (request_at s now d d.stage) (result_of_reply r) old h.0 up h.1 in
-    rw (quiet_on r cut.1) (cut_quiet n (step s running now d).shared running now (step s running now d).driver (q ∷ rs) shared driver frames h.0 new (goes_up r h.0 cut.1 fine) after cut.2 h.2)
+cut_quiet (suc n) s running now d (r ∷ q ∷ rs) shared driver payloads old new up after cut h =
+    let fine = request_fine s (epoch_or_zero d.epoch) now d.view.position payloads (request_at s now d d.stage) (result_of_reply r) old h.0 up h.1 in
+    rw (quiet_on r cut.1) (cut_quiet n (step s running now d).shared running now (step s running now d).driver (q ∷ rs) shared driver payloads h.0 new (goes_up r h.0 cut.1 fine) after cut.2 h.2)
 
 -- where no step failed
 quiet_by : (r : Reply) → is_failed_step r ≡ false → tells_disk_fault r ≡ false
@@ -209,75 +209,75 @@ unless : (refusal : Option Answer) (asks refused P : Type 0) → (asks → P) �
 unless None asks refused P a b h = a h
 unless (Some x) asks refused P a b h = b h
 
-turn_fine : (w : World) (now : ℤ) (m : Option Driver) (frames : Frames) (f : StepFault) (old new : Disks) → IsUp old → IsUp new → TurnEventDisks w now m frames (Err f) old new → IsCalmFault f
-turn_fine w now None frames f old new up after h = nothing_fine {A = Answer} (Err f) old new up h after
-turn_fine w now (Some d) frames f old new up after h = log_read_fine {A = Answer} (Err f) old new up h after
+turn_fine : (w : World) (now : ℤ) (m : Option Driver) (payloads : Payloads) (f : StepFault) (old new : Disks) → IsUp old → IsUp new → TurnEventDisks w now m payloads (Err f) old new → IsCalmFault f
+turn_fine w now None payloads f old new up after h = nothing_fine {A = Answer} (Err f) old new up h after
+turn_fine w now (Some d) payloads f old new up after h = log_read_fine {A = Answer} (Err f) old new up h after
 
-event_fine : (w : World) (e : Event) (frames : Frames) (f : StepFault) (old new : Disks) → IsUp old → IsUp new → ResultDisks w e frames (Err f) old new → IsCalmFault f
-event_fine w (event.Quorum ids) frames f old new up after h = nothing_fine {A = Answer} (Err f) old new up h after
-event_fine w (event.Start id) frames f old new up after h = nothing_fine {A = Answer} (Err f) old new up h after
-event_fine w (event.Elect id now) frames f old new up after h =
-    unless (running_refusal w id) _ _ (IsCalmFault f) (λ k. log_change_fine {A = Answer} (elect w.shared.log now (election_records w.shared.log)) (frames.log w.shared.log (Elect now (election_records w.shared.log))) (Err f) old new up k after) (λ k. nothing_fine {A = Answer} (Err f) old new up k after) h
-event_fine w (event.Turn id now) frames f old new up after h =
-    unless (running_refusal w id) _ _ (IsCalmFault f) (λ k. turn_fine w now (driver_of id w.drivers) frames f old new up after k) (λ k. nothing_fine {A = Answer} (Err f) old new up k after) h
-event_fine w (event.Change id records now) frames f old new up after h =
+event_fine : (w : World) (e : Event) (payloads : Payloads) (f : StepFault) (old new : Disks) → IsUp old → IsUp new → ResultDisks w e payloads (Err f) old new → IsCalmFault f
+event_fine w (event.Quorum ids) payloads f old new up after h = nothing_fine {A = Answer} (Err f) old new up h after
+event_fine w (event.Start id) payloads f old new up after h = nothing_fine {A = Answer} (Err f) old new up h after
+event_fine w (event.Elect id now) payloads f old new up after h =
+    unless (running_refusal w id) _ _ (IsCalmFault f) (λ k. log_change_fine {A = Answer} (elect w.shared.log now (election_records w.shared.log)) (payloads.log w.shared.log (Elect now (election_records w.shared.log))) (Err f) old new up k after) (λ k. nothing_fine {A = Answer} (Err f) old new up k after) h
+event_fine w (event.Turn id now) payloads f old new up after h =
+    unless (running_refusal w id) _ _ (IsCalmFault f) (λ k. turn_fine w now (driver_of id w.drivers) payloads f old new up after k) (λ k. nothing_fine {A = Answer} (Err f) old new up k after) h
+event_fine w (event.Change id records now) payloads f old new up after h =
     unless (leader_refusal w id) _ _ (IsCalmFault f)
     (λ j.
-    unless (records_refusal w.shared.log.epoch (image_of w.shared.log) records) _ _ (IsCalmFault f) (λ k. log_change_fine {A = Answer} (append w.shared.log w.shared.log.epoch now records) (frames.log w.shared.log (Append w.shared.log.epoch now records)) (Err f) old new up k after)
+    unless (records_refusal w.shared.log.epoch (image_of w.shared.log) records) _ _ (IsCalmFault f) (λ k. log_change_fine {A = Answer} (append w.shared.log w.shared.log.epoch now records) (payloads.log w.shared.log (Append w.shared.log.epoch now records)) (Err f) old new up k after)
     (λ k. log_read_fine {A = Answer} (Err f) old new up k after) j)
     (λ k. nothing_fine {A = Answer} (Err f) old new up k after) h
-event_fine w (event.Register id broker migrating now) frames f old new up after h =
+event_fine w (event.Register id broker migrating now) payloads f old new up after h =
     unless (leader_refusal w id) _ _ (IsCalmFault f)
     (λ j.
-    unless (option_map (λ offset. answer.InTransaction offset) (begun_of w.shared.log)) _ _ (IsCalmFault f) (λ k. log_change_fine {A = Answer} (append w.shared.log w.shared.log.epoch now (registration broker migrating)) (frames.log w.shared.log (Append w.shared.log.epoch now (registration broker migrating))) (Err f) old new up k after)
+    unless (option_map (λ offset. answer.InTransaction offset) (begun_of w.shared.log)) _ _ (IsCalmFault f) (λ k. log_change_fine {A = Answer} (append w.shared.log w.shared.log.epoch now (registration broker migrating)) (payloads.log w.shared.log (Append w.shared.log.epoch now (registration broker migrating))) (Err f) old new up k after)
     (λ k. log_read_fine {A = Answer} (Err f) old new up k after) j)
     (λ k. nothing_fine {A = Answer} (Err f) old new up k after) h
-event_fine w event.Check frames f old new up after h = log_read_fine {A = Answer} (Err f) old new up h after
-event_fine w (event.ZkOpen session) frames f old new up after h = tree_change_fine {A = Answer} (begin_session w.shared.tree session) (frames.tree w.shared.tree (BeginSession session)) (Err f) old new up h after
-event_fine w (event.ZkExpire session) frames f old new up after h = tree_change_fine {A = Answer} (end_session w.shared.tree session) (frames.tree w.shared.tree (EndSession session)) (Err f) old new up h after
-event_fine w (event.Zk ops) frames f old new up after h =
-    unless (client_refusal w.shared.tree ops) _ _ (IsCalmFault f) (λ k. tree_change_fine {A = Answer} (multi w.shared.tree ops) (frames.tree w.shared.tree (Multi ops)) (Err f) old new up k after) (λ k. nothing_fine {A = Answer} (Err f) old new up k after) h
+event_fine w event.Check payloads f old new up after h = log_read_fine {A = Answer} (Err f) old new up h after
+event_fine w (event.ZkOpen session) payloads f old new up after h = tree_change_fine {A = Answer} (begin_session w.shared.tree session) (payloads.tree w.shared.tree (BeginSession session)) (Err f) old new up h after
+event_fine w (event.ZkExpire session) payloads f old new up after h = tree_change_fine {A = Answer} (end_session w.shared.tree session) (payloads.tree w.shared.tree (EndSession session)) (Err f) old new up h after
+event_fine w (event.Zk ops) payloads f old new up after h =
+    unless (client_refusal w.shared.tree ops) _ _ (IsCalmFault f) (λ k. tree_change_fine {A = Answer} (multi w.shared.tree ops) (payloads.tree w.shared.tree (Multi ops)) (Err f) old new up k after) (λ k. nothing_fine {A = Answer} (Err f) old new up k after) h
 
-tree_quiet : (w : World) (e : Event) (frames : Frames) (f : TreeFault) (old new : Disks) → IsUp old → IsUp new → EventDisks w e frames (answer.TreeFailed f) old new → is_disk_fault_of_tree f ≡ false
-tree_quiet w e frames tree_fault.Device old new up after h = absurd (event_fine w e frames (step_fault.Tree tree_fault.Device) old new up after h)
-tree_quiet w e frames tree_fault.Down old new up after h = absurd (event_fine w e frames (step_fault.Tree tree_fault.Down) old new up after h)
-tree_quiet w e frames f old new up after h = refl
+tree_quiet : (w : World) (e : Event) (payloads : Payloads) (f : TreeFault) (old new : Disks) → IsUp old → IsUp new → EventDisks w e payloads (answer.TreeFailed f) old new → is_disk_fault_of_tree f ≡ false
+tree_quiet w e payloads tree_fault.Device old new up after h = absurd (event_fine w e payloads (step_fault.Tree tree_fault.Device) old new up after h)
+tree_quiet w e payloads tree_fault.Down old new up after h = absurd (event_fine w e payloads (step_fault.Tree tree_fault.Down) old new up after h)
+tree_quiet w e payloads f old new up after h = refl
 
-log_quiet : (w : World) (e : Event) (frames : Frames) (f : LogFault) (old new : Disks) → IsUp old → IsUp new → EventDisks w e frames (answer.LogFailed f) old new → is_disk_fault_of_log f ≡ false
-log_quiet w e frames log_fault.Failed old new up after h = absurd (event_fine w e frames (step_fault.Log log_fault.Failed) old new up after h)
-log_quiet w e frames log_fault.Down old new up after h = absurd (event_fine w e frames (step_fault.Log log_fault.Down) old new up after h)
-log_quiet w e frames f old new up after h = refl
+log_quiet : (w : World) (e : Event) (payloads : Payloads) (f : LogFault) (old new : Disks) → IsUp old → IsUp new → EventDisks w e payloads (answer.LogFailed f) old new → is_disk_fault_of_log f ≡ false
+log_quiet w e payloads log_fault.Failed old new up after h = absurd (event_fine w e payloads (step_fault.Log log_fault.Failed) old new up after h)
+log_quiet w e payloads log_fault.Down old new up after h = absurd (event_fine w e payloads (step_fault.Log log_fault.Down) old new up after h)
+log_quiet w e payloads f old new up after h = refl
 
 -- a turn that isn't refused makes its steps
-made_turn : (w : World) (now : ℤ) (refusal : Option Answer) (m : Option Driver) (d : Driver) (frames : Frames) (replies : List Reply) (refused : Type 0) (old new : Disks) → refusal ≡ None → m ≡ Some d
-    → UnlessRefused refusal (TurnEventDisks w now m frames (Ok (answer.Turn replies)) old new) refused → TurnDisks w.shared (running_ids w.drivers) now d frames replies old new
-made_turn w now (Some x) m d frames replies refused old new none found h = absurd (cc)
-made_turn w now None None d frames replies refused old new none found h = absurd (cc)
-made_turn w now None (Some x) d frames replies refused old new none found h =
+made_turn : (w : World) (now : ℤ) (refusal : Option Answer) (m : Option Driver) (d : Driver) (payloads : Payloads) (replies : List Reply) (refused : Type 0) (old new : Disks) → refusal ≡ None → m ≡ Some d
+    → UnlessRefused refusal (TurnEventDisks w now m payloads (Ok (answer.Turn replies)) old new) refused → TurnDisks w.shared (running_ids w.drivers) now d payloads replies old new
+made_turn w now (Some x) m d payloads replies refused old new none found h = absurd (cc)
+made_turn w now None None d payloads replies refused old new none found h = absurd (cc)
+made_turn w now None (Some x) d payloads replies refused old new none found h =
     let same : x ≡ d = cc in
-    subst (λ (y : Driver). TurnDisks w.shared (running_ids w.drivers) now y frames replies old new) same h.1
+    subst (λ (y : Driver). TurnDisks w.shared (running_ids w.drivers) now y payloads replies old new) same h.1
 
-turn_quiet : (w left : World) (id now : ℤ) (frames : Frames) (replies : List Reply) (old new : Disks) (fails : Bool) → IsUp old → IsUp new → EventDisks w (event.Turn id now) frames (answer.Turn replies) old new
+turn_quiet : (w left : World) (id now : ℤ) (payloads : Payloads) (replies : List Reply) (old new : Disks) (fails : Bool) → IsUp old → IsUp new → EventDisks w (event.Turn id now) payloads (answer.Turn replies) old new
     → list_any is_failed_step replies ≡ fails → (fails ≡ true → CutOffTurn w id now replies left) → list_any tells_disk_fault replies ≡ false
-turn_quiet w left id now frames replies old new true up after h is cut =
+turn_quiet w left id now payloads replies old new true up after h is cut =
     let c = cut refl in
-    cut_quiet (work w.shared c.before) w.shared (running_ids w.drivers) now c.before replies left.shared c.after frames old new up after c.cut_off
-    (made_turn w now (running_refusal w id) (driver_of id w.drivers) c.before frames replies _ old new c.runs.0 c.runs.1 h)
-turn_quiet w left id now frames replies old new false up after h is cut = all_quiet replies is
+    cut_quiet (work w.shared c.before) w.shared (running_ids w.drivers) now c.before replies left.shared c.after payloads old new up after c.cut_off
+    (made_turn w now (running_refusal w id) (driver_of id w.drivers) c.before payloads replies _ old new c.runs.0 c.runs.1 h)
+turn_quiet w left id now payloads replies old new false up after h is cut = all_quiet replies is
 
 -- an event that isn't a turn answers no replies of a step that failed
 other_quiet : (replies : List Reply) (fails : Bool) → list_any is_failed_step replies ≡ fails → (fails ≡ true → ⊥) → list_any tells_disk_fault replies ≡ false
 other_quiet replies true is none = absurd (none refl)
 other_quiet replies false is none = all_quiet replies is
 
-replies_quiet : (w left : World) (e : Event) (frames : Frames) (replies : List Reply) (old new : Disks) → IsUp old → IsUp new → EventDisks w e frames (answer.Turn replies) old new
+replies_quiet : (w left : World) (e : Event) (payloads : Payloads) (replies : List Reply) (old new : Disks) → IsUp old → IsUp new → EventDisks w e payloads (answer.Turn replies) old new
     → (is_failure (answer.Turn replies) ≡ true → IsLeft w e (answer.Turn replies) left) → list_any tells_disk_fault replies ≡ false
-replies_quiet w left (event.Turn id now) frames replies old new up after h cut = turn_quiet w left id now frames replies old new (list_any is_failed_step replies) up after h refl cut
-replies_quiet w left e frames replies old new up after h cut = other_quiet replies (list_any is_failed_step replies) refl cut
+replies_quiet w left (event.Turn id now) payloads replies old new up after h cut = turn_quiet w left id now payloads replies old new (list_any is_failed_step replies) up after h refl cut
+replies_quiet w left e payloads replies old new up after h cut = other_quiet replies (list_any is_failed_step replies) refl cut
 
 -- no disk fails in an event, where none has failed before or fails now
-pub no_disk_fails : (w left : World) (e : Event) (frames : Frames) (a : Answer) (old new : Disks) → IsUp old → IsUp new → EventDisks w e frames a old new → (is_failure a ≡ true → IsLeft w e a left) → FailsByNoDisk a
-no_disk_fails w left e frames (answer.Turn replies) old new up after h cut = replies_quiet w left e frames replies old new up after h cut
-no_disk_fails w left e frames (answer.TreeFailed f) old new up after h cut = tree_quiet w e frames f old new up after h
-no_disk_fails w left e frames (answer.LogFailed f) old new up after h cut = log_quiet w e frames f old new up after h
-no_disk_fails w left e frames a old new up after h cut = tt
+pub no_disk_fails : (w left : World) (e : Event) (payloads : Payloads) (a : Answer) (old new : Disks) → IsUp old → IsUp new → EventDisks w e payloads a old new → (is_failure a ≡ true → IsLeft w e a left) → FailsByNoDisk a
+no_disk_fails w left e payloads (answer.Turn replies) old new up after h cut = replies_quiet w left e payloads replies old new up after h cut
+no_disk_fails w left e payloads (answer.TreeFailed f) old new up after h cut = tree_quiet w e payloads f old new up after h
+no_disk_fails w left e payloads (answer.LogFailed f) old new up after h cut = log_quiet w e payloads f old new up after h
+no_disk_fails w left e payloads a old new up after h cut = tt

@@ -84,7 +84,7 @@ fn ending_of(answer: &Answer) -> Option<Ending>
     None
 }
 
-/// What the run does after this answer. A machine over stores in memory fails only where memory runs out.
+/// What the run does after this answer. It ends for memory where the event failed, as stores in memory have no disk that fails.
 pub fn next_after(answer: &Answer) -> Next
     ensures failed { is_failure answer.now ≡ true → result ≡ Next.NoMemory }
     ensures next { is_failure answer.now ≡ false → IsNext result (ending answer.now) }

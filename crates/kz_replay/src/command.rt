@@ -10,8 +10,8 @@ use kz_world::World;
 use std::alloc::Global;
 
 /// Runs the command that the words name. There is one, the word `replay`: it reads a script from `input`, lets each of
-/// its events happen on a machine that begins with an empty tree and an empty log, and writes the replies of an event to
-/// `out` before the next event happens. After the last line it writes one with the numbers of the run. Empty lines and
+/// its events happen on a machine that begins with an empty tree and an empty log, and writes the replies to `out` in the
+/// order of the events. After the last line it writes one with the numbers of the run. Empty lines and
 /// those that begin with `#` are passed over, and count as lines.
 ///
 /// The status says what ended the run, which is the first of these that was met:

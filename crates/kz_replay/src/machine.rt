@@ -24,8 +24,8 @@ pub trait Machine: Drop + Sized {
     fn new(alloc: Global) -> Result<Self, NoMemory>
         ensures { IfOk result (λ machine. world machine ≡ empty_world) };
 
-    /// Lets an event happen, as a line of a script gives it, and answers it. Its stores are in memory, so an event fails only
-    /// where memory runs out. It then leaves the world as it was, but for a turn: the last reply of `Turn` tells the failure after
+    /// Lets an event happen, as a line of a script gives it, and answers it. Its stores are in memory, so no disk fails. An
+    /// event that fails leaves the world as it was, but for a turn: the last reply of `Turn` tells the failure after
     /// the replies of the steps before, and the world is as these left it.
     fn event(&mut self, event: &Event) -> Answer
         requires { IsLawful event.now }

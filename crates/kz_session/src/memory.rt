@@ -42,7 +42,7 @@ impl ZTree for MemoryTree {
 
     ghost disk = { λ s. no_disk };
 
-    ghost frame_bytes = { λ tree change. 0 };
+    ghost payload_bytes = { λ tree change. 0 };
 
     ghost left = { λ s found. ⊥ };
 

@@ -33,7 +33,7 @@ pub trait ZSessions: ZTree {
         ensures ok { IfOk result (λ zxid. (znodes.begin_session (Self.tree self.old) session ≡ Ok (Self.tree self.new)) × (zxid ≡ (Self.tree self.new).zxid)) }
         ensures refused { IfErr result (IsRefusal (znodes.begin_session (Self.tree self.old) session)) }
         ensures same { OnErr result (Self.tree self.new ≡ Self.tree self.old) }
-        ensures disk { ChangesDisk (IsTaken (znodes.begin_session (Self.tree self.old) session)) (Self.frame_bytes (Self.tree self.old) (BeginSession session)) (answer_by answer_of_session_fault result) (Self.disk self.old) (Self.disk self.new) }
+        ensures disk { ChangesDisk (IsTaken (znodes.begin_session (Self.tree self.old) session)) (Self.payload_bytes (Self.tree self.old) (BeginSession session)) (answer_by answer_of_session_fault result) (Self.disk self.old) (Self.disk self.new) }
         ensures stop { IsErrOf result SessionFault.Device → Between (Self.tree self.old) (znodes.begin_session (Self.tree self.old) session) (Self.left self.new) };
 
     /// Ends a session, and its ephemeral znodes with it, in one transaction, and answers the zxid. `Unknown`: it isn't live.
@@ -41,6 +41,6 @@ pub trait ZSessions: ZTree {
         ensures ok { IfOk result (λ zxid. (znodes.end_session (Self.tree self.old) session ≡ Ok (Self.tree self.new)) × (zxid ≡ (Self.tree self.new).zxid)) }
         ensures refused { IfErr result (IsRefusal (znodes.end_session (Self.tree self.old) session)) }
         ensures same { OnErr result (Self.tree self.new ≡ Self.tree self.old) }
-        ensures disk { ChangesDisk (IsTaken (znodes.end_session (Self.tree self.old) session)) (Self.frame_bytes (Self.tree self.old) (EndSession session)) (answer_by answer_of_session_fault result) (Self.disk self.old) (Self.disk self.new) }
+        ensures disk { ChangesDisk (IsTaken (znodes.end_session (Self.tree self.old) session)) (Self.payload_bytes (Self.tree self.old) (EndSession session)) (answer_by answer_of_session_fault result) (Self.disk self.old) (Self.disk self.new) }
         ensures stop { IsErrOf result SessionFault.Device → Between (Self.tree self.old) (znodes.end_session (Self.tree self.old) session) (Self.left self.new) };
 }

@@ -438,7 +438,7 @@ module _ (pushed given : List Entry) (e : Entry) (old new : SettlerState) (a : S
       stands_same (settled.Now e) old (is ∙ ap (λ t. answer_to_plain t e) i) (made ∙ ap (λ t. cond t (record old { kept = old.kept ++ e ∷ [] }) old) i) (stands_now pushed given e old h s popped quiet plain was)
   keep_by (Some o) was quiet plain is made =
       let i : is_some old.begun ≡ true = ap is_some was in
-      let n : Settling = record old { kept = old.kept ++ e ∷ [] } in
+      let n : SettlerState = record old { kept = old.kept ++ e ∷ [] } in
       stands_same settled.Kept n (is ∙ ap (λ t. answer_to_plain t e) i) (made ∙ ap (λ t. cond t n old) i) (stands_kept pushed given e old h s popped quiet plain i)
 
   pub stands_keep : is_begin e.item ≡ false → closes e.item ≡ false → a ≡ answer_to_plain (is_some old.begun) e → new ≡ after_plain e old → IsStateAfter (pushed ++ e ∷ []) (given ++ entries_of_answer a) new
@@ -456,7 +456,7 @@ module _ (pushed given : List Entry) (e : Entry) (old new : SettlerState) (a : S
       (stands_outside pushed given e old h s popped t quiet closing ended was)
   finish_by (Some o) t was quiet closing ended is made =
       let i : is_some old.begun ≡ true = ap is_some was in
-      let n : Settling = record { begun = None; kept = []; released = cond t old.kept [] } in
+      let n : SettlerState = record { begun = None; kept = []; released = cond t old.kept [] } in
       stands_same (answer_to_close true t) n (is ∙ ap (λ b. answer_to_close b t) i) (made ∙ ap (λ b. cond b n old) i)
       (subst (λ g. IsStateAfter (pushed ++ e ∷ []) (given ++ g) n) (sym (none_of_answer t)) (stands_finish pushed given e old h s popped t quiet closing ended))
 

@@ -27,7 +27,7 @@ use Rattle.kz_types.specs.declared.record.MetaRecord.TheVariants as meta
 use Rattle.kz_types.specs.declared.record.RegisterBrokerRecord.{RegisterBrokerRecord}
 use Rattle.kz_types.specs.Paths.{base_paths}
 use Rattle.kz_spec_values.specs.Control.{control_path, epoch_path, migration_path, read_epoch, written_epoch, shown_epoch, written_control, written_recorded}
-use Rattle.kz_spec_stores.specs.Tree.{Tree, row_at, multi, scan, look, broker_ids, area, rendered_row}
+use Rattle.kz_spec_stores.specs.Tree.{path_of_op, Tree, row_at, multi, scan, look, broker_ids, area, rendered_row}
 use Rattle.kz_spec_stores.specs.Image.{Image, is_migrated_state}
 use Rattle.kz_spec_stores.specs.Log.{Log, View, new_view, append, end_of, image_at, read_view}
 use Rattle.kz_spec_znodes.specs.Rendering.{render}
@@ -338,12 +338,6 @@ after_quorum declared running d = unless_finalised d (
 abbrev pub after_brokers : Option ℤ → Driver → Driver × Reply
 after_brokers (Some id) d = (at_stage stage.WaitForBrokers d, reply.WaitBroker id)
 after_brokers None d = (at_stage stage.ReadControlZnodes d, reply.Moved state.BecomeController)
-
-abbrev pub path_of_op : Op → List ℕ
-path_of_op (op.Create path body owner) = path
-path_of_op (op.Set path body version) = path
-path_of_op (op.Delete path version) = path
-path_of_op (op.Check path version) = path
 
 abbrev pub path_or_empty : Option Op → List ℕ
 path_or_empty None = []

@@ -12,10 +12,12 @@ use Rattle.kz_types.specs.Causes.{Rose}
 
 -- ---- a disk
 
--- A store's file: its bytes, and where the next frame begins in it. Bytes that a failed request left may stand after that place.
+-- A store's file: its bytes, the place after its last whole frame, from which the next request writes, and the bytes that a
+-- request writes there beside its payload. Bytes that a failed request left may stand after that place.
 pub record StoreFile : Type 0 where
   pub length : ℕ
   pub end : ℕ
+  pub around : ℕ
 
 -- What a store tells of its disk: how many of its calls have failed; whether one of the store's own calls has failed, after
 -- which the store makes no call; and its file, where it has one.
@@ -40,13 +42,13 @@ pub data LogChange : Type 0 where
   Elect : ℤ → List MetaRecord → LogChange
   Reset : LogChange
 
--- a file after one more frame of so many bytes
+-- a file after one more frame, whose payload has so many bytes
 abbrev pub with_frame : ℕ → StoreFile → StoreFile
-with_frame frame file = record { length = max file.length (file.end + frame); end = file.end + frame }
+with_frame payload file = record file { length = max file.length (file.end + (payload + file.around)); end = file.end + (payload + file.around) }
 
 -- the file after such a frame, where there is one
 abbrev pub file_with : ℕ → Disk → Option StoreFile
-file_with frame disk = option_map (with_frame frame) disk.file
+file_with payload disk = option_map (with_frame payload) disk.file
 
 -- a file keeps the limit; a store without a file always does
 abbrev pub Fits : Option StoreFile → Type 0
@@ -96,16 +98,16 @@ IsTaken (Err e) = ⊥
 
 -- ---- what a request did to the disk
 
--- A request that changes the store by a frame of so many bytes. The disk fails, and the file is full, only where nothing
--- refuses the request. The file has the frame where the request is done. The store is down from the request on whose call
+-- A request that changes the store by a frame whose payload has so many bytes. The disk fails, and the file is full, only where
+-- nothing refuses the request. The file has the frame where the request is done. The store is down from the request on whose call
 -- failed; what that call leaves of the file isn't told, but that there is one.
 abbrev pub ChangesDisk : Type 0 → ℕ → StoreAnswer → Disk → Disk → Type 0
-ChangesDisk taken frame Done old new = (old.down ≡ false) × Fits (file_with frame old) × (new ≡ record old { file = file_with frame old })
-ChangesDisk taken frame Refused old new = (old.down ≡ false) × (new ≡ old)
-ChangesDisk taken frame NoMemory old new = new ≡ old
-ChangesDisk taken frame Failed old new = (old.down ≡ false) × taken × Fits (file_with frame old) × Rose old.faults new.faults × (new.down ≡ true) × (is_some new.file ≡ is_some old.file)
-ChangesDisk taken frame Down old new = (old.down ≡ true) × (new ≡ old)
-ChangesDisk taken frame (Full length) old new = (old.down ≡ false) × taken × IsTooLong (file_with frame old) length × (new ≡ old)
+ChangesDisk taken payload Done old new = (old.down ≡ false) × Fits (file_with payload old) × (new ≡ record old { file = file_with payload old })
+ChangesDisk taken payload Refused old new = (old.down ≡ false) × (new ≡ old)
+ChangesDisk taken payload NoMemory old new = new ≡ old
+ChangesDisk taken payload Failed old new = (old.down ≡ false) × taken × Fits (file_with payload old) × Rose old.faults new.faults × (new.down ≡ true) × (is_some new.file ≡ is_some old.file)
+ChangesDisk taken payload Down old new = (old.down ≡ true) × (new ≡ old)
+ChangesDisk taken payload (Full length) old new = (old.down ≡ false) × taken × IsTooLong (file_with payload old) length × (new ≡ old)
 
 -- A request that only reads: it makes no call of the disk.
 abbrev pub ReadsDisk : StoreAnswer → Disk → Disk → Type 0

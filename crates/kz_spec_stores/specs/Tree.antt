@@ -37,6 +37,13 @@ empty_tree = record { zxid = pos 0; sessions = []; rows = [] }
 abbrev pub path_of_row : Row → List ℕ
 path_of_row r = r.path
 
+-- the path of an operation
+abbrev pub path_of_op : Op → List ℕ
+path_of_op (Create path body owner) = path
+path_of_op (Set path body version) = path
+path_of_op (Delete path version) = path
+path_of_op (Check path version) = path
+
 -- the znode at a path
 abbrev pub row_at : List ℕ → List Row → Option Row
 row_at path rows = find bytes_cmp path_of_row path rows

@@ -19,8 +19,8 @@ pub trait ZTree {
     /// file, where it has one.
     ghost disk: { Self → Disk };
 
-    /// The bytes of the frame that the store's file gets for a change of a tree. Nothing refuses the change.
-    ghost frame_bytes: { TreeValue → TreeChange → ℕ };
+    /// The bytes of the payload of the frame that the store's file gets for a change of a tree. Nothing refuses the change.
+    ghost payload_bytes: { TreeValue → TreeChange → ℕ };
 
     /// What a stop at this moment may leave: a tree, or `None` where what is left stands for none. A store that tells
     /// nothing of its disk leaves nothing.
@@ -37,7 +37,7 @@ pub trait ZTree {
         ensures ok { IfOk result (λ zxid. (znodes.multi (tree self.old) ops.now ≡ Ok (tree self.new)) × (zxid ≡ (tree self.new).zxid)) }
         ensures refused { IfErr result (IsRefusal (znodes.multi (tree self.old) ops.now)) }
         ensures same { OnErr result (tree self.new ≡ tree self.old) }
-        ensures disk { ChangesDisk (IsTaken (znodes.multi (tree self.old) ops.now)) (frame_bytes (tree self.old) (Multi ops.now)) (answer_by answer_of_tree_fault result) (disk self.old) (disk self.new) }
+        ensures disk { ChangesDisk (IsTaken (znodes.multi (tree self.old) ops.now)) (payload_bytes (tree self.old) (Multi ops.now)) (answer_by answer_of_tree_fault result) (disk self.old) (disk self.new) }
         ensures stop { IsErrOf result TreeFault.Device → Between (tree self.old) (znodes.multi (tree self.old) ops.now) (left self.new) };
 
     /// The first `limit` znodes of the migrated area after a path, or its first ones. `Down`: a call of the disk failed in

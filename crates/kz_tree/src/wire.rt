@@ -6,7 +6,7 @@ ghost use Rattle.kz_ordered.specs.Ordered.{Rises};
 ghost use Rattle.kz_spec_stores.specs.Tree as znodes;
 ghost use Rattle.kz_spec_stores.specs.Tree.{path_of_row};
 ghost use Rattle.kz_spec_stores.specs.Requests.{Multi, Done, answer_by, answer_of_tree_fault, IsTaken, ChangesDisk, ReadsDisk, Between};
-ghost use Rattle.kz_connection.specs.Connections.{Counts, EndsBy, OverConnection};
+ghost use Rattle.kz_connection.specs.Connections.{IsSpent, EndsBy, OverConnection};
 ghost use Rattle.kz_tree.specs.Requests.{IsRefusal};
 ghost use Rattle.kz_tree.specs.Wires.{arrival_of, IfStore, IsUnanswered, after_multi};
 ghost use Rattle.kz_tree.specs.Lending.{lends_store};
@@ -92,9 +92,8 @@ impl<T: ZTree> Wire<T> {
         ensures same { IfErr result (IfStore (λ fault. T.tree self.new.inner ≡ T.tree self.old.inner)) }
         ensures by_plan { EndsBy self.old.plan (arrival_of result) (self.new.inner ≡ self.old.inner)
             (IsUnanswered (T.tree self.new.inner ≡ after_multi (T.tree self.old.inner) (znodes.multi (T.tree self.old.inner) ops.now)) (arrival_of result)) }
-        ensures spent { self.new.plan ≡ Plan.Deliver }
-        ensures counted { Counts (arrival_of result) self.old.faults self.new.faults }
-        ensures disk { OverConnection (ChangesDisk (IsTaken (znodes.multi (T.tree self.old.inner) ops.now)) (T.frame_bytes (T.tree self.old.inner) (Multi ops.now)))
+        ensures spent { IsSpent (arrival_of result) self.old self.new }
+        ensures disk { OverConnection (ChangesDisk (IsTaken (znodes.multi (T.tree self.old.inner) ops.now)) (T.payload_bytes (T.tree self.old.inner) (Multi ops.now)))
             (answer_by answer_of_tree_fault (znodes.multi (T.tree self.old.inner) ops.now)) self.old.plan (arrival_of result) (T.disk self.old.inner) (T.disk self.new.inner) }
         ensures stop { IsErrOf result (WireFault.Tree TreeFault.Device) → Between (T.tree self.old.inner) (znodes.multi (T.tree self.old.inner) ops.now) (T.left self.new.inner) }
     {
@@ -135,8 +134,7 @@ impl<T: ZTree> Wire<T> {
         ensures rising { IfOk result (λ rows. Rises bytes_cmp path_of_row rows.items) }
         ensures same { T.tree self.new.inner ≡ T.tree self.old.inner }
         ensures by_plan { EndsBy self.old.plan (arrival_of result) (self.new.inner ≡ self.old.inner) (IsUnanswered ⊤ (arrival_of result)) }
-        ensures spent { self.new.plan ≡ Plan.Deliver }
-        ensures counted { Counts (arrival_of result) self.old.faults self.new.faults }
+        ensures spent { IsSpent (arrival_of result) self.old self.new }
         ensures disk { OverConnection ReadsDisk Done self.old.plan (arrival_of result) (T.disk self.old.inner) (T.disk self.new.inner) }
     {
         match self.connection.take_plan() {
@@ -167,8 +165,7 @@ impl<T: ZTree> Wire<T> {
         ensures ok { IfOk result (λ rows. rows.items ≡ znodes.look (T.tree self.old.inner) paths.now) }
         ensures same { T.tree self.new.inner ≡ T.tree self.old.inner }
         ensures by_plan { EndsBy self.old.plan (arrival_of result) (self.new.inner ≡ self.old.inner) (IsUnanswered ⊤ (arrival_of result)) }
-        ensures spent { self.new.plan ≡ Plan.Deliver }
-        ensures counted { Counts (arrival_of result) self.old.faults self.new.faults }
+        ensures spent { IsSpent (arrival_of result) self.old self.new }
         ensures disk { OverConnection ReadsDisk Done self.old.plan (arrival_of result) (T.disk self.old.inner) (T.disk self.new.inner) }
     {
         match self.connection.take_plan() {
@@ -199,8 +196,7 @@ impl<T: ZTree> Wire<T> {
         ensures ok { IfOk result (λ ids. ids.items ≡ znodes.broker_ids (T.tree self.old.inner)) }
         ensures same { T.tree self.new.inner ≡ T.tree self.old.inner }
         ensures by_plan { EndsBy self.old.plan (arrival_of result) (self.new.inner ≡ self.old.inner) (IsUnanswered ⊤ (arrival_of result)) }
-        ensures spent { self.new.plan ≡ Plan.Deliver }
-        ensures counted { Counts (arrival_of result) self.old.faults self.new.faults }
+        ensures spent { IsSpent (arrival_of result) self.old self.new }
         ensures disk { OverConnection ReadsDisk Done self.old.plan (arrival_of result) (T.disk self.old.inner) (T.disk self.new.inner) }
     {
         match self.connection.take_plan() {

@@ -20,7 +20,7 @@ use Rattle.kz_spec_machine.specs.Driver.{Shared, Driver}
 use Rattle.kz_spec_machine.specs.Machine.{World, next, running_ids, is_running, start_refusal, turn, work, turned_world, outcome_unless, unless_refused, first_of, unless, over, full, running_refusal, leader_refusal, change_refusal, over_excess, election_refusal, election_records, elected_log, elected_world, election_answer, next_epoch, changed_log, changed_world, turn_result, driver_of, register_refusal, registration, bad_record}
 use Rattle.kz_spec_machine.specs.Failures.{is_failed_step, is_failure, IsCutOff, IsLeft}
 use Rattle.kz_driver.specs.declared.fault.StepFault.{StepFault}
-use Rattle.kz_driver.specs.Disks.{Disks, Frames}
+use Rattle.kz_driver.specs.Disks.{Disks, Payloads}
 use Rattle.kz_log.specs.Requests.{IsRefusal}
 use Rattle.kz_world.specs.Disks.{UnlessRefused, DriverTurnDisks, TurnEventDisks, ResultDisks, EventDisks}
 use Rattle.kz_world.specs.Faults.{after_log_fault, answer_of_result, result_of_answer}
@@ -293,11 +293,11 @@ turn_outcome r w id now at new runs h found each =
     by_driver (λ o. driver_of id w.drivers ≡ o → IfOk r (IsOutcome w (event.Turn id now) new)) w.drivers at (slice_get w.drivers at) h refl (λ d is same. turn_outcome_at r w id now d new runs same (each d is)) found
 
 -- what it does to the disks
-pub turn_disks : (r : Result Answer StepFault) (w : World) (id now : ℤ) (at : ℕ) (frames : Frames) (old new : Disks) → running_refusal w id ≡ None → at < length w.drivers → driver_of id w.drivers ≡ slice_get w.drivers at
-    → ((d : Driver) → slice_get w.drivers at ≡ Some d → DriverTurnDisks w now d frames r old new) → ResultDisks w (event.Turn id now) frames r old new
-turn_disks r w id now at frames old new runs h found each =
+pub turn_disks : (r : Result Answer StepFault) (w : World) (id now : ℤ) (at : ℕ) (payloads : Payloads) (old new : Disks) → running_refusal w id ≡ None → at < length w.drivers → driver_of id w.drivers ≡ slice_get w.drivers at
+    → ((d : Driver) → slice_get w.drivers at ≡ Some d → DriverTurnDisks w now d payloads r old new) → ResultDisks w (event.Turn id now) payloads r old new
+turn_disks r w id now at payloads old new runs h found each =
     unless_none (running_refusal w id) _ _ runs
-    (subst (λ o. TurnEventDisks w now o frames r old new) (sym found) (by_driver (λ o. TurnEventDisks w now o frames r old new) w.drivers at (slice_get w.drivers at) h refl each))
+    (subst (λ o. TurnEventDisks w now o payloads r old new) (sym found) (by_driver (λ o. TurnEventDisks w now o payloads r old new) w.drivers at (slice_get w.drivers at) h refl each))
 
 -- a turn that is refused
 pub turn_refused : (w : World) (id now : ℤ) (r : Answer) → running_refusal w id ≡ Some r → is_failure r ≡ false → IsOutcome w (event.Turn id now) w r
@@ -314,9 +314,9 @@ turn_of_none w id now new runs none same = done_is_outcome w (event.Turn id now)
 -- ---- answers of events
 
 -- an answer that tells of no failure
-pub event_done : (w new : World) (e : Event) (frames : Frames) (r : Result Answer StepFault) (a : Answer) (old later : Disks) → a ≡ answer_of_result r → IfOk r (IsOutcome w e new) → ResultDisks w e frames r old later → is_failure a ≡ false → next w e ≡ (new, a)
-event_done w new e frames (Ok b) a old later is outcome disks none = outcome.done (sym (ap is_failure is) ∙ none) ∙ ap (λ x. (new, x)) (sym is)
-event_done w new e frames (Err f) a old later is outcome disks none = true_or_false (is_failure a) (ap is_failure is ∙ (event_told w e frames f old later disks).failure) none
+pub event_done : (w new : World) (e : Event) (payloads : Payloads) (r : Result Answer StepFault) (a : Answer) (old later : Disks) → a ≡ answer_of_result r → IfOk r (IsOutcome w e new) → ResultDisks w e payloads r old later → is_failure a ≡ false → next w e ≡ (new, a)
+event_done w new e payloads (Ok b) a old later is outcome disks none = outcome.done (sym (ap is_failure is) ∙ none) ∙ ap (λ x. (new, x)) (sym is)
+event_done w new e payloads (Err f) a old later is outcome disks none = true_or_false (is_failure a) (ap is_failure is ∙ (event_told w e payloads f old later disks).failure) none
 
 -- one that tells of a failure
 pub event_failed : (w new : World) (e : Event) (r : Result Answer StepFault) (a : Answer) → a ≡ answer_of_result r → IfOk r (IsOutcome w e new) → OnErr r (new ≡ w) → is_failure a ≡ true → IsLeft w e a new
@@ -324,6 +324,6 @@ event_failed w new e (Ok b) a is outcome same fails = subst (λ x. IsLeft w e x 
 event_failed w new e (Err f) a is outcome same fails = subst (λ x. IsLeft w e x new) (sym is) (left_by w e f new same)
 
 -- what it says of the disks
-pub event_disks : (w new : World) (e : Event) (frames : Frames) (r : Result Answer StepFault) (a : Answer) (old later : Disks) → a ≡ answer_of_result r → IfOk r (IsOutcome w e new) → ResultDisks w e frames r old later → EventDisks w e frames a old later
-event_disks w new e frames (Ok b) a old later is outcome disks = subst (λ x. ResultDisks w e frames x old later) (sym (ap result_of_answer is ∙ outcome.told)) disks
-event_disks w new e frames (Err f) a old later is outcome disks = subst (λ x. ResultDisks w e frames x old later) (sym (ap result_of_answer is ∙ (event_told w e frames f old later disks).answer)) disks
+pub event_disks : (w new : World) (e : Event) (payloads : Payloads) (r : Result Answer StepFault) (a : Answer) (old later : Disks) → a ≡ answer_of_result r → IfOk r (IsOutcome w e new) → ResultDisks w e payloads r old later → EventDisks w e payloads a old later
+event_disks w new e payloads (Ok b) a old later is outcome disks = subst (λ x. ResultDisks w e payloads x old later) (sym (ap result_of_answer is ∙ outcome.told)) disks
+event_disks w new e payloads (Err f) a old later is outcome disks = subst (λ x. ResultDisks w e payloads x old later) (sym (ap result_of_answer is ∙ (event_told w e payloads f old later disks).answer)) disks

@@ -27,7 +27,7 @@ use Rattle.kz_spec_machine.specs.Machine.{TurnResult, ends, turn, with_reply}
 use Rattle.kz_spec_machine.specs.Failures.{is_failed_step, IsCutOff}
 use Rattle.kz_driver.specs.declared.fault.StepFault.{StepFault}
 use Rattle.kz_driver.specs.declared.fault.StepFault.TheVariants as step_fault
-use Rattle.kz_driver.specs.Disks.{Disks, Frames, RequestDisks, StepDisks}
+use Rattle.kz_driver.specs.Disks.{Disks, Payloads, RequestDisks, StepDisks}
 use Rattle.kz_world.specs.Disks.{StepRequestDisks, TurnDisks}
 use Rattle.kz_world.specs.Faults.{reply_of_fault, result_of_reply}
 use Rattle.kz_world.specs.Turns.{StepsEnd}
@@ -174,40 +174,40 @@ abbrev pub moment : Shared → Driver → Disks → Moment
 moment s d disks = record { shared = s; driver = d; disks = disks }
 
 -- what a step with this reply does to the disks
-abbrev pub StepMoves : Frames → ℤ → Moment → Reply → Moment → Type 0
-StepMoves frames now m r n = StepRequestDisks m.shared now m.driver frames (result_of_reply r) m.disks n.disks
+abbrev pub StepMoves : Payloads → ℤ → Moment → Reply → Moment → Type 0
+StepMoves payloads now m r n = StepRequestDisks m.shared now m.driver payloads (result_of_reply r) m.disks n.disks
 
 -- one step, which didn't end the turn
-pub record IsStep (frames : Frames) (running : List ℤ) (now : ℤ) (m : Moment) (r : Reply) (n : Moment) : Type 0 where
+pub record IsStep (payloads : Payloads) (running : List ℤ) (now : ℤ) (m : Moment) (r : Reply) (n : Moment) : Type 0 where
   pub made : step m.shared running now m.driver ≡ stepped n.shared n.driver r
   pub on : ends r ≡ false
-  pub disks : StepMoves frames now m r n
+  pub disks : StepMoves payloads now m r n
 
 -- such steps with these replies, one after another
-abbrev pub AreSteps : Frames → List ℤ → ℤ → Moment → List Reply → Moment → Type 0
-AreSteps frames running now m [] n = m ≡ n
-AreSteps frames running now m (r ∷ rs) n = (mid : Moment) × IsStep frames running now m r mid × AreSteps frames running now mid rs n
+abbrev pub AreSteps : Payloads → List ℤ → ℤ → Moment → List Reply → Moment → Type 0
+AreSteps payloads running now m [] n = m ≡ n
+AreSteps payloads running now m (r ∷ rs) n = (mid : Moment) × IsStep payloads running now m r mid × AreSteps payloads running now mid rs n
 
 -- a further one
-pub steps_more : (frames : Frames) (running : List ℤ) (now : ℤ) (m : Moment) (rs : List Reply) (n : Moment) (r : Reply) (o : Moment) → AreSteps frames running now m rs n → IsStep frames running now n r o → AreSteps frames running now m (rs ++ r ∷ []) o
-steps_more frames running now m [] n r o same is = (o, subst (λ x. IsStep frames running now x r o) (sym same) is, refl)
-steps_more frames running now m (q ∷ qs) n r o h is = (h.0, h.1, steps_more frames running now h.0 qs n r o h.2 is)
+pub steps_more : (payloads : Payloads) (running : List ℤ) (now : ℤ) (m : Moment) (rs : List Reply) (n : Moment) (r : Reply) (o : Moment) → AreSteps payloads running now m rs n → IsStep payloads running now n r o → AreSteps payloads running now m (rs ++ r ∷ []) o
+steps_more payloads running now m [] n r o same is = (o, subst (λ x. IsStep payloads running now x r o) (sym same) is, refl)
+steps_more payloads running now m (q ∷ qs) n r o h is = (h.0, h.1, steps_more payloads running now h.0 qs n r o h.2 is)
 
 -- as many steps as the turn may have
-pub all_steps : (frames : Frames) (running : List ℤ) (now : ℤ) (m : Moment) (rs : List Reply) (n : Moment) → AreSteps frames running now m rs n → turn (length rs) m.shared running now m.driver ≡ turned n.shared n.driver rs
+pub all_steps : (payloads : Payloads) (running : List ℤ) (now : ℤ) (m : Moment) (rs : List Reply) (n : Moment) → AreSteps payloads running now m rs n → turn (length rs) m.shared running now m.driver ≡ turned n.shared n.driver rs
 unfolding turn
-all_steps frames running now m [] n same = ap (λ (x : Moment). turned x.shared x.driver []) same
-all_steps frames running now m (q ∷ qs) n h =
-    goes_on_at (length qs) m.shared running now m.driver h.0.shared h.0.driver q h.1.made h.1.on ∙ ap (with_reply q) (all_steps frames running now h.0 qs n h.2)
+all_steps payloads running now m [] n same = ap (λ (x : Moment). turned x.shared x.driver []) same
+all_steps payloads running now m (q ∷ qs) n h =
+    goes_on_at (length qs) m.shared running now m.driver h.0.shared h.0.driver q h.1.made h.1.on ∙ ap (with_reply q) (all_steps payloads running now h.0 qs n h.2)
 
 -- the last step ends the turn
-last_step : (frames : Frames) (running : List ℤ) (now : ℤ) (most : ℕ) (m : Moment) (rs : List Reply) (n : Moment) (r : Reply) (t : Shared) (e : Driver) → length rs < most → AreSteps frames running now m rs n → step n.shared running now n.driver ≡ stepped t e r → ends r ≡ true
+last_step : (payloads : Payloads) (running : List ℤ) (now : ℤ) (most : ℕ) (m : Moment) (rs : List Reply) (n : Moment) (r : Reply) (t : Shared) (e : Driver) → length rs < most → AreSteps payloads running now m rs n → step n.shared running now n.driver ≡ stepped t e r → ends r ≡ true
     → turn most m.shared running now m.driver ≡ turned t e (rs ++ r ∷ [])
-last_step frames running now zero m rs n r t e few h is last = absurd (omega (arith, few))
-last_step frames running now (suc k) m [] n r t e few same is last =
+last_step payloads running now zero m rs n r t e few h is last = absurd (omega (arith, few))
+last_step payloads running now (suc k) m [] n r t e few same is last =
     ends_at k m.shared running now m.driver t e r (ap (λ (x : Moment). step x.shared running now x.driver) same ∙ is) last
-last_step frames running now (suc k) m (q ∷ qs) n r t e few h is last =
-    goes_on_at k m.shared running now m.driver h.0.shared h.0.driver q h.1.made h.1.on ∙ ap (with_reply q) (last_step frames running now k h.0 qs n r t e (omega (arith, few)) h.2 is last)
+last_step payloads running now (suc k) m (q ∷ qs) n r t e few h is last =
+    goes_on_at k m.shared running now m.driver h.0.shared h.0.driver q h.1.made h.1.on ∙ ap (with_reply q) (last_step payloads running now k h.0 qs n r t e (omega (arith, few)) h.2 is last)
 
 -- a step that went on, before a turn that was cut off
 cut_after : (k : ℕ) (s : Shared) (running : List ℤ) (now : ℤ) (d : Driver) (q : Reply) (mid : Shared) (next : Driver) (rest : List Reply) (t : Shared) (e : Driver) → step s running now d ≡ stepped mid next q → ends q ≡ false
@@ -223,77 +223,77 @@ fails_here : (k : ℕ) (s : Shared) (running : List ℤ) (now : ℤ) (d : Driver
 unfolding IsCutOff
 fails_here k s running now d r t e failed shared driver = (failed, shared, driver)
 
-cut_step : (frames : Frames) (running : List ℤ) (now : ℤ) (most : ℕ) (m : Moment) (rs : List Reply) (n : Moment) (r : Reply) (t : Shared) (e : Driver) → length rs < most → AreSteps frames running now m rs n → is_failed_step r ≡ true → e ≡ n.driver → t ≡ n.shared
+cut_step : (payloads : Payloads) (running : List ℤ) (now : ℤ) (most : ℕ) (m : Moment) (rs : List Reply) (n : Moment) (r : Reply) (t : Shared) (e : Driver) → length rs < most → AreSteps payloads running now m rs n → is_failed_step r ≡ true → e ≡ n.driver → t ≡ n.shared
     → IsCutOff most m.shared running now m.driver (rs ++ r ∷ []) t e
-cut_step frames running now zero m rs n r t e few h failed driver shared = absurd (omega (arith, few))
-cut_step frames running now (suc k) m [] n r t e few same failed driver shared =
+cut_step payloads running now zero m rs n r t e few h failed driver shared = absurd (omega (arith, few))
+cut_step payloads running now (suc k) m [] n r t e few same failed driver shared =
     fails_here k m.shared running now m.driver r t e failed (shared ∙ sym (ap (λ (x : Moment). x.shared) same)) (driver ∙ sym (ap (λ (x : Moment). x.driver) same))
-cut_step frames running now (suc k) m (q ∷ qs) n r t e few h failed driver shared =
-    cut_after k m.shared running now m.driver q h.0.shared h.0.driver (qs ++ r ∷ []) t e h.1.made h.1.on (cut_step frames running now k h.0 qs n r t e (omega (arith, few)) h.2 failed driver shared)
+cut_step payloads running now (suc k) m (q ∷ qs) n r t e few h failed driver shared =
+    cut_after k m.shared running now m.driver q h.0.shared h.0.driver (qs ++ r ∷ []) t e h.1.made h.1.on (cut_step payloads running now k h.0 qs n r t e (omega (arith, few)) h.2 failed driver shared)
 
 -- the replies of these steps tell of no failure
-no_failure : (frames : Frames) (running : List ℤ) (now : ℤ) (m : Moment) (rs : List Reply) (n : Moment) (rest : List Reply) → AreSteps frames running now m rs n → list_any is_failed_step rest ≡ false → list_any is_failed_step (rs ++ rest) ≡ false
-no_failure frames running now m [] n rest same h = h
-no_failure frames running now m (q ∷ qs) n rest steps h = rw (goes_on_told q steps.1.on) (no_failure frames running now steps.0 qs n rest steps.2 h)
+no_failure : (payloads : Payloads) (running : List ℤ) (now : ℤ) (m : Moment) (rs : List Reply) (n : Moment) (rest : List Reply) → AreSteps payloads running now m rs n → list_any is_failed_step rest ≡ false → list_any is_failed_step (rs ++ rest) ≡ false
+no_failure payloads running now m [] n rest same h = h
+no_failure payloads running now m (q ∷ qs) n rest steps h = rw (goes_on_told q steps.1.on) (no_failure payloads running now steps.0 qs n rest steps.2 h)
 
 -- what all steps do to the disks
-pub all_disks : (frames : Frames) (running : List ℤ) (now : ℤ) (m : Moment) (rs : List Reply) (n : Moment) (rest : List Reply) (new : Disks) → AreSteps frames running now m rs n → TurnDisks n.shared running now n.driver frames rest n.disks new
-    → TurnDisks m.shared running now m.driver frames (rs ++ rest) m.disks new
-all_disks frames running now m [] n rest new same h = subst (λ (x : Moment). TurnDisks x.shared running now x.driver frames rest x.disks new) (sym same) h
-all_disks frames running now m (q ∷ qs) n rest new steps h = (
+pub all_disks : (payloads : Payloads) (running : List ℤ) (now : ℤ) (m : Moment) (rs : List Reply) (n : Moment) (rest : List Reply) (new : Disks) → AreSteps payloads running now m rs n → TurnDisks n.shared running now n.driver payloads rest n.disks new
+    → TurnDisks m.shared running now m.driver payloads (rs ++ rest) m.disks new
+all_disks payloads running now m [] n rest new same h = subst (λ (x : Moment). TurnDisks x.shared running now x.driver payloads rest x.disks new) (sym same) h
+all_disks payloads running now m (q ∷ qs) n rest new steps h = (
   steps.0.disks,
   steps.1.disks,
-  subst (λ (x : StepResult). TurnDisks x.shared running now x.driver frames (qs ++ rest) steps.0.disks new) (sym steps.1.made) (all_disks frames running now steps.0 qs n rest new steps.2 h),
+  subst (λ (x : StepResult). TurnDisks x.shared running now x.driver payloads (qs ++ rest) steps.0.disks new) (sym steps.1.made) (all_disks payloads running now steps.0 qs n rest new steps.2 h),
 )
 
 -- and a last one
-pub last_disks : (frames : Frames) (running : List ℤ) (now : ℤ) (m : Moment) (rs : List Reply) (n : Moment) (r : Reply) (o : Moment) → AreSteps frames running now m rs n → StepMoves frames now n r o → TurnDisks m.shared running now m.driver frames (rs ++ r ∷ []) m.disks o.disks
-last_disks frames running now m rs n r o steps moves = all_disks frames running now m rs n (r ∷ []) o.disks steps (o.disks, moves, refl)
+pub last_disks : (payloads : Payloads) (running : List ℤ) (now : ℤ) (m : Moment) (rs : List Reply) (n : Moment) (r : Reply) (o : Moment) → AreSteps payloads running now m rs n → StepMoves payloads now n r o → TurnDisks m.shared running now m.driver payloads (rs ++ r ∷ []) m.disks o.disks
+last_disks payloads running now m rs n r o steps moves = all_disks payloads running now m rs n (r ∷ []) o.disks steps (o.disks, moves, refl)
 
 -- The last step: where it doesn't fail, it ends the turn.
-ends_by : (b : Bool) (frames : Frames) (running : List ℤ) (now : ℤ) (most : ℕ) (m : Moment) (rs : List Reply) (n : Moment) (r : Reply) (t : Shared) (e : Driver) → is_failed_step r ≡ b → length rs < most → AreSteps frames running now m rs n → ends r ≡ true
+ends_by : (b : Bool) (payloads : Payloads) (running : List ℤ) (now : ℤ) (most : ℕ) (m : Moment) (rs : List Reply) (n : Moment) (r : Reply) (t : Shared) (e : Driver) → is_failed_step r ≡ b → length rs < most → AreSteps payloads running now m rs n → ends r ≡ true
     → (is_failed_step r ≡ false → step n.shared running now n.driver ≡ stepped t e r) → (is_failed_step r ≡ true → (e ≡ n.driver) × (t ≡ n.shared))
     → StepsEnd most m.shared running now m.driver (rs ++ r ∷ []) t e
-ends_by true frames running now most m rs n r t e is few steps last made failed = inr (cut_step frames running now most m rs n r t e few steps is (failed is).0 (failed is).1)
-ends_by false frames running now most m rs n r t e is few steps last made failed =
-    inl (last_step frames running now most m rs n r t e few steps (made is) last, no_failure frames running now m rs n (r ∷ []) steps (rw is refl))
+ends_by true payloads running now most m rs n r t e is few steps last made failed = inr (cut_step payloads running now most m rs n r t e few steps is (failed is).0 (failed is).1)
+ends_by false payloads running now most m rs n r t e is few steps last made failed =
+    inl (last_step payloads running now most m rs n r t e few steps (made is) last, no_failure payloads running now m rs n (r ∷ []) steps (rw is refl))
 
-pub turn_ends : (frames : Frames) (running : List ℤ) (now : ℤ) (most : ℕ) (m : Moment) (rs : List Reply) (n : Moment) (r : Reply) (t : Shared) (e : Driver) → length rs < most → AreSteps frames running now m rs n → ends r ≡ true
+pub turn_ends : (payloads : Payloads) (running : List ℤ) (now : ℤ) (most : ℕ) (m : Moment) (rs : List Reply) (n : Moment) (r : Reply) (t : Shared) (e : Driver) → length rs < most → AreSteps payloads running now m rs n → ends r ≡ true
     → (is_failed_step r ≡ false → step n.shared running now n.driver ≡ stepped t e r) → (is_failed_step r ≡ true → (e ≡ n.driver) × (t ≡ n.shared))
     → StepsEnd most m.shared running now m.driver (rs ++ r ∷ []) t e
-turn_ends frames running now most m rs n r t e few steps last made failed = ends_by (is_failed_step r) frames running now most m rs n r t e refl few steps last made failed
+turn_ends payloads running now most m rs n r t e few steps last made failed = ends_by (is_failed_step r) payloads running now most m rs n r t e refl few steps last made failed
 
 -- All steps that the turn may have are made.
-pub turn_is_whole : (frames : Frames) (running : List ℤ) (now : ℤ) (most : ℕ) (m : Moment) (rs qs : List Reply) (n : Moment) → most ≡ length rs → qs ≡ rs → AreSteps frames running now m rs n → StepsEnd most m.shared running now m.driver qs n.shared n.driver
-turn_is_whole frames running now most m rs qs n count same steps =
-    let made = ap (λ k. turn k m.shared running now m.driver) count ∙ all_steps frames running now m rs n steps ∙ ap (turned n.shared n.driver) (sym same) in
-    let none = ap (list_any is_failed_step) (same ∙ sym (append-nil rs)) ∙ no_failure frames running now m rs n [] steps refl in
+pub turn_is_whole : (payloads : Payloads) (running : List ℤ) (now : ℤ) (most : ℕ) (m : Moment) (rs qs : List Reply) (n : Moment) → most ≡ length rs → qs ≡ rs → AreSteps payloads running now m rs n → StepsEnd most m.shared running now m.driver qs n.shared n.driver
+turn_is_whole payloads running now most m rs qs n count same steps =
+    let made = ap (λ k. turn k m.shared running now m.driver) count ∙ all_steps payloads running now m rs n steps ∙ ap (turned n.shared n.driver) (sym same) in
+    let none = ap (list_any is_failed_step) (same ∙ sym (append-nil rs)) ∙ no_failure payloads running now m rs n [] steps refl in
     inl (made, none)
 
 -- There is no memory for the reply of the next step.
-out_of_memory : (s : Shared) (epoch now position : ℤ) (frames : Frames) (request : Request) (disks : Disks) → RequestDisks {A = Reply} s epoch now position frames request (Err step_fault.NoMemory) disks disks
-out_of_memory s epoch now position frames nothing disks = refl
-out_of_memory s epoch now position frames read_log disks = (refl, refl)
-out_of_memory s epoch now position frames list_brokers disks = (refl, refl)
-out_of_memory s epoch now position frames look_up disks = (refl, refl)
-out_of_memory s epoch now position frames (read_page after) disks = (refl, refl)
-out_of_memory s epoch now position frames (write ops) disks = inl (refl, refl)
-out_of_memory s epoch now position frames (add records) disks = (refl, refl)
+out_of_memory : (s : Shared) (epoch now position : ℤ) (payloads : Payloads) (request : Request) (disks : Disks) → RequestDisks {A = Reply} s epoch now position payloads request (Err step_fault.NoMemory) disks disks
+out_of_memory s epoch now position payloads nothing disks = refl
+out_of_memory s epoch now position payloads read_log disks = (refl, refl)
+out_of_memory s epoch now position payloads list_brokers disks = (refl, refl)
+out_of_memory s epoch now position payloads look_up disks = (refl, refl)
+out_of_memory s epoch now position payloads (read_page after) disks = (refl, refl)
+out_of_memory s epoch now position payloads (write ops) disks = inl (refl, refl)
+out_of_memory s epoch now position payloads (add records) disks = (refl, refl)
 
-pub memory_ends : (frames : Frames) (running : List ℤ) (now : ℤ) (most : ℕ) (m : Moment) (rs : List Reply) (n : Moment) → length rs < most → AreSteps frames running now m rs n → StepsEnd most m.shared running now m.driver (rs ++ reply.NoMemory ∷ []) n.shared n.driver
-memory_ends frames running now most m rs n few steps = inr (cut_step frames running now most m rs n reply.NoMemory n.shared n.driver few steps refl refl refl)
+pub memory_ends : (payloads : Payloads) (running : List ℤ) (now : ℤ) (most : ℕ) (m : Moment) (rs : List Reply) (n : Moment) → length rs < most → AreSteps payloads running now m rs n → StepsEnd most m.shared running now m.driver (rs ++ reply.NoMemory ∷ []) n.shared n.driver
+memory_ends payloads running now most m rs n few steps = inr (cut_step payloads running now most m rs n reply.NoMemory n.shared n.driver few steps refl refl refl)
 
-pub memory_disks : (frames : Frames) (running : List ℤ) (now : ℤ) (m : Moment) (rs : List Reply) (n : Moment) → AreSteps frames running now m rs n → TurnDisks m.shared running now m.driver frames (rs ++ reply.NoMemory ∷ []) m.disks n.disks
-memory_disks frames running now m rs n steps =
-    last_disks frames running now m rs n reply.NoMemory n steps (out_of_memory n.shared _ now _ frames (request_at n.shared now n.driver n.driver.stage) n.disks)
+pub memory_disks : (payloads : Payloads) (running : List ℤ) (now : ℤ) (m : Moment) (rs : List Reply) (n : Moment) → AreSteps payloads running now m rs n → TurnDisks m.shared running now m.driver payloads (rs ++ reply.NoMemory ∷ []) m.disks n.disks
+memory_disks payloads running now m rs n steps =
+    last_disks payloads running now m rs n reply.NoMemory n steps (out_of_memory n.shared _ now _ payloads (request_at n.shared now n.driver n.driver.stage) n.disks)
 
 -- So many steps of a turn are made, and it goes on from here: the last place of the replies is kept, the driver has its id,
 -- and what it and others know is a view of the log.
-pub record IsTurning (i : ℕ) (replies : List Reply) (frames : Frames) (running : List ℤ) (now : ℤ) (first here : Moment) : Type 0 where
+pub record IsTurning (i : ℕ) (replies : List Reply) (payloads : Payloads) (running : List ℤ) (now : ℤ) (first here : Moment) : Type 0 where
   pub made : List Reply
   pub kept : replies ≡ made ++ reply.NoMemory ∷ []
   pub count : length made ≡ i
-  pub steps : AreSteps frames running now first made here
+  pub steps : AreSteps payloads running now first made here
   pub id : here.driver.id ≡ first.driver.id
   pub view : IsViewOf here.shared.log here.driver.view
   pub views : (v : View) → IsViewOf first.shared.log v → IsViewOf here.shared.log v
@@ -311,14 +311,14 @@ cut_off_fails (suc n) s running now d (r ∷ q ∷ rs) t e h =
 -- ---- one step
 
 -- what a step that didn't fail does to the disks
-pub step_moves : (s : Shared) (now : ℤ) (d : Driver) (frames : Frames) (r : Reply) (old new : Disks) → is_failed_step r ≡ false → StepDisks s now d frames (Ok r) old new → StepRequestDisks s now d frames (result_of_reply r) old new
-step_moves s now d frames r old new told h = subst (λ (x : Result Reply StepFault). StepRequestDisks s now d frames x old new) (sym (told_reply r told)) h.request
+pub step_moves : (s : Shared) (now : ℤ) (d : Driver) (payloads : Payloads) (r : Reply) (old new : Disks) → is_failed_step r ≡ false → StepDisks s now d payloads (Ok r) old new → StepRequestDisks s now d payloads (result_of_reply r) old new
+step_moves s now d payloads r old new told h = subst (λ (x : Result Reply StepFault). StepRequestDisks s now d payloads x old new) (sym (told_reply r told)) h.request
 
 -- what one does that failed
-pub fault_moves : (s : Shared) (now : ℤ) (d : Driver) (frames : Frames) (f : StepFault) (r : Reply) (old new : Disks) → r ≡ reply_of_fault f → StepDisks s now d frames (Err f) old new → StepRequestDisks s now d frames (result_of_reply r) old new
-fault_moves s now d frames f r old new is h =
-    let told = request_told Reply s (epoch_or_zero d.epoch) now d.view.position frames (request_at s now d d.stage) f old new h.request in
-    subst (λ (x : Result Reply StepFault). StepRequestDisks s now d frames x old new) (sym (ap result_of_reply is ∙ told.reply)) h.request
+pub fault_moves : (s : Shared) (now : ℤ) (d : Driver) (payloads : Payloads) (f : StepFault) (r : Reply) (old new : Disks) → r ≡ reply_of_fault f → StepDisks s now d payloads (Err f) old new → StepRequestDisks s now d payloads (result_of_reply r) old new
+fault_moves s now d payloads f r old new is h =
+    let told = request_told Reply s (epoch_or_zero d.epoch) now d.view.position payloads (request_at s now d d.stage) f old new h.request in
+    subst (λ (x : Result Reply StepFault). StepRequestDisks s now d payloads x old new) (sym (ap result_of_reply is ∙ told.reply)) h.request
 
-pub fault_fails : (s : Shared) (now : ℤ) (d : Driver) (frames : Frames) (f : StepFault) (r : Reply) (old new : Disks) → r ≡ reply_of_fault f → StepDisks s now d frames (Err f) old new → is_failed_step r ≡ true
-fault_fails s now d frames f r old new is h = ap is_failed_step is ∙ (request_told Reply s (epoch_or_zero d.epoch) now d.view.position frames (request_at s now d d.stage) f old new h.request).failed_step
+pub fault_fails : (s : Shared) (now : ℤ) (d : Driver) (payloads : Payloads) (f : StepFault) (r : Reply) (old new : Disks) → r ≡ reply_of_fault f → StepDisks s now d payloads (Err f) old new → is_failed_step r ≡ true
+fault_fails s now d payloads f r old new is h = ap is_failed_step is ∙ (request_told Reply s (epoch_or_zero d.epoch) now d.view.position payloads (request_at s now d d.stage) f old new h.request).failed_step

@@ -20,7 +20,7 @@ use Rattle.kz_spec_machine.specs.Machine.{World, running_refusal, leader_refusal
 use Rattle.kz_spec_machine.specs.Failures.{is_tree_failure, is_log_failure, is_failed_step, is_failure, IsLeft}
 use Rattle.kz_driver.specs.declared.fault.StepFault.{StepFault}
 use Rattle.kz_driver.specs.declared.fault.StepFault.TheVariants as step_fault
-use Rattle.kz_driver.specs.Disks.{Disks, Frames, OnTreeFault, OnLogFault, IsTreeChange, IsLogChange, answer_of_made, AsksNothing, ChangesLog, RequestDisks}
+use Rattle.kz_driver.specs.Disks.{Disks, Payloads, OnTreeFault, OnLogFault, IsTreeChange, IsLogChange, answer_of_made, AsksNothing, ChangesLog, RequestDisks}
 use Rattle.kz_log.specs.Requests.{IsRefusal as IsLogRefusal}
 use Rattle.kz_tree.specs.Requests.{IsRefusal as IsTreeRefusal}
 use Rattle.kz_session.specs.declared.sessions.SessionFault.{SessionFault}
@@ -73,58 +73,58 @@ tree_read_told f old new h = tree_told (λ a. ReadsDisk a old new) f h
 log_read_told : (f : StepFault) (old new : Disk) → OnLogFault (λ a. ReadsDisk a old new) f → IsTold f
 log_read_told f old new h = log_told (λ a. ReadsDisk a old new) f h
 
-tree_change_told : {B E : Type 0} (made : Result B E) (frame : ℕ) (f : StepFault) (old new : Disk) → OnTreeFault (λ a. ChangesDisk (IsTaken made) frame a old new) f → IsTold f
-tree_change_told made frame f old new h = tree_told (λ a. ChangesDisk (IsTaken made) frame a old new) f h
+tree_change_told : {B E : Type 0} (made : Result B E) (payload : ℕ) (f : StepFault) (old new : Disk) → OnTreeFault (λ a. ChangesDisk (IsTaken made) payload a old new) f → IsTold f
+tree_change_told made payload f old new h = tree_told (λ a. ChangesDisk (IsTaken made) payload a old new) f h
 
-log_change_told : {B E : Type 0} (made : Result B E) (frame : ℕ) (f : StepFault) (old new : Disk) → OnLogFault (λ a. ChangesDisk (IsTaken made) frame a old new) f → IsTold f
-log_change_told made frame f old new h = log_told (λ a. ChangesDisk (IsTaken made) frame a old new) f h
+log_change_told : {B E : Type 0} (made : Result B E) (payload : ℕ) (f : StepFault) (old new : Disk) → OnLogFault (λ a. ChangesDisk (IsTaken made) payload a old new) f → IsTold f
+log_change_told made payload f old new h = log_told (λ a. ChangesDisk (IsTaken made) payload a old new) f h
 
 err_or : {A : Type 0} → StepFault → Result A StepFault → StepFault
 err_or f (Ok a) = f
 err_or f (Err g) = g
 
 -- the fault of a request of a driver
-pub request_told : (A : Type 0) (s : Shared) (epoch now position : ℤ) (frames : Frames) (r : Request) (f : StepFault) (old new : Disks) → RequestDisks {A = A} s epoch now position frames r (Err f) old new → IsTold f
+pub request_told : (A : Type 0) (s : Shared) (epoch now position : ℤ) (payloads : Payloads) (r : Request) (f : StepFault) (old new : Disks) → RequestDisks {A = A} s epoch now position payloads r (Err f) old new → IsTold f
 unfolding err_or
-request_told A s epoch now position frames nothing f old new h = nothing_told A f old new h
-request_told A s epoch now position frames read_log f old new h = log_read_told f old.log new.log h.0
-request_told A s epoch now position frames list_brokers f old new h = tree_read_told f old.tree new.tree h.0
-request_told A s epoch now position frames look_up f old new h = tree_read_told f old.tree new.tree h.0
-request_told A s epoch now position frames (read_page after) f old new h = tree_read_told f old.tree new.tree h.0
-request_told A s epoch now position frames (write ops) f old new (inl h) = tree_change_told (multi s.tree ops) (frames.tree s.tree (Multi ops)) f old.tree new.tree h.0
-request_told A s epoch now position frames (write ops) f old new (inr h) =
+request_told A s epoch now position payloads nothing f old new h = nothing_told A f old new h
+request_told A s epoch now position payloads read_log f old new h = log_read_told f old.log new.log h.0
+request_told A s epoch now position payloads list_brokers f old new h = tree_read_told f old.tree new.tree h.0
+request_told A s epoch now position payloads look_up f old new h = tree_read_told f old.tree new.tree h.0
+request_told A s epoch now position payloads (read_page after) f old new h = tree_read_told f old.tree new.tree h.0
+request_told A s epoch now position payloads (write ops) f old new (inl h) = tree_change_told (multi s.tree ops) (payloads.tree s.tree (Multi ops)) f old.tree new.tree h.0
+request_told A s epoch now position payloads (write ops) f old new (inr h) =
     subst IsTold (sym (ap (err_or f) h.told)) (record { reply = refl; failed_step = refl; answer = refl; failure = refl })
-request_told A s epoch now position frames (add records) f old new h = log_change_told (append s.log epoch now records) (frames.log s.log (Append epoch now records)) f old.log new.log h.0
+request_told A s epoch now position payloads (add records) f old new h = log_change_told (append s.log epoch now records) (payloads.log s.log (Append epoch now records)) f old.log new.log h.0
 
 unless_told : (o : Option Answer) (asked refused : Type 0) (f : StepFault) → (asked → IsTold f) → (refused → IsTold f) → UnlessRefused o asked refused → IsTold f
 unless_told None asked refused f a b h = a h
 unless_told (Some r) asked refused f a b h = b h
 
-turn_told : (w : World) (now : ℤ) (o : Option Driver) (frames : Frames) (f : StepFault) (old new : Disks) → TurnEventDisks w now o frames (Err f) old new → IsTold f
-turn_told w now None frames f old new h = nothing_told Answer f old new h
-turn_told w now (Some d) frames f old new h = log_read_told f old.log new.log h.0
+turn_told : (w : World) (now : ℤ) (o : Option Driver) (payloads : Payloads) (f : StepFault) (old new : Disks) → TurnEventDisks w now o payloads (Err f) old new → IsTold f
+turn_told w now None payloads f old new h = nothing_told Answer f old new h
+turn_told w now (Some d) payloads f old new h = log_read_told f old.log new.log h.0
 
 -- the fault of an event that changes the log
-log_changed_told : {B E : Type 0} (made : Result B E) (frame : ℕ) (f : StepFault) (old new : Disks) → ChangesLog {A = Answer} made frame (Err f) old new → IsTold f
-log_changed_told made frame f old new h = log_change_told made frame f old.log new.log h.0
+log_changed_told : {B E : Type 0} (made : Result B E) (payload : ℕ) (f : StepFault) (old new : Disks) → ChangesLog {A = Answer} made payload (Err f) old new → IsTold f
+log_changed_told made payload f old new h = log_change_told made payload f old.log new.log h.0
 
 -- the fault of an event
-pub event_told : (w : World) (e : Event) (frames : Frames) (f : StepFault) (old new : Disks) → ResultDisks w e frames (Err f) old new → IsTold f
-event_told w (event.Quorum ids) frames f old new h = nothing_told Answer f old new h
-event_told w (event.Start id) frames f old new h = nothing_told Answer f old new h
-event_told w (event.Elect id now) frames f old new h =
-    unless_told (running_refusal w id) _ _ f (log_changed_told (elect w.shared.log now (election_records w.shared.log)) (frames.log w.shared.log (Elect now (election_records w.shared.log))) f old new) (nothing_told Answer f old new) h
-event_told w (event.Turn id now) frames f old new h = unless_told (running_refusal w id) _ _ f (turn_told w now (driver_of id w.drivers) frames f old new) (nothing_told Answer f old new) h
-event_told w (event.Change id records now) frames f old new h =
-    unless_told (leader_refusal w id) _ _ f (unless_told (records_refusal w.shared.log.epoch (image_of w.shared.log) records) _ _ f (log_changed_told (append w.shared.log w.shared.log.epoch now records) (frames.log w.shared.log (Append w.shared.log.epoch now records)) f old new) (λ k. log_read_told f old.log new.log k.0)) (nothing_told Answer f old new) h
-event_told w (event.Register id broker migrating now) frames f old new h =
-    unless_told (leader_refusal w id) _ _ f (unless_told (option_map (λ offset. answer.InTransaction offset) (begun_of w.shared.log)) _ _ f (log_changed_told (append w.shared.log w.shared.log.epoch now (registration broker migrating)) (frames.log w.shared.log (Append w.shared.log.epoch now (registration broker migrating))) f old new) (λ k. log_read_told f old.log new.log k.0))
+pub event_told : (w : World) (e : Event) (payloads : Payloads) (f : StepFault) (old new : Disks) → ResultDisks w e payloads (Err f) old new → IsTold f
+event_told w (event.Quorum ids) payloads f old new h = nothing_told Answer f old new h
+event_told w (event.Start id) payloads f old new h = nothing_told Answer f old new h
+event_told w (event.Elect id now) payloads f old new h =
+    unless_told (running_refusal w id) _ _ f (log_changed_told (elect w.shared.log now (election_records w.shared.log)) (payloads.log w.shared.log (Elect now (election_records w.shared.log))) f old new) (nothing_told Answer f old new) h
+event_told w (event.Turn id now) payloads f old new h = unless_told (running_refusal w id) _ _ f (turn_told w now (driver_of id w.drivers) payloads f old new) (nothing_told Answer f old new) h
+event_told w (event.Change id records now) payloads f old new h =
+    unless_told (leader_refusal w id) _ _ f (unless_told (records_refusal w.shared.log.epoch (image_of w.shared.log) records) _ _ f (log_changed_told (append w.shared.log w.shared.log.epoch now records) (payloads.log w.shared.log (Append w.shared.log.epoch now records)) f old new) (λ k. log_read_told f old.log new.log k.0)) (nothing_told Answer f old new) h
+event_told w (event.Register id broker migrating now) payloads f old new h =
+    unless_told (leader_refusal w id) _ _ f (unless_told (option_map (λ offset. answer.InTransaction offset) (begun_of w.shared.log)) _ _ f (log_changed_told (append w.shared.log w.shared.log.epoch now (registration broker migrating)) (payloads.log w.shared.log (Append w.shared.log.epoch now (registration broker migrating))) f old new) (λ k. log_read_told f old.log new.log k.0))
     (nothing_told Answer f old new) h
-event_told w event.Check frames f old new h = log_read_told f old.log new.log h.0
-event_told w (event.ZkOpen session) frames f old new h = tree_change_told (begin_session w.shared.tree session) (frames.tree w.shared.tree (BeginSession session)) f old.tree new.tree h.0
-event_told w (event.ZkExpire session) frames f old new h = tree_change_told (end_session w.shared.tree session) (frames.tree w.shared.tree (EndSession session)) f old.tree new.tree h.0
-event_told w (event.Zk ops) frames f old new h =
-    unless_told (client_refusal w.shared.tree ops) _ _ f (λ k. tree_change_told (multi w.shared.tree ops) (frames.tree w.shared.tree (Multi ops)) f old.tree new.tree k.0) (nothing_told Answer f old new) h
+event_told w event.Check payloads f old new h = log_read_told f old.log new.log h.0
+event_told w (event.ZkOpen session) payloads f old new h = tree_change_told (begin_session w.shared.tree session) (payloads.tree w.shared.tree (BeginSession session)) f old.tree new.tree h.0
+event_told w (event.ZkExpire session) payloads f old new h = tree_change_told (end_session w.shared.tree session) (payloads.tree w.shared.tree (EndSession session)) f old.tree new.tree h.0
+event_told w (event.Zk ops) payloads f old new h =
+    unless_told (client_refusal w.shared.tree ops) _ _ f (λ k. tree_change_told (multi w.shared.tree ops) (payloads.tree w.shared.tree (Multi ops)) f old.tree new.tree k.0) (nothing_told Answer f old new) h
 
 -- an event that answers a fault leaves the world as it was
 pub left_by : (w : World) (e : Event) (f : StepFault) (new : World) → new ≡ w → IsLeft w e (answer_of_fault f) new
@@ -234,36 +234,36 @@ told_answer answer.NoMemory h = absurd (cc)
 -- ---- where a store doesn't do what is asked of it
 
 -- what the log's answer says of its disk
-pub log_disk : (made : Result Log LogFault) (f : LogFault) (frame : ℕ) (old new : Disk) → IsLogRefusal made f → ChangesDisk (IsTaken made) frame (answer_of_log_fault f) old new → IsLogChange made frame (after_log_fault f) old new
-log_disk made (log_fault.Stale epoch) frame old new is h = subst (λ (x : Result Log LogFault). ChangesDisk (IsTaken made) frame (answer_of_made x) old new) (sym is) h
-log_disk made (log_fault.Limit number) frame old new is h = subst (λ (x : Result Log LogFault). ChangesDisk (IsTaken made) frame (answer_of_made x) old new) (sym is) h
-log_disk made log_fault.Failed frame old new is h = (tt, h)
-log_disk made log_fault.NoMemory frame old new is h = h
-log_disk made log_fault.Down frame old new is h = (tt, h)
-log_disk made (log_fault.Full n) frame old new is h = (tt, h)
+pub log_disk : (made : Result Log LogFault) (f : LogFault) (payload : ℕ) (old new : Disk) → IsLogRefusal made f → ChangesDisk (IsTaken made) payload (answer_of_log_fault f) old new → IsLogChange made payload (after_log_fault f) old new
+log_disk made (log_fault.Stale epoch) payload old new is h = subst (λ (x : Result Log LogFault). ChangesDisk (IsTaken made) payload (answer_of_made x) old new) (sym is) h
+log_disk made (log_fault.Limit number) payload old new is h = subst (λ (x : Result Log LogFault). ChangesDisk (IsTaken made) payload (answer_of_made x) old new) (sym is) h
+log_disk made log_fault.Failed payload old new is h = (tt, h)
+log_disk made log_fault.NoMemory payload old new is h = h
+log_disk made log_fault.Down payload old new is h = (tt, h)
+log_disk made (log_fault.Full n) payload old new is h = (tt, h)
 
 -- what the tree's answer says of its disk
-pub tree_disk : (made : Result Tree TreeFault) (f : TreeFault) (frame : ℕ) (old new : Disk) → IsTreeRefusal made f → ChangesDisk (IsTaken made) frame (answer_of_tree_fault f) old new → IsTreeChange made frame (after_tree_fault f) old new
-tree_disk made (tree_fault.Refused index code) frame old new is h = subst (λ (x : Result Tree TreeFault). ChangesDisk (IsTaken made) frame (answer_of_made x) old new) (sym is) h
-tree_disk made (tree_fault.Limit index number) frame old new is h = subst (λ (x : Result Tree TreeFault). ChangesDisk (IsTaken made) frame (answer_of_made x) old new) (sym is) h
-tree_disk made tree_fault.Device frame old new is h = (tt, h)
-tree_disk made tree_fault.NoMemory frame old new is h = h
-tree_disk made tree_fault.Down frame old new is h = (tt, h)
-tree_disk made (tree_fault.Full n) frame old new is h = (tt, h)
+pub tree_disk : (made : Result Tree TreeFault) (f : TreeFault) (payload : ℕ) (old new : Disk) → IsTreeRefusal made f → ChangesDisk (IsTaken made) payload (answer_of_tree_fault f) old new → IsTreeChange made payload (after_tree_fault f) old new
+tree_disk made (tree_fault.Refused index code) payload old new is h = subst (λ (x : Result Tree TreeFault). ChangesDisk (IsTaken made) payload (answer_of_made x) old new) (sym is) h
+tree_disk made (tree_fault.Limit index number) payload old new is h = subst (λ (x : Result Tree TreeFault). ChangesDisk (IsTaken made) payload (answer_of_made x) old new) (sym is) h
+tree_disk made tree_fault.Device payload old new is h = (tt, h)
+tree_disk made tree_fault.NoMemory payload old new is h = h
+tree_disk made tree_fault.Down payload old new is h = (tt, h)
+tree_disk made (tree_fault.Full n) payload old new is h = (tt, h)
 
 -- the same of a session
-pub session_disk : (made : Result Tree MoveFault) (f : SessionFault) (frame : ℕ) (old new : Disk) → IsSessionRefusal made f → ChangesDisk (IsTaken made) frame (answer_of_session_fault f) old new → IsTreeChange made frame (after_session_fault f) old new
-session_disk made session_fault.Known frame old new is h = subst (λ (x : Result Tree MoveFault). ChangesDisk (IsTaken made) frame (answer_of_made x) old new) (sym is) h
-session_disk made session_fault.Unknown frame old new is h = subst (λ (x : Result Tree MoveFault). ChangesDisk (IsTaken made) frame (answer_of_made x) old new) (sym is) h
-session_disk made session_fault.NoMemory frame old new is h = h
-session_disk made session_fault.Device frame old new is h = (tt, h)
-session_disk made session_fault.Down frame old new is h = (tt, h)
-session_disk made (session_fault.Full n) frame old new is h = (tt, h)
-session_disk made (session_fault.Limit number) frame old new is h = subst (λ (x : Result Tree MoveFault). ChangesDisk (IsTaken made) frame (answer_of_made x) old new) (sym is) h
+pub session_disk : (made : Result Tree MoveFault) (f : SessionFault) (payload : ℕ) (old new : Disk) → IsSessionRefusal made f → ChangesDisk (IsTaken made) payload (answer_of_session_fault f) old new → IsTreeChange made payload (after_session_fault f) old new
+session_disk made session_fault.Known payload old new is h = subst (λ (x : Result Tree MoveFault). ChangesDisk (IsTaken made) payload (answer_of_made x) old new) (sym is) h
+session_disk made session_fault.Unknown payload old new is h = subst (λ (x : Result Tree MoveFault). ChangesDisk (IsTaken made) payload (answer_of_made x) old new) (sym is) h
+session_disk made session_fault.NoMemory payload old new is h = h
+session_disk made session_fault.Device payload old new is h = (tt, h)
+session_disk made session_fault.Down payload old new is h = (tt, h)
+session_disk made (session_fault.Full n) payload old new is h = (tt, h)
+session_disk made (session_fault.Limit number) payload old new is h = subst (λ (x : Result Tree MoveFault). ChangesDisk (IsTaken made) payload (answer_of_made x) old new) (sym is) h
 
 -- a request that is done
-pub changed : {B E : Type 0} (made : Result B E) (new : B) (frame : ℕ) (old later : Disk) → made ≡ Ok new → ChangesDisk (IsTaken made) frame Done old later → ChangesDisk (IsTaken made) frame (answer_of_made made) old later
-changed {B = B} {E = E} made new frame old later is h = subst (λ (x : Result B E). ChangesDisk (IsTaken made) frame (answer_of_made x) old later) (sym is) h
+pub changed : {B E : Type 0} (made : Result B E) (new : B) (payload : ℕ) (old later : Disk) → made ≡ Ok new → ChangesDisk (IsTaken made) payload Done old later → ChangesDisk (IsTaken made) payload (answer_of_made made) old later
+changed {B = B} {E = E} made new payload old later is h = subst (λ (x : Result B E). ChangesDisk (IsTaken made) payload (answer_of_made x) old later) (sym is) h
 
 -- what the log refuses
 pub log_refuses : (made : Result Log LogFault) (f : LogFault) (holds : Answer → Type 0) → IsLogRefusal made f → ((epoch : ℤ) → made ≡ Err (log_fault.Stale epoch) → holds (answer.Stale epoch)) → ((number : ℕ) → made ≡ Err (log_fault.Limit number) → holds (answer.Over number))

@@ -13,7 +13,7 @@ use Rattle.kz_spec_stores.specs.Log.{Log, append, elect, image_of, begun_of}
 use Rattle.kz_spec_machine.specs.Driver.{Shared, Driver, epoch_or_zero, request_at, step}
 use Rattle.kz_spec_machine.specs.Machine.{World, running_ids, driver_of, running_refusal, leader_refusal, client_refusal, election_records, registration}
 use Rattle.kz_driver.specs.declared.fault.StepFault.{StepFault}
-use Rattle.kz_driver.specs.Disks.{Disks, disks_of, Frames, AsksNothing, ReadsLog, ChangesTree, ChangesLog, RequestDisks}
+use Rattle.kz_driver.specs.Disks.{Disks, disks_of, Payloads, AsksNothing, ReadsLog, ChangesTree, ChangesLog, RequestDisks}
 use Rattle.kz_world.specs.Faults.{result_of_reply, result_of_answer}
 use Rattle.kz_world.specs.Refusals.{records_refusal}
 use Rattle.kz_world.specs.Worlds.{WorldOver}
@@ -25,26 +25,26 @@ disks_in tree log w = disks_of (tree w.tree) (log w.log)
 -- ---- a turn
 
 -- what the one request of a step does to the disks
-abbrev pub StepRequestDisks : Shared → ℤ → Driver → Frames → Result Reply StepFault → Disks → Disks → Type 0
-StepRequestDisks s now d frames r old new = RequestDisks s (epoch_or_zero d.epoch) now d.view.position frames (request_at s now d d.stage) r old new
+abbrev pub StepRequestDisks : Shared → ℤ → Driver → Payloads → Result Reply StepFault → Disks → Disks → Type 0
+StepRequestDisks s now d payloads r old new = RequestDisks s (epoch_or_zero d.epoch) now d.view.position payloads (request_at s now d d.stage) r old new
 
 -- What the steps of a turn do to the disks, one after another, each by its one request. A step may be out of memory at every
 -- stage, since its reply takes memory.
-abbrev pub TurnDisks : Shared → List ℤ → ℤ → Driver → Frames → List Reply → Disks → Disks → Type 0
-TurnDisks s running now d frames [] old new = new ≡ old
-TurnDisks s running now d frames (r ∷ rs) old new =
+abbrev pub TurnDisks : Shared → List ℤ → ℤ → Driver → Payloads → List Reply → Disks → Disks → Type 0
+TurnDisks s running now d payloads [] old new = new ≡ old
+TurnDisks s running now d payloads (r ∷ rs) old new =
     (mid : Disks)
-    × StepRequestDisks s now d frames (result_of_reply r) old mid
-    × TurnDisks (step s running now d).shared running now (step s running now d).driver frames rs mid new
+    × StepRequestDisks s now d payloads (result_of_reply r) old mid
+    × TurnDisks (step s running now d).shared running now (step s running now d).driver payloads rs mid new
 
 -- A turn reads the log, for the bound on its steps, and makes its steps.
-abbrev pub DriverTurnDisks : World → ℤ → Driver → Frames → Result Answer StepFault → Disks → Disks → Type 0
-DriverTurnDisks w now d frames (Ok (answer.Turn replies)) old new = (old.log.down ≡ false) × TurnDisks w.shared (running_ids w.drivers) now d frames replies old new
-DriverTurnDisks w now d frames r old new = ReadsLog r old new
+abbrev pub DriverTurnDisks : World → ℤ → Driver → Payloads → Result Answer StepFault → Disks → Disks → Type 0
+DriverTurnDisks w now d payloads (Ok (answer.Turn replies)) old new = (old.log.down ≡ false) × TurnDisks w.shared (running_ids w.drivers) now d payloads replies old new
+DriverTurnDisks w now d payloads r old new = ReadsLog r old new
 
-abbrev pub TurnEventDisks : World → ℤ → Option Driver → Frames → Result Answer StepFault → Disks → Disks → Type 0
-TurnEventDisks w now None frames r old new = AsksNothing r old new
-TurnEventDisks w now (Some d) frames r old new = DriverTurnDisks w now d frames r old new
+abbrev pub TurnEventDisks : World → ℤ → Option Driver → Payloads → Result Answer StepFault → Disks → Disks → Type 0
+TurnEventDisks w now None payloads r old new = AsksNothing r old new
+TurnEventDisks w now (Some d) payloads r old new = DriverTurnDisks w now d payloads r old new
 
 -- ---- an event
 
@@ -54,41 +54,41 @@ UnlessRefused None asks refused = asks
 UnlessRefused (Some refusal) asks refused = refused
 
 -- the records are appended to the log
-abbrev pub AppendsRecords : Log → List MetaRecord → ℤ → Frames → Result Answer StepFault → Disks → Disks → Type 0
-AppendsRecords log records now frames r old new = ChangesLog (append log log.epoch now records) (frames.log log (Append log.epoch now records)) r old new
+abbrev pub AppendsRecords : Log → List MetaRecord → ℤ → Payloads → Result Answer StepFault → Disks → Disks → Type 0
+AppendsRecords log records now payloads r old new = ChangesLog (append log log.epoch now records) (payloads.log log (Append log.epoch now records)) r old new
 
 -- a controller is elected
-abbrev pub ElectsController : Log → ℤ → Frames → Result Answer StepFault → Disks → Disks → Type 0
-ElectsController log now frames r old new = ChangesLog (elect log now (election_records log)) (frames.log log (Elect now (election_records log))) r old new
+abbrev pub ElectsController : Log → ℤ → Payloads → Result Answer StepFault → Disks → Disks → Type 0
+ElectsController log now payloads r old new = ChangesLog (elect log now (election_records log)) (payloads.log log (Elect now (election_records log))) r old new
 
 -- What an event does to the disks, by its answer or the fault that it tells. Where a rule of the event itself refuses it, no
 -- store is asked, or the log is only read.
-abbrev pub ResultDisks : World → Event → Frames → Result Answer StepFault → Disks → Disks → Type 0
-ResultDisks w (event.Quorum ids) frames r old new = AsksNothing r old new
-ResultDisks w (event.Start id) frames r old new = AsksNothing r old new
-ResultDisks w (event.Elect id now) frames r old new = UnlessRefused (running_refusal w id)
-    (ElectsController w.shared.log now frames r old new)
+abbrev pub ResultDisks : World → Event → Payloads → Result Answer StepFault → Disks → Disks → Type 0
+ResultDisks w (event.Quorum ids) payloads r old new = AsksNothing r old new
+ResultDisks w (event.Start id) payloads r old new = AsksNothing r old new
+ResultDisks w (event.Elect id now) payloads r old new = UnlessRefused (running_refusal w id)
+    (ElectsController w.shared.log now payloads r old new)
     (AsksNothing r old new)
-ResultDisks w (event.Turn id now) frames r old new = UnlessRefused (running_refusal w id)
-    (TurnEventDisks w now (driver_of id w.drivers) frames r old new)
+ResultDisks w (event.Turn id now) payloads r old new = UnlessRefused (running_refusal w id)
+    (TurnEventDisks w now (driver_of id w.drivers) payloads r old new)
     (AsksNothing r old new)
-ResultDisks w (event.Change id records now) frames r old new = UnlessRefused (leader_refusal w id)
+ResultDisks w (event.Change id records now) payloads r old new = UnlessRefused (leader_refusal w id)
     (UnlessRefused (records_refusal w.shared.log.epoch (image_of w.shared.log) records)
-    (AppendsRecords w.shared.log records now frames r old new)
+    (AppendsRecords w.shared.log records now payloads r old new)
     (ReadsLog r old new))
     (AsksNothing r old new)
-ResultDisks w (event.Register id broker migrating now) frames r old new = UnlessRefused (leader_refusal w id)
+ResultDisks w (event.Register id broker migrating now) payloads r old new = UnlessRefused (leader_refusal w id)
     (UnlessRefused (option_map (λ offset. answer.InTransaction offset) (begun_of w.shared.log))
-    (AppendsRecords w.shared.log (registration broker migrating) now frames r old new)
+    (AppendsRecords w.shared.log (registration broker migrating) now payloads r old new)
     (ReadsLog r old new))
     (AsksNothing r old new)
-ResultDisks w event.Check frames r old new = ReadsLog r old new
-ResultDisks w (event.ZkOpen session) frames r old new = ChangesTree (begin_session w.shared.tree session) (frames.tree w.shared.tree (BeginSession session)) r old new
-ResultDisks w (event.ZkExpire session) frames r old new = ChangesTree (end_session w.shared.tree session) (frames.tree w.shared.tree (EndSession session)) r old new
-ResultDisks w (event.Zk ops) frames r old new = UnlessRefused (client_refusal w.shared.tree ops)
-    (ChangesTree (multi w.shared.tree ops) (frames.tree w.shared.tree (Multi ops)) r old new)
+ResultDisks w event.Check payloads r old new = ReadsLog r old new
+ResultDisks w (event.ZkOpen session) payloads r old new = ChangesTree (begin_session w.shared.tree session) (payloads.tree w.shared.tree (BeginSession session)) r old new
+ResultDisks w (event.ZkExpire session) payloads r old new = ChangesTree (end_session w.shared.tree session) (payloads.tree w.shared.tree (EndSession session)) r old new
+ResultDisks w (event.Zk ops) payloads r old new = UnlessRefused (client_refusal w.shared.tree ops)
+    (ChangesTree (multi w.shared.tree ops) (payloads.tree w.shared.tree (Multi ops)) r old new)
     (AsksNothing r old new)
 
 -- the same by the answer
-abbrev pub EventDisks : World → Event → Frames → Answer → Disks → Disks → Type 0
-EventDisks w e frames a old new = ResultDisks w e frames (result_of_answer a) old new
+abbrev pub EventDisks : World → Event → Payloads → Answer → Disks → Disks → Type 0
+EventDisks w e payloads a old new = ResultDisks w e payloads (result_of_answer a) old new

@@ -1,7 +1,7 @@
 //! Appends by a leader.
 ghost use Rattle.std.specs.Prelude.{◌≡◌, ◌<◌, pos, false, ◌≤ℤ◌, length, IfOk, OnErr};
 ghost use Rattle.kz_spec_machine.specs.Failures.{is_failure};
-ghost use Rattle.kz_driver.specs.Disks.{frames_of};
+ghost use Rattle.kz_driver.specs.Disks.{payloads_of};
 ghost use Rattle.kz_world.specs.Disks.{disks_in, AppendsRecords};
 ghost use Rattle.kz_world.specs.Worlds.{world_of, world_of_parts, world_after_append, IsKept};
 
@@ -24,7 +24,7 @@ pub fn append<T: ZTree, L: MetaLog>(
     ensures ok { IfOk result (λ answer. (world_after_append (world_of T.tree L.log parts.old) records.now now ≡ (world_of T.tree L.log parts.new, answer)) × (is_failure answer ≡ false)) }
     ensures kept { IsKept (L.log parts.new.log) parts.new.view parts.new.drivers.items }
     ensures err { OnErr result (world_of T.tree L.log parts.new ≡ world_of T.tree L.log parts.old) }
-    ensures disks { AppendsRecords (L.log parts.old.log) records.now now (frames_of T.frame_bytes L.frame_bytes) result (disks_in T.disk L.disk (world_of_parts parts.old)) (disks_in T.disk L.disk (world_of_parts parts.new)) }
+    ensures disks { AppendsRecords (L.log parts.old.log) records.now now (payloads_of T.payload_bytes L.payload_bytes) result (disks_in T.disk L.disk (world_of_parts parts.old)) (disks_in T.disk L.disk (world_of_parts parts.new)) }
 {
     let epoch = parts.log.epoch();
     match parts.log.append(epoch, now, records) {

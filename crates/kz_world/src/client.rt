@@ -6,7 +6,7 @@ ghost use Rattle.kz_types.specs.declared.machine.Event.TheVariants as event;
 ghost use Rattle.kz_spec_values.specs.Control.{control_path, epoch_path, shown_epoch};
 ghost use Rattle.kz_spec_machine.specs.Machine.{is_reserved, is_held, is_held_path, is_held_tree, first_told, client_refusal};
 ghost use Rattle.kz_spec_machine.specs.Failures.{is_failure};
-ghost use Rattle.kz_driver.specs.Disks.{frames_of};
+ghost use Rattle.kz_driver.specs.Disks.{payloads_of};
 ghost use Rattle.kz_world.specs.Disks.{disks_in, ResultDisks};
 ghost use Rattle.kz_world.specs.Worlds.{world_of, world_of_parts, IsDone, IsKept};
 
@@ -149,7 +149,7 @@ fn ask_tree<T: ZTree, L: MetaLog>(parts: &mut Parts<T, L>, ops: &[Op]) -> Result
     ensures ok { IfOk result (IsDone (world_of T.tree L.log parts.old) (event.Zk ops.now) (world_of T.tree L.log parts.new)) }
     ensures kept { IsKept (L.log parts.new.log) parts.new.view parts.new.drivers.items }
     ensures err { OnErr result (world_of T.tree L.log parts.new ≡ world_of T.tree L.log parts.old) }
-    ensures disks { ResultDisks (world_of T.tree L.log parts.old) (event.Zk ops.now) (frames_of T.frame_bytes L.frame_bytes) result (disks_in T.disk L.disk (world_of_parts parts.old)) (disks_in T.disk L.disk (world_of_parts parts.new)) }
+    ensures disks { ResultDisks (world_of T.tree L.log parts.old) (event.Zk ops.now) (payloads_of T.payload_bytes L.payload_bytes) result (disks_in T.disk L.disk (world_of_parts parts.old)) (disks_in T.disk L.disk (world_of_parts parts.new)) }
 {
     match parts.tree.multi(ops) {
         Ok(zxid) => Ok(Answer::DoneAt { zxid }),
@@ -169,7 +169,7 @@ pub fn ask<T: ZTree, L: MetaLog>(
     ensures ok { IfOk result (IsDone (world_of T.tree L.log parts.old) (event.Zk ops.now) (world_of T.tree L.log parts.new)) }
     ensures kept { IsKept (L.log parts.new.log) parts.new.view parts.new.drivers.items }
     ensures err { OnErr result (world_of T.tree L.log parts.new ≡ world_of T.tree L.log parts.old) }
-    ensures disks { ResultDisks (world_of T.tree L.log parts.old) (event.Zk ops.now) (frames_of T.frame_bytes L.frame_bytes) result (disks_in T.disk L.disk (world_of_parts parts.old)) (disks_in T.disk L.disk (world_of_parts parts.new)) }
+    ensures disks { ResultDisks (world_of T.tree L.log parts.old) (event.Zk ops.now) (payloads_of T.payload_bytes L.payload_bytes) result (disks_in T.disk L.disk (world_of_parts parts.old)) (disks_in T.disk L.disk (world_of_parts parts.new)) }
 {
     match client_refusal(alloc, parts.tree.tree(), ops) {
         Ok(Some(refusal)) => Ok(refusal),

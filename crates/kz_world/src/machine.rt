@@ -4,7 +4,7 @@ ghost use Rattle.kz_spec_stores.specs.Tree.{migration_record};
 ghost use Rattle.kz_spec_stores.specs.Log.{end_of};
 ghost use Rattle.kz_spec_machine.specs.Machine.{next};
 ghost use Rattle.kz_spec_machine.specs.Failures.{is_failure, IsLeft};
-ghost use Rattle.kz_driver.specs.Disks.{frames_of};
+ghost use Rattle.kz_driver.specs.Disks.{payloads_of};
 ghost use Rattle.kz_world.specs.Disks.{disks_in, ResultDisks, EventDisks};
 ghost use Rattle.kz_world.specs.Worlds.{WorldOver, world_of, plain_world, world_of_parts, IsKept, IsAsked, IsOutcome};
 
@@ -52,7 +52,7 @@ fn happen<T: ZSessions, L: MetaLog>(
     ensures ok { IfOk result (IsOutcome (world_of T.tree L.log parts.old) event.now (world_of T.tree L.log parts.new)) }
     ensures kept { IsKept (L.log parts.new.log) parts.new.view parts.new.drivers.items }
     ensures err { OnErr result (world_of T.tree L.log parts.new ≡ world_of T.tree L.log parts.old) }
-    ensures disks { ResultDisks (world_of T.tree L.log parts.old) event.now (frames_of T.frame_bytes L.frame_bytes) result (disks_in T.disk L.disk (world_of_parts parts.old)) (disks_in T.disk L.disk (world_of_parts parts.new)) }
+    ensures disks { ResultDisks (world_of T.tree L.log parts.old) event.now (payloads_of T.payload_bytes L.payload_bytes) result (disks_in T.disk L.disk (world_of_parts parts.old)) (disks_in T.disk L.disk (world_of_parts parts.new)) }
 {
     match event {
         Event::Quorum { ids } => Ok(declare(alloc, parts, ids)?),
@@ -105,7 +105,7 @@ impl<T: ZSessions, L: MetaLog> World<T, L> {
         requires { IsAsked event.now }
         ensures next { is_failure result ≡ false → next (plain_world T.tree L.log self.old) event.now ≡ (plain_world T.tree L.log self.new, result) }
         ensures failed { is_failure result ≡ true → IsLeft (plain_world T.tree L.log self.old) event.now result (plain_world T.tree L.log self.new) }
-        ensures disks { EventDisks (plain_world T.tree L.log self.old) event.now (frames_of T.frame_bytes L.frame_bytes) result (disks_in T.disk L.disk self.old) (disks_in T.disk L.disk self.new) }
+        ensures disks { EventDisks (plain_world T.tree L.log self.old) event.now (payloads_of T.payload_bytes L.payload_bytes) result (disks_in T.disk L.disk self.old) (disks_in T.disk L.disk self.new) }
     {
         answered(happen(self.alloc, &mut self.parts, event))
     }

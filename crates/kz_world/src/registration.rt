@@ -2,7 +2,7 @@
 ghost use Rattle.std.specs.Prelude.{◌≡◌, ◌∷◌, [], IfOk, OnErr};
 ghost use Rattle.kz_types.specs.declared.machine.Event.TheVariants as event;
 ghost use Rattle.kz_spec_machine.specs.Machine.{registration};
-ghost use Rattle.kz_driver.specs.Disks.{frames_of};
+ghost use Rattle.kz_driver.specs.Disks.{payloads_of};
 ghost use Rattle.kz_world.specs.Disks.{disks_in, ResultDisks};
 ghost use Rattle.kz_world.specs.Worlds.{world_of, world_of_parts, IsDone, IsKept};
 
@@ -47,7 +47,7 @@ pub fn register<T: ZTree, L: MetaLog>(
     ensures ok { IfOk result (IsDone (world_of T.tree L.log parts.old) (event.Register id broker migrating now) (world_of T.tree L.log parts.new)) }
     ensures kept { IsKept (L.log parts.new.log) parts.new.view parts.new.drivers.items }
     ensures err { OnErr result (world_of T.tree L.log parts.new ≡ world_of T.tree L.log parts.old) }
-    ensures disks { ResultDisks (world_of T.tree L.log parts.old) (event.Register id broker migrating now) (frames_of T.frame_bytes L.frame_bytes) result (disks_in T.disk L.disk (world_of_parts parts.old)) (disks_in T.disk L.disk (world_of_parts parts.new)) }
+    ensures disks { ResultDisks (world_of T.tree L.log parts.old) (event.Register id broker migrating now) (payloads_of T.payload_bytes L.payload_bytes) result (disks_in T.disk L.disk (world_of_parts parts.old)) (disks_in T.disk L.disk (world_of_parts parts.new)) }
 {
     if let Some(refusal) = leader_refusal(parts, id) {
         return Ok(refusal);

@@ -5,7 +5,7 @@ ghost use Rattle.kz_spec_stores.specs.Log.{View as ViewValue, IsViewOf};
 ghost use Rattle.kz_spec_machine.specs.Driver.{step};
 ghost use Rattle.kz_spec_machine.specs.Machine.{ends};
 ghost use Rattle.kz_spec_machine.specs.Failures.{is_failed_step};
-ghost use Rattle.kz_driver.specs.Disks.{disks_of, frames_of};
+ghost use Rattle.kz_driver.specs.Disks.{disks_of, payloads_of};
 ghost use Rattle.kz_driver.specs.Drivers.{shared_of};
 ghost use Rattle.kz_world.specs.Disks.{StepRequestDisks, TurnDisks};
 ghost use Rattle.kz_world.specs.Faults.{result_of_reply};
@@ -61,7 +61,7 @@ fn one_step<T: ZTree, L: MetaLog>(
     ensures view { IsViewOf (L.log log.new) driver.new.view }
     ensures views { (v : ViewValue) → IsViewOf (L.log log.old) v → IsViewOf (L.log log.new) v }
     ensures id { driver.new.id ≡ driver.old.id }
-    ensures disks { StepRequestDisks (shared_of (T.tree tree.old) (L.log log.old) peers.now.declared) now driver.old (frames_of T.frame_bytes L.frame_bytes) (result_of_reply result)
+    ensures disks { StepRequestDisks (shared_of (T.tree tree.old) (L.log log.old) peers.now.declared) now driver.old (payloads_of T.payload_bytes L.payload_bytes) (result_of_reply result)
         (disks_of (T.disk tree.old) (L.disk log.old)) (disks_of (T.disk tree.new) (L.disk log.new)) }
 {
     match driver.step(tree, log, peers, now) {
@@ -105,7 +105,7 @@ pub fn turn<T: ZTree, L: MetaLog>(
     ensures view { IsViewOf (L.log log.new) driver.new.view }
     ensures views { (v : ViewValue) → IsViewOf (L.log log.old) v → IsViewOf (L.log log.new) v }
     ensures id { driver.new.id ≡ driver.old.id }
-    ensures disks { IfOk result (λ replies. TurnDisks (shared_of (T.tree tree.old) (L.log log.old) peers.now.declared) peers.now.running now driver.old (frames_of T.frame_bytes L.frame_bytes) replies.items
+    ensures disks { IfOk result (λ replies. TurnDisks (shared_of (T.tree tree.old) (L.log log.old) peers.now.declared) peers.now.running now driver.old (payloads_of T.payload_bytes L.payload_bytes) replies.items
         (disks_of (T.disk tree.old) (L.disk log.old)) (disks_of (T.disk tree.new) (L.disk log.new))) }
     ensures err { OnErr result ((driver.new ≡ driver.old) × (tree.new ≡ tree.old) × (log.new ≡ log.old)) }
 {

@@ -3,7 +3,7 @@ ghost use Rattle.std.specs.Prelude.{◌≡◌, ◌<◌, false, length, Some, IfO
 ghost use Rattle.kz_types.specs.declared.machine.Event.TheVariants as event;
 ghost use Rattle.kz_spec_machine.specs.Driver.{Driver as DriverValue};
 ghost use Rattle.kz_spec_machine.specs.Machine.{running_ids, work};
-ghost use Rattle.kz_driver.specs.Disks.{frames_of, ReadsLog};
+ghost use Rattle.kz_driver.specs.Disks.{payloads_of, ReadsLog};
 ghost use Rattle.kz_world.specs.Disks.{disks_in, DriverTurnDisks, ResultDisks};
 ghost use Rattle.kz_world.specs.Turns.{IsTurned};
 ghost use Rattle.kz_world.specs.Worlds.{world_of, world_of_parts, IsKept, IsOutcome};
@@ -78,7 +78,7 @@ fn turn_at<T: ZTree, L: MetaLog>(
     ensures ok { (d : DriverValue) → slice_get parts.old.drivers.items at ≡ Some d → IfOk result (IsTurned (world_of T.tree L.log parts.old) now d (world_of T.tree L.log parts.new)) }
     ensures kept { IsKept (L.log parts.new.log) parts.new.view parts.new.drivers.items }
     ensures err { OnErr result (world_of T.tree L.log parts.new ≡ world_of T.tree L.log parts.old) }
-    ensures disks { (d : DriverValue) → slice_get parts.old.drivers.items at ≡ Some d → DriverTurnDisks (world_of T.tree L.log parts.old) now d (frames_of T.frame_bytes L.frame_bytes) result (disks_in T.disk L.disk (world_of_parts parts.old)) (disks_in T.disk L.disk (world_of_parts parts.new)) }
+    ensures disks { (d : DriverValue) → slice_get parts.old.drivers.items at ≡ Some d → DriverTurnDisks (world_of T.tree L.log parts.old) now d (payloads_of T.payload_bytes L.payload_bytes) result (disks_in T.disk L.disk (world_of_parts parts.old)) (disks_in T.disk L.disk (world_of_parts parts.new)) }
 {
     match turn(
         alloc,
@@ -106,7 +106,7 @@ fn prepared_turn<T: ZTree, L: MetaLog>(
     ensures ok { (d : DriverValue) → slice_get parts.old.drivers.items at ≡ Some d → IfOk result (IsTurned (world_of T.tree L.log parts.old) now d (world_of T.tree L.log parts.new)) }
     ensures kept { IsKept (L.log parts.new.log) parts.new.view parts.new.drivers.items }
     ensures err { OnErr result (world_of T.tree L.log parts.new ≡ world_of T.tree L.log parts.old) }
-    ensures disks { (d : DriverValue) → slice_get parts.old.drivers.items at ≡ Some d → DriverTurnDisks (world_of T.tree L.log parts.old) now d (frames_of T.frame_bytes L.frame_bytes) result (disks_in T.disk L.disk (world_of_parts parts.old)) (disks_in T.disk L.disk (world_of_parts parts.new)) }
+    ensures disks { (d : DriverValue) → slice_get parts.old.drivers.items at ≡ Some d → DriverTurnDisks (world_of T.tree L.log parts.old) now d (payloads_of T.payload_bytes L.payload_bytes) result (disks_in T.disk L.disk (world_of_parts parts.old)) (disks_in T.disk L.disk (world_of_parts parts.new)) }
 {
     let Ok(peers) = peers(alloc, parts) else {
         return Err(StepFault::NoMemory);
@@ -130,7 +130,7 @@ pub fn turn_of<T: ZTree, L: MetaLog>(
     ensures ok { IfOk result (IsOutcome (world_of T.tree L.log parts.old) (event.Turn id now) (world_of T.tree L.log parts.new)) }
     ensures kept { IsKept (L.log parts.new.log) parts.new.view parts.new.drivers.items }
     ensures err { OnErr result (world_of T.tree L.log parts.new ≡ world_of T.tree L.log parts.old) }
-    ensures disks { ResultDisks (world_of T.tree L.log parts.old) (event.Turn id now) (frames_of T.frame_bytes L.frame_bytes) result (disks_in T.disk L.disk (world_of_parts parts.old)) (disks_in T.disk L.disk (world_of_parts parts.new)) }
+    ensures disks { ResultDisks (world_of T.tree L.log parts.old) (event.Turn id now) (payloads_of T.payload_bytes L.payload_bytes) result (disks_in T.disk L.disk (world_of_parts parts.old)) (disks_in T.disk L.disk (world_of_parts parts.new)) }
 {
     if let Some(refusal) = running_refusal(parts, id) {
         return Ok(refusal);

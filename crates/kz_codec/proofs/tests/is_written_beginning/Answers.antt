@@ -7,4 +7,4 @@ unfolding groups_of
 short_field name l = subst (λ n. length (groups_of 9 (n / 1 + 1) ++ name) < 2 ^ 32) (sym l) (omega (arith, l))
 
 pub is_written-requires : goal.is_written-requires
-is_written-requires c = short_field c.in-Ok.name (ap length c.in-Ok.ensures ∙ c.requires)
+is_written-requires g c = short_field c.in-Ok.name (ap length c.in-Ok.ensures ∙ c.requires)

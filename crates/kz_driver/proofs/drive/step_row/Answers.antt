@@ -16,7 +16,7 @@ use Rattle.kz_spec_machine.specs.Driver.{Shared, step, epoch_or_zero, after_brok
 use Rattle.kz_driver.specs.Rows.{driver_of}
 use Rattle.kz_driver.specs.Claims.{claim_outcome, after_claim_outcome, tree_after}
 use Rattle.kz_driver.specs.Drivers.{HasEpoch, IsAtTarget, asks_tree, shared_of}
-use Rattle.kz_driver.specs.Disks.{disks_of, frames_of, StepDisks}
+use Rattle.kz_driver.specs.Disks.{disks_of, payloads_of, StepDisks}
 use Rattle.kz_spec_stores.specs.Log.{IsViewOf}
 use Rattle.kz_driver.proofs.Keeping.{brokers_keep, look_lives, claimed_keeps}
 use Rattle.kz_driver.proofs.Steps.{view_kept, ok_step, always, first_same, kept_step, look_kept, page_kept, tree_made, claim_is, write_step}
@@ -152,8 +152,8 @@ returns-in_default-clause-disks g c =
     let old = c.args.log.now in
     let new = c.step_without_tree.new.log in
     let fits : SFits w64 c.args.now = search rules in
-    subst (λ n. StepDisks (shared_of (trees.tree tree) (logs.log old) c.args.peers.now.declared) n (driver_of c.args.row.now) (frames_of trees.frame_bytes logs.frame_bytes) c.step_without_tree.result (disks_of (trees.disk tree) (logs.disk old)) (disks_of (trees.disk tree) (logs.disk new)))
-    (to_z-of_z w64 c.args.now fits) (c.step_without_tree.ensures.disks (trees.tree tree) (trees.disk tree) trees.frame_bytes)
+    subst (λ n. StepDisks (shared_of (trees.tree tree) (logs.log old) c.args.peers.now.declared) n (driver_of c.args.row.now) (payloads_of trees.payload_bytes logs.payload_bytes) c.step_without_tree.result (disks_of (trees.disk tree) (logs.disk old)) (disks_of (trees.disk tree) (logs.disk new)))
+    (to_z-of_z w64 c.args.now fits) (c.step_without_tree.ensures.disks (trees.tree tree) (trees.disk tree) trees.payload_bytes)
 
 pub returns-in_default-clause-stop : goal.returns-in_default-clause-stop
 returns-in_default-clause-stop g c =
@@ -169,8 +169,8 @@ returns-in_default-clause-stop g c =
     let without : asks_tree row.stage ≡ false = search rules in
     let stop = subst (λ n. IsErrOf r (step_fault.Log log_fault.Failed) → Either (logs.log old) (step s c.args.peers.now.running n (driver_of row)).shared.log (logs.left new))
     (to_z-of_z w64 c.args.now fits) (c.step_without_tree.ensures.stop (trees.tree tree)) in
-    leaves_without_tree r s (step s c.args.peers.now.running c.args.now (driver_of row)).shared _ (driver_of row) (trees.left tree) (logs.left new) (frames_of trees.frame_bytes logs.frame_bytes) (disks_of (trees.disk tree) (logs.disk old)) (disks_of (trees.disk tree) (logs.disk new))
-    without (c.step_without_tree.ensures.disks (trees.tree tree) (trees.disk tree) trees.frame_bytes) stop
+    leaves_without_tree r s (step s c.args.peers.now.running c.args.now (driver_of row)).shared _ (driver_of row) (trees.left tree) (logs.left new) (payloads_of trees.payload_bytes logs.payload_bytes) (disks_of (trees.disk tree) (logs.disk old)) (disks_of (trees.disk tree) (logs.disk new))
+    without (c.step_without_tree.ensures.disks (trees.tree tree) (trees.disk tree) trees.payload_bytes) stop
 
 pub returns-in-WriteResync-clause-stop : goal.returns-in-WriteResync-clause-stop
 returns-in-WriteResync-clause-stop g c =
@@ -182,7 +182,7 @@ returns-in-WriteResync-clause-stop g c =
     let d = driver_of c.args.row.now in
     let peers = c.args.peers.now in
     let target = c.in-WriteResync.target in
-    write_leaves wrote.result (trees.tree tree) (logs.log log) peers.declared peers.running c.args.now d (stage.WriteResync target c.in-WriteResync.ops) target (frames_of trees.frame_bytes logs.frame_bytes) (disks_of (trees.disk tree) (logs.disk log)) (disks_of (trees.disk wrote.new.tree) (logs.disk wrote.new.log)) (trees.left wrote.new.tree) (logs.left wrote.new.log)
+    write_leaves wrote.result (trees.tree tree) (logs.log log) peers.declared peers.running c.args.now d (stage.WriteResync target c.in-WriteResync.ops) target (payloads_of trees.payload_bytes logs.payload_bytes) (disks_of (trees.disk tree) (logs.disk log)) (disks_of (trees.disk wrote.new.tree) (logs.disk wrote.new.log)) (trees.left wrote.new.tree) (logs.left wrote.new.log)
     c.in-WriteResync.is refl (wrote.ensures.disks peers.declared (epoch_or_zero d.epoch) c.args.now) wrote.ensures.stop
 
 pub returns-in-WriteDelta-clause-stop : goal.returns-in-WriteDelta-clause-stop
@@ -195,5 +195,5 @@ returns-in-WriteDelta-clause-stop g c =
     let d = driver_of c.args.row.now in
     let peers = c.args.peers.now in
     let target = c.in-WriteDelta.target in
-    write_leaves wrote.result (trees.tree tree) (logs.log log) peers.declared peers.running c.args.now d (stage.WriteDelta target c.in-WriteDelta.ops) target (frames_of trees.frame_bytes logs.frame_bytes) (disks_of (trees.disk tree) (logs.disk log)) (disks_of (trees.disk wrote.new.tree) (logs.disk wrote.new.log)) (trees.left wrote.new.tree) (logs.left wrote.new.log)
+    write_leaves wrote.result (trees.tree tree) (logs.log log) peers.declared peers.running c.args.now d (stage.WriteDelta target c.in-WriteDelta.ops) target (payloads_of trees.payload_bytes logs.payload_bytes) (disks_of (trees.disk tree) (logs.disk log)) (disks_of (trees.disk wrote.new.tree) (logs.disk wrote.new.log)) (trees.left wrote.new.tree) (logs.left wrote.new.log)
     c.in-WriteDelta.is refl (wrote.ensures.disks peers.declared (epoch_or_zero d.epoch) c.args.now) wrote.ensures.stop

@@ -15,7 +15,7 @@ use Rattle.kz_spec_machine.specs.Driver.{Shared, begin_request, epoch_or_zero, a
 use Rattle.kz_driver.specs.Rows.{driver_of}
 use Rattle.kz_driver.specs.Appends.{log_after, log_after_begin}
 use Rattle.kz_driver.specs.Drivers.{HasEpoch, IsKept, shared_of}
-use Rattle.kz_driver.specs.Disks.{disks_of, frames_of, RequestDisks}
+use Rattle.kz_driver.specs.Disks.{disks_of, payloads_of, RequestDisks}
 use Rattle.kz_driver.proofs.Keeping.{finalised_keeps, free_kept, quorum_keeps, append_keeps, translation_keeps, records_free}
 use Rattle.kz_driver.proofs.Steps.{stepped, ok_step, always, first_same, kept_step, log_made, begun_made}
 use Rattle.kz_driver.proofs.Disks.{step_disks, stepped_shared}
@@ -102,7 +102,7 @@ returns-in-AppendRecords-clause-kept g c =
     (append_keeps (after_records c.in-AppendRecords.records) (driver_of c.args.row.now) (append (g.L.MetaLog.log c.args.log.now) (epoch_or_zero c.args.row.now.epoch) c.args.now (next_records c.in-AppendRecords.records)) (subst (HasEpoch c.args.row.now.epoch) c.in-AppendRecords.is c.requires.kept.elected) (records_free c.args.row.now.view.position c.in-AppendRecords.records) c.requires.kept)
 
 pub returns-in-BeginMigration-clause-disks : goal.returns-in-BeginMigration-clause-disks
-returns-in-BeginMigration-clause-disks g c t tree_disk tree_frame =
+returns-in-BeginMigration-clause-disks g c t tree_disk tree_payload =
     let logs = g.L.MetaLog in
     let old = c.args.log.now in
     let new = c.begin_migration.new.log in
@@ -114,8 +114,8 @@ returns-in-BeginMigration-clause-disks g c t tree_disk tree_frame =
     let same : to_z w64 (of_z w64 c.args.now) ≡ c.args.now = to_z-of_z w64 c.args.now fits in
     let rows = c.in-BeginMigration.rows in
     step_disks _ _ _ (stage.BeginMigration rows) _ _ _ _ c.in-BeginMigration.is
-    (subst (λ n. RequestDisks s epoch n row.view.position (frames_of tree_frame logs.frame_bytes) (begin_request (translate rows)) c.begin_migration.result (disks_of tree_disk (logs.disk old)) (disks_of tree_disk (logs.disk new)))
-    same (c.begin_migration.ensures.disks rows c.in-BeginMigration.is t ids tree_disk tree_frame))
+    (subst (λ n. RequestDisks s epoch n row.view.position (payloads_of tree_payload logs.payload_bytes) (begin_request (translate rows)) c.begin_migration.result (disks_of tree_disk (logs.disk old)) (disks_of tree_disk (logs.disk new)))
+    same (c.begin_migration.ensures.disks rows c.in-BeginMigration.is t ids tree_disk tree_payload))
     (λ e. absurd (cc))
 
 pub returns-in-BeginMigration-clause-stop : goal.returns-in-BeginMigration-clause-stop

@@ -59,11 +59,11 @@ returns-in-Ok-clause-disks g c =
     let epoch_is = to_z-of_z w32 c.epoch-epoch.result epoch_fits ∙ c.epoch-epoch.ensures in
     let e = to_z w32 (of_z w32 c.epoch-epoch.result) in
     let n = to_z w64 (of_z w64 c.args.now) in
-    let frame = g.L.MetaLog.frame_bytes l in
+    let payload = g.L.MetaLog.payload_bytes l in
     let done : Result Answer StepFault = Ok (answer.Appended (to_z w64 (of_z w64 c.in-Ok.offset))) in (
-      subst (λ x. IsLogChange (append l l.epoch x records) (frame (Append l.epoch x records)) done old new) (to_z-of_z w64 c.args.now c.ranges.now)
-          (subst (λ x. IsLogChange (append l x n records) (frame (Append x n records)) done old new) epoch_is
-          (changed (append l e n records) (g.L.MetaLog.log c.append.new.self) (frame (Append e n records)) old new c.in-Ok.ensures.ok.0 c.in-Ok.ensures.disk)),
+      subst (λ x. IsLogChange (append l l.epoch x records) (payload (Append l.epoch x records)) done old new) (to_z-of_z w64 c.args.now c.ranges.now)
+          (subst (λ x. IsLogChange (append l x n records) (payload (Append x n records)) done old new) epoch_is
+          (changed (append l e n records) (g.L.MetaLog.log c.append.new.self) (payload (Append e n records)) old new c.in-Ok.ensures.ok.0 c.in-Ok.ensures.disk)),
       refl,
     )
 
@@ -78,10 +78,10 @@ returns-in-Err-clause-disks g c =
     let epoch_is = to_z-of_z w32 c.epoch-epoch.result epoch_fits ∙ c.epoch-epoch.ensures in
     let e = to_z w32 (of_z w32 c.epoch-epoch.result) in
     let n = to_z w64 (of_z w64 c.args.now) in
-    let frame = g.L.MetaLog.frame_bytes l in
-    let told = log_disk (append l e n records) c.in-Err.fault (frame (Append e n records)) old new c.in-Err.ensures.refused c.in-Err.ensures.disk in (
-      subst (λ x. IsLogChange (append l l.epoch x records) (frame (Append l.epoch x records)) c.after_log_fault.result old new) (to_z-of_z w64 c.args.now c.ranges.now)
-          (subst (λ x. IsLogChange (append l x n records) (frame (Append x n records)) c.after_log_fault.result old new) epoch_is
-          (subst (λ (r : Result Answer StepFault). IsLogChange (append l e n records) (frame (Append e n records)) r old new) (sym c.after_log_fault.ensures) told)),
+    let payload = g.L.MetaLog.payload_bytes l in
+    let told = log_disk (append l e n records) c.in-Err.fault (payload (Append e n records)) old new c.in-Err.ensures.refused c.in-Err.ensures.disk in (
+      subst (λ x. IsLogChange (append l l.epoch x records) (payload (Append l.epoch x records)) c.after_log_fault.result old new) (to_z-of_z w64 c.args.now c.ranges.now)
+          (subst (λ x. IsLogChange (append l x n records) (payload (Append x n records)) c.after_log_fault.result old new) epoch_is
+          (subst (λ (r : Result Answer StepFault). IsLogChange (append l e n records) (payload (Append e n records)) r old new) (sym c.after_log_fault.ensures) told)),
       refl,
     )

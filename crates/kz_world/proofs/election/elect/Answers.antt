@@ -6,7 +6,7 @@ use Rattle.kz_types.specs.declared.record.MetaRecord.TheVariants as meta
 use Rattle.kz_spec_stores.specs.Log.{Log, IsLog, begun_of, image_of}
 use Rattle.kz_spec_stores.specs.Image.{Image}
 use Rattle.kz_spec_machine.specs.Machine.{election_records, running_refusal}
-use Rattle.kz_driver.specs.Disks.{Disks, frames_of}
+use Rattle.kz_driver.specs.Disks.{Disks, payloads_of}
 use Rattle.kz_world.specs.Disks.{disks_in, ElectsController}
 use Rattle.kz_world.specs.Worlds.{world_of_parts, world_of, records_on_election}
 use Rattle.kz_log.proofs.Views.{open_is_begun}
@@ -32,7 +32,7 @@ pub returns-clause-disks : goal.returns-clause-disks
 returns-clause-disks g c =
     let log = g.L.MetaLog.log in
     let disks = disks_in g.T.ZTree.disk g.L.MetaLog.disk in
-    let frames = frames_of g.T.ZTree.frame_bytes g.L.MetaLog.frame_bytes in
+    let payloads = payloads_of g.T.ZTree.payload_bytes g.L.MetaLog.payload_bytes in
     let p = c.args.parts.now in
     let q = c.read.new.parts in
     let r = c.elect_running.new.parts in
@@ -41,6 +41,6 @@ returns-clause-disks g c =
     let runs = ap (running_refusal w) (sym (to_z-of_z w32 c.args.id c.ranges.id)) ∙ sym c.running_refusal.ensures.refusal ∙ c.in_default.is in
     let same = read_keeps (disks (world_of_parts p)) (disks (world_of_parts q)) c.in-Ok.ensures.disks.0.1 c.in-Ok.ensures.disks.1 in
     unless_none (running_refusal w c.args.id) _ _ runs
-    (subst (λ x. ElectsController (log p.log) x frames c.elect_running.result (disks (world_of_parts p)) (disks (world_of_parts r))) (to_z-of_z w64 c.args.now c.ranges.now)
-    (subst (λ (l : Log). ElectsController l n frames c.elect_running.result (disks (world_of_parts p)) (disks (world_of_parts r))) c.read.ensures.same
-    (subst (λ (x : Disks). ElectsController (log q.log) n frames c.elect_running.result x (disks (world_of_parts r))) same c.elect_running.ensures.disks)))
+    (subst (λ x. ElectsController (log p.log) x payloads c.elect_running.result (disks (world_of_parts p)) (disks (world_of_parts r))) (to_z-of_z w64 c.args.now c.ranges.now)
+    (subst (λ (l : Log). ElectsController l n payloads c.elect_running.result (disks (world_of_parts p)) (disks (world_of_parts r))) c.read.ensures.same
+    (subst (λ (x : Disks). ElectsController (log q.log) n payloads c.elect_running.result x (disks (world_of_parts r))) same c.elect_running.ensures.disks)))

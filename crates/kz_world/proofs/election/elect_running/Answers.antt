@@ -44,11 +44,11 @@ returns-in-Ok-clause-disks g c =
     let new = g.L.MetaLog.disk c.elect.new.self in
     let items = c.args.items.now in
     let n = to_z w64 (of_z w64 c.args.now) in
-    let frame = g.L.MetaLog.frame_bytes l in
+    let payload = g.L.MetaLog.payload_bytes l in
     let done : Result Answer StepFault = Ok (answer.Elected (to_z w32 (of_z w32 c.in-Ok.elected.epoch)) (to_z w64 (of_z w64 c.in-Ok.elected.end))) in (
-      subst (λ (rs : List MetaRecord). IsLogChange (elect l c.args.now rs) (frame (Elect c.args.now rs)) done old new) c.requires.items
-          (subst (λ x. IsLogChange (elect l x items) (frame (Elect x items)) done old new) (to_z-of_z w64 c.args.now c.ranges.now)
-          (changed (elect l n items) (g.L.MetaLog.log c.elect.new.self) (frame (Elect n items)) old new c.in-Ok.ensures.ok.0 c.in-Ok.ensures.disk)),
+      subst (λ (rs : List MetaRecord). IsLogChange (elect l c.args.now rs) (payload (Elect c.args.now rs)) done old new) c.requires.items
+          (subst (λ x. IsLogChange (elect l x items) (payload (Elect x items)) done old new) (to_z-of_z w64 c.args.now c.ranges.now)
+          (changed (elect l n items) (g.L.MetaLog.log c.elect.new.self) (payload (Elect n items)) old new c.in-Ok.ensures.ok.0 c.in-Ok.ensures.disk)),
       refl,
     )
 
@@ -60,10 +60,10 @@ returns-in-Err-clause-disks g c =
     let new = g.L.MetaLog.disk c.elect.new.self in
     let items = c.args.items.now in
     let n = to_z w64 (of_z w64 c.args.now) in
-    let frame = g.L.MetaLog.frame_bytes l in
-    let told = log_disk (elect l n items) c.in-Err.fault (frame (Elect n items)) old new c.in-Err.ensures.refused c.in-Err.ensures.disk in (
-      subst (λ (rs : List MetaRecord). IsLogChange (elect l c.args.now rs) (frame (Elect c.args.now rs)) c.after_log_fault.result old new) c.requires.items
-          (subst (λ x. IsLogChange (elect l x items) (frame (Elect x items)) c.after_log_fault.result old new) (to_z-of_z w64 c.args.now c.ranges.now)
-          (subst (λ (r : Result Answer StepFault). IsLogChange (elect l n items) (frame (Elect n items)) r old new) (sym c.after_log_fault.ensures) told)),
+    let payload = g.L.MetaLog.payload_bytes l in
+    let told = log_disk (elect l n items) c.in-Err.fault (payload (Elect n items)) old new c.in-Err.ensures.refused c.in-Err.ensures.disk in (
+      subst (λ (rs : List MetaRecord). IsLogChange (elect l c.args.now rs) (payload (Elect c.args.now rs)) c.after_log_fault.result old new) c.requires.items
+          (subst (λ x. IsLogChange (elect l x items) (payload (Elect x items)) c.after_log_fault.result old new) (to_z-of_z w64 c.args.now c.ranges.now)
+          (subst (λ (r : Result Answer StepFault). IsLogChange (elect l n items) (payload (Elect n items)) r old new) (sym c.after_log_fault.ensures) told)),
       refl,
     )

@@ -2,7 +2,7 @@ use Rattle.std.proofs.Common.{◌≡◌, ◌<◌, List, [], ◌∷◌, ◌++◌,
 use Rattle.std.proofs.lemmas.Int.{to_z-of_z}
 use Rattle.kz_types.specs.declared.machine.Reply.{Reply}
 use Rattle.kz_types.specs.declared.machine.Reply.TheVariants as reply
-use Rattle.kz_driver.specs.Disks.{disks_of, frames_of}
+use Rattle.kz_driver.specs.Disks.{disks_of, payloads_of}
 use Rattle.kz_driver.specs.Drivers.{shared_of}
 use Rattle.kz_world.specs.Disks.{TurnDisks}
 use Rattle.kz_world.specs.Turns.{StepsEnd}
@@ -26,7 +26,7 @@ put-requires g c =
 pub loop-done-preserved : goal.loop-done-preserved
 loop-done-preserved g c =
     let n = to_z w64 (of_z w64 c.args.now) in
-    let frames = frames_of g.T.ZTree.frame_bytes g.L.MetaLog.frame_bytes in
+    let payloads = payloads_of g.T.ZTree.payload_bytes g.L.MetaLog.payload_bytes in
     let tree = g.T.ZTree.tree in
     let log = g.L.MetaLog.log in
     let tree_disk = g.T.ZTree.disk in
@@ -40,7 +40,7 @@ loop-done-preserved g c =
     let told = c.one_step-reply.result in
     let kept = two_kept c.loop-done.replies.items before.made c.push-in-loop-done.new.self.items before.kept c.in-Ok.ensures.items in
     let on = sym c.ends-last.ensures ∙ c.if-last.false in
-    let is : IsStep frames running n here told next = record {
+    let is : IsStep payloads running n here told next = record {
       made = c.one_step-reply.ensures.made (goes_on_told told on);
       on = on;
       disks = c.one_step-reply.ensures.disks;
@@ -50,7 +50,7 @@ loop-done-preserved g c =
       made = before.made ++ told ∷ [];
       kept = c.put.ensures before.made reply.NoMemory reply.NoMemory kept ∙ sym (append_assoc before.made (told ∷ []) (reply.NoMemory ∷ []));
       count = omega (arith, len, before.count);
-      steps = steps_more frames running n first before.made here told next before.steps is;
+      steps = steps_more payloads running n first before.made here told next before.steps is;
       id = c.one_step-reply.ensures.id ∙ before.id;
       view = c.one_step-reply.ensures.view;
       views = λ v h. c.one_step-reply.ensures.views v (before.views v h);
@@ -60,7 +60,7 @@ loop-done-preserved g c =
 pub returns-in_default-clause-ok : goal.returns-in_default-clause-ok
 returns-in_default-clause-ok g c =
     let n = to_z w64 (of_z w64 c.args.now) in
-    let frames = frames_of g.T.ZTree.frame_bytes g.L.MetaLog.frame_bytes in
+    let payloads = payloads_of g.T.ZTree.payload_bytes g.L.MetaLog.payload_bytes in
     let tree = g.T.ZTree.tree in
     let log = g.L.MetaLog.log in
     let running = c.args.peers.now.running in
@@ -71,12 +71,12 @@ returns-in_default-clause-ok g c =
     let few : length before.made < c.args.most = omega (arith, before.count, c.loop-done-test.true) in
     subst (λ x. StepsEnd c.args.most first.shared running x first.driver c.push-in-loop-done.new.self.items here.shared here.driver) (to_z-of_z w64 c.args.now c.ranges.now)
     (subst (λ (rs : List Reply). StepsEnd c.args.most first.shared running n first.driver rs here.shared here.driver) (sym (c.in_default.ensures.items ∙ before.kept))
-    (memory_ends frames running n c.args.most first before.made here few before.steps))
+    (memory_ends payloads running n c.args.most first before.made here few before.steps))
 
 pub returns-in_default-clause-disks : goal.returns-in_default-clause-disks
 returns-in_default-clause-disks g c =
     let n = to_z w64 (of_z w64 c.args.now) in
-    let frames = frames_of g.T.ZTree.frame_bytes g.L.MetaLog.frame_bytes in
+    let payloads = payloads_of g.T.ZTree.payload_bytes g.L.MetaLog.payload_bytes in
     let tree = g.T.ZTree.tree in
     let log = g.L.MetaLog.log in
     let running = c.args.peers.now.running in
@@ -84,15 +84,15 @@ returns-in_default-clause-disks g c =
     let first = moment (shared_of (tree c.args.tree.now) (log c.args.log.now) declared) c.args.driver.now (disks_of (g.T.ZTree.disk c.args.tree.now) (g.L.MetaLog.disk c.args.log.now)) in
     let here = moment (shared_of (tree c.loop-done.tree) (log c.loop-done.log) declared) c.loop-done.driver (disks_of (g.T.ZTree.disk c.loop-done.tree) (g.L.MetaLog.disk c.loop-done.log)) in
     let before = c.loop-done.invariant in
-    subst (λ x. TurnDisks first.shared running x first.driver frames c.push-in-loop-done.new.self.items first.disks here.disks) (to_z-of_z w64 c.args.now c.ranges.now)
-    (subst (λ (rs : List Reply). TurnDisks first.shared running n first.driver frames rs first.disks here.disks) (sym (c.in_default.ensures.items ∙ before.kept))
-    (memory_disks frames running n first before.made here before.steps))
+    subst (λ x. TurnDisks first.shared running x first.driver payloads c.push-in-loop-done.new.self.items first.disks here.disks) (to_z-of_z w64 c.args.now c.ranges.now)
+    (subst (λ (rs : List Reply). TurnDisks first.shared running n first.driver payloads rs first.disks here.disks) (sym (c.in_default.ensures.items ∙ before.kept))
+    (memory_disks payloads running n first before.made here before.steps))
 
 -- the turn ends with this step
 pub returns-then-last-clause-ok : goal.returns-then-last-clause-ok
 returns-then-last-clause-ok g c =
     let n = to_z w64 (of_z w64 c.args.now) in
-    let frames = frames_of g.T.ZTree.frame_bytes g.L.MetaLog.frame_bytes in
+    let payloads = payloads_of g.T.ZTree.payload_bytes g.L.MetaLog.payload_bytes in
     let tree = g.T.ZTree.tree in
     let log = g.L.MetaLog.log in
     let running = c.args.peers.now.running in
@@ -107,12 +107,12 @@ returns-then-last-clause-ok g c =
     let t = shared_of (tree c.one_step-reply.new.tree) (log c.one_step-reply.new.log) declared in
     subst (λ x. StepsEnd c.args.most first.shared running x first.driver c.without_last.result.items t c.one_step-reply.new.driver) (to_z-of_z w64 c.args.now c.ranges.now)
     (subst (λ (rs : List Reply). StepsEnd c.args.most first.shared running n first.driver rs t c.one_step-reply.new.driver) (sym replies)
-    (turn_ends frames running n c.args.most first before.made here told t c.one_step-reply.new.driver few before.steps (sym c.ends-last.ensures ∙ c.if-last.true) c.one_step-reply.ensures.made c.one_step-reply.ensures.failed))
+    (turn_ends payloads running n c.args.most first before.made here told t c.one_step-reply.new.driver few before.steps (sym c.ends-last.ensures ∙ c.if-last.true) c.one_step-reply.ensures.made c.one_step-reply.ensures.failed))
 
 pub returns-then-last-clause-disks : goal.returns-then-last-clause-disks
 returns-then-last-clause-disks g c =
     let n = to_z w64 (of_z w64 c.args.now) in
-    let frames = frames_of g.T.ZTree.frame_bytes g.L.MetaLog.frame_bytes in
+    let payloads = payloads_of g.T.ZTree.payload_bytes g.L.MetaLog.payload_bytes in
     let tree = g.T.ZTree.tree in
     let log = g.L.MetaLog.log in
     let running = c.args.peers.now.running in
@@ -124,15 +124,15 @@ returns-then-last-clause-disks g c =
     let told = c.one_step-reply.result in
     let kept = two_kept c.loop-done.replies.items before.made c.push-in-loop-done.new.self.items before.kept c.in-Ok.ensures.items in
     let replies = c.without_last.ensures (before.made ++ told ∷ []) reply.NoMemory (c.put.ensures before.made reply.NoMemory reply.NoMemory kept ∙ sym (append_assoc before.made (told ∷ []) (reply.NoMemory ∷ []))) in
-    subst (λ x. TurnDisks first.shared running x first.driver frames c.without_last.result.items first.disks next.disks) (to_z-of_z w64 c.args.now c.ranges.now)
-    (subst (λ (rs : List Reply). TurnDisks first.shared running n first.driver frames rs first.disks next.disks) (sym replies)
-    (last_disks frames running n first before.made here told next before.steps c.one_step-reply.ensures.disks))
+    subst (λ x. TurnDisks first.shared running x first.driver payloads c.without_last.result.items first.disks next.disks) (to_z-of_z w64 c.args.now c.ranges.now)
+    (subst (λ (rs : List Reply). TurnDisks first.shared running n first.driver payloads rs first.disks next.disks) (sym replies)
+    (last_disks payloads running n first before.made here told next before.steps c.one_step-reply.ensures.disks))
 
 -- all steps that the turn may have are made
 pub returns-clause-ok : goal.returns-clause-ok
 returns-clause-ok g c =
     let n = to_z w64 (of_z w64 c.args.now) in
-    let frames = frames_of g.T.ZTree.frame_bytes g.L.MetaLog.frame_bytes in
+    let payloads = payloads_of g.T.ZTree.payload_bytes g.L.MetaLog.payload_bytes in
     let tree = g.T.ZTree.tree in
     let log = g.L.MetaLog.log in
     let running = c.args.peers.now.running in
@@ -142,12 +142,12 @@ returns-clause-ok g c =
     let before = c.loop-done.invariant in
     let all : c.args.most ≡ length before.made = omega (arith, before.count, c.loop-done-test.false, c.loop-done.auto._done-end) in
     subst (λ x. StepsEnd c.args.most first.shared running x first.driver c.without_last-2.result.items here.shared here.driver) (to_z-of_z w64 c.args.now c.ranges.now)
-    (turn_is_whole frames running n c.args.most first before.made c.without_last-2.result.items here all (c.without_last-2.ensures before.made reply.NoMemory before.kept) before.steps)
+    (turn_is_whole payloads running n c.args.most first before.made c.without_last-2.result.items here all (c.without_last-2.ensures before.made reply.NoMemory before.kept) before.steps)
 
 pub returns-clause-disks : goal.returns-clause-disks
 returns-clause-disks g c =
     let n = to_z w64 (of_z w64 c.args.now) in
-    let frames = frames_of g.T.ZTree.frame_bytes g.L.MetaLog.frame_bytes in
+    let payloads = payloads_of g.T.ZTree.payload_bytes g.L.MetaLog.payload_bytes in
     let tree = g.T.ZTree.tree in
     let log = g.L.MetaLog.log in
     let running = c.args.peers.now.running in
@@ -155,9 +155,9 @@ returns-clause-disks g c =
     let first = moment (shared_of (tree c.args.tree.now) (log c.args.log.now) declared) c.args.driver.now (disks_of (g.T.ZTree.disk c.args.tree.now) (g.L.MetaLog.disk c.args.log.now)) in
     let here = moment (shared_of (tree c.loop-done.tree) (log c.loop-done.log) declared) c.loop-done.driver (disks_of (g.T.ZTree.disk c.loop-done.tree) (g.L.MetaLog.disk c.loop-done.log)) in
     let before = c.loop-done.invariant in
-    subst (λ x. TurnDisks first.shared running x first.driver frames c.without_last-2.result.items first.disks here.disks) (to_z-of_z w64 c.args.now c.ranges.now)
-    (subst (λ (rs : List Reply). TurnDisks first.shared running n first.driver frames rs first.disks here.disks) (append-nil before.made ∙ sym (c.without_last-2.ensures before.made reply.NoMemory before.kept))
-    (all_disks frames running n first before.made here [] here.disks before.steps refl))
+    subst (λ x. TurnDisks first.shared running x first.driver payloads c.without_last-2.result.items first.disks here.disks) (to_z-of_z w64 c.args.now c.ranges.now)
+    (subst (λ (rs : List Reply). TurnDisks first.shared running n first.driver payloads rs first.disks here.disks) (append-nil before.made ∙ sym (c.without_last-2.ensures before.made reply.NoMemory before.kept))
+    (all_disks payloads running n first before.made here [] here.disks before.steps refl))
 
 pub returns-then-last-clause-views : goal.returns-then-last-clause-views
 returns-then-last-clause-views g c = λ v h. c.one_step-reply.ensures.views v (c.loop-done.invariant.views v h)

@@ -5,7 +5,7 @@ use Rattle.kz_types.specs.declared.machine.Reply.{Reply}
 use Rattle.kz_types.specs.declared.machine.Answer.TheVariants as answer
 use Rattle.kz_spec_machine.specs.Driver.{Driver}
 use Rattle.kz_spec_machine.specs.Machine.{World, running_ids}
-use Rattle.kz_driver.specs.Disks.{Disks, disks_of, frames_of}
+use Rattle.kz_driver.specs.Disks.{Disks, disks_of, payloads_of}
 use Rattle.kz_driver.specs.Drivers.{shared_of}
 use Rattle.kz_world.specs.Disks.{disks_in, TurnDisks}
 use Rattle.kz_world.specs.Turns.{StepsEnd, IsTurned}
@@ -67,12 +67,12 @@ returns-in-Ok-clause-disks g c = λ d at_is.
     let running = c.args.peers.now.running in
     let first = c.index_mut.result.now in
     let first_is : first ≡ d = c.index_mut.ensures.value ∙ get_or_from_slice_get ds at d first at_is in
-    let frames = frames_of g.T.ZTree.frame_bytes g.L.MetaLog.frame_bytes in
+    let payloads = payloads_of g.T.ZTree.payload_bytes g.L.MetaLog.payload_bytes in
     let old = disks_in g.T.ZTree.disk g.L.MetaLog.disk (world_of_parts p) in
     let new : Disks = disks_of (g.T.ZTree.disk c.turn.new.tree) (g.L.MetaLog.disk c.turn.new.log) in
     let s = shared_of (tree p.tree) (log p.log) p.declared in
-    let by_declared = subst (λ (is : List ℤ). TurnDisks (shared_of (tree p.tree) (log p.log) is) running n first frames replies old new) c.requires.declared c.in-Ok.ensures.disks in
-    let by_running = subst (λ (is : List ℤ). TurnDisks s is n first frames replies old new) c.requires.running by_declared in
-    let by_driver = subst (λ (x : Driver). TurnDisks s (running_ids ds) n x frames replies old new) first_is by_running in
-    let by_now = subst (λ x. TurnDisks s (running_ids ds) x d frames replies old new) (to_z-of_z w64 now c.ranges.now) by_driver in
-    (c.requires.up, subst (λ (rs : List Reply). TurnDisks s (running_ids ds) now d frames rs old new) (sym c.from_vec.ensures) by_now)
+    let by_declared = subst (λ (is : List ℤ). TurnDisks (shared_of (tree p.tree) (log p.log) is) running n first payloads replies old new) c.requires.declared c.in-Ok.ensures.disks in
+    let by_running = subst (λ (is : List ℤ). TurnDisks s is n first payloads replies old new) c.requires.running by_declared in
+    let by_driver = subst (λ (x : Driver). TurnDisks s (running_ids ds) n x payloads replies old new) first_is by_running in
+    let by_now = subst (λ x. TurnDisks s (running_ids ds) x d payloads replies old new) (to_z-of_z w64 now c.ranges.now) by_driver in
+    (c.requires.up, subst (λ (rs : List Reply). TurnDisks s (running_ids ds) now d payloads rs old new) (sym c.from_vec.ensures) by_now)

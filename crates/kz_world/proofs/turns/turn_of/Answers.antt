@@ -2,7 +2,7 @@ use Rattle.std.proofs.Common.{◌<◌, length, refl, sym, ap, subst, ◌∙◌, 
 use Rattle.std.specs.Prelude.{slice_get, IfOk}
 use Rattle.std.proofs.lemmas.Int.{to_z-of_z}
 use Rattle.kz_spec_machine.specs.Machine.{running_refusal, driver_of}
-use Rattle.kz_driver.specs.Disks.{frames_of}
+use Rattle.kz_driver.specs.Disks.{payloads_of}
 use Rattle.kz_world.specs.Disks.{disks_in, DriverTurnDisks}
 use Rattle.kz_world.specs.Turns.{IsTurned}
 use Rattle.kz_world.specs.Worlds.{world_of_parts, world_of}
@@ -33,7 +33,7 @@ returns-in-Some-place_of-clause-ok g c =
 pub returns-in-Some-place_of-clause-disks : goal.returns-in-Some-place_of-clause-disks
 returns-in-Some-place_of-clause-disks g c =
     let w = world_of g.T.ZTree.tree g.L.MetaLog.log c.args.parts.now in
-    let frames = frames_of g.T.ZTree.frame_bytes g.L.MetaLog.frame_bytes in
+    let payloads = payloads_of g.T.ZTree.payload_bytes g.L.MetaLog.payload_bytes in
     let disks = disks_in g.T.ZTree.disk g.L.MetaLog.disk in
     let p = world_of_parts c.args.parts.now in
     let q = world_of_parts c.prepared_turn.new.parts in
@@ -45,8 +45,8 @@ returns-in-Some-place_of-clause-disks g c =
     let len = ap length c.deref.ensures.value in
     let here : at < length ds = omega (arith, c.in-Some-place_of.ensures.0, len) in
     let found = ap (λ i. driver_of i ds) (sym id_is) ∙ ap (driver_of (to_z w32 (of_z w32 c.args.id))) (sym c.deref.ensures.value) ∙ c.in-Some-place_of.ensures.1 ∙ ap (λ xs. slice_get xs at) c.deref.ensures.value in
-    turn_disks c.prepared_turn.result w c.args.id c.args.now at frames (disks p) (disks q) runs here found
-    (λ d is. subst (λ n. DriverTurnDisks w n d frames c.prepared_turn.result (disks p) (disks q)) now_is (c.prepared_turn.ensures.disks d is))
+    turn_disks c.prepared_turn.result w c.args.id c.args.now at payloads (disks p) (disks q) runs here found
+    (λ d is. subst (λ n. DriverTurnDisks w n d payloads c.prepared_turn.result (disks p) (disks q)) now_is (c.prepared_turn.ensures.disks d is))
 
 pub returns-in-None-clause-ok : goal.returns-in-None-clause-ok
 returns-in-None-clause-ok g c =
