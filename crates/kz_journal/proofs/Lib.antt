@@ -1,9 +1,3 @@
 mod Crashes
 mod Files
 mod Created
-mod Heads
-mod FoundTests
-mod Gates
-mod Reading
-mod Shutting
-mod Steps

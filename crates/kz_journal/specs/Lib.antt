@@ -1,5 +1,1 @@
 pub mod Appends
-pub mod Closings
-pub mod Journals
-pub mod Pieces
-pub mod Reads

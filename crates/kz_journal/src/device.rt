@@ -1,15 +1,14 @@
 //! Calls of a disk whose effect outlives a stop.
 ghost use Rattle.std.specs.Prelude.{◌≡◌, ◌+◌, ◌^◌, ◌<◌, ℕ, List, Some, true, length, option_map, OnOk, OnErr, ◌∷◌, []};
 ghost use Rattle.kz_types.specs.Causes.{HasCause};
-ghost use Rattle.kz_disk.specs.Disks.{IsWithin, StandAt, with_piece, LeavesTorn, NothingPends, LeavesOnly};
+ghost use Rattle.kz_disk.specs.Disks.{IsWithin, with_piece, LeavesTorn, NothingPends, LeavesOnly};
 ghost use Rattle.kz_journal.specs.Appends.{IsTornOr, with_open_gate, IsCutAppend};
-ghost use Rattle.kz_journal.specs.Reads.{OnlyReads};
 
 use kz_disk::Disk;
 use kz_types::Failed;
 
 // The byte of an open gate.
-pub(crate) const OPEN_GATE: u8 = 0xA5;
+const OPEN_GATE: u8 = 0xA5;
 
 // The byte of a closed gate.
 pub(crate) const CLOSED_GATE: u8 = 0;
@@ -53,19 +52,4 @@ pub(crate) fn write_behind<D: Disk>(disk: &mut D, gate: u64, behind: &[u8]) -> R
         return Err(Failed);
     };
     Ok(())
-}
-
-/// Fills a buffer with the bytes from a place on.
-pub(crate) fn read_piece<D: Disk>(disk: &mut D, at: u64, buf: &mut [u8]) -> Result<(), Failed>
-    requires within { IsWithin (D.told disk.old) (at + length buf.old) }
-    requires fits { at + length buf.old < 2 ^ 64 }
-    ensures bytes { OnOk result (StandAt (D.told disk.old) at buf.new) }
-    ensures reads { OnlyReads D.told D.may_leave D.moment D.left_since disk.old disk.new }
-    ensures cause { HasCause (D.faults disk.old) (D.faults disk.new) result }
-    ensures failed { OnErr result (D.last_failed disk.new ≡ true) }
-{
-    match disk.read_at(at, buf) {
-        Ok(()) => Ok(()),
-        Err(_) => Err(Failed),
-    }
 }

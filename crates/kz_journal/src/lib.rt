@@ -4,16 +4,9 @@
 //! before the gate is touched, so a stop at any moment leaves the frames from before an append, or these and the new one whole.
 #![tactic(auto)]
 
-mod append;
-mod close;
 mod create;
 mod device;
-mod fault;
-mod find;
-mod next;
 mod frame;
-mod place;
-mod read;
 
 pub use create::create_file;
 pub use frame::{AppendFault, append_frame};
