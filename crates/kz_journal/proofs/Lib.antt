@@ -1,3 +1,12 @@
+mod Appended
 mod Crashes
-mod Files
 mod Created
+mod Files
+mod FoundTests
+mod Gates
+mod Headers
+mod Heads
+mod Reading
+mod Sealed
+mod Shutting
+mod Steps

@@ -1,14 +1,15 @@
 //! Calls of a disk whose effect outlives a stop.
 ghost use Rattle.std.specs.Prelude.{◌≡◌, ◌+◌, ◌^◌, ◌<◌, ℕ, List, Some, true, length, option_map, OnOk, OnErr, ◌∷◌, []};
 ghost use Rattle.kz_types.specs.Causes.{HasCause};
-ghost use Rattle.kz_disk.specs.Disks.{IsWithin, with_piece, LeavesTorn, NothingPends, LeavesOnly};
+ghost use Rattle.kz_disk.specs.Disks.{StaysTold, IsWithin, StandAt, with_piece, LeavesTorn, NothingPends, LeavesOnly};
 ghost use Rattle.kz_journal.specs.Appends.{IsTornOr, with_open_gate, IsCutAppend};
+ghost use Rattle.kz_journal.specs.Reads.{OnlyReads};
 
 use kz_disk::Disk;
 use kz_types::Failed;
 
 // The byte of an open gate.
-const OPEN_GATE: u8 = 0xA5;
+pub(crate) const OPEN_GATE: u8 = 0xA5;
 
 // The byte of a closed gate.
 pub(crate) const CLOSED_GATE: u8 = 0;
@@ -18,6 +19,7 @@ pub(crate) fn write_durably<D: Disk>(disk: &mut D, at: u64, piece: &[u8]) -> Res
     requires within { IsWithin (D.told disk.old) at }
     requires fits { at + length piece.now < 2 ^ 64 }
     ensures written { OnOk result (D.told disk.new ≡ option_map (with_piece at piece.now) (D.told disk.old)) }
+    ensures told { StaysTold (D.told disk.old) (D.told disk.new) }
     ensures durable { OnOk result (NothingPends (D.told disk.new) (D.may_leave disk.new)) }
     ensures stop { LeavesTorn at (length piece.now) (D.may_leave disk.old) (D.may_leave disk.new) }
     ensures any_moment { LeavesOnly D.moment D.left_since disk.old disk.new (IsTornOr (D.may_leave disk.old) at (length piece.now)) }
@@ -39,6 +41,7 @@ pub(crate) fn write_behind<D: Disk>(disk: &mut D, gate: u64, behind: &[u8]) -> R
     requires fits { gate + 1 + length behind.now < 2 ^ 64 }
     requires settled { NothingPends (D.told disk.old) (D.may_leave disk.old) }
     ensures written { OnOk result (D.told disk.new ≡ option_map (with_open_gate gate behind.now) (D.told disk.old)) }
+    ensures told { StaysTold (D.told disk.old) (D.told disk.new) }
     ensures durable { OnOk result (NothingPends (D.told disk.new) (D.may_leave disk.new)) }
     ensures any_moment { (file : List ℕ) → D.told disk.old ≡ Some file
         → LeavesOnly D.moment D.left_since disk.old disk.new (IsCutAppend gate behind.now file) }
@@ -52,4 +55,20 @@ pub(crate) fn write_behind<D: Disk>(disk: &mut D, gate: u64, behind: &[u8]) -> R
         return Err(Failed);
     };
     Ok(())
+}
+
+/// Fills a buffer with the bytes from a place on.
+pub(crate) fn read_piece<D: Disk>(disk: &mut D, at: u64, buf: &mut [u8]) -> Result<(), Failed>
+    requires within { IsWithin (D.told disk.old) (at + length buf.old) }
+    requires fits { at + length buf.old < 2 ^ 64 }
+    ensures bytes { OnOk result (StandAt (D.told disk.old) at buf.new) }
+    ensures reads { OnlyReads D.told D.may_leave D.moment D.left_since disk.old disk.new }
+    ensures synced { D.syncs disk.new ≡ D.syncs disk.old }
+    ensures cause { HasCause (D.faults disk.old) (D.faults disk.new) result }
+    ensures failed { OnErr result (D.last_failed disk.new ≡ true) }
+{
+    match disk.read_at(at, buf) {
+        Ok(()) => Ok(()),
+        Err(_) => Err(Failed),
+    }
 }

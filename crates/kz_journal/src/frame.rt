@@ -1,7 +1,7 @@
-//! A frame more behind a closed gate.
+//! One more frame behind a closed gate.
 ghost use Rattle.std.specs.Prelude.{◌≡◌, ◌+◌, ◌^◌, ◌<◌, ℕ, List, Some, true, false, length, IfOk, OnOk, IsErrOf};
 ghost use Rattle.kz_types.specs.Causes.{Rose};
-ghost use Rattle.kz_disk.specs.Disks.{IsWithin, NothingPends, LeavesOnly};
+ghost use Rattle.kz_disk.specs.Disks.{StaysTold, IsWithin, NothingPends, LeavesOnly};
 ghost use Rattle.kz_spec_files.specs.Frames.{journal_of, LeftByAppend};
 ghost use Rattle.kz_laws_files.specs.Fronts.{sum_of};
 ghost use Rattle.kz_journal.specs.Appends.{behind_gate, IsResting, IsAppended};
@@ -12,9 +12,9 @@ use kz_disk::Disk;
 use kz_types::NoMemory;
 use std::alloc::Global;
 
-/// Why a frame isn't appended.
+/// Why a frame isn't written.
 #[derive(Clone, Copy, Debug, PartialEq, Eq)]
-pub enum AppendFault {
+pub(crate) enum FrameFault {
     /// A call of the disk failed.
     Failed,
     /// Memory ran out.
@@ -73,30 +73,31 @@ fn behind(alloc: Global, summed: bool, payload: &[u8]) -> Result<Vec<u8>, NoMemo
 /// leaves the frames from before it, or these and the new one whole.
 ///
 /// `Failed`: the disk's count of faults rose in this call. `NoMemory`: nothing was called.
-pub fn append_frame<D: Disk>(
+pub(crate) fn append_frame<D: Disk>(
     alloc: Global,
     disk: &mut D,
     gate: u64,
     summed: bool,
     payload: &[u8],
-) -> Result<(), AppendFault>
+) -> Result<(), FrameFault>
     requires few { (gate < 2 ^ 31) × (length payload.now < 2 ^ 31) }
     requires within { IsWithin (D.told disk.old) (gate + 1) }
     requires settled { NothingPends (D.told disk.old) (D.may_leave disk.old) }
     ensures appended { OnOk result ((letter : ℕ) (file : List ℕ) → D.told disk.old ≡ Some file → IsResting letter gate summed file
         → IsAppended letter gate summed payload.now file (D.told disk.new)) }
+    ensures told { StaysTold (D.told disk.old) (D.told disk.new) }
     ensures durable { OnOk result (NothingPends (D.told disk.new) (D.may_leave disk.new)) }
     ensures any_moment { (letter : ℕ) (file : List ℕ) → D.told disk.old ≡ Some file → IsResting letter gate summed file
         → LeavesOnly D.moment D.left_since disk.old disk.new (LeftByAppend letter payload.now (journal_of letter file)) }
-    ensures failed { IsErrOf result AppendFault.Failed → Rose (D.faults disk.old) (D.faults disk.new) × (D.last_failed disk.new ≡ true) }
-    ensures calm { (IsErrOf result AppendFault.Failed → ⊥) → D.faults disk.new ≡ D.faults disk.old }
-    ensures untouched { IsErrOf result AppendFault.NoMemory → disk.new ≡ disk.old }
+    ensures failed { IsErrOf result FrameFault.Failed → Rose (D.faults disk.old) (D.faults disk.new) × (D.last_failed disk.new ≡ true) }
+    ensures calm { (IsErrOf result FrameFault.Failed → ⊥) → D.faults disk.new ≡ D.faults disk.old }
+    ensures untouched { IsErrOf result FrameFault.NoMemory → disk.new ≡ disk.old }
 {
     let Ok(bytes) = behind(alloc, summed, payload) else {
-        return Err(AppendFault::NoMemory);
+        return Err(FrameFault::NoMemory);
     };
     match write_behind(disk, gate, &bytes) {
         Ok(()) => Ok(()),
-        Err(_) => Err(AppendFault::Failed),
+        Err(_) => Err(FrameFault::Failed),
     }
 }

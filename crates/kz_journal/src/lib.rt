@@ -4,12 +4,22 @@
 //! before the gate is touched, so a stop at any moment leaves the frames from before an append, or these and the new one whole.
 #![tactic(auto)]
 
+mod append;
+mod close;
 mod create;
 mod device;
+mod fault;
+mod find;
 mod frame;
+mod journal;
+mod next;
+mod open;
+mod place;
+mod read;
+mod seal;
 
-pub use create::create_file;
-pub use frame::{AppendFault, append_frame};
+pub use fault::JournalFault;
+pub use journal::{Frame, Journal};
 
 #[cfg(test)]
 mod tests;

@@ -191,6 +191,10 @@ front_ends letter front tail summed f is =
 more_steps : (file : List ℕ) (summed : Bool) (at : ℕ) → journal_from file summed at ≡ journal_within (suc (length file)) file summed at
 more_steps file summed at = enough (length file) (suc (length file)) file summed at (omega arith) (omega arith)
 
+-- what a file says from a gate on, by what stands there
+pub from_gate : (file : List ℕ) (summed : Bool) (at : ℕ) (f : Found) → found_at summed (take at file) (drop at file) ≡ f → journal_from file summed at ≡ going_on summed at f (journal_within (length file) file)
+from_gate file summed at f is = more_steps file summed at ∙ one_step (length file) file summed at f is
+
 pub front_damaged : (letter : ℕ) (front tail : List ℕ) (summed : Bool) → IsFront letter front summed → found_at summed front tail ≡ Damaged → journal_of letter (front ++ tail) ≡ record (journal_of letter front) { damaged = true }
 front_damaged letter front tail summed f is =
     let file = front ++ tail in
