@@ -1,4 +1,4 @@
--- What a stop leaves while bytes are written behind a gate and the gate is opened.
+-- What a stop leaves while bytes are written after a gate and the gate is opened.
 use Rattle.std.proofs.Common.{◌≡◌, ⊎_elim, true, false, ℕ, ◌+◌, ◌≤◌, List, ◌++◌, length, take, drop, Option, Some, None, refl, sym, ap, ◌∙◌, subst, arith, length-append}
 use Rattle.std.specs.Prelude.{option_map, is_some}
 use Rattle.std.proofs.lemmas.List.{length-take-le}

@@ -1,4 +1,4 @@
--- What a file says while a piece is written behind its last gate and the gate is opened, and once that is done. The piece is a frame
+-- What a file says while a piece is written after its last gate and the gate is opened, and once that is done. The piece is a frame
 -- or a seal.
 use Rattle.std.proofs.Common.{◌≡◌, ◌≢◌, ◌⊎◌, inl, inr, ⊎_elim, ℕ, zero, suc, ◌+◌, ◌-◌, ◌<◌, ◌≤◌, max, Bool, List, [], ◌∷◌, ◌++◌, length, take, drop, get_or, Option, Some, refl, sym, ap, ◌∙◌, subst, arith, append_assoc, length-append, length-drop, take-take, get_or-take}
 use Rattle.std.proofs.lemmas.Bool.{cases_eq}
@@ -42,8 +42,8 @@ module _ (letter gate : ℕ) (summed sums : Bool) (piece file : List ℕ) (made 
   resting = resting_file letter gate summed file rest
 
   -- while the piece is written
-  behind_torn : (n : ℕ) (left : List ℕ) → Torn (gate + 1) n file left → journal_of letter left ≡ journal_of letter file
-  behind_torn n left torn =
+  after_torn : (n : ℕ) (left : List ℕ) → Torn (gate + 1) n file left → journal_of letter left ≡ journal_of letter file
+  after_torn n left torn =
       let long = torn.no_shorter in
       let stands = rest.stands in
       closed_file letter gate summed (take gate file) left rest.front (same_front gate left file torn.before) (omega arith) (same_place gate left file torn.before ∙ rest.closed) ∙ sym resting
@@ -100,7 +100,7 @@ module _ (letter gate : ℕ) (summed sums : Bool) (piece file : List ℕ) (made 
 
   -- A stop leaves the file from before, or with the piece whole.
   pub left_by_writing : (left : List ℕ) → IsCutAppend gate (piece ++ closed_gate ∷ []) file left → (journal_of letter left ≡ journal_of letter file) ⊎ (journal_of letter left ≡ made)
-  left_by_writing left cut = ⊎_elim (λ torn. inl (behind_torn (length (piece ++ closed_gate ∷ [])) left torn)) (gate_torn left) cut
+  left_by_writing left cut = ⊎_elim (λ torn. inl (after_torn (length (piece ++ closed_gate ∷ [])) left torn)) (gate_torn left) cut
 
   -- once it is done
   pub done_parts : with_open_gate gate (piece ++ closed_gate ∷ []) file ≡ (take gate file ++ open_gate ∷ piece) ++ closed_gate ∷ drop (gate + 1 + length (piece ++ closed_gate ∷ [])) file

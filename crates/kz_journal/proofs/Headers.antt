@@ -70,7 +70,7 @@ by_old : (letter : ℕ) (file : List ℕ) → bytes_eq (take 16 file) (summed_he
 unfolding journal_of
 by_old letter file not_new old = rw (not_new, old) refl
 
--- ---- the place behind a header
+-- ---- the place after a header
 
 module _ (letter : ℕ) (place : Place) (file header : List ℕ) (is : header ≡ take 16 file) (gate : place.gate ≡ 16) (long : place.length ≡ length file) where
   front_is : (text : List ℕ) → bytes_eq header text ≡ true → take place.gate file ≡ text

@@ -1,4 +1,4 @@
--- Calls of a disk that only read, one after another; and bytes that are read behind a gate.
+-- Calls of a disk that only read, one after another; and bytes that are read after a gate.
 use Rattle.std.proofs.Common.{◌≡◌, ℕ, List, Option, refl, sym, ◌∙◌}
 use Rattle.kz_disk.specs.Disks.{IsWithin}
 use Rattle.kz_disk.proofs.Moments.{joined, started}

@@ -29,9 +29,9 @@ module _ (letter : ℕ) (place : Place) (file : List ℕ) (read : IsReadTo lette
       let said = seal_is_read letter (take place.gate file) rest.front sum_fits in
       record { front_is = said.0; is = said.1 ∙ ap journal_with_seal (sym (resting_file letter place.gate false file rest)) }
 
-  pub seal_done : (next : Place) (old new : Option (List ℕ)) (behind : List ℕ) → behind ≡ seal_written (take place.gate file) ++ closed_gate ∷ [] → new ≡ option_map (with_open_gate place.gate behind) old → old ≡ Some file
+  pub seal_done : (next : Place) (old new : Option (List ℕ)) (piece : List ℕ) → piece ≡ seal_written (take place.gate file) ++ closed_gate ∷ [] → new ≡ option_map (with_open_gate place.gate piece) old → old ≡ Some file
       → next.gate ≡ place.gate + 9 → next.summed ≡ true → next.length ≡ max place.length (place.gate + 10) → HasNewSeal letter next file new
-  seal_done next old new behind same is told gate_is sums long =
+  seal_done next old new piece same is told gate_is sums long =
       let next_is : next.gate ≡ place.gate + 1 + length (seal_written (take place.gate file)) = omega (arith, gate_is) in
       let now = with_open_gate place.gate (seal_written (take place.gate file) ++ closed_gate ∷ []) file in
       let again = rests_done letter place.gate false true (seal_written (take place.gate file)) file (journal_with_seal (journal_of letter file)) rest grown next.gate next_is in
@@ -39,7 +39,7 @@ module _ (letter : ℕ) (place : Place) (file : List ℕ) (read : IsReadTo lette
       let was = read.measured.long in
       record {
         new = now;
-        is = told_after old new (with_open_gate place.gate behind) file is told ∙ ap (λ (b : List ℕ). Some (with_open_gate place.gate b file)) same;
+        is = told_after old new (with_open_gate place.gate piece) file is told ∙ ap (λ (b : List ℕ). Some (with_open_gate place.gate b file)) same;
         journal = says_done letter place.gate false true (seal_written (take place.gate file)) file (journal_with_seal (journal_of letter file)) rest grown;
         read = record {
           measured = record { long = omega (arith, all, was, long, gate_is); sum = λ is_plain. absurd (cc) };
@@ -48,7 +48,7 @@ module _ (letter : ℕ) (place : Place) (file : List ℕ) (read : IsReadTo lette
         closed = again.closed;
       }
 
-  pub seal_cut : (behind left : List ℕ) → behind ≡ seal_written (take place.gate file) ++ closed_gate ∷ [] → IsCutAppend place.gate behind file left → LeftBySeal letter (journal_of letter file) left
-  seal_cut behind left same cut =
+  pub seal_cut : (piece left : List ℕ) → piece ≡ seal_written (take place.gate file) ++ closed_gate ∷ [] → IsCutAppend place.gate piece file left → LeftBySeal letter (journal_of letter file) left
+  seal_cut piece left same cut =
       left_by_writing letter place.gate false true (seal_written (take place.gate file)) file (journal_with_seal (journal_of letter file)) rest grown left
       (subst (λ (b : List ℕ). IsCutAppend place.gate b file left) same cut)

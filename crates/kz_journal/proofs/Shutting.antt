@@ -72,7 +72,7 @@ idle_by_length summed gate file stands small mark left torn = elim (cases_eq (ge
 open_test : (gate : ℕ) (file : List ℕ) → gate < length file → is_open (drop gate file) ≡ (get_or file gate 0 == open_gate)
 open_test gate file stands = ap is_open (from_place gate file stands)
 
--- while a length is written behind a gate that isn't open
+-- while a length is written after a gate that isn't open
 pub spoiled_ends : (summed : Bool) (gate n : ℕ) (file left : List ℕ) → gate < length file → is_open (drop gate file) ≡ false → Torn (gate + 1) n file left → StillEnds summed gate file left
 spoiled_ends summed gate n file left stands shut torn =
     let long = torn.no_shorter in
@@ -94,8 +94,8 @@ module _ (at : ℕ) (piece file : List ℕ) (within : at ≤ length file) where
   pub piece_front : take at (with_piece at piece file) ≡ take at file
   piece_front = ap (take at) parts ∙ take_at (take at file) (piece ++ drop (at + length piece) file) at front_long
 
-  pub piece_behind : drop at (with_piece at piece file) ≡ piece ++ drop (at + length piece) file
-  piece_behind = ap (drop at) parts ∙ drop_at (take at file) (piece ++ drop (at + length piece) file) at front_long
+  pub piece_after : drop at (with_piece at piece file) ≡ piece ++ drop (at + length piece) file
+  piece_after = ap (drop at) parts ∙ drop_at (take at file) (piece ++ drop (at + length piece) file) at front_long
 
   pub piece_long : length (with_piece at piece file) ≡ max (length file) (at + length piece)
   piece_long =
@@ -121,7 +121,7 @@ closed_now gate file told within is = record {
   new = with_piece gate (closed_gate ∷ []) file;
   is = is;
   front = piece_front gate (closed_gate ∷ []) file within;
-  closed = get_or_drop gate (with_piece gate (closed_gate ∷ []) file) ∙ first_of _ closed_gate (drop (gate + 1) file) (piece_behind gate (closed_gate ∷ []) file within);
+  closed = get_or_drop gate (with_piece gate (closed_gate ∷ []) file) ∙ first_of _ closed_gate (drop (gate + 1) file) (piece_after gate (closed_gate ∷ []) file within);
   long = piece_long gate (closed_gate ∷ []) file within;
 }
 
@@ -165,7 +165,7 @@ pub idle_once_spoiled : (summed : Bool) (gate : ℕ) (file : List ℕ) → gate 
 idle_once_spoiled summed gate file stands small =
     let spoiled = with_piece (gate + 1) unending file in
     let long : length spoiled ≡ max (length file) (gate + 1 + 4) = piece_long (gate + 1) unending file (omega arith) in
-    idle_by_length summed gate spoiled (omega (arith, long)) (omega (arith, long)) (ap (take 4) (piece_behind (gate + 1) unending file (omega arith)))
+    idle_by_length summed gate spoiled (omega (arith, long)) (omega (arith, long)) (ap (take 4) (piece_after (gate + 1) unending file (omega arith)))
 
 -- what still ends there ends there in the file from before, too
 pub ends_as_before : (summed : Bool) (gate : ℕ) (file left : List ℕ) → gate + 5 ≤ length file → StillEnds summed gate (with_piece (gate + 1) unending file) left → StillEnds summed gate file left

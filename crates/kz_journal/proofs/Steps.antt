@@ -12,7 +12,7 @@ use Rattle.kz_journal.specs.Nexts.{IsAllRead, SaysTheSame, IsReadPast, IsReadWho
 use Rattle.kz_journal.proofs.Files.{shut}
 use Rattle.kz_journal.proofs.Shutting.{from_place}
 
--- a file is its front, and what stands behind it
+-- a file is its front, and what stands after it
 pub in_two : (gate : ℕ) (file : List ℕ) → file ≡ take gate file ++ drop gate file
 in_two gate file = sym (take-append-drop gate file)
 

@@ -16,7 +16,7 @@ IsIdle summed gate file = (left : List ℕ) → Torn gate 1 file left → found_
 abbrev pub unending : List ℕ
 unending = 0xFF ∷ 0xFF ∷ 0xFF ∷ 0xFE ∷ []
 
--- The file that is told now has a closed gate at this place, behind the same bytes.
+-- The file that is told now has a closed gate at this place, after the same bytes.
 pub record IsClosed (gate : ℕ) (file : List ℕ) (told : Option (List ℕ)) : Type 0 where
   pub new : List ℕ
   pub is : told ≡ Some new

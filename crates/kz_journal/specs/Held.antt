@@ -61,7 +61,7 @@ pub record IsMade {D : Type 0} {disk : _} (letter : ℕ) (j : Journal D disk) (n
 -- ---- the next frame
 
 -- What the call for the next frame answers, by what was still to be read of a file. Where no frame is left, the file may have been
--- changed behind the last one, and still says the same.
+-- changed after the last one, and still says the same.
 abbrev pub AnswersNext : {D : Type 0} {disk : _} → List ℕ → Journal D disk → Result (Option Frame) JournalFault → Journal D disk → Option (List ℕ) → Type 0
 AnswersNext file old (Ok (Some frame)) new told = (told ≡ Some file) × (unread old file ≡ after_frame (record { at = frame.at; payload = frame.payload }) (unread new file))
 AnswersNext file old (Ok None) new told = IsAllRead (unread old file) × SaysTheSame (letter_of old) file told (file_at new.place)

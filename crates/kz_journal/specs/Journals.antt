@@ -5,7 +5,7 @@ use Rattle.kz_types.specs.Causes.{Rose}
 use Rattle.kz_spec_stores.specs.Requests.{Disk, StoreFile, Fits}
 use Rattle.kz_spec_files.specs.Frames.{Journal, closed_gate, size_before, journal_from, journal_of, journal_with_frame, journal_with_seal}
 use Rattle.kz_laws_files.specs.Fronts.{IsFront}
-use Rattle.kz_journal.specs.Appends.{gate_behind}
+use Rattle.kz_journal.specs.Appends.{next_gate_of}
 use Rattle.kz_journal.specs.Pieces.{IsMeasured}
 use Rattle.kz_journal.specs.declared.append.AppendFault.{AppendFault}
 use Rattle.kz_journal.specs.declared.append.AppendFault.TheVariants as append_fault
@@ -30,7 +30,7 @@ HasClosedGate place file = slice_index file place.gate ≡ closed_gate
 
 -- ---- the file, as stores tell it
 
--- A file that has been read up to a closed gate. The next frame is written behind this gate: as many bytes beside its payload as
+-- A file that has been read up to a closed gate. The next frame is written after this gate: as many bytes beside its payload as
 -- a frame has before it, since a frame's own gate is written already, and the next gate is written with it.
 abbrev pub file_at : Place → StoreFile
 file_at place = record { length = place.length; end = place.gate + 1; around = size_before place.summed }
@@ -59,8 +59,8 @@ IsFull (Some file) told = (told ≡ min file.length (2 ^ 64 - 1)) × (MAX_FILE_B
 
 -- The place of the gate after a frame with this payload.
 pub record IsNext (place : Place) (payload : List ℕ) (next : Place) : Type 0 where
-  pub gate_is : next.gate ≡ gate_behind place.gate place.summed payload
-  pub long : next.length ≡ max place.length (gate_behind place.gate place.summed payload + 1)
+  pub gate_is : next.gate ≡ next_gate_of place.gate place.summed payload
+  pub long : next.length ≡ max place.length (next_gate_of place.gate place.summed payload + 1)
   pub sums : next.summed ≡ place.summed
 
 -- The file that is told now has one frame more, at this place.

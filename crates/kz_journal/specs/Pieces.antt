@@ -16,18 +16,18 @@ found_of piece.End = End
 abbrev pub StandsAt : Bool → ℕ → List ℕ → Piece → Type 0
 StandsAt summed gate file found = found_of found ≡ found_at summed (take gate file) (drop gate file)
 
--- The gate is open, and these are the bytes of length behind it.
+-- The gate is open, and these are the bytes of length after it.
 pub record IsOpenHead (size here : List ℕ) : Type 0 where
   pub gate : is_open here ≡ true
   pub is_size : take 4 (drop 1 here) ≡ size
   pub long : 5 ≤ length here
 
 -- the sum of all bytes up to the next gate, of a frame that has no sum of its own
-abbrev pub IsSumBehind : ℕ → List ℕ → Piece → Type 0
-IsSumBehind gate file (piece.Frame payload sum) = sum ≡ crc32c (take (gate + 5 + length payload.items) file)
-IsSumBehind gate file piece.Seal = ⊤
-IsSumBehind gate file piece.Damaged = ⊤
-IsSumBehind gate file piece.End = ⊤
+abbrev pub IsSumAfter : ℕ → List ℕ → Piece → Type 0
+IsSumAfter gate file (piece.Frame payload sum) = sum ≡ crc32c (take (gate + 5 + length payload.items) file)
+IsSumAfter gate file piece.Seal = ⊤
+IsSumAfter gate file piece.Damaged = ⊤
+IsSumAfter gate file piece.End = ⊤
 
 -- The file has this length; and this is the sum of all bytes before the gate, where a frame there has none.
 pub record IsMeasured (place : Place) (file : List ℕ) : Type 0 where

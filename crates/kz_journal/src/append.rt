@@ -6,7 +6,7 @@ ghost use Rattle.kz_spec_stores.specs.Requests.{file_with};
 ghost use Rattle.kz_spec_files.specs.Frames.{journal_of, frame_written, open_gate, size_before, LeftByAppend};
 ghost use Rattle.kz_journal.specs.Journals.{IsReadTo, HasClosedGate, HasNewFrame, IsNext, EndsAppend, IfNotCalled, disk_at};
 
-use crate::find::sum_behind;
+use crate::find::sum_after;
 use crate::frame::{FrameFault, append_frame};
 use crate::place::Place;
 use kz_disk::Disk;
@@ -24,8 +24,8 @@ pub(crate) enum AppendFault {
     NoMemory,
 }
 
-// Where the next gate would end behind a frame of so many bytes of payload, or the greatest number of 64 bits.
-fn end_behind(place: Place, len: usize) -> u64
+// Where the next gate would end after a frame of so many bytes of payload, or the greatest number of 64 bits.
+fn next_end(place: Place, len: usize) -> u64
     ensures { result ≡ min (place.gate + 1 + (len + size_before place.summed)) (2 ^ 64 - 1) }
 {
     let end = place.gate.saturating_add(len as u64);
@@ -36,8 +36,8 @@ fn end_behind(place: Place, len: usize) -> u64
     }
 }
 
-// The place behind a frame, in a file that is so long then.
-fn place_behind(place: Place, payload: &[u8], new_length: u64) -> Place
+// The place after a frame, in a file that is so long then.
+fn place_after(place: Place, payload: &[u8], new_length: u64) -> Place
     requires fits { place.gate + length payload.now < 2 ^ 32 }
     requires long { new_length ≡ max place.length (place.gate + 1 + (length payload.now + size_before place.summed)) }
     ensures next { IsNext place payload.now result }
@@ -55,12 +55,12 @@ fn place_behind(place: Place, payload: &[u8], new_length: u64) -> Place
     Place {
         gate: place.gate + 5 + len,
         length: new_length,
-        sum: sum_behind(place.sum, size, payload),
+        sum: sum_after(place.sum, size, payload),
         ..place
     }
 }
 
-/// Appends a frame behind the closed gate at a place, and answers the next place.
+/// Appends a frame after the closed gate at a place, and answers the next place.
 pub(crate) fn append_at<D: Disk>(
     alloc: Global,
     disk: &mut D,
@@ -80,12 +80,12 @@ pub(crate) fn append_at<D: Disk>(
     ensures answer { EndsAppend (file_with (length payload.now) (disk_at 0 false place)) result (D.faults disk.old) (D.faults disk.new) (D.last_failed disk.new) }
     ensures untouched { IfNotCalled result (disk.new ≡ disk.old) }
 {
-    let new_length = place.length.max(end_behind(place, payload.len()));
+    let new_length = place.length.max(next_end(place, payload.len()));
     if new_length > MAX_FILE_BYTES {
         return Err(AppendFault::Full { length: new_length });
     }
     match append_frame(alloc, disk, place.gate, place.summed, payload) {
-        Ok(()) => Ok(place_behind(place, payload, new_length)),
+        Ok(()) => Ok(place_after(place, payload, new_length)),
         Err(FrameFault::NoMemory) => Err(AppendFault::NoMemory),
         Err(FrameFault::Failed) => Err(AppendFault::Failed),
     }

@@ -44,7 +44,7 @@ fn shut<D: Disk>(disk: &mut D, gate: u64) -> Result<(), Failed>
     write_durably(disk, gate, &[CLOSED_GATE])
 }
 
-// Writes a length that no frame has behind a gate that isn't open.
+// Writes a length that no frame has after a gate that isn't open.
 fn spoil<D: Disk>(disk: &mut D, gate: u64) -> Result<(), Failed>
     requires within { IsWithin (D.told disk.old) (gate + 5) }
     requires fits { gate + 5 < 2 ^ 64 }
@@ -60,7 +60,7 @@ fn spoil<D: Disk>(disk: &mut D, gate: u64) -> Result<(), Failed>
     write_durably(disk, gate + 1, &[0xFF, 0xFF, 0xFF, 0xFE])
 }
 
-// The same for a gate that isn't open and behind which a frame could stand.
+// The same for a gate that isn't open and after which a frame could stand.
 fn spoil_and_shut<D: Disk>(disk: &mut D, gate: u64) -> Result<(), Failed>
     requires within { IsWithin (D.told disk.old) (gate + 5) }
     requires fits { gate + 5 < 2 ^ 64 }

@@ -35,20 +35,20 @@ pub(crate) fn write_durably<D: Disk>(disk: &mut D, at: u64, piece: &[u8]) -> Res
     Ok(())
 }
 
-/// Writes bytes behind a closed gate, and then opens the gate: the bytes outlive a stop before the gate is touched.
-pub(crate) fn write_behind<D: Disk>(disk: &mut D, gate: u64, behind: &[u8]) -> Result<(), Failed>
+/// Writes bytes after a closed gate, and then opens the gate: the bytes outlive a stop before the gate is touched.
+pub(crate) fn write_after<D: Disk>(disk: &mut D, gate: u64, piece: &[u8]) -> Result<(), Failed>
     requires within { IsWithin (D.told disk.old) (gate + 1) }
-    requires fits { gate + 1 + length behind.now < 2 ^ 64 }
+    requires fits { gate + 1 + length piece.now < 2 ^ 64 }
     requires settled { NothingPends (D.told disk.old) (D.may_leave disk.old) }
-    ensures written { OnOk result (D.told disk.new ≡ option_map (with_open_gate gate behind.now) (D.told disk.old)) }
+    ensures written { OnOk result (D.told disk.new ≡ option_map (with_open_gate gate piece.now) (D.told disk.old)) }
     ensures told { StaysTold (D.told disk.old) (D.told disk.new) }
     ensures durable { OnOk result (NothingPends (D.told disk.new) (D.may_leave disk.new)) }
     ensures any_moment { (file : List ℕ) → D.told disk.old ≡ Some file
-        → LeavesOnly D.moment D.left_since disk.old disk.new (IsCutAppend gate behind.now file) }
+        → LeavesOnly D.moment D.left_since disk.old disk.new (IsCutAppend gate piece.now file) }
     ensures cause { HasCause (D.faults disk.old) (D.faults disk.new) result }
     ensures failed { OnErr result (D.last_failed disk.new ≡ true) }
 {
-    let Ok(()) = write_durably(disk, gate + 1, behind) else {
+    let Ok(()) = write_durably(disk, gate + 1, piece) else {
         return Err(Failed);
     };
     let Ok(()) = write_durably(disk, gate, &[OPEN_GATE]) else {

@@ -6,7 +6,7 @@ ghost use Rattle.kz_disk.specs.Disks.{IsWithin};
 ghost use Rattle.kz_spec_values.specs.Checksum.{crc32c};
 ghost use Rattle.kz_spec_files.specs.Frames.{open_gate, seal_mark};
 ghost use Rattle.kz_journal.specs.Reads.{OnlyReads, ReadCause};
-ghost use Rattle.kz_journal.specs.Pieces.{StandsAt, IsOpenHead, IsSumBehind, IsMeasured, IsRoomFor};
+ghost use Rattle.kz_journal.specs.Pieces.{StandsAt, IsOpenHead, IsSumAfter, IsMeasured, IsRoomFor};
 
 use crate::device::OPEN_GATE;
 use crate::place::Place;
@@ -20,7 +20,7 @@ use std::alloc::Global;
 const SEAL_MARK: u32 = 0xFFFFFFFF;
 
 // The sum of some bytes followed by a frame that has no sum of its own.
-pub(crate) fn sum_behind(sum: u32, size: [u8; 4], payload: &[u8]) -> u32
+pub(crate) fn sum_after(sum: u32, size: [u8; 4], payload: &[u8]) -> u32
     ensures { (front : List ℕ) → sum ≡ crc32c front → result ≡ crc32c (front ++ open_gate ∷ (size ++ payload.now)) }
 {
     crc32c_add(crc32c_add(crc32c_add(sum, &[OPEN_GATE]), &size), payload)
@@ -33,7 +33,7 @@ fn find_seal<D: Disk>(disk: &mut D, place: Place, size: [u8; 4]) -> Result<Piece
     requires within { IsWithin (D.told disk.old) place.length }
     ensures found { IfOk result (λ piece. (file : List ℕ) → D.told disk.old ≡ Some file → IsMeasured place file → IsOpenHead size (drop place.gate file)
         → from_be_bytes w32 size ≡ seal_mark → StandsAt false place.gate file piece) }
-    ensures no_frame { IfOk result (λ piece. (file : List ℕ) → IsSumBehind place.gate file piece) }
+    ensures no_frame { IfOk result (λ piece. (file : List ℕ) → IsSumAfter place.gate file piece) }
     ensures fits { IfOk result (IsRoomFor place) }
     ensures reads { OnlyReads D.told D.may_leave D.moment D.left_since disk.old disk.new }
     ensures cause { HasCause (D.faults disk.old) (D.faults disk.new) result }
@@ -67,7 +67,7 @@ fn find_plain<D: Disk>(
     ensures found { IfOk result (λ piece. (file : List ℕ) → D.told disk.old ≡ Some file → IsMeasured place file → IsOpenHead size (drop place.gate file)
         → StandsAt false place.gate file piece) }
     ensures sum { IfOk result (λ piece. (file : List ℕ) → D.told disk.old ≡ Some file → IsMeasured place file → IsOpenHead size (drop place.gate file)
-        → IsSumBehind place.gate file piece) }
+        → IsSumAfter place.gate file piece) }
     ensures fits { IfOk result (IsRoomFor place) }
     ensures reads { OnlyReads D.told D.may_leave D.moment D.left_since disk.old disk.new }
     ensures cause { ReadCause (D.faults disk.old) (D.faults disk.new) (D.last_failed disk.new) result }
@@ -84,7 +84,7 @@ fn find_plain<D: Disk>(
     }
     match read_payload(alloc, disk, place.gate, 5, len) {
         Ok(payload) => {
-            let sum = sum_behind(place.sum, size, &payload);
+            let sum = sum_after(place.sum, size, &payload);
             Ok(Piece::Frame { payload, sum })
         }
         Err(fault) => Err(fault),
@@ -132,7 +132,7 @@ pub(crate) fn find<D: Disk>(alloc: Global, disk: &mut D, place: Place) -> Result
     requires within { IsWithin (D.told disk.old) place.length }
     ensures found { IfOk result (λ piece. (file : List ℕ) → D.told disk.old ≡ Some file → IsMeasured place file → StandsAt place.summed place.gate file piece) }
     ensures sum { IfOk result (λ piece. (file : List ℕ) → D.told disk.old ≡ Some file → IsMeasured place file → place.summed ≡ false
-        → IsSumBehind place.gate file piece) }
+        → IsSumAfter place.gate file piece) }
     ensures fits { IfOk result (IsRoomFor place) }
     ensures reads { OnlyReads D.told D.may_leave D.moment D.left_since disk.old disk.new }
     ensures cause { ReadCause (D.faults disk.old) (D.faults disk.new) (D.last_failed disk.new) result }

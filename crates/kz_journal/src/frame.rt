@@ -1,12 +1,12 @@
-//! One more frame behind a closed gate.
+//! One more frame after a closed gate.
 ghost use Rattle.std.specs.Prelude.{◌≡◌, ◌+◌, ◌^◌, ◌<◌, ℕ, List, Some, true, false, length, IfOk, OnOk, IsErrOf};
 ghost use Rattle.kz_types.specs.Causes.{Rose};
 ghost use Rattle.kz_disk.specs.Disks.{StaysTold, IsWithin, NothingPends, LeavesOnly};
 ghost use Rattle.kz_spec_files.specs.Frames.{journal_of, LeftByAppend};
 ghost use Rattle.kz_laws_files.specs.Fronts.{sum_of};
-ghost use Rattle.kz_journal.specs.Appends.{behind_gate, IsResting, IsAppended};
+ghost use Rattle.kz_journal.specs.Appends.{after_gate, IsResting, IsAppended};
 
-use crate::device::{CLOSED_GATE, write_behind};
+use crate::device::{CLOSED_GATE, write_after};
 use kz_crc::{crc32c, crc32c_add};
 use kz_disk::Disk;
 use kz_types::NoMemory;
@@ -29,9 +29,9 @@ fn frame_sum(len: u32, payload: &[u8]) -> u32
     crc32c_add(crc32c(&len.to_be_bytes()), payload)
 }
 
-fn behind_plain(alloc: Global, payload: &[u8]) -> Result<Vec<u8>, NoMemory>
+fn plain_bytes(alloc: Global, payload: &[u8]) -> Result<Vec<u8>, NoMemory>
     requires { length payload.now < 2 ^ 31 }
-    ensures { IfOk result (λ bytes. bytes.items ≡ behind_gate false payload.now) }
+    ensures { IfOk result (λ bytes. bytes.items ≡ after_gate false payload.now) }
 {
     let len = payload.len() as u32;
     let mut bytes = Vec::with_capacity(alloc, payload.len() + 5)?;
@@ -41,9 +41,9 @@ fn behind_plain(alloc: Global, payload: &[u8]) -> Result<Vec<u8>, NoMemory>
     Ok(bytes)
 }
 
-fn behind_summed(alloc: Global, payload: &[u8]) -> Result<Vec<u8>, NoMemory>
+fn summed_bytes(alloc: Global, payload: &[u8]) -> Result<Vec<u8>, NoMemory>
     requires { length payload.now < 2 ^ 31 }
-    ensures bytes { IfOk result (λ bytes. bytes.items ≡ behind_gate true payload.now) }
+    ensures bytes { IfOk result (λ bytes. bytes.items ≡ after_gate true payload.now) }
     ensures sum { OnOk result (sum_of payload.now < 2 ^ 32) }
 {
     let len = payload.len() as u32;
@@ -56,20 +56,20 @@ fn behind_summed(alloc: Global, payload: &[u8]) -> Result<Vec<u8>, NoMemory>
     Ok(bytes)
 }
 
-// What is written behind the gate of a frame.
-fn behind(alloc: Global, summed: bool, payload: &[u8]) -> Result<Vec<u8>, NoMemory>
+// What is written after the gate of a frame.
+fn frame_bytes(alloc: Global, summed: bool, payload: &[u8]) -> Result<Vec<u8>, NoMemory>
     requires { length payload.now < 2 ^ 31 }
-    ensures bytes { IfOk result (λ bytes. bytes.items ≡ behind_gate summed payload.now) }
+    ensures bytes { IfOk result (λ bytes. bytes.items ≡ after_gate summed payload.now) }
     ensures sum { OnOk result (summed ≡ true → sum_of payload.now < 2 ^ 32) }
 {
     if summed {
-        behind_summed(alloc, payload)
+        summed_bytes(alloc, payload)
     } else {
-        behind_plain(alloc, payload)
+        plain_bytes(alloc, payload)
     }
 }
 
-/// Appends a frame behind the closed gate at this place, with a sum or without, and syncs it. A stop at any moment of the call
+/// Appends a frame after the closed gate at this place, with a sum or without, and syncs it. A stop at any moment of the call
 /// leaves the frames from before it, or these and the new one whole.
 ///
 /// `Failed`: the disk's count of faults rose in this call. `NoMemory`: nothing was called.
@@ -93,10 +93,10 @@ pub(crate) fn append_frame<D: Disk>(
     ensures calm { (IsErrOf result FrameFault.Failed → ⊥) → D.faults disk.new ≡ D.faults disk.old }
     ensures untouched { IsErrOf result FrameFault.NoMemory → disk.new ≡ disk.old }
 {
-    let Ok(bytes) = behind(alloc, summed, payload) else {
+    let Ok(bytes) = frame_bytes(alloc, summed, payload) else {
         return Err(FrameFault::NoMemory);
     };
-    match write_behind(disk, gate, &bytes) {
+    match write_after(disk, gate, &bytes) {
         Ok(()) => Ok(()),
         Err(_) => Err(FrameFault::Failed),
     }

@@ -1,6 +1,6 @@
 //! Frames of a journal on a disk.
 //!
-//! A frame counts from the moment at which its gate is open on the disk. All that stands behind the gate is written and synced
+//! A frame counts from the moment at which its gate is open on the disk. All that stands after the gate is written and synced
 //! before the gate is touched, so a stop at any moment leaves the frames from before an append, or these and the new one whole.
 #![tactic(auto)]
 

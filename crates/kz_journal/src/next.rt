@@ -3,13 +3,13 @@ ghost use Rattle.std.specs.Prelude.{◌≡◌, ◌+◌, ◌^◌, ◌<◌, ◌≤
 ghost use Rattle.kz_disk.specs.Disks.{StaysTold, IsWithin, NothingPends, LeavesOnly};
 ghost use Rattle.kz_spec_files.specs.Frames.{journal_of};
 ghost use Rattle.kz_journal.specs.Reads.{OnlyReads, ReadCause};
-ghost use Rattle.kz_journal.specs.Pieces.{StandsAt, IsSumBehind, IsMeasured, IsRoomFor, IsNoSeal};
+ghost use Rattle.kz_journal.specs.Pieces.{StandsAt, IsSumAfter, IsMeasured, IsRoomFor, IsNoSeal};
 ghost use Rattle.kz_journal.specs.Journals.{IsReadTo, journal_at};
 ghost use Rattle.kz_journal.specs.Nexts.{ComesNext, IsInRange, UnlessFailed, IfNoMemory};
 
 use crate::close::close;
 use crate::find::find;
-use crate::place::{Place, behind_frame, with_gate};
+use crate::place::{Place, past_frame, with_gate};
 use crate::read::{Piece, ReadFault};
 use bytes::Bytes;
 use kz_disk::Disk;
@@ -34,8 +34,8 @@ pub(crate) enum Next {
     },
 }
 
-// What stands at the gate behind a seal.
-fn find_behind_seal<D: Disk>(
+// What stands at the gate after a seal.
+fn find_after_seal<D: Disk>(
     alloc: Global,
     disk: &mut D,
     place: Place,
@@ -71,7 +71,7 @@ fn find_past_seal<D: Disk>(
     ensures piece { IfOk result (λ found. (letter : ℕ) (file : List ℕ) → D.told disk.old ≡ Some file → IsReadTo letter place file
         → StandsAt found.0.summed found.0.gate file found.1) }
     ensures sum { IfOk result (λ found. (letter : ℕ) (file : List ℕ) → D.told disk.old ≡ Some file → IsReadTo letter place file → found.0.summed ≡ false
-        → IsSumBehind found.0.gate file found.1) }
+        → IsSumAfter found.0.gate file found.1) }
     ensures fits { IfOk result (λ found. (found.0.length ≡ place.length) × (found.0.gate ≤ place.length) × IsRoomFor found.0 found.1 × IsNoSeal found.1) }
     ensures reads { OnlyReads D.told D.may_leave D.moment D.left_since disk.old disk.new }
     ensures cause { ReadCause (D.faults disk.old) (D.faults disk.new) (D.last_failed disk.new) result }
@@ -79,12 +79,12 @@ fn find_past_seal<D: Disk>(
     match find(alloc, disk, place) {
         Ok(Piece::Frame { payload, sum }) => Ok((place, Piece::Frame { payload, sum })),
         Ok(Piece::Seal) => {
-            let behind = Place {
+            let after = Place {
                 gate: place.gate + 9,
                 summed: true,
                 ..place
             };
-            find_behind_seal(alloc, disk, behind)
+            find_after_seal(alloc, disk, after)
         }
         Ok(Piece::Damaged) => Ok((place, Piece::Damaged)),
         Ok(Piece::End) => Ok((place, Piece::End)),
@@ -140,7 +140,7 @@ pub(crate) fn next_at<D: Disk>(alloc: Global, disk: &mut D, place: Place) -> Res
     };
     match piece {
         Piece::Frame { payload, sum } => {
-            let further = behind_frame(here, &payload, sum);
+            let further = past_frame(here, &payload, sum);
             match Bytes::from_vec(payload) {
                 Ok(payload) => Ok(Next::Frame {
                     at: here.gate,

@@ -77,7 +77,7 @@ fn read_header<D: Disk>(disk: &mut D) -> Result<[u8; 16], Failed>
     }
 }
 
-// The place behind a header in a file that is so long, or none where it isn't a header of this letter.
+// The place after a header in a file that is so long, or none where it isn't a header of this letter.
 fn place_of(letter: u8, long: u64, header: [u8; 16]) -> Option<Place>
     ensures read { IfSome result (λ place. (file : List ℕ) → long ≡ length file → header ≡ take 16 file
         → IsReadTo letter place file × (journal_at place file ≡ journal_of letter file)) }
@@ -103,7 +103,7 @@ fn place_of(letter: u8, long: u64, header: [u8; 16]) -> Option<Place>
     None
 }
 
-/// Opens a file as a journal of a letter, and answers the place behind its header.
+/// Opens a file as a journal of a letter, and answers the place after its header.
 pub(crate) fn open_at<D: Disk>(disk: &mut D, letter: u8) -> Result<Place, JournalFault>
     ensures read { IfOk result (λ place. (file : List ℕ) → D.told disk.old ≡ Some file
         → IsReadTo letter place file × (journal_at place file ≡ journal_of letter file)) }

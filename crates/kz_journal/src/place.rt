@@ -15,8 +15,8 @@ pub(crate) struct Place {
     pub(crate) sum: u32,
 }
 
-/// The place behind a frame with this payload. The sum is that of all bytes before it, where the frame has none.
-pub(crate) fn behind_frame(place: Place, payload: &[u8], sum: u32) -> Place
+/// The place after a frame with this payload. The sum is that of all bytes before it, where the frame has none.
+pub(crate) fn past_frame(place: Place, payload: &[u8], sum: u32) -> Place
     requires room { place.gate + size_before place.summed + length payload.now ≤ place.length }
     ensures gate { result.gate ≡ place.gate + size_before place.summed + length payload.now }
     ensures sum { result.sum ≡ sum }

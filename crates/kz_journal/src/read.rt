@@ -64,7 +64,7 @@ pub(crate) fn read_sum<D: Disk>(disk: &mut D, gate: u64) -> Result<u32, Failed>
     }
 }
 
-// So many bytes, so far behind a gate.
+// So many bytes, so far after a gate.
 pub(crate) fn read_payload<D: Disk>(
     alloc: Global,
     disk: &mut D,

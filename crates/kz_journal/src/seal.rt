@@ -5,7 +5,7 @@ ghost use Rattle.kz_spec_values.specs.Checksum.{crc32c};
 ghost use Rattle.kz_spec_files.specs.Frames.{journal_of, seal_written, closed_gate, LeftBySeal};
 ghost use Rattle.kz_journal.specs.Journals.{IsReadTo, HasClosedGate, HasNewSeal, EndsSeal, IfNotSealed, file_at, with_seal};
 
-use crate::device::{CLOSED_GATE, write_behind};
+use crate::device::{CLOSED_GATE, write_after};
 use crate::place::Place;
 use kz_disk::Disk;
 use kz_types::MAX_FILE_BYTES;
@@ -19,8 +19,8 @@ pub(crate) enum SealFault {
     Full { length: u64 },
 }
 
-// What is written behind the gate of a seal: the seal, and a closed gate.
-fn behind_seal(sum: u32) -> [u8; 9]
+// What is written after the gate of a seal: the seal, and a closed gate.
+fn seal_bytes(sum: u32) -> [u8; 9]
     ensures bytes { (front : List ℕ) → sum ≡ crc32c front → result ≡ seal_written front ++ closed_gate ∷ [] }
     ensures fits { sum < 2 ^ 32 }
 {
@@ -38,7 +38,7 @@ fn behind_seal(sum: u32) -> [u8; 9]
     ]
 }
 
-/// Appends a seal behind the closed gate at a place, and answers the next place.
+/// Appends a seal after the closed gate at a place, and answers the next place.
 pub(crate) fn seal_at<D: Disk>(disk: &mut D, place: Place) -> Result<Place, SealFault>
     requires plain { place.summed ≡ false }
     requires stands { place.gate < place.length }
@@ -60,8 +60,8 @@ pub(crate) fn seal_at<D: Disk>(disk: &mut D, place: Place) -> Result<Place, Seal
     if new_length > MAX_FILE_BYTES {
         return Err(SealFault::Full { length: new_length });
     }
-    let bytes = behind_seal(place.sum);
-    match write_behind(disk, place.gate, &bytes) {
+    let bytes = seal_bytes(place.sum);
+    match write_after(disk, place.gate, &bytes) {
         Ok(()) => Ok(Place {
             gate: place.gate + 9,
             summed: true,

@@ -35,6 +35,6 @@ returns-in-Ok-read_payload-clause-found g c = λ file told measured head.
 
 pub returns-in-Ok-read_payload-clause-sum : goal.returns-in-Ok-read_payload-clause-sum
 returns-in-Ok-read_payload-clause-sum g c = λ file told measured head.
-    c.sum_behind-sum.ensures (take c.args.place.gate file) (measured.sum c.requires.plain)
+    c.sum_after-sum.ensures (take c.args.place.gate file) (measured.sum c.requires.plain)
     ∙ ap (λ (p : List ℕ). crc32c (take c.args.place.gate file ++ open_gate ∷ (c.args.size ++ p))) c.deref.ensures.value
     ∙ ap crc32c (sym (plain_bytes c.args.place.gate c.from_be_bytes-len.result file c.args.size c.in-Ok-read_payload.payload.items head (sym c.in-Ok-read_payload.ensures.long) (c.in-Ok-read_payload.ensures.bytes file told)))

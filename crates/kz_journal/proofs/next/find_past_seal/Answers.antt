@@ -9,12 +9,12 @@ use Rattle.kz_journal.proofs.next.find_past_seal.Goals as goal
 
 pub returns-in-Ok-Seal-clause-read : goal.returns-in-Ok-Seal-clause-read
 returns-in-Ok-Seal-clause-read g c =
-    let behind : Place = record { gate = c.args.place.gate + 9; summed = true; length = c.args.place.length; sum = c.args.place.sum } in
-    IfOk-weaker c.find_behind_seal.result (λ found. found.0 ≡ behind) _
+    let after : Place = record { gate = c.args.place.gate + 9; summed = true; length = c.args.place.length; sum = c.args.place.sum } in
+    IfOk-weaker c.find_after_seal.result (λ found. found.0 ≡ after) _
     (λ found is letter file told read.
     let seal : Seal ≡ found_at c.args.place.summed (take c.args.place.gate file) (drop c.args.place.gate file) = subst (StandsAt c.args.place.summed c.args.place.gate file) c.in-Ok-Seal.field-0-is (c.in-Ok-Seal.ensures.found file told read.measured) in
     subst (λ (p : Place). IsReadTo letter p file × (journal_at c.args.place file ≡ journal_at p file)) (sym is) (
-      read_past_seal letter c.args.place file read c.requires.room behind seal refl refl refl,
-      unread_seal letter c.args.place file read c.requires.room behind seal refl refl,
+      read_past_seal letter c.args.place file read c.requires.room after seal refl refl refl,
+      unread_seal letter c.args.place file read c.requires.room after seal refl refl,
     ))
-    c.find_behind_seal.ensures.place
+    c.find_after_seal.ensures.place

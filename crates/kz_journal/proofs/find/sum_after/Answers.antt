@@ -1,7 +1,7 @@
 use Rattle.std.proofs.Common.{[], ◌∷◌, ◌++◌, ap, ◌∙◌, append_assoc}
 use Rattle.kz_spec_values.specs.Checksum.{crc32c}
 use Rattle.kz_spec_files.specs.Frames.{open_gate}
-use Rattle.kz_journal.proofs.find.sum_behind.Goals as goal
+use Rattle.kz_journal.proofs.find.sum_after.Goals as goal
 
 pub returns : goal.returns
 returns c = λ front is.
