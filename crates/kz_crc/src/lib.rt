@@ -1,7 +1,7 @@
 //! The checksum CRC-32C.
 #![tactic(auto)]
 
-ghost use Rattle.std.specs.Prelude.{◌≡◌, ℕ, List, ◌∷◌};
+ghost use Rattle.std.specs.Prelude.{◌≡◌, ℕ, List, ◌∷◌, ◌++◌};
 ghost use Rattle.kz_spec_values.specs.Checksum.{crc32c, after_bits, after_bytes};
 
 mod tables;
@@ -33,12 +33,11 @@ fn with_eight(state: u32, a: u8, b: u8, c: u8, d: u8, e: u8, f: u8, g: u8, h: u8
         ^ after_one(h)
 }
 
-/// The CRC-32C (Castagnoli) of these bytes, as iSCSI (RFC 3720) and Kafka's record batches have it: the reflected
-/// polynomial 82F63B78, from all ones on, with all bits turned at the end.
-pub fn crc32c(bytes: &[u8]) -> u32
-    ensures { result ≡ crc32c bytes.now }
+// The state after these bytes.
+fn with_bytes(start: u32, bytes: &[u8]) -> u32
+    ensures { result ≡ after_bytes start bytes.now }
 {
-    let mut state: u32 = 0xFFFFFFFF;
+    let mut state = start;
     let mut left = bytes;
     while let [a, b, c, d, e, f, g, h, rest @ ..] = left {
         state = with_eight(state, *a, *b, *c, *d, *e, *f, *g, *h);
@@ -47,7 +46,22 @@ pub fn crc32c(bytes: &[u8]) -> u32
     for byte in left {
         state = with_byte(state, *byte);
     }
-    state ^ 0xFFFFFFFF
+    state
+}
+
+/// The CRC-32C (Castagnoli) of these bytes, as iSCSI (RFC 3720) and Kafka's record batches have it: the reflected
+/// polynomial 82F63B78, from all ones on, with all bits turned at the end.
+pub fn crc32c(bytes: &[u8]) -> u32
+    ensures { result ≡ crc32c bytes.now }
+{
+    with_bytes(0xFFFFFFFF, bytes) ^ 0xFFFFFFFF
+}
+
+/// The sum of some bytes followed by these, where the sum of those bytes is given.
+pub fn crc32c_add(sum: u32, bytes: &[u8]) -> u32
+    ensures { (front : List ℕ) → sum ≡ crc32c front → result ≡ crc32c (front ++ bytes.now) }
+{
+    with_bytes(sum ^ 0xFFFFFFFF, bytes) ^ 0xFFFFFFFF
 }
 
 #[cfg(test)]

@@ -37,3 +37,13 @@ fn every_remainder(rt: HostRuntime) -> Result<(), Fail> {
     assert_eq!(rt; crc32c(&bytes), plain(&bytes));
     Ok(())
 }
+
+// Bytes in two pieces, cut at each place, have the sum of the whole.
+#[test]
+fn sums_of_pieces(rt: HostRuntime) {
+    let bytes = b"The quick brown fox";
+    for at in 0..bytes.len() {
+        let front = crc32c(&bytes[..at]);
+        assert_eq!(rt; crc32c_add(front, &bytes[at..]), crc32c(bytes));
+    }
+}

@@ -1,0 +1,25 @@
+//! Frames of a journal on a disk.
+//!
+//! A frame counts from the moment at which its gate is open on the disk. All that stands after the gate is written and synced
+//! before the gate is touched, so a stop at any moment leaves the frames from before an append, or these and the new one whole.
+#![tactic(auto)]
+
+mod append;
+mod close;
+mod create;
+mod device;
+mod fault;
+mod find;
+mod frame;
+mod journal;
+mod next;
+mod open;
+mod place;
+mod read;
+mod seal;
+
+pub use fault::JournalFault;
+pub use journal::{Frame, Journal};
+
+#[cfg(test)]
+mod tests;

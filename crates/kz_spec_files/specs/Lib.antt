@@ -1,0 +1,5 @@
+pub mod Frames
+pub mod Transactions
+pub mod Loads
+pub mod TreeFile
+pub mod LogFile
