@@ -57,7 +57,7 @@ fn take_out(rt: &impl Abort, list: &mut Blocks<Item>, number: u32) {
 fn full_list(rt: &impl Abort, alloc: Global) -> Blocks<Item> {
     let mut list = Blocks::new(alloc);
     for number in 0..COUNT {
-        put(rt, &mut list, number * 7 % COUNT, 1);
+        put(rt, &mut list, number.wrapping_mul(7) % COUNT, 1);
     }
     list
 }
@@ -94,18 +94,18 @@ fn items_are_put_found_and_taken_out(rt: HostRuntime) {
     assert!(rt; list.len() == 1500);
     assert!(rt; value_of(&list, 0) == Some(1));
     assert!(rt; value_of(&list, 1499) == Some(1));
-    assert!(rt; value_of(&list, 1500) == None);
+    assert!(rt; value_of(&list, 1500).is_none());
     put(&rt, &mut list, 700, 2);
     take_out(&rt, &mut list, 1500);
     assert!(rt; list.len() == 1500);
     assert!(rt; value_of(&list, 700) == Some(2));
     for number in 0..COUNT {
         assert!(rt; !list.is_empty());
-        take_out(&rt, &mut list, number * 11 % COUNT);
+        take_out(&rt, &mut list, number.wrapping_mul(11) % COUNT);
     }
     assert!(rt; list.is_empty());
-    assert!(rt; number_of(list.first()) == None);
-    assert!(rt; number_of(list.last()) == None);
+    assert!(rt; list.first().is_none());
+    assert!(rt; list.last().is_none());
 }
 
 #[test]
@@ -118,12 +118,12 @@ fn a_change_of_a_copy_leaves_the_list(rt: HostRuntime) {
     assert!(rt; list.len() == 1500);
     assert!(rt; value_of(&list, 3) == Some(1));
     assert!(rt; value_of(&list, 900) == Some(1));
-    assert!(rt; value_of(&list, 2000) == None);
+    assert!(rt; value_of(&list, 2000).is_none());
     drop(list);
     assert!(rt; copy.len() == 1500);
     assert!(rt; value_of(&copy, 3) == Some(2));
     assert!(rt; value_of(&copy, 4) == Some(1));
-    assert!(rt; value_of(&copy, 900) == None);
+    assert!(rt; value_of(&copy, 900).is_none());
     assert!(rt; value_of(&copy, 2000) == Some(2));
 }
 
@@ -139,15 +139,27 @@ static NEXT: [(Option<u32>, Option<u32>); 5] = [
 // The number of the first item after a number, or of all items.
 fn next_number(list: &Blocks<Item>, after: Option<u32>) -> Option<u32> {
     match after {
-        Some(number) => number_of(list.next_after(Some(&key_of(number)))),
+        Some(number) => {
+            let key = key_of(number);
+            number_of(list.next_after(Some(key.as_slice())))
+        }
         None => number_of(list.next_after(None)),
+    }
+}
+
+// The number of the item at a place of a page.
+fn number_at(page: &[&Item], place: usize) -> Option<u32> {
+    match page.get(place) {
+        Some(item) => number_of(Some(*item)),
+        None => None,
     }
 }
 
 #[test]
 fn items_come_in_order(rt: HostRuntime) {
     let list = full_list(&rt, rt.alloc());
-    assert!(rt; are_from_to(&made(&rt, list.copies(rt.alloc())), 0, 1500));
+    let copies = made(&rt, list.copies(rt.alloc()));
+    assert!(rt; are_from_to(&copies, 0, 1500));
     assert!(rt; number_of(list.first()) == Some(0));
     assert!(rt; number_of(list.last()) == Some(1499));
     for (after, next) in &NEXT {
@@ -159,14 +171,16 @@ fn items_come_in_order(rt: HostRuntime) {
         next = next.wrapping_add(1);
     }
     assert!(rt; next == 1500);
+    let key = key_of(699);
     let mut next = 700u32;
-    for item in list.items_after(Some(&key_of(699))) {
+    for item in list.items_after(Some(key.as_slice())) {
         assert!(rt; number_of(Some(item)) == Some(next));
         next = next.wrapping_add(1);
     }
     assert!(rt; next == 1500);
-    let page = made(&rt, list.page(rt.alloc(), Some(&key_of(511)), 600));
+    let key = key_of(511);
+    let page = made(&rt, list.page(rt.alloc(), Some(key.as_slice()), 600));
     assert!(rt; page.len() == 600);
-    assert!(rt; number_of(page.first().copied()) == Some(512));
-    assert!(rt; number_of(page.last().copied()) == Some(1111));
+    assert!(rt; number_at(&page, 0) == Some(512));
+    assert!(rt; number_at(&page, 599) == Some(1111));
 }
