@@ -1,5 +1,5 @@
 -- What a file's first 16 bytes say.
-use Rattle.std.proofs.Common.{◌≡◌, ◌≢◌, inl, inr, ℕ, ◌<◌, Bool, true, false, List, [], length, take, get_or, refl, sym, ap, ◌∙◌, arith, length-take}
+use Rattle.std.proofs.Common.{◌≡◌, ◌≢◌, inl, inr, ℕ, ◌<◌, Bool, true, false, ◌||◌, List, [], length, take, get_or, refl, sym, ap, ◌∙◌, arith, length-take}
 use Rattle.std.specs.Prelude.{bytes_eq}
 use Rattle.std.proofs.lemmas.Bool.{cases_Bool}
 use Rattle.std.proofs.lemmas.Slice.Eq.{bytes_eq-Decides}
@@ -10,19 +10,33 @@ use Rattle.kz_laws_files.specs.Fronts.{IsFront}
 use Rattle.kz_laws_files.proofs.Found.{nothing_here}
 use Rattle.kz_laws_files.proofs.Fronts.{ends_here}
 use Rattle.kz_journal.specs.declared.place.Place.{Place}
-use Rattle.kz_journal.specs.Openings.{no_journal}
+use Rattle.kz_journal.specs.Openings.{no_journal, has_header, IsNoJournal}
 use Rattle.kz_journal.specs.Journals.{IsReadTo, journal_at}
 
--- another header
-pub no_header : (letter : ℕ) (file header : List ℕ) → header ≡ take 16 file → bytes_eq header (summed_header letter) ≡ false → bytes_eq header (plain_header letter) ≡ false → journal_of letter file ≡ no_journal
+-- a header of format 02, one of format 01, and another one
+pub new_header : (letter : ℕ) (file header : List ℕ) → header ≡ take 16 file → bytes_eq header (summed_header letter) ≡ true → has_header letter file ≡ true
+new_header letter file header is new =
+    (λ i. bytes_eq (sym is i) (summed_header letter) || bytes_eq (take 16 file) (plain_header letter)) ∙ (λ i. new i || bytes_eq (take 16 file) (plain_header letter))
+
+pub old_header : (letter : ℕ) (file header : List ℕ) → header ≡ take 16 file → bytes_eq header (summed_header letter) ≡ false → bytes_eq header (plain_header letter) ≡ true → has_header letter file ≡ true
+old_header letter file header is not_new old =
+    (λ i. bytes_eq (sym is i) (summed_header letter) || bytes_eq (sym is i) (plain_header letter)) ∙ (λ i. not_new i || old i)
+
+pub no_header : (letter : ℕ) (file header : List ℕ) → header ≡ take 16 file → bytes_eq header (summed_header letter) ≡ false → bytes_eq header (plain_header letter) ≡ false → IsNoJournal letter file
 unfolding journal_of
-no_header letter file header is not_new not_old =
-    let a : bytes_eq (take 16 file) (summed_header letter) ≡ false = ap (λ (h : List ℕ). bytes_eq h (summed_header letter)) (sym is) ∙ not_new in
-    let b : bytes_eq (take 16 file) (plain_header letter) ≡ false = ap (λ (h : List ℕ). bytes_eq h (plain_header letter)) (sym is) ∙ not_old in
-    rw (a, b) refl
+no_header letter file header is not_new not_old = (
+  (λ i. bytes_eq (sym is i) (summed_header letter) || bytes_eq (sym is i) (plain_header letter)) ∙ (λ i. not_new i || not_old i),
+  said,
+)
+  where
+    said : journal_of letter file ≡ no_journal
+    said =
+        let a : bytes_eq (take 16 file) (summed_header letter) ≡ false = ap (λ (h : List ℕ). bytes_eq h (summed_header letter)) (sym is) ∙ not_new in
+        let b : bytes_eq (take 16 file) (plain_header letter) ≡ false = ap (λ (h : List ℕ). bytes_eq h (plain_header letter)) (sym is) ∙ not_old in
+        rw (a, b) refl
 
 -- fewer bytes than a header
-pub short_file : (letter : ℕ) (file : List ℕ) → length file < 16 → journal_of letter file ≡ no_journal
+pub short_file : (letter : ℕ) (file : List ℕ) → length file < 16 → IsNoJournal letter file
 short_file letter file short = no_header letter file (take 16 file) refl (differs (take 16 file) (summed_header letter) refl few) (differs (take 16 file) (plain_header letter) refl few)
   where
     few : length (take 16 file) < 16

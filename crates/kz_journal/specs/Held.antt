@@ -1,5 +1,5 @@
 -- What a journal holds, and what its calls do.
-use Rattle.std.specs.Prelude.{◌≡◌, ℕ, Bool, true, false, ⊤, List, [], Option, Some, None, is_some, Result, Ok, Err}
+use Rattle.std.specs.Prelude.{◌≡◌, ◌<◌, ◌-◌, ℕ, Bool, true, false, ⊤, List, [], Option, Some, None, is_some, Result, Ok, Err}
 use Rattle.kz_types.specs.Causes.{Rose}
 use Rattle.kz_spec_stores.specs.Requests.{Disk, StoreFile, Fits}
 use Rattle.kz_spec_files.specs.Frames.{after_frame, journal_of, journal_with_seal}
@@ -9,6 +9,7 @@ use Rattle.kz_journal.specs.declared.fault.JournalFault.TheVariants as fault
 use Rattle.kz_journal.specs.declared.journal.Frame.{Frame}
 use Rattle.kz_journal.specs.declared.journal.Journal.{Journal}
 use Rattle.kz_journal.specs.Journals.{journal_at, disk_at, file_at, sealed_file, IsFull}
+use Rattle.kz_journal.specs.Openings.{has_header}
 use Rattle.kz_journal.specs.Nexts.{IsAllRead, IsDamagedAt, SaysTheSame}
 
 -- ---- what it holds
@@ -41,14 +42,20 @@ disk_state faults j = disk_at (faults j.disk) j.down j.place
 abbrev pub unread : {D : Type 0} {disk : _} → Journal D disk → List ℕ → files.Journal
 unread j file = journal_at j.place file
 
+-- how many bytes of its file haven't been read
+abbrev pub bytes_left : {D : Type 0} {disk : _} → Journal D disk → ℕ
+bytes_left j = j.place.length - j.place.gate
+
 -- ---- a journal that was opened
 
--- A journal of this letter is open, and all that its file says is still to be read. What the disk tells is the same.
+-- A journal of this letter is open, whose file begins with a header of it. All that the file says is still to be read. What the disk
+-- tells is the same.
 pub record IsOpened {D : Type 0} {disk : _} (letter : ℕ) (j : Journal D disk) (before now : Option (List ℕ)) : Type 0 where
   pub letter_is : letter_of j ≡ letter
   pub up : is_down j ≡ false
   pub reading : has_ended j ≡ false
   pub same : now ≡ before
+  pub header : (file : List ℕ) → before ≡ Some file → has_header letter file ≡ true
   pub all : (file : List ℕ) → before ≡ Some file → unread j file ≡ journal_of letter file
 
 -- A journal of this letter is made, and a frame can be appended. Its file has none.
@@ -76,6 +83,12 @@ abbrev pub EndsAt : Result (Option Frame) JournalFault → Bool → Bool → Typ
 EndsAt (Ok (Some frame)) old new = (old ≡ false) × (new ≡ false)
 EndsAt (Ok None) old new = new ≡ true
 EndsAt (Err e) old new = new ≡ old
+
+-- After a frame fewer bytes are left to read.
+abbrev pub LeavesFewer : Result (Option Frame) JournalFault → ℕ → ℕ → Type 0
+LeavesFewer (Ok (Some frame)) old new = new < old
+LeavesFewer (Ok None) old new = ⊤
+LeavesFewer (Err e) old new = ⊤
 
 -- How a call that changes no frame ends, by its answer: the count of failures, and whether the journal was and is down. It fails
 -- only where the count rose and the disk's last call failed, and is down from then on.

@@ -54,6 +54,12 @@ IsInRange (next.Frame at payload further) = (further.gate ≤ further.length) ×
 IsInRange (next.End further) = (further.gate < further.length) × (further.length ≤ 2 ^ 63)
 IsInRange (next.Damaged at) = ⊤
 
+-- A frame ends further on, in a file of the same length.
+abbrev pub IsOnward : Place → Next → Type 0
+IsOnward place (next.Frame at payload further) = (place.gate < further.gate) × (further.length ≡ place.length)
+IsOnward place (next.End further) = ⊤
+IsOnward place (next.Damaged at) = ⊤
+
 -- where no call of the disk failed, this holds
 abbrev pub UnlessFailed : {T : Type 0} → Result T ReadFault → Type 0 → Type 0
 UnlessFailed (Ok x) kept = kept

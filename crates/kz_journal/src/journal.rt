@@ -35,11 +35,13 @@ pub struct Journal<D: Disk> {
     place: Place,
     ended: bool,
     down: bool,
+    // The gate stands in the file, or at its end while there are frames to read. The file has at most 2^63 bytes.
     ghost room: { place.gate ≤ place.length },
     ghost small: { ended ≡ false → place.length < 2 ^ 63 },
     ghost large: { place.length ≤ 2 ^ 63 },
     ghost stands: { ended ≡ true → place.gate < place.length },
-    /// While it isn't down, no write is pending.
+    // While it isn't down, no write is pending, and the file has been read up to the gate, which is closed once all frames
+    // have been read.
     pub ghost settled: { down ≡ false → NothingPends (D.told disk) (D.may_leave disk) },
     ghost read: { down ≡ false → (file : List ℕ) → D.told disk ≡ Some file → IsReadTo letter place file },
     ghost closed: { down ≡ false → ended ≡ true → (file : List ℕ) → D.told disk ≡ Some file → HasClosedGate place file },
@@ -53,7 +55,7 @@ impl<D: Disk> Journal<D> {
     ghost use Rattle.kz_journal.specs.Appends.{IsTornOr};
     ghost use Rattle.kz_journal.specs.Journals.{HasFrameMore};
     ghost use Rattle.kz_journal.specs.Openings.{IsRefused, HasFaultCause, Settles};
-    ghost use Rattle.kz_journal.specs.Held.{disk_of, letter_of, has_ended, is_down, has_sums, disk_state, IsOpened, IsMade, AnswersNext, EndsAt, EndsCall, Appends, IsSealed, Seals};
+    ghost use Rattle.kz_journal.specs.Held.{disk_of, letter_of, has_ended, is_down, has_sums, disk_state, bytes_left, IsOpened, IsMade, AnswersNext, EndsAt, LeavesFewer, EndsCall, Appends, IsSealed, Seals};
 
     /// Makes the disk's file a journal of this letter without frames, whatever it holds. The letter of a tree's file is `T`,
     /// that of a log's file `L`.
@@ -116,6 +118,7 @@ impl<D: Disk> Journal<D> {
         ensures answer { (file : List ℕ) → D.told (disk_of self.old) ≡ Some file → AnswersNext file self.old result self.new (D.told (disk_of self.new)) }
         ensures letter { letter_of self.new ≡ letter_of self.old }
         ensures ended { EndsAt result (has_ended self.old) (has_ended self.new) }
+        ensures fewer { LeavesFewer result (bytes_left self.old) (bytes_left self.new) }
         ensures cause { EndsCall result (disk_state D.faults self.old) (disk_state D.faults self.new) (D.last_failed (disk_of self.new)) }
         ensures told { StaysTold (D.told (disk_of self.old)) (D.told (disk_of self.new)) }
         ensures stop { is_down self.old ≡ false → (file : List ℕ) → D.told (disk_of self.old) ≡ Some file → length file < 2 ^ 32

@@ -5,7 +5,8 @@ ghost use Rattle.kz_spec_files.specs.Frames.{journal_of};
 ghost use Rattle.kz_journal.specs.Reads.{OnlyReads, ReadCause};
 ghost use Rattle.kz_journal.specs.Pieces.{StandsAt, IsSumAfter, IsMeasured, IsRoomFor, IsNoSeal};
 ghost use Rattle.kz_journal.specs.Journals.{IsReadTo, journal_at};
-ghost use Rattle.kz_journal.specs.Nexts.{ComesNext, IsInRange, UnlessFailed, IfNoMemory};
+ghost use Rattle.kz_journal.specs.declared.place.Place.{Place};
+ghost use Rattle.kz_journal.specs.Nexts.{ComesNext, IsInRange, IsOnward, UnlessFailed, IfNoMemory};
 
 use crate::close::close;
 use crate::find::find;
@@ -72,6 +73,7 @@ fn find_past_seal<D: Disk>(
         → StandsAt found.0.summed found.0.gate file found.1) }
     ensures sum { IfOk result (λ found. (letter : ℕ) (file : List ℕ) → D.told disk.old ≡ Some file → IsReadTo letter place file → found.0.summed ≡ false
         → IsSumAfter found.0.gate file found.1) }
+    ensures onward { IfOk result (λ found. place.gate ≤ found.0.gate) }
     ensures fits { IfOk result (λ found. (found.0.length ≡ place.length) × (found.0.gate ≤ place.length) × IsRoomFor found.0 found.1 × IsNoSeal found.1) }
     ensures reads { OnlyReads D.told D.may_leave D.moment D.left_since disk.old disk.new }
     ensures cause { ReadCause (D.faults disk.old) (D.faults disk.new) (D.last_failed disk.new) result }
@@ -101,6 +103,7 @@ fn end_at<D: Disk>(disk: &mut D, place: Place) -> Result<Next, ReadFault>
     ensures found { IfOk result (λ next. (letter : ℕ) (file : List ℕ) → D.told disk.old ≡ Some file → IsReadTo letter place file
         → StandsAt place.summed place.gate file Piece.End → ComesNext letter file place next (D.told disk.new)) }
     ensures range { IfOk result IsInRange }
+    ensures onward { IfOk result (λ next. (before : Place) → IsOnward before next) }
     ensures told { StaysTold (D.told disk.old) (D.told disk.new) }
     ensures settled { UnlessFailed result (NothingPends (D.told disk.new) (D.may_leave disk.new)) }
     ensures memory { IfNoMemory result ⊥ }
@@ -127,6 +130,7 @@ pub(crate) fn next_at<D: Disk>(alloc: Global, disk: &mut D, place: Place) -> Res
     ensures found { IfOk result (λ next. (letter : ℕ) (file : List ℕ) → D.told disk.old ≡ Some file → IsReadTo letter place file
         → ComesNext letter file place next (D.told disk.new)) }
     ensures range { IfOk result IsInRange }
+    ensures onward { IfOk result (IsOnward place) }
     ensures told { StaysTold (D.told disk.old) (D.told disk.new) }
     ensures settled { UnlessFailed result (NothingPends (D.told disk.new) (D.may_leave disk.new)) }
     ensures same { IfNoMemory result (D.told disk.new ≡ D.told disk.old) }

@@ -3,7 +3,7 @@ ghost use Rattle.std.specs.Prelude.{◌≡◌, ◌+◌, ◌^◌, ◌<◌, ◌≤
 ghost use Rattle.kz_types.specs.Causes.{HasCause};
 ghost use Rattle.kz_disk.specs.Disks.{IsWithin, NothingPends, LeavesOnly};
 ghost use Rattle.kz_spec_files.specs.Frames.{plain_header, summed_header, journal_of};
-ghost use Rattle.kz_journal.specs.Openings.{IsRefused, HasFaultCause, Settles, no_journal};
+ghost use Rattle.kz_journal.specs.Openings.{has_header, IsNoJournal, IsRefused, HasFaultCause, Settles};
 ghost use Rattle.kz_journal.specs.Reads.{OnlyReads};
 ghost use Rattle.kz_journal.specs.Journals.{IsReadTo, journal_at};
 
@@ -82,7 +82,8 @@ fn place_of(letter: u8, long: u64, header: [u8; 16]) -> Option<Place>
     ensures read { IfSome result (λ place. (file : List ℕ) → long ≡ length file → header ≡ take 16 file
         → IsReadTo letter place file × (journal_at place file ≡ journal_of letter file)) }
     ensures place { IfSome result (λ place. (place.gate ≡ 16) × (place.length ≡ long)) }
-    ensures none { result ≡ None → (file : List ℕ) → header ≡ take 16 file → journal_of letter file ≡ no_journal }
+    ensures header { IfSome result (λ place. (file : List ℕ) → header ≡ take 16 file → has_header letter file ≡ true) }
+    ensures none { result ≡ None → (file : List ℕ) → header ≡ take 16 file → IsNoJournal letter file }
 {
     if is_same(&header, &summed_header(letter)) {
         return Some(Place {
@@ -108,6 +109,7 @@ pub(crate) fn open_at<D: Disk>(disk: &mut D, letter: u8) -> Result<Place, Journa
     ensures read { IfOk result (λ place. (file : List ℕ) → D.told disk.old ≡ Some file
         → IsReadTo letter place file × (journal_at place file ≡ journal_of letter file)) }
     ensures place { IfOk result (λ place. (place.gate ≤ place.length) × (place.length < 2 ^ 63) × (D.told disk.new ≡ D.told disk.old) × (D.faults disk.new ≡ D.faults disk.old)) }
+    ensures header { IfOk result (λ place. (file : List ℕ) → D.told disk.old ≡ Some file → has_header letter file ≡ true) }
     ensures refused { IfErr result (λ fault. IsRefused letter fault (D.told disk.old) (D.told disk.new)) }
     ensures cause { IfErr result (λ fault. HasFaultCause fault (D.faults disk.old) (D.faults disk.new) (D.last_failed disk.new)) }
     ensures durable { OnOk result (NothingPends (D.told disk.new) (D.may_leave disk.new)) }

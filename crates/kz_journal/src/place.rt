@@ -19,6 +19,7 @@ pub(crate) struct Place {
 pub(crate) fn past_frame(place: Place, payload: &[u8], sum: u32) -> Place
     requires room { place.gate + size_before place.summed + length payload.now ≤ place.length }
     ensures gate { result.gate ≡ place.gate + size_before place.summed + length payload.now }
+    ensures onward { place.gate < result.gate }
     ensures sum { result.sum ≡ sum }
     ensures kept { (result.summed ≡ place.summed) × (result.length ≡ place.length) }
 {

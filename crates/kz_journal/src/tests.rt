@@ -15,7 +15,10 @@ fn made<T: Drop, E: Drop>(rt: &impl Abort, outcome: Result<T, E>) -> T {
 }
 
 fn disk_of(rt: &impl Abort, alloc: Global, file: &[u8]) -> MemoryDisk {
-    made(rt, MemoryDisk::new(alloc, made(rt, file.to_vec(alloc)), Vec::new(alloc)))
+    made(
+        rt,
+        MemoryDisk::new(alloc, made(rt, file.to_vec(alloc)), Vec::new(alloc)),
+    )
 }
 
 // A journal of a tree's file, from its beginning on.
@@ -50,7 +53,8 @@ fn is_fault(frame: Result<Option<Frame>, JournalFault>, fault: JournalFault) -> 
     }
 }
 
-static TWO: &[u8] = b"KZ-JOURNAL T 02\n\xA5\x00\x00\x00\x02\xEA\xDC\xC6\x07\x01\x02\xA5\x00\x00\x00\x01\x82\x1A\x8A\xA9\x07\x00";
+static TWO: &[u8] =
+    b"KZ-JOURNAL T 02\n\xA5\x00\x00\x00\x02\xEA\xDC\xC6\x07\x01\x02\xA5\x00\x00\x00\x01\x82\x1A\x8A\xA9\x07\x00";
 
 // The bytes of `docs/formats-files.md`.
 #[test]
@@ -96,7 +100,8 @@ fn a_file_of_format_01_is_sealed(rt: HostRuntime) {
     assert!(rt; journal.seal() == Ok(false));
     assert!(rt; journal.append(&[7]) == Ok(25));
     let disk = journal.into_disk();
-    let sealed = b"KZ-JOURNAL T 01\n\xA5\xFF\xFF\xFF\xFF\xE5\x86\xCE\xB3\xA5\x00\x00\x00\x01\x82\x1A\x8A\xA9\x07\x00";
+    let sealed =
+        b"KZ-JOURNAL T 01\n\xA5\xFF\xFF\xFF\xFF\xE5\x86\xCE\xB3\xA5\x00\x00\x00\x01\x82\x1A\x8A\xA9\x07\x00";
     assert!(rt; disk.bytes() == sealed.as_slice());
     let mut journal = open(&rt, alloc, disk);
     assert!(rt; is_frame(journal.next(), 25, &[7]));
@@ -109,7 +114,10 @@ static DAMAGED: [(&[u8], u64); 3] = [
         b"KZ-JOURNAL T 02\n\xA5\x00\x00\x00\x02\xEA\xDC\xC6\x07\x01\x03\x00",
         16,
     ),
-    (b"KZ-JOURNAL T 01\n\xA5\xFF\xFF\xFF\xFF\xE5\x86\xCE\xB2\x00", 16),
+    (
+        b"KZ-JOURNAL T 01\n\xA5\xFF\xFF\xFF\xFF\xE5\x86\xCE\xB2\x00",
+        16,
+    ),
     (
         b"KZ-JOURNAL T 02\n\xA5\x00\x00\x00\x01\x82\x1A\x8A\xA8\x07\x00",
         16,

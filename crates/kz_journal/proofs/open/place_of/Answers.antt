@@ -1,6 +1,6 @@
 use Rattle.std.proofs.Common.{true, false, refl, sym, ap, ◌∙◌}
 use Rattle.std.specs.Prelude.{bytes_eq}
-use Rattle.kz_journal.proofs.Headers.{read_summed, read_plain, no_header}
+use Rattle.kz_journal.proofs.Headers.{read_summed, read_plain, new_header, old_header, no_header}
 use Rattle.kz_journal.proofs.open.place_of.Goals as goal
 
 pub returns-then-is_same-clause-read : goal.returns-then-is_same-clause-read
@@ -19,3 +19,12 @@ returns-clause-none c = λ none file is.
     no_header c.args.letter file c.args.header is
     (ap (bytes_eq c.args.header) (sym c.summed_header.ensures) ∙ sym c.is_same.ensures ∙ c.if-is_same.false)
     (ap (bytes_eq c.args.header) (sym c.plain_header.ensures) ∙ sym c.is_same-2.ensures ∙ c.if-is_same-2.false)
+
+pub returns-then-is_same-clause-header : goal.returns-then-is_same-clause-header
+returns-then-is_same-clause-header c = λ file is. new_header c.args.letter file c.args.header is (ap (bytes_eq c.args.header) (sym c.summed_header.ensures) ∙ sym c.is_same.ensures ∙ c.if-is_same.true)
+
+pub returns-then-is_same-2-clause-header : goal.returns-then-is_same-2-clause-header
+returns-then-is_same-2-clause-header c = λ file is.
+    old_header c.args.letter file c.args.header is
+    (ap (bytes_eq c.args.header) (sym c.summed_header.ensures) ∙ sym c.is_same.ensures ∙ c.if-is_same.false)
+    (ap (bytes_eq c.args.header) (sym c.plain_header.ensures) ∙ sym c.is_same-2.ensures ∙ c.if-is_same-2.true)

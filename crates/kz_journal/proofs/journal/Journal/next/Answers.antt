@@ -1,7 +1,7 @@
-use Rattle.std.proofs.Common.{arith, subst}
+use Rattle.std.proofs.Common.{arith, subst, ◌≡◌, ◌-◌, ◌<◌, ◌≤◌, ℕ}
 use Rattle.kz_journal.specs.declared.next.Next.{Next}
 use Rattle.kz_journal.specs.Journals.{IsReadTo, HasClosedGate}
-use Rattle.kz_journal.specs.Nexts.{ComesNext, IsInRange}
+use Rattle.kz_journal.specs.Nexts.{ComesNext, IsInRange, IsOnward}
 use Rattle.kz_journal.proofs.Crashes.{holds_now}
 use Rattle.kz_journal.proofs.Steps.{ended_says, whole_says}
 use Rattle.kz_journal.proofs.journal.Journal.next.Goals as goal
@@ -83,3 +83,13 @@ pub returns-in-Ok-Damaged-clause-answer : goal.returns-in-Ok-Damaged-clause-answ
 returns-in-Ok-Damaged-clause-answer g c = λ file told.
     let s = c.args.self.now in
     subst (λ (n : Next). ComesNext s.letter file s.place n (g.D.Disk.told c.next_at.new.disk)) c.in-Ok-Damaged.field-0-is (c.in-Ok-Damaged.ensures.found s.letter file told (s.read c.if-self.false file told))
+
+pub returns-in-Ok-Frame-clause-fewer : goal.returns-in-Ok-Frame-clause-fewer
+returns-in-Ok-Frame-clause-fewer g c =
+    let s = c.args.self.now in
+    let range = subst IsInRange c.in-Ok-Frame.field-0-is c.in-Ok-Frame.ensures.range in
+    let onward = subst (IsOnward s.place) c.in-Ok-Frame.field-0-is c.in-Ok-Frame.ensures.onward in
+    fewer_by s.place.gate s.place.length _ _ onward.0 onward.1 range.0
+  where
+    fewer_by : (gate long further now : ℕ) → gate < further → now ≡ long → further ≤ now → now - further < long - gate
+    fewer_by gate long further now more same within = omega (arith, same)
