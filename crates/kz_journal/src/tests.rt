@@ -77,11 +77,11 @@ fn frames_are_appended_and_read_again(rt: HostRuntime) {
     assert!(rt; journal.append(&[]) == Ok(37));
 }
 
-// A file of format 01 with a frame, another gate at its end, and a whole frame behind that gate.
+// A file of format 01 with a frame, another gate at its end, and a whole frame after that gate.
 static TORN: &[u8] = b"KZ-JOURNAL T 01\n\xA5\x00\x00\x00\x02\x01\x02\x7F\x00\x00\x00\x01\x07\xA5";
 
 #[test]
-fn what_stands_behind_the_end_never_counts(rt: HostRuntime) {
+fn what_stands_after_the_end_never_counts(rt: HostRuntime) {
     let alloc = rt.alloc();
     let mut journal = open(&rt, alloc, disk_of(&rt, alloc, TORN));
     assert!(rt; is_frame(journal.next(), 16, &[1, 2]));
@@ -108,7 +108,7 @@ fn a_file_of_format_01_is_sealed(rt: HostRuntime) {
     assert!(rt; has_ended(&journal.next()));
 }
 
-// Files that are damaged, and where: behind which no frame is handed out.
+// Files that are damaged, and where: no frame after that place is handed out.
 static DAMAGED: [(&[u8], u64); 3] = [
     (
         b"KZ-JOURNAL T 02\n\xA5\x00\x00\x00\x02\xEA\xDC\xC6\x07\x01\x03\x00",
@@ -169,14 +169,25 @@ fn a_stop_leaves_the_frames_before_or_the_new_one_too(rt: HostRuntime) {
     }
 }
 
+// Where the call of the disk fails that an append makes, whichever number it has.
 #[test]
 fn a_journal_is_down_after_a_failed_call(rt: HostRuntime) {
     let alloc = rt.alloc();
-    let fail = made(&rt, [8].to_vec(alloc));
-    let file = made(&rt, b"KZ-JOURNAL T 02\n\x00".to_vec(alloc));
-    let mut journal = open(&rt, alloc, made(&rt, MemoryDisk::new(alloc, file, fail)));
-    assert!(rt; has_ended(&journal.next()));
-    assert!(rt; journal.append(&[7]) == Err(JournalFault::DiskFault));
-    assert!(rt; journal.append(&[7]) == Err(JournalFault::Down));
-    assert!(rt; is_fault(journal.next(), JournalFault::Down));
+    let mut failed = false;
+    for call in 0..20u64 {
+        let fail = made(&rt, [call].to_vec(alloc));
+        let file = made(&rt, b"KZ-JOURNAL T 02\n\x00".to_vec(alloc));
+        let disk = made(&rt, MemoryDisk::new(alloc, file, fail));
+        let Ok(mut journal) = Journal::attach(alloc, disk, b'T') else {
+            continue;
+        };
+        if has_ended(&journal.next()) {
+            if journal.append(&[7]) == Err(JournalFault::DiskFault) {
+                assert!(rt; journal.append(&[7]) == Err(JournalFault::Down));
+                assert!(rt; is_fault(journal.next(), JournalFault::Down));
+                failed = true;
+            }
+        }
+    }
+    assert!(rt; failed);
 }
