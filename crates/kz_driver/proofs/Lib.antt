@@ -1,10 +1,8 @@
-pub mod Batches
-pub mod Disks
-pub mod Faults
+pub mod Branches
+pub mod Ends
+pub mod Facts
+pub mod Fences
+pub mod Held
 pub mod Keeping
-pub mod Lasts
-pub mod Leasts
-pub mod Pages
 pub mod Steps
 pub mod Told
-pub mod Writings

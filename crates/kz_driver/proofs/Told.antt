@@ -1,5 +1,5 @@
--- The reply of a step tells of no failure: what the definitions of the tree and the log answer is done or refused.
-use Rattle.std.proofs.Common.{◌≡◌, ℕ, ◌+◌, ℤ, Bool, true, false, List, [], ◌∷◌, length, Option, Some, None, Result, Ok, Err, refl, subst}
+-- The reply to an answer is one of the machine: it tells of no loss and of no failure.
+use Rattle.std.proofs.Common.{◌≡◌, ℕ, ◌+◌, ℤ, Bool, true, false, List, [], ◌∷◌, length, Option, Some, None, Result, Ok, Err, refl, ap, subst}
 use Rattle.std.specs.Prelude.{◌+ℤ◌, pos, int_le, int_lt, not, ◌&&◌, ◌||◌, if◌then◌else◌, drop, IfErr, IfOk}
 use Rattle.std.specs.Ordering.{int_eq}
 use Rattle.kz_types.specs.declared.codes.TheConstants.{MIGRATION, POST_MIGRATION}
@@ -23,57 +23,27 @@ use Rattle.kz_spec_values.specs.Control.{epoch_path, migration_path, read_epoch}
 use Rattle.kz_spec_stores.specs.Tree.{Tree, Refusal, code, limit, op_refusal, rows_unless_refused, after_op, after_ops, multi, with_zxid}
 use Rattle.kz_spec_stores.specs.Image.{Image}
 use Rattle.kz_spec_stores.specs.Log.{Log, append, log_unless_limit, full_log, with_batch}
-use Rattle.kz_spec_znodes.specs.Difference.{diff, chunk}
+use Rattle.kz_spec_znodes.specs.Difference.{diff, chunk, after_chunk}
 use Rattle.kz_spec_znodes.specs.Rendering.{render}
 use Rattle.kz_spec_znodes.specs.Translation.{Unreadable, translate}
 use Rattle.kz_spec_machine.specs.Driver.{Shared, Driver, StepResult, epoch_or_zero, at_stage, resigned_driver, begins_again, driver_at_log_end, unless_finalised, wait_or_move, after_quorum, after_brokers, unless_fenced, unless_full_epoch, unless_bad_epoch, unless_full_record, after_look, after_claim, claim_ops, after_append, after_records, next_records, after_translation, after_rest, after_write, writes, write_ops, is_last_write, is_claim_refused, is_recorded_at, target_of, remaining_at, views_migrated, shown_by, seen_in, missing_controller, begin_record, after_answer, step}
 use Rattle.kz_spec_machine.specs.Failures.{is_tree_failure, is_log_failure, is_failed_step}
+use Rattle.kz_requests.specs.declared.fault.StepFault.{StepFault}
+use Rattle.kz_requests.specs.declared.fault.StepFault.TheVariants as step_fault
+use Rattle.kz_requests.proofs.Answers.{IsTreeAnswer, IsLogAnswer, multi_answers, append_answers}
+use Rattle.kz_driver.specs.Steps.{outcome_of}
 use Rattle.kz_driver.proofs.Keeping.{chosen}
-
--- ---- the tree and the log
-
-abbrev IsTreeAnswer : {A : Type 0} → Result A TreeFault → Type 0
-IsTreeAnswer r = IfErr r (λ f. is_tree_failure f ≡ false)
-
-abbrev IsLogAnswer : {A : Type 0} → Result A LogFault → Type 0
-IsLogAnswer r = IfErr r (λ f. is_log_failure f ≡ false)
-
-refused_answers : (index : ℕ) (r : Option Refusal) (rest : Result (List Row) TreeFault) → IsTreeAnswer rest → IsTreeAnswer (rows_unless_refused index r rest)
-refused_answers index None rest h = h
-refused_answers index (Some (code c)) rest h = refl
-refused_answers index (Some (limit n)) rest h = refl
-
-ops_answer : (sessions : List ℤ) (zxid : ℤ) (index : ℕ) (ops : List Op) (rows : List Row) → IsTreeAnswer (after_ops sessions zxid index ops rows)
-ops_answer sessions zxid index [] rows = tt
-ops_answer sessions zxid index (o ∷ os) rows = refused_answers index (op_refusal sessions o rows) (after_ops sessions zxid (index + 1) os (after_op zxid o rows)) (ops_answer sessions zxid (index + 1) os (after_op zxid o rows))
-
-chosen_answer : {A : Type 0} (b : Bool) (x y : Result A TreeFault) → IsTreeAnswer x → IsTreeAnswer y → IsTreeAnswer (if b then x else y)
-chosen_answer true x y h k = h
-chosen_answer false x y h k = k
-
-zxid_answers : (t : Tree) (r : Result (List Row) TreeFault) → IsTreeAnswer r → IsTreeAnswer (with_zxid t r)
-zxid_answers t (Err e) h = h
-zxid_answers t (Ok rows) h = chosen_answer (int_le MAX_LONG t.zxid) _ _ refl tt
-
-multi_answers : (t : Tree) (ops : List Op) → IsTreeAnswer (multi t ops)
-unfolding multi
-multi_answers t ops = zxid_answers t (after_ops t.sessions (t.zxid +ℤ pos 1) 0 ops t.rows) (ops_answer t.sessions (t.zxid +ℤ pos 1) 0 ops t.rows)
-
-added_answers : (o : Option ℕ) (l : Log) → IsLogAnswer (log_unless_limit o l)
-added_answers None l = tt
-added_answers (Some n) l = refl
-
-chosen_log_answer : (b : Bool) (x y : Result Log LogFault) → IsLogAnswer x → IsLogAnswer y → IsLogAnswer (if b then x else y)
-chosen_log_answer true x y h k = h
-chosen_log_answer false x y h k = k
-
-append_answers : (l : Log) (epoch now : ℤ) (items : List MetaRecord) → IsLogAnswer (append l epoch now items)
-append_answers l epoch now items = chosen_log_answer (int_eq epoch l.epoch) (log_unless_limit (full_log l items) (with_batch l epoch now items)) (Err (log_fault.Stale l.epoch)) (added_answers (full_log l items) (with_batch l epoch now items)) refl
 
 -- ---- what follows an answer
 
-abbrev IsTold : Driver × Reply → Type 0
-IsTold x = is_failed_step x.1 ≡ false
+abbrev pub IsTold : Driver × Reply → Type 0
+IsTold x = outcome_of x.1 ≡ Ok x.1
+
+tree_failed_told : (f : TreeFault) → is_tree_failure f ≡ false → outcome_of (reply.TreeFailed f) ≡ Ok (reply.TreeFailed f)
+tree_failed_told f h = ap (λ b. if b then Err (step_fault.Tree f) else Ok (reply.TreeFailed f)) h
+
+log_failed_told : (f : LogFault) → is_log_failure f ≡ false → outcome_of (reply.LogFailed f) ≡ Ok (reply.LogFailed f)
+log_failed_told f h = ap (λ b. if b then Err (step_fault.Log f) else Ok (reply.LogFailed f)) h
 
 finalised_told : (d : Driver) (rest : Driver × Reply) → IsTold rest → IsTold (unless_finalised d rest)
 finalised_told d rest h = chosen IsTold (int_eq d.view.image.state POST_MIGRATION) (resigned_driver d, reply.Moved state.Inactive) rest refl h
@@ -119,12 +89,12 @@ claim_told : (seen : ClaimSeen) (d : Driver) (ops : List Op) (r : Result Tree Tr
 claim_told seen d ops (Ok t) h = refl
 claim_told seen d ops (Err (tree_fault.Refused index c)) h = refl
 claim_told seen d ops (Err (tree_fault.Limit index number)) h = refl
-claim_told seen d ops (Err f) h = h
+claim_told seen d ops (Err f) h = tree_failed_told f h
 
 append_told : (next : Stage) (d : Driver) (r : Result Log LogFault) → IsLogAnswer r → IsTold (after_append next d r)
 append_told next d (Ok l) h = refl
 append_told next d (Err (log_fault.Stale epoch)) h = refl
-append_told next d (Err f) h = h
+append_told next d (Err f) h = log_failed_told f h
 
 translation_told : (s : Shared) (now : ℤ) (d : Driver) (r : Result (List MetaRecord) Unreadable) → IsTold (after_translation s now d r)
 translation_told s now d (Err e) = refl
@@ -132,13 +102,13 @@ translation_told s now d (Ok records) = append_told (stage.AppendRecords records
 
 write_told : (claim : ℤ) (ops : List Op) (target : Recorded) (more : List Op → Stage) (last : Stage) (d : Driver) (r : Result Tree TreeFault) → IsTreeAnswer r → IsTold (after_write claim ops target more last d r)
 write_told claim ops target more last d (Ok t) h =
-    chosen IsTold (is_last_write ops) (record d { stage = last; recorded = Some target.offset }, reply.Recorded target.offset) (at_stage (more (drop MAX_CHUNK ops)) d, reply.Wrote (length (chunk ops))) refl refl
+    chosen IsTold (is_last_write ops) (record d { stage = last; recorded = Some target.offset }, reply.Recorded target.offset) (at_stage (more (after_chunk ops)) d, reply.Wrote (length (chunk ops))) refl refl
 write_told claim ops target more last d (Err (tree_fault.Refused index c)) h =
     chosen IsTold (is_claim_refused index c) (resigned_driver d, reply.FencedWrite claim) (begins_again d, reply.Moved state.BecomeController) refl refl
 write_told claim ops target more last d (Err (tree_fault.Limit index number)) h = refl
-write_told claim ops target more last d (Err f) h = h
+write_told claim ops target more last d (Err f) h = tree_failed_told f h
 
-writes_told : (t : Tree) (held : Option ℤ) (ops : List Op) (target : Recorded) (more : List Op → Stage) (last : Stage) (d : Driver) → IsTold (writes t held ops target more last d)
+pub writes_told : (t : Tree) (held : Option ℤ) (ops : List Op) (target : Recorded) (more : List Op → Stage) (last : Stage) (d : Driver) → IsTold (writes t held ops target more last d)
 writes_told t None ops target more last d = refl
 writes_told t (Some claim) ops target more last d = write_told claim ops target more last d (multi t (write_ops claim ops target)) (multi_answers t (write_ops claim ops target))
 
@@ -150,7 +120,7 @@ dual_write_told before d =
 
 -- ---- a step
 
-answer_told : (s : Shared) (running : List ℤ) (now : ℤ) (d : Driver) (at : Stage) → IsTold (after_answer s running now d at)
+pub answer_told : (s : Shared) (running : List ℤ) (now : ℤ) (d : Driver) (at : Stage) → IsTold (after_answer s running now d at)
 answer_told s running now d stage.Uninitialized = refl
 answer_told s running now d stage.Inactive = refl
 answer_told s running now d stage.WaitForControllerQuorum = quorum_told s.declared running (driver_at_log_end s.log d)
@@ -168,12 +138,7 @@ answer_told s running now d stage.KraftControllerToBrokerComm = refl
 answer_told s running now d stage.DualWrite = dual_write_told d.view.image (driver_at_log_end s.log d)
 answer_told s running now d (stage.WriteDelta target ops) = writes_told s.tree d.claim (remaining_at s.tree s.log target.offset) target (λ rest. stage.WriteDelta target rest) stage.DualWrite d
 
-step_told : (s : Shared) (running : List ℤ) (now : ℤ) (d : Driver) → is_failed_step (step s running now d).reply ≡ false
-unfolding step
-step_told s running now d = answer_told s running now d d.stage
-
--- where there is a reply, it is the step's
-pub told_of_step : {E : Type 0} (r : Result Reply E) (s : Shared) (running : List ℤ) (now : ℤ) (d : Driver) (shared : Shared) (e : Driver)
-    → IfOk r (λ told. step s running now d ≡ record { shared = shared; driver = e; reply = told }) → IfOk r (λ told. is_failed_step told ≡ false)
-told_of_step (Ok told) s running now d shared e is = subst (λ (x : StepResult). is_failed_step x.reply ≡ false) is (step_told s running now d)
-told_of_step (Err f) s running now d shared e is = tt
+-- where there is a reply to an answer, it is one of the machine
+pub told_by : (r : Result Reply StepFault) (x : Driver × Reply) (e : Driver) → IfOk r (λ told. x ≡ (e, told)) → IsTold x → IfOk r (λ told. outcome_of told ≡ Ok told)
+told_by (Ok told) x e is h = subst (λ (y : Driver × Reply). outcome_of y.1 ≡ Ok y.1) is h
+told_by (Err f) x e is h = tt

@@ -1,8 +1,3 @@
-pub mod Appends
-pub mod Claims
-pub mod Disks
-pub mod Drivers
-pub mod Multis
-pub mod Rows
-pub mod Checks
-pub mod Writes
+pub use Rattle.kz_stages.specs.Disks
+pub use Rattle.kz_stages.specs.Drivers
+pub mod Steps

@@ -109,7 +109,7 @@ Appends made (Ok at) old new failed = (old.down ≡ false) × Fits made × (new 
 Appends made (Err fault.DiskFault) old new failed = (old.down ≡ false) × Fits made × Rose old.faults new.faults × (new.down ≡ true) × (is_some new.file ≡ is_some old.file) × (failed ≡ true)
 Appends made (Err (fault.Damaged at)) old new failed = ⊥
 Appends made (Err (fault.Full length)) old new failed = (old.down ≡ false) × IsFull made length × (new ≡ old)
-Appends made (Err fault.NoMemory) old new failed = new ≡ old
+Appends made (Err fault.NoMemory) old new failed = (old.down ≡ false) × Fits made × (new ≡ old)
 Appends made (Err fault.Down) old new failed = (old.down ≡ true) × (new ≡ old)
 
 -- ---- a seal

@@ -94,7 +94,7 @@ abbrev pub EndsAppend : {T : Type 0} → Option StoreFile → Result T AppendFau
 EndsAppend made (Ok next) before now failed = Fits made × (now ≡ before)
 EndsAppend made (Err append_fault.Failed) before now failed = Fits made × Rose before now × (failed ≡ true)
 EndsAppend made (Err (append_fault.Full told)) before now failed = IsFull made told × (now ≡ before)
-EndsAppend made (Err append_fault.NoMemory) before now failed = now ≡ before
+EndsAppend made (Err append_fault.NoMemory) before now failed = Fits made × (now ≡ before)
 
 -- where no call of the disk was made, this holds
 abbrev pub IfNotCalled : {T : Type 0} → Result T AppendFault → Type 0 → Type 0

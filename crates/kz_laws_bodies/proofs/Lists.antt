@@ -10,7 +10,8 @@ use Rattle.serde_json.specs.Data.{Data, object, Members, no_members, member, put
 use Rattle.serde_json.specs.Find.{get_member}
 use Rattle.kz_types.specs.Numbers.{number_in}
 use Rattle.kz_types.specs.declared.bodies.AssignmentRow.{AssignmentRow}
-use Rattle.kz_spec_values.specs.Bodies.{brokers_of, brokers_data, is_in, are_distinct, are_some_of, is_there, are_lists, list_at, fit, lists_for, with_some, adding_members, removing_members}
+use Rattle.kz_types.specs.Numbers.{is_in, are_distinct}
+use Rattle.kz_spec_values.specs.Bodies.{brokers_of, brokers_data, are_some_of, is_there, are_lists, list_at, fit, lists_for, with_some, adding_members, removing_members}
 use Rattle.kz_laws_bodies.specs.Readable.{IsWhole, AreBrokers, IsBefore, AreInOrder, IsPartition, ArePartitions}
 use Rattle.kz_laws_bodies.proofs.Plain.{ArePlainMembers}
 use Rattle.kz_laws_bodies.proofs.States.{brokers_plain, brokers_read}

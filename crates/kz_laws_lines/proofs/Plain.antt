@@ -1,19 +1,21 @@
 -- What is written of an event is plain data.
-use Rattle.std.proofs.Common.{◌≡◌, ℕ, suc, ◌==◌, ℤ, pos, Bool, true, false, cond, List, [], ◌∷◌, length, Option, Some, None, refl, sym, subst, codes}
+use Rattle.std.proofs.Common.{◌≡◌, ℕ, suc, ◌==◌, ℤ, pos, Bool, true, false, cond, List, [], ◌∷◌, length, Option, Some, None, refl, codes}
 use Rattle.std.specs.Prelude.{map}
 use Rattle.std.specs.Ordering.{int_eq}
 use Rattle.std.specs.Str.{is_utf8}
 use Rattle.json.proofs.Printed.Utf8.{are_ascii}
 use Rattle.serde_json.specs.Data.{Data, object, array, Members, no_members, put}
 use Rattle.serde_json.specs.View.{items_of}
+use Rattle.kz_types.specs.declared.plan.Plan.{Plan}
+use Rattle.kz_types.specs.declared.plan.Plan.TheVariants as plan
 use Rattle.kz_types.specs.declared.machine.Event.{Event}
-use Rattle.kz_types.specs.declared.machine.Event.TheVariants.{Quorum, Start, Elect, Turn, Register, Change, Check, ZkOpen, ZkExpire, Zk}
+use Rattle.kz_types.specs.declared.machine.Event.TheVariants.{Quorum, Start, Stop, Elect, Step, Turn, Register, Change, Check, ZkOpen, ZkExpire, Zk}
 use Rattle.kz_types.specs.declared.record.MetaRecord.{MetaRecord}
 use Rattle.kz_types.specs.declared.tree.Op.{Op}
 use Rattle.kz_types.specs.declared.tree.Op.TheVariants as op
 use Rattle.kz_spec_lines.specs.Members.{whole_data, with_text, with_whole, with_bytes}
 use Rattle.kz_spec_lines.specs.WrittenRecords.{record_data}
-use Rattle.kz_spec_lines.specs.Written.{event_members, controller_members, with_now, with_body, with_owner, op_members, op_data, members_of_event}
+use Rattle.kz_spec_lines.specs.Written.{event_members, controller_members, with_now, with_plan, with_body, with_owner, op_members, op_data, members_of_event}
 use Rattle.kz_laws_bodies.proofs.Plain.{IsPlain, whole_is_plain, word}
 use Rattle.kz_laws_lines.specs.Writable.{IsId, IsTime, IsSession, IsVersion, IsRecord, AreSomeRecords, IsPath, IsOwner, IsOp, AreSomeOps, IsEvent}
 use Rattle.kz_laws_lines.proofs.Values.{long_id, long_time, long_session, long_version, path_is_text}
@@ -28,6 +30,12 @@ controller_fits n name c h id = with_a_whole n (codes "controller") c (event_mem
 
 now_fits : (n : ℕ) (now : ℤ) (ms : Members) → IsTime now → Fits n ms → Fits n (with_now now ms)
 now_fits n now ms time h = one_of n (int_eq now (pos 0)) ms (with_whole (codes "now") now ms) h (with_a_whole n (codes "now") now ms refl (long_time now time) h)
+
+plan_fits : (n : ℕ) (p : Plan) (ms : Members) → Fits n ms → Fits n (with_plan p ms)
+plan_fits n plan.Deliver ms h = h
+plan_fits n plan.LostBefore ms h = with_a_text n (codes "plan") (codes "lost-before") ms refl (word (codes "lost-before") refl) h
+plan_fits n plan.LostAfter ms h = with_a_text n (codes "plan") (codes "lost-after") ms refl (word (codes "lost-after") refl) h
+plan_fits n plan.Expired ms h = with_a_text n (codes "plan") (codes "expired") ms refl (word (codes "expired") refl) h
 
 session_fits : (n : ℕ) (name : List ℕ) (s : ℤ) → are_ascii name ≡ true → IsSession s → Fits n (with_whole (codes "session") s (event_members name))
 session_fits n name s h is = with_a_whole n (codes "session") s (event_members name) refl (long_session s is) (event_fits n name h)
@@ -74,10 +82,12 @@ zk_fits (o ∷ os) h = list_fits (codes "zk") (codes "ops") (array (items_of (ma
 
 members_fit : (e : Event) → IsEvent e → Fits 4 (members_of_event e)
 members_fit (Quorum ids) h =
-    subst (λ is. Fits 4 (members_of_event (Quorum is))) (sym h.1)
-    (list_fits (codes "quorum") (codes "ids") (array (items_of (map whole_data (h.0 ∷ [])))) refl refl (whole_is_plain 3 h.0 (long_id h.0 h.2), tt))
+    list_fits (codes "quorum") (codes "ids") (array (items_of (map whole_data ids))) refl refl (each_is_plain 3 IsId whole_data (λ id is. whole_is_plain 3 id (long_id id is)) ids h.0)
 members_fit (Start c) h = controller_fits 4 (codes "start") c refl h
+members_fit (Stop None) h = event_fits 4 (codes "stop") refl
+members_fit (Stop (Some c)) h = controller_fits 4 (codes "stop") c refl h
 members_fit (Elect c now) h = now_fits 4 now _ h.1 (controller_fits 4 (codes "elect") c refl h.0)
+members_fit (Step c now p) h = plan_fits 4 p _ (now_fits 4 now _ h.1 (controller_fits 4 (codes "step") c refl h.0))
 members_fit (Turn c now) h = now_fits 4 now _ h.1 (controller_fits 4 (codes "turn") c refl h.0)
 members_fit (Register c broker migrating now) h =
     with_a_flag 4 (codes "migrating") migrating _ refl

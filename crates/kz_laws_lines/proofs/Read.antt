@@ -1,5 +1,5 @@
 -- What is written of an event is read as that event.
-use Rattle.std.proofs.Common.{◌≡◌, ℕ, ◌==◌, ℤ, pos, negsuc, Bool, true, false, cond, List, [], ◌∷◌, length, Option, Some, None, refl, sym, ap, subst, ◌∙◌, codes, arith}
+use Rattle.std.proofs.Common.{◌≡◌, ℕ, ◌==◌, ℤ, pos, negsuc, Bool, true, false, cond, List, [], ◌∷◌, length, Option, Some, None, refl, sym, ap, ◌∙◌, codes, arith}
 use Rattle.std.specs.Prelude.{map, option_map, option_and_then}
 use Rattle.std.specs.Ordering.{int_eq}
 use Rattle.std.specs.Str.{is_utf8}
@@ -8,17 +8,20 @@ use Rattle.base64.specs.Engines.{standard}
 use Rattle.base64.specs.GeneralPurpose.{IsBytes, encode_of}
 use Rattle.serde_json.specs.Data.{boolean, object, array, put}
 use Rattle.serde_json.specs.View.{items_of}
+use Rattle.kz_types.specs.Numbers.{are_distinct}
+use Rattle.kz_types.specs.declared.plan.Plan.{Plan}
+use Rattle.kz_types.specs.declared.plan.Plan.TheVariants as plan
 use Rattle.kz_types.specs.declared.machine.Event.{Event}
-use Rattle.kz_types.specs.declared.machine.Event.TheVariants.{Quorum, Start, Elect, Turn, Register, Change, Check, ZkOpen, ZkExpire, Zk}
+use Rattle.kz_types.specs.declared.machine.Event.TheVariants.{Quorum, Start, Stop, Elect, Step, Turn, Register, Change, Check, ZkOpen, ZkExpire, Zk}
 use Rattle.kz_types.specs.declared.record.MetaRecord.{MetaRecord}
 use Rattle.kz_types.specs.declared.tree.Op.{Op}
 use Rattle.kz_types.specs.declared.tree.Op.TheVariants as op
 use Rattle.kz_spec_lines.specs.Json.{whole_up_to, whole_within}
 use Rattle.kz_spec_lines.specs.Ops.{op_of}
-use Rattle.kz_spec_lines.specs.Events.{id_of, records_in, some_records, ops_in, some_ops, event_of, line_event}
+use Rattle.kz_spec_lines.specs.Events.{id_of, ids_in, distinct_ids, records_in, some_records, ops_in, some_ops, event_of, line_event}
 use Rattle.kz_spec_lines.specs.Members.{whole_data, with_text, with_whole}
 use Rattle.kz_spec_lines.specs.WrittenRecords.{record_data}
-use Rattle.kz_spec_lines.specs.Written.{controller_members, with_owner, op_members, op_data, members_of_event, written_event}
+use Rattle.kz_spec_lines.specs.Written.{controller_members, with_plan, with_owner, op_members, op_data, members_of_event, written_event}
 use Rattle.kz_laws_lines.specs.Writable.{IsId, IsTime, IsVersion, Each, IsRecord, AreSomeRecords, IsPath, IsOwner, IsOp, AreSomeOps, IsEvent}
 use Rattle.kz_laws_lines.proofs.Values.{up_to_is, session_is, within_is, long_version, decoded_is, no_bytes}
 use Rattle.kz_laws_lines.proofs.Records.{record_is_read}
@@ -79,6 +82,15 @@ ops_are_read (o ∷ os) h =
 id_is : (c : ℤ) → IsId c → id_of (whole_data c) ≡ Some c
 id_is c h = up_to_is 2147483647 c h
 
+ids_are_read : (ids : List ℤ) → Each IsId ids → ids_in (items_of (map whole_data ids)) ≡ Some ids
+ids_are_read [] h = refl
+ids_are_read (id ∷ ids) h =
+    ap (option_and_then (λ c. option_map (λ cs. c ∷ cs) (ids_in (items_of (map whole_data ids))))) (id_is id h.0)
+    ∙ ap (option_map (λ cs. id ∷ cs)) (ids_are_read ids h.1)
+
+distinct_are_read : (ids : List ℤ) → Each IsId ids → are_distinct ids ≡ true → option_and_then distinct_ids (ids_in (items_of (map whole_data ids))) ≡ Some ids
+distinct_are_read ids h distinct = ap (option_and_then distinct_ids) (ids_are_read ids h) ∙ ap (λ b. cond b (Some ids) None) distinct
+
 time_is : (t : ℤ) → IsTime t → whole_up_to 9223372036854775807 (whole_data t) ≡ Some t
 time_is t h = up_to_is 9223372036854775807 t h
 
@@ -94,6 +106,17 @@ turn_by : (c now : ℤ) (zero : Bool) → int_eq now (pos 0) ≡ zero → IsId c
     → event_of (object (cond zero (controller_members (codes "turn") c) (with_whole (codes "now") now (controller_members (codes "turn") c)))) ≡ Some (Turn c now)
 turn_by c now true is id time = rw (id_is c id) (ap (λ t. Some (Turn c t)) (is_zero now is))
 turn_by c now false is id time = rw (id_is c id, time_is now time) refl
+
+step_by : (c now : ℤ) (p : Plan) (zero : Bool) → int_eq now (pos 0) ≡ zero → IsId c → IsTime now
+    → event_of (object (with_plan p (cond zero (controller_members (codes "step") c) (with_whole (codes "now") now (controller_members (codes "step") c))))) ≡ Some (Step c now p)
+step_by c now plan.Deliver true is id time = rw (id_is c id) (ap (λ t. Some (Step c t plan.Deliver)) (is_zero now is))
+step_by c now plan.Deliver false is id time = rw (id_is c id, time_is now time) refl
+step_by c now plan.LostBefore true is id time = rw (id_is c id) (ap (λ t. Some (Step c t plan.LostBefore)) (is_zero now is))
+step_by c now plan.LostBefore false is id time = rw (id_is c id, time_is now time) refl
+step_by c now plan.LostAfter true is id time = rw (id_is c id) (ap (λ t. Some (Step c t plan.LostAfter)) (is_zero now is))
+step_by c now plan.LostAfter false is id time = rw (id_is c id, time_is now time) refl
+step_by c now plan.Expired true is id time = rw (id_is c id) (ap (λ t. Some (Step c t plan.Expired)) (is_zero now is))
+step_by c now plan.Expired false is id time = rw (id_is c id, time_is now time) refl
 
 register_by : (c b now : ℤ) (m : Bool) (zero : Bool) → int_eq now (pos 0) ≡ zero → IsId c → IsId b → IsTime now
     → event_of (object (put (codes "migrating") (boolean m) (with_whole (codes "broker") b (cond zero (controller_members (codes "register") c) (with_whole (codes "now") now (controller_members (codes "register") c))))))
@@ -112,9 +135,12 @@ zk_says [] h = absurd h
 zk_says (o ∷ os) h = ap (option_and_then some_ops) (ops_are_read (o ∷ os) h)
 
 event_says : (e : Event) → IsEvent e → event_of (object (members_of_event e)) ≡ Some e
-event_says (Quorum ids) h = subst (λ is. event_of (object (members_of_event (Quorum is))) ≡ Some (Quorum is)) (sym h.1) (rw (id_is h.0 h.2) refl)
+event_says (Quorum ids) h = ap (option_map (λ is. Quorum is)) (distinct_are_read ids h.0 h.1)
 event_says (Start c) h = rw (id_is c h) refl
+event_says (Stop None) h = refl
+event_says (Stop (Some c)) h = rw (id_is c h) refl
 event_says (Elect c now) h = elect_by c now _ refl h.0 h.1
+event_says (Step c now p) h = step_by c now p _ refl h.0 h.1
 event_says (Turn c now) h = turn_by c now _ refl h.0 h.1
 event_says (Register c b m now) h = register_by c b now m _ refl h.0 h.1 h.2
 event_says (Change c records now) h = change_by c now records _ refl h.0 h.1 h.2

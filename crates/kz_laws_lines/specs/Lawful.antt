@@ -1,14 +1,20 @@
 -- What an operation and an event that a program holds must be, beside what their types say, to be those of a line: the texts,
 -- the bytes and the ranges of numbers come from the types.
-use Rattle.std.specs.Prelude.{◌≡◌, ◌≤◌, ⊤, ℤ, pos, negsuc, ◌≤ℤ◌, length, Option, Some, None, All}
+use Rattle.std.specs.Prelude.{◌≡◌, ◌≤◌, ⊤, true, ℤ, pos, negsuc, ◌≤ℤ◌, length, Option, Some, None, All}
+use Rattle.kz_types.specs.Numbers.{are_distinct}
 use Rattle.kz_types.specs.declared.machine.Event.{Event}
-use Rattle.kz_types.specs.declared.machine.Event.TheVariants.{Quorum, Start, Elect, Turn, Register, Change, Check, ZkOpen, ZkExpire, Zk}
+use Rattle.kz_types.specs.declared.machine.Event.TheVariants.{Quorum, Start, Stop, Elect, Step, Turn, Register, Change, Check, ZkOpen, ZkExpire, Zk}
 use Rattle.kz_types.specs.declared.tree.Op.{Op}
 use Rattle.kz_types.specs.declared.tree.Op.TheVariants as op
 
 -- an id or a time, which isn't negative
 abbrev pub IsNotNegative : ℤ → Type 0
 IsNotNegative n = pos 0 ≤ℤ n
+
+-- an id, if there is one
+abbrev pub IsNotNegativeOrNone : Option ℤ → Type 0
+IsNotNegativeOrNone None = ⊤
+IsNotNegativeOrNone (Some n) = IsNotNegative n
 
 -- a session of ZooKeeper is at least 1
 abbrev pub IsPositive : ℤ → Type 0
@@ -30,12 +36,14 @@ IsLawfulOp (op.Set path body version) = IsVersionOrAny version
 IsLawfulOp (op.Delete path version) = IsVersionOrAny version
 IsLawfulOp (op.Check path version) = IsVersionOrAny version
 
--- An event of a line: one controller is declared, ids and times aren't negative, a change has a record, sessions are at least 1,
--- and a client's multi has an operation, each of which is lawful.
+-- An event of a line: ids and times aren't negative, the declared ids are distinct, a change has a record, sessions are at least
+-- 1, and a client's multi has an operation, each of which is lawful.
 abbrev pub IsLawfulEvent : Event → Type 0
-IsLawfulEvent (Quorum ids) = (length ids ≡ 1) × All IsNotNegative ids
+IsLawfulEvent (Quorum ids) = All IsNotNegative ids × (are_distinct ids ≡ true)
 IsLawfulEvent (Start controller) = IsNotNegative controller
+IsLawfulEvent (Stop controller) = IsNotNegativeOrNone controller
 IsLawfulEvent (Elect controller now) = IsNotNegative controller × IsNotNegative now
+IsLawfulEvent (Step controller now plan) = IsNotNegative controller × IsNotNegative now
 IsLawfulEvent (Turn controller now) = IsNotNegative controller × IsNotNegative now
 IsLawfulEvent (Register controller broker migrating now) = IsNotNegative controller × IsNotNegative broker × IsNotNegative now
 IsLawfulEvent (Change controller records now) = IsNotNegative controller × (1 ≤ length records) × IsNotNegative now

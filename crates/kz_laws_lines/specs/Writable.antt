@@ -1,9 +1,10 @@
 -- The events, operations and records that a line can hold.
 use Rattle.std.specs.Prelude.{◌≡◌, ⊤, ℕ, ◌≤◌, true, false, ℤ, pos, negsuc, List, [], ◌∷◌, length, Option, Some, None}
 use Rattle.base64.specs.GeneralPurpose.{IsBytes}
+use Rattle.kz_types.specs.Numbers.{are_distinct}
 use Rattle.kz_types.specs.Paths.{is_path}
 use Rattle.kz_types.specs.declared.machine.Event.{Event}
-use Rattle.kz_types.specs.declared.machine.Event.TheVariants.{Quorum, Start, Elect, Turn, Register, Change, Check, ZkOpen, ZkExpire, Zk}
+use Rattle.kz_types.specs.declared.machine.Event.TheVariants.{Quorum, Start, Stop, Elect, Step, Turn, Register, Change, Check, ZkOpen, ZkExpire, Zk}
 use Rattle.kz_types.specs.QuotaEntities.{is_client_first}
 use Rattle.kz_types.specs.declared.id.Id.{Id}
 use Rattle.kz_types.specs.declared.record.Endpoint.{Endpoint}
@@ -30,6 +31,11 @@ use Rattle.kz_laws_bodies.specs.Readable.{IsText}
 -- the id of a controller or a broker
 abbrev pub IsId : ℤ → Type 0
 IsId id = IsBetween (pos 0) (pos 2147483647) id
+
+-- an id, if there is one
+abbrev pub IsIdOrNone : Option ℤ → Type 0
+IsIdOrNone None = ⊤
+IsIdOrNone (Some id) = IsId id
 
 -- a time of an event
 abbrev pub IsTime : ℤ → Type 0
@@ -228,9 +234,11 @@ AreSomeOps (o ∷ os) = Each IsOp (o ∷ os)
 
 -- an event that a line can be
 abbrev pub IsEvent : Event → Type 0
-IsEvent (Quorum ids) = (id : ℤ) × (ids ≡ id ∷ []) × IsId id
+IsEvent (Quorum ids) = Each IsId ids × (are_distinct ids ≡ true)
 IsEvent (Start controller) = IsId controller
+IsEvent (Stop controller) = IsIdOrNone controller
 IsEvent (Elect controller now) = IsId controller × IsTime now
+IsEvent (Step controller now plan) = IsId controller × IsTime now
 IsEvent (Turn controller now) = IsId controller × IsTime now
 IsEvent (Register controller broker migrating now) = IsId controller × IsId broker × IsTime now
 IsEvent (Change controller records now) = IsId controller × AreSomeRecords records × IsTime now

@@ -1,8 +1,9 @@
 //! Each record that a program holds is read from what is written of it, and so is each operation and each event that is lawful:
 //! its texts are UTF-8, its paths keep their rule, and its numbers are in their ranges. The functions here are never run: what
 //! they go over is what their contracts say.
-ghost use Rattle.std.specs.Prelude.{◌≡◌, ◌≤◌, Some, All, length};
+ghost use Rattle.std.specs.Prelude.{◌≡◌, ◌≤◌, true, Some, All, length};
 ghost use Rattle.base64.specs.GeneralPurpose.{IsBytes};
+ghost use Rattle.kz_types.specs.Numbers.{are_distinct};
 ghost use Rattle.kz_spec_lines.specs.Ops.{op_of};
 ghost use Rattle.kz_spec_lines.specs.Records.{record_of};
 ghost use Rattle.kz_spec_lines.specs.Events.{line_event};
@@ -10,8 +11,8 @@ ghost use Rattle.kz_spec_lines.specs.WrittenRecords.{record_data};
 ghost use Rattle.kz_spec_lines.specs.Written.{op_data, written_event};
 ghost use Rattle.kz_laws_values.specs.Ranges.{IsLong};
 ghost use Rattle.kz_laws_bodies.specs.Readable.{IsText};
-ghost use Rattle.kz_laws_lines.specs.Writable.{IsId, IsTime, IsSession, IsVersion, IsTextOrNull, Each, IsInt8, IsInt16, IsInt32, AreIntsOrNull, IsUuid, IsTopic, IsPartition, IsPartitionChange, IsEndpoint, IsFeature, IsRegisterBroker, IsConfigRecord, IsProducerIds, IsUserScramCredential, IsEntity, IsClientQuota, IsAccessControlEntry, IsRecord, IsPath, IsOwner, IsOp, IsEvent};
-ghost use Rattle.kz_laws_lines.specs.Lawful.{IsNotNegative, IsPositive, IsVersionOrAny, IsLawfulOwner, IsLawfulOp, IsLawfulEvent};
+ghost use Rattle.kz_laws_lines.specs.Writable.{IsId, IsIdOrNone, IsTime, IsSession, IsVersion, IsTextOrNull, Each, IsInt8, IsInt16, IsInt32, AreIntsOrNull, IsUuid, IsTopic, IsPartition, IsPartitionChange, IsEndpoint, IsFeature, IsRegisterBroker, IsConfigRecord, IsProducerIds, IsUserScramCredential, IsEntity, IsClientQuota, IsAccessControlEntry, IsRecord, IsPath, IsOwner, IsOp, IsEvent};
+ghost use Rattle.kz_laws_lines.specs.Lawful.{IsNotNegative, IsNotNegativeOrNone, IsPositive, IsVersionOrAny, IsLawfulOwner, IsLawfulOp, IsLawfulEvent};
 
 use kz_types::{
     AccessControlEntryRecord, ClientQuotaRecord, ConfigRecord, Endpoint, Event, Feature, Id,
@@ -365,15 +366,32 @@ fn time(_now: i64)
     ensures { IsTime _now }
 {}
 
-// One controller is declared.
-fn quorum(ids: &[i32])
-    requires one { length ids.now ≡ 1 }
-    requires lawful { All IsNotNegative ids.now }
-    ensures { IsEvent (Event.Quorum ids.now) }
+fn id_or_none(field: &Option<i32>)
+    requires { IsNotNegativeOrNone field.now }
+    ensures { IsIdOrNone field.now }
 {
-    if let [only] = ids {
-        id(*only);
+    if let Some(some) = field {
+        id(*some);
     }
+}
+
+fn ids(items: &[i32])
+    requires { All IsNotNegative items.now }
+    ensures { Each IsId items.now }
+{
+    if let [first, rest @ ..] = items {
+        id(*first);
+        ids(rest);
+    }
+}
+
+// Distinct controllers are declared.
+fn quorum(items: &[i32])
+    requires lawful { All IsNotNegative items.now }
+    requires distinct { are_distinct items.now ≡ true }
+    ensures { IsEvent (Event.Quorum items.now) }
+{
+    ids(items);
 }
 
 fn change(controller: i32, items: &[MetaRecord], now: i64)
@@ -401,9 +419,18 @@ fn event(e: &Event)
     ensures { IsEvent e.now }
 {
     match e {
-        Event::Quorum { ids } => quorum(ids.as_slice()),
+        Event::Quorum { ids: declared } => quorum(declared.as_slice()),
         Event::Start { controller } => id(*controller),
+        Event::Stop { controller } => id_or_none(controller),
         Event::Elect { controller, now } => {
+            id(*controller);
+            time(*now);
+        }
+        Event::Step {
+            controller,
+            now,
+            plan: _,
+        } => {
             id(*controller);
             time(*now);
         }

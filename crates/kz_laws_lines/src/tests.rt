@@ -5,7 +5,7 @@ ghost use Rattle.kz_spec_lines.specs.Written.{op_data, written_event};
 ghost use Rattle.kz_laws_lines.specs.Lawful.{IsLawfulOp, IsLawfulEvent};
 
 use crate::{held_event_is_read, held_operation_is_read, held_record_is_read};
-use kz_types::{Event, Id, MetaRecord, Op, Sequence, Text, TopicRecord, ZPath};
+use kz_types::{Event, Id, MetaRecord, Op, Plan, Sequence, Text, TopicRecord, ZPath};
 use std::alloc::Global;
 
 // ---- what follows of the laws
@@ -87,10 +87,6 @@ fn events(rt: HostRuntime) -> Result<(), &'static str> {
     };
     held_event_is_read(&turn);
     events_are_one(&turn, &turn);
-    let mut ids = Sequence::new(rt.alloc());
-    ids.push(3000).ok().ok_or("memory")?;
-    let quorum = Event::Quorum { ids };
-    held_event_is_read(&quorum);
     let mut records = Sequence::new(rt.alloc());
     records.push(MetaRecord::NoOp).ok().ok_or("memory")?;
     let change = Event::Change {
@@ -109,4 +105,43 @@ fn events(rt: HostRuntime) -> Result<(), &'static str> {
     let multi = Event::Zk { ops };
     held_event_is_read(&multi);
     Ok(())
+}
+
+#[test]
+fn controllers(rt: HostRuntime) -> Result<(), &'static str> {
+    let none = Event::Quorum {
+        ids: Sequence::new(rt.alloc()),
+    };
+    held_event_is_read(&none);
+    let mut ids = Sequence::new(rt.alloc());
+    ids.push(3001).ok().ok_or("memory")?;
+    ids.push(3000).ok().ok_or("memory")?;
+    let quorum = Event::Quorum { ids };
+    held_event_is_read(&quorum);
+    events_are_one(&quorum, &quorum);
+    let all_stop = Event::Stop { controller: None };
+    held_event_is_read(&all_stop);
+    let one_stops = Event::Stop {
+        controller: Some(3000),
+    };
+    held_event_is_read(&one_stops);
+    Ok(())
+}
+
+#[test]
+fn steps(rt: HostRuntime) {
+    for plan in [
+        Plan::Deliver,
+        Plan::LostBefore,
+        Plan::LostAfter,
+        Plan::Expired,
+    ] {
+        let step = Event::Step {
+            controller: 3000,
+            now: 7,
+            plan,
+        };
+        held_event_is_read(&step);
+        events_are_one(&step, &step);
+    }
 }

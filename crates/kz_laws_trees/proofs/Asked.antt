@@ -19,16 +19,17 @@ others_plain meta.EndTransaction is = absurd (cc)
 others_plain (meta.ZkMigrationState s) is = absurd (cc)
 others_plain r is = tt
 
-one_plain : (i : Image) (r : MetaRecord) → rule_against i r ≡ None → IsPlain r
-one_plain i r none = others_plain r (not_kept_back (is_kept_back r) (broken_rule i r) none)
-
 neither_bad : (index : ℕ) (why : Option ImageRule) (rest : Option Bad) → unless_bad index why rest ≡ None → (why ≡ None) × (rest ≡ None)
 neither_bad index None rest none = (refl, none)
 neither_bad index (Some why) rest none = absurd (cc)
 
--- records of which none breaks a rule
-pub asked_plain : (index : ℕ) (records : List MetaRecord) (i : Image) → first_bad index records i ≡ None → All IsPlain records
-asked_plain index [] i none = All-nil IsPlain
-asked_plain index (r ∷ rs) i none =
+-- what is true of each record that isn't kept back is true of all records of which none breaks a rule
+pub asked_all : (P : MetaRecord → Type 0) → ((r : MetaRecord) → is_kept_back r ≡ false → P r) → (index : ℕ) (records : List MetaRecord) (i : Image) → first_bad index records i ≡ None → All P records
+asked_all P each index [] i none = All-nil P
+asked_all P each index (r ∷ rs) i none =
     let both = neither_bad index (rule_against i r) (first_bad (index + 1) rs (image_with (pos 0) r i)) none in
-    All-cons IsPlain r rs (one_plain i r both.0) (asked_plain (index + 1) rs (image_with (pos 0) r i) both.1)
+    All-cons P r rs (each r (not_kept_back (is_kept_back r) (broken_rule i r) both.0)) (asked_all P each (index + 1) rs (image_with (pos 0) r i) both.1)
+
+-- records of which none breaks a rule are plain
+pub asked_plain : (index : ℕ) (records : List MetaRecord) (i : Image) → first_bad index records i ≡ None → All IsPlain records
+asked_plain index records i none = asked_all IsPlain others_plain index records i none

@@ -13,7 +13,7 @@ use Rattle.kz_ordered.proofs.Order.{bytes_order}
 use Rattle.kz_ordered.proofs.Lookup.{find-put_other, find-without_other, key_of_found, same_items}
 use Rattle.kz_ordered.proofs.Maps.{Rises-filter, find-filter_absent, find-filter_found}
 use Rattle.kz_spec_values.specs.Control.{control_path, epoch_path, migration_path, recorded_of, written_control, written_recorded}
-use Rattle.kz_spec_stores.specs.Tree.{path_of_op, Tree, path_of_row, row_at, parent_of, with_child_change, after_set, set_row, created_row, after_op, set_refusal, multi, migrated_rows, area, migration_record, has_offset, is_later, unclosed_path}
+use Rattle.kz_spec_stores.specs.Tree.{path_of_op, Tree, path_of_row, row_at, parent_of, with_child_change, after_set, set_row, created_row, after_op, set_refusal, multi, migrated_rows, area, migration_record, unclosed_below, unclosed_path}
 use Rattle.kz_spec_stores.specs.Image.{Image}
 use Rattle.kz_spec_znodes.specs.Rendering.{render}
 use Rattle.kz_spec_znodes.specs.Difference.{diff, chunk}
@@ -23,8 +23,8 @@ use Rattle.kz_laws_trees.specs.TreeLaws.{Left}
 use Rattle.kz_laws_trees.proofs.Rows.{still, op_rises, set_found, created_found}
 use Rattle.kz_laws_trees.proofs.Area.{area_of}
 use Rattle.kz_laws_trees.proofs.Runs.{ran, Passes, passes_left, passes_right, ran_append, ran_keeps, Avoids, avoids_append, Outside, area_ran_left}
-use Rattle.kz_laws_trees.proofs.Multi.{Ran, multi_ran, differ, closed_by, chunk_avoids, migration_outside}
-use Rattle.kz_laws_trees.proofs.Later.{closed_is, same_alike, nothing_more}
+use Rattle.kz_laws_trees.proofs.Multi.{Ran, multi_ran, differ, chunk_avoids, migration_outside}
+use Rattle.kz_laws_trees.proofs.Later.{nothing_more}
 use Rattle.kz_laws_trees.proofs.Claim.{Others, base_avoids, control_avoids_path, epoch_avoids}
 
 -- ---- znodes that stay whole
@@ -182,24 +182,31 @@ recorded_kept : (t new : Tree) (ops : List Op) → Ran t new ops → Avoids migr
 recorded_kept t new ops m avoids =
     sym (recorded_still (row_at migration_path new.rows)) ∙ ap (option_and_then (λ (r : Row). recorded_of r.body)) (migration_alike t new ops m avoids) ∙ recorded_still (row_at migration_path t.rows)
 
--- a tree that is closed afterwards was closed before
-was_closed : (t new : Tree) → option_map still (row_at migration_path new.rows) ≡ option_map still (row_at migration_path t.rows) → migrated_rows new ≡ migrated_rows t → unclosed_path new ≡ None → unclosed_path t ≡ None
-was_closed t new alike rows closed =
-    let c = closed_is new closed in
-    let old = same_alike c.row (row_at migration_path t.rows) t.rows refl (ap (option_map still) (sym c.found) ∙ alike) in
-    closed_by t old.0 t.rows old.1 (ap (λ body. has_offset (recorded_of body)) (sym old.3) ∙ c.offset)
-    (ap (λ z. filter (is_later z) (migrated_rows t)) (sym old.2) ∙ ap (filter (is_later c.row.mzxid)) (sym rows) ∙ c.none)
+unclosed_still : (m : Option Row) (rows : List Row) → unclosed_below (option_map still m) rows ≡ unclosed_below m rows
+unclosed_still None rows = refl
+unclosed_still (Some r) rows = refl
+
+-- whether the tree is closed stays with `/migration` and the area
+pub unclosed_kept : (t new : Tree) → option_map still (row_at migration_path new.rows) ≡ option_map still (row_at migration_path t.rows) → migrated_rows new ≡ migrated_rows t → unclosed_path new ≡ unclosed_path t
+unclosed_kept t new alike rows =
+    ap (unclosed_below (row_at migration_path new.rows)) rows ∙ sym (unclosed_still (row_at migration_path new.rows) (migrated_rows t))
+    ∙ ap (λ m. unclosed_below m (migrated_rows t)) alike ∙ unclosed_still (row_at migration_path t.rows) (migrated_rows t)
+
+-- the znodes of the area stay
+pub claim_keeps_rows : (t new : Tree) (seen : ClaimSeen) (d : Driver) (now : ℤ) → TreeShape t → views_migrated d ≡ true → multi t (claim_ops seen d now) ≡ Ok new → migrated_rows new ≡ migrated_rows t
+claim_keeps_rows t new seen d now shape migrated is =
+    ap (filter in_area) (multi_ran t new (claim_ops seen d now) is).rows ∙ ran_rows_left (t.zxid +ℤ pos 1) (claim_ops seen d now) t.rows shape.rise (claim_beside seen d now migrated)
 
 pub claim_leaves : (t new : Tree) (seen : ClaimSeen) (d : Driver) (now : ℤ) → TreeShape t → views_migrated d ≡ true → multi t (claim_ops seen d now) ≡ Ok new → Left t new
 claim_leaves t new seen d now shape migrated is =
     let ops = claim_ops seen d now in
     let m = multi_ran t new ops is in
     let beside = claim_beside seen d now migrated in
-    let rows : migrated_rows new ≡ migrated_rows t = ap (filter in_area) m.rows ∙ ran_rows_left (t.zxid +ℤ pos 1) ops t.rows shape.rise beside in
+    let rows = claim_keeps_rows t new seen d now shape migrated is in
     record {
       recorded = recorded_kept t new ops m (claim_avoids seen d now migrated);
       area = ap area_of m.rows ∙ area_ran_left (t.zxid +ℤ pos 1) ops t.rows shape.rise (all_outside ops beside);
-      closed = was_closed t new (migration_alike t new ops m (claim_avoids seen d now migrated)) rows;
+      unclosed = unclosed_kept t new (migration_alike t new ops m (claim_avoids seen d now migrated)) rows;
     }
 
 -- ---- else it records that there is no offset yet

@@ -19,7 +19,8 @@ use Rattle.kz_spec_stores.specs.Tree.{Tree, path_of_row, row_at, is_root, after_
 use Rattle.kz_spec_machine.specs.Driver.{shown_by}
 use Rattle.kz_spec_machine.specs.Machine.{first_of, is_reserved, is_held_path, is_held, is_held_tree, first_told, client_refusal}
 use Rattle.kz_spec_machine.specs.Sound.{TreeShape, shown_in, IsLawfulOp}
-use Rattle.kz_laws_trees.specs.TreeLaws.{KeepsShape, Unchanged}
+use Rattle.kz_laws_trees.specs.TreeLaws.{KeepsShape}
+use Rattle.kz_laws_drivers.specs.Effects.{IsUnchanged}
 use Rattle.kz_laws_trees.proofs.Rows.{still, others_kept, op_rises}
 use Rattle.kz_laws_trees.proofs.Runs.{ran}
 use Rattle.kz_laws_trees.proofs.Below.{parent_outside}
@@ -212,7 +213,7 @@ area_left zxid (o ∷ os) rows rise free = area_left zxid os (after_op zxid o ro
 shown_alike : (t new : Tree) → Alike t.rows new.rows control_path → shown_in new ≡ shown_in t
 shown_alike t new alike = sym (shown_still (row_at control_path new.rows)) ∙ ap shown_by alike ∙ shown_still (row_at control_path t.rows)
 
-pub client_leaves_held : (t new : Tree) (ops : List Op) → multi t ops ≡ Ok new → client_refusal t ops ≡ None → is_held_tree t ≡ true → TreeShape t → Unchanged t new
+pub client_leaves_held : (t new : Tree) (ops : List Op) → multi t ops ≡ Ok new → client_refusal t ops ≡ None → is_held_tree t ≡ true → TreeShape t → IsUnchanged t new
 client_leaves_held t new ops is none held shape =
     let m = multi_ran t new ops is in
     let free : All AtFree ops = All-weaker (λ o. is_held o ≡ false) AtFree one_free ops (none_held t ops held none) in

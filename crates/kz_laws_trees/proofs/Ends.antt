@@ -1,15 +1,14 @@
 -- The batch ends of a log, and its offsets.
-use Rattle.std.proofs.Common.{◌≡◌, ℕ, ◌+◌, ◌≤◌, ℤ, pos, negsuc, ◌+ℤ◌, ◌-ℤ◌, ◌≤ℤ◌, ◌<ℤ◌, List, [], ◌∷◌, ◌++◌, length, map, refl, sym, ap, ◌∙◌, subst, arith, append_assoc}
+use Rattle.std.proofs.Common.{◌≡◌, ℕ, ◌+◌, ◌<◌, ℤ, pos, negsuc, ◌+ℤ◌, ◌-ℤ◌, ◌≤ℤ◌, ◌<ℤ◌, List, [], ◌∷◌, ◌++◌, length, map, refl, sym, ap, ◌∙◌, subst, arith, append_assoc}
 use Rattle.std.proofs.lemmas.Int.{ints}
 use Rattle.std.proofs.lemmas.List.{map-append}
 use Rattle.std.proofs.lemmas.List.Sums.{sum_by-append}
-use Rattle.kz_types.specs.declared.limits.TheConstants.{MAX_RECORDS}
 use Rattle.kz_types.specs.declared.log.BatchRow.{BatchRow}
 use Rattle.kz_types.specs.declared.log.Entry.{Entry}
 use Rattle.kz_types.specs.declared.record.MetaRecord.{MetaRecord}
 use Rattle.kz_spec_stores.specs.Image.{empty_image}
-use Rattle.kz_spec_stores.specs.Log.{Log, last_of, last_end, end_of, record_count, entries_of_batch, entries, all_entries_applied, image_at, new_batch, with_batch}
-use Rattle.kz_spec_machine.specs.Sound.{Follows, LogShape, IsBatchEnd}
+use Rattle.kz_spec_stores.specs.Log.{Log, Follow, last_of, last_end, end_of, record_count, entries_of_batch, entries, all_entries_applied, image_at, new_batch, with_batch}
+use Rattle.kz_spec_machine.specs.Sound.{LogShape, IsBatchEnd}
 use Rattle.kz_laws_trees.proofs.Logs.{AllAfter, counted_same, numbered_after}
 
 -- ---- the last offset
@@ -17,7 +16,7 @@ use Rattle.kz_laws_trees.proofs.Logs.{AllAfter, counted_same, numbered_after}
 step : (e : ℤ) (n : ℕ) → ((e +ℤ pos 1) +ℤ pos n) -ℤ pos 1 ≡ e +ℤ pos n
 step e n = omega (arith, ints)
 
-last_of_is : (end : ℤ) (b : BatchRow) → b.first ≡ end +ℤ pos 1 → last_of b ≡ end +ℤ pos (length b.items)
+pub last_of_is : (end : ℤ) (b : BatchRow) → b.first ≡ end +ℤ pos 1 → last_of b ≡ end +ℤ pos (length b.items)
 last_of_is end b is = ap (λ (f : ℤ). (f +ℤ pos (length b.items)) -ℤ pos 1) is ∙ step end (length b.items)
 
 count_cons : (b : BatchRow) (bs : List BatchRow) → record_count (b ∷ bs) ≡ length b.items + record_count bs
@@ -27,33 +26,37 @@ count_cons b bs = sum_by-append (λ (x : BatchRow). length x.items) (b ∷ []) b
     alone n m = omega arith
 
 -- it is as many records after the base as there are
-pub end_counts : (from : ℤ) (bs : List BatchRow) → Follows from bs → last_end from bs ≡ from +ℤ pos (record_count bs)
+pub end_counts : (from : ℤ) (bs : List BatchRow) → Follow from bs → last_end from bs ≡ from +ℤ pos (record_count bs)
 end_counts from [] follows = omega (arith, ints)
-end_counts from (b ∷ bs) follows = end_counts (last_of b) bs follows.1 ∙ ap (λ (e : ℤ). e +ℤ pos (record_count bs)) (last_of_is from b follows.0) ∙ sum from (length b.items) (record_count bs) ∙ sym (ap (λ (n : ℕ). from +ℤ pos n) (count_cons b bs))
+end_counts from (b ∷ bs) follows = end_counts (last_of b) bs follows.2 ∙ ap (λ (e : ℤ). e +ℤ pos (record_count bs)) (last_of_is from b follows.0) ∙ sum from (length b.items) (record_count bs) ∙ sym (ap (λ (n : ℕ). from +ℤ pos n) (count_cons b bs))
   where
     sum : (f : ℤ) (n m : ℕ) → (f +ℤ pos n) +ℤ pos m ≡ f +ℤ pos (n + m)
     sum f n m = omega (arith, ints)
 
-pub end_is_count : (l : Log) → LogShape l → end_of l ≡ negsuc 0 +ℤ pos (record_count l.batches)
-end_is_count l shape = end_counts l.base l.batches shape.follows ∙ ap (λ (b : ℤ). b +ℤ pos (record_count l.batches)) shape.base
+pub end_is_count : (l : Log) → LogShape l → end_of l ≡ l.base +ℤ pos (record_count l.batches)
+end_is_count l shape = end_counts l.base l.batches shape.log.follow
 
-low : (e : ℤ) (n : ℕ) → e ≡ negsuc 0 +ℤ pos n → negsuc 0 ≤ℤ e
-low e n is = omega (arith, ints)
+low : (b e : ℤ) (n : ℕ) → e ≡ b +ℤ pos n → b ≤ℤ e
+low b e n is = omega (arith, ints)
 
-high : (e : ℤ) (n : ℕ) → e ≡ negsuc 0 +ℤ pos n → n ≤ MAX_RECORDS → e ≤ℤ pos 9223372036854775807
-high e n is few = omega (arith, ints)
+-- the base isn't after it
+pub base_within : (l : Log) → LogShape l → l.base ≤ℤ end_of l
+base_within l shape = low l.base (end_of l) (record_count l.batches) (end_is_count l shape)
+
+at_most_then : (a b c : ℤ) → a ≤ℤ b → b ≤ℤ c → a ≤ℤ c
+at_most_then a b c x y = omega (arith, ints, x, y)
 
 pub end_least : (l : Log) → LogShape l → negsuc 0 ≤ℤ end_of l
-end_least l shape = low (end_of l) (record_count l.batches) (end_is_count l shape)
+end_least l shape = at_most_then (negsuc 0) l.base (end_of l) shape.log.base (base_within l shape)
 
 pub end_most : (l : Log) → LogShape l → end_of l ≤ℤ pos 9223372036854775807
-end_most l shape = high (end_of l) (record_count l.batches) (end_is_count l shape) shape.few
+end_most l shape = shape.log.end
 
 -- ---- one batch more
 
-pub follows_more : (from : ℤ) (bs : List BatchRow) (b : BatchRow) → Follows from bs → b.first ≡ last_end from bs +ℤ pos 1 → Follows from (bs ++ b ∷ [])
-follows_more from [] b follows is = (is, tt)
-follows_more from (x ∷ bs) b follows is = (follows.0, follows_more (last_of x) bs b follows.1 is)
+pub follows_more : (from : ℤ) (bs : List BatchRow) (b : BatchRow) → Follow from bs → b.first ≡ last_end from bs +ℤ pos 1 → 0 < length b.items → Follow from (bs ++ b ∷ [])
+follows_more from [] b follows is some = (is, some, tt)
+follows_more from (x ∷ bs) b follows is some = (follows.0, follows.1, follows_more (last_of x) bs b follows.2 is some)
 
 pub count_more : (bs : List BatchRow) (b : BatchRow) → record_count (bs ++ b ∷ []) ≡ record_count bs + length b.items
 count_more bs b = sum_by-append (λ (x : BatchRow). length x.items) bs (b ∷ []) ∙ alone (record_count bs) (length b.items)
@@ -92,7 +95,7 @@ batch_end_kept l epoch now items offset e =
 pub counted_up : (from e : ℤ) (n : ℕ) → e ≡ from +ℤ pos n → from ≤ℤ e
 counted_up from e n is = omega (arith, ints)
 
-within_by : (from : ℤ) (bs : List BatchRow) (before : List ℤ) (offset : ℤ) (after : List ℤ) → Follows from bs → from ∷ map last_of bs ≡ before ++ offset ∷ after → offset ≤ℤ last_end from bs
+within_by : (from : ℤ) (bs : List BatchRow) (before : List ℤ) (offset : ℤ) (after : List ℤ) → Follow from bs → from ∷ map last_of bs ≡ before ++ offset ∷ after → offset ≤ℤ last_end from bs
 within_by from bs [] offset after follows is =
     let same : from ≡ offset = cc in
     subst (λ (o : ℤ). o ≤ℤ last_end from bs) same (counted_up from (last_end from bs) (record_count bs) (end_counts from bs follows))
@@ -100,23 +103,35 @@ within_by from [] (x ∷ []) offset after follows is = absurd (cc)
 within_by from [] (x ∷ y ∷ before) offset after follows is = absurd (cc)
 within_by from (b ∷ bs) (x ∷ before) offset after follows is =
     let rest : last_of b ∷ map last_of bs ≡ before ++ offset ∷ after = cc in
-    within_by (last_of b) bs before offset after follows.1 rest
+    within_by (last_of b) bs before offset after follows.2 rest
 
 -- no batch end is after the log's end
 pub batch_end_within : (l : Log) (offset : ℤ) → LogShape l → IsBatchEnd l offset → offset ≤ℤ end_of l
-batch_end_within l offset shape e = within_by l.base l.batches e.before offset e.after shape.follows e.among
+batch_end_within l offset shape e = within_by l.base l.batches e.before offset e.after shape.log.follow e.among
 
--- ---- before the first record
+-- nor is one before the base
+least_by : (from : ℤ) (bs : List BatchRow) (before : List ℤ) (offset : ℤ) (after : List ℤ) → Follow from bs → from ∷ map last_of bs ≡ before ++ offset ∷ after → from ≤ℤ offset
+least_by from bs [] offset after follows is = let same : from ≡ offset = cc in subst (λ (o : ℤ). from ≤ℤ o) same (omega (arith, ints))
+least_by from [] (x ∷ []) offset after follows is = absurd (cc)
+least_by from [] (x ∷ y ∷ before) offset after follows is = absurd (cc)
+least_by from (b ∷ bs) (x ∷ before) offset after follows is =
+    let rest : last_of b ∷ map last_of bs ≡ before ++ offset ∷ after = cc in
+    at_most_then from (last_of b) offset (counted_up from (last_of b) (length b.items) (last_of_is from b follows.0)) (least_by (last_of b) bs before offset after follows.2 rest)
+
+pub batch_end_least : (l : Log) (offset : ℤ) → LogShape l → IsBatchEnd l offset → l.base ≤ℤ offset
+batch_end_least l offset shape e = least_by l.base l.batches e.before offset e.after shape.log.follow e.among
+
+-- ---- at the base
 
 all_after_append : (at : ℤ) (xs ys : List Entry) → AllAfter at xs → AllAfter at ys → AllAfter at (xs ++ ys)
 all_after_append at [] ys a b = b
 all_after_append at (x ∷ xs) ys a b = (a.0, all_after_append at xs ys a.1 b)
 
-entries_after : (at from : ℤ) (bs : List BatchRow) → at ≤ℤ from → Follows from bs → AllAfter at (entries bs)
+pub entries_after : (at from : ℤ) (bs : List BatchRow) → at ≤ℤ from → Follow from bs → AllAfter at (entries bs)
 entries_after at from [] low follows = tt
 entries_after at from (b ∷ bs) low follows = all_after_append at (entries_of_batch b) (entries bs)
     (numbered_after at b.first b.epoch b.items (first at from b.first low follows.0))
-    (entries_after at (last_of b) bs (last at from (last_of b) (length b.items) low (last_of_is from b follows.0)) follows.1)
+    (entries_after at (last_of b) bs (last at from (last_of b) (length b.items) low (last_of_is from b follows.0)) follows.2)
   where
     first : (at from f : ℤ) → at ≤ℤ from → f ≡ from +ℤ pos 1 → at <ℤ f
     first at from f low is = omega (arith, ints)
@@ -124,11 +139,11 @@ entries_after at from (b ∷ bs) low follows = all_after_append at (entries_of_b
     last : (at from l : ℤ) (n : ℕ) → at ≤ℤ from → l ≡ from +ℤ pos n → at ≤ℤ l
     last at from l n low is = omega (arith, ints)
 
--- the metadata there is empty
-pub image_before : (l : Log) → LogShape l → image_at l (negsuc 0) ≡ empty_image
+-- the metadata at the base is that of the base
+pub image_at_base : (l : Log) → LogShape l → image_at l l.base ≡ l.base_image
 unfolding image_at
-image_before l shape = ap (λ es. all_entries_applied es l.base_image) (counted_same (negsuc 0) [] (entries l.batches)
-    (entries_after (negsuc 0) l.base l.batches (same (l.base) shape.base) shape.follows)) ∙ shape.empty
-  where
-    same : (b : ℤ) → b ≡ negsuc 0 → negsuc 0 ≤ℤ b
-    same b is = omega (arith, ints)
+image_at_base l shape = ap (λ es. all_entries_applied es l.base_image) (counted_same l.base [] (entries l.batches) (entries_after l.base l.base l.batches (omega (arith, ints)) shape.log.follow))
+
+-- and empty, where the log begins with its first record
+pub image_before : (l : Log) → LogShape l → l.base ≡ negsuc 0 → image_at l (negsuc 0) ≡ empty_image
+image_before l shape first = subst (λ (at : ℤ). image_at l at ≡ empty_image) first (image_at_base l shape ∙ shape.log.base_image first)

@@ -93,11 +93,11 @@ owner_kept : (zxid : ℤ) (o : Op) (q : List ℕ) (rows : List Row) → q ≢ pa
 owner_kept zxid o q rows far = ephemeral_alike (row_at q (after_op zxid o rows)) (row_at q rows) (others_kept zxid o q rows far)
 
 -- a znode is created where there was none, below one that doesn't end with a session
-record IsNew (path : List ℕ) (rows : List Row) : Type 0 where
-  absent : is_some (row_at path rows) ≡ false
-  parent : is_ephemeral (row_at (parent_of path) rows) ≡ false
+pub record IsNew (path : List ℕ) (rows : List Row) : Type 0 where
+  pub absent : is_some (row_at path rows) ≡ false
+  pub parent : is_ephemeral (row_at (parent_of path) rows) ≡ false
 
-created_new : (sessions : List ℤ) (path body : List ℕ) (owner : Option ℤ) (rows : List Row) → create_refusal sessions path body owner rows ≡ None → IsNew path rows
+pub created_new : (sessions : List ℤ) (path body : List ℕ) (owner : Option ℤ) (rows : List Row) → create_refusal sessions path body owner rows ≡ None → IsNew path rows
 created_new sessions path body owner rows pass =
     let limits : List (Bool × Refusal) = (nat_lt MAX_BODY_BYTES (length body), limit 2) ∷ (nat_le MAX_ZNODES (count_beside path rows), limit (limit_beside path)) ∷ [] in
     let third : List (Bool × Refusal) = (is_ephemeral (row_at (parent_of path) rows), code (negsuc 107)) ∷ limits in

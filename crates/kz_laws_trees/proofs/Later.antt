@@ -1,5 +1,5 @@
 -- A write that isn't the last leaves the tree unclosed.
-use Rattle.std.proofs.Common.{◌≡◌, ◌≢◌, ◌⊎◌, ℕ, ℤ, pos, negsuc, ◌+ℤ◌, ◌≤ℤ◌, ◌<ℤ◌, int_lt, Bool, true, false, ◌||◌, if◌then◌else◌, cond, List, [], ◌∷◌, ◌++◌, Option, Some, None, option_map, is_some, Contains, All, refl, sym, ap, ◌∙◌, subst, inl, inr, map, filter, take, arith, append-nil}
+use Rattle.std.proofs.Common.{◌≡◌, ◌≢◌, ◌⊎◌, ℕ, zero, suc, ℤ, pos, negsuc, ◌+ℤ◌, ◌≤ℤ◌, ◌<ℤ◌, int_lt, Bool, true, false, ◌||◌, if◌then◌else◌, cond, List, [], ◌∷◌, ◌++◌, Option, Some, None, option_map, is_some, Contains, All, refl, sym, ap, ◌∙◌, subst, inl, inr, map, filter, take, arith, append-nil}
 use Rattle.std.specs.Prelude.{Ok}
 use Rattle.std.proofs.lemmas.Int.{ints}
 use Rattle.std.proofs.lemmas.List.{map-append}
@@ -23,7 +23,7 @@ use Rattle.kz_spec_values.specs.Control.{migration_path, recorded_of}
 use Rattle.kz_spec_stores.specs.Tree.{Tree, path_of_row, row_at, put_row, without_row, parent_of, is_root, delete_refusal, set_refusal, op_refusal, created_row, set_row, with_child_change, after_op, multi, migrated_rows, area, has_offset, is_later, first_path, unclosed_below, unclosed_path, path_of_rendered}
 use Rattle.kz_spec_stores.specs.Image.{Image}
 use Rattle.kz_spec_znodes.specs.Rendering.{render}
-use Rattle.kz_spec_znodes.specs.Difference.{same_body, op_of, diff, chunk}
+use Rattle.kz_spec_znodes.specs.Difference.{same_body, op_of, keeps_bytes, chunk_length, diff, chunk}
 use Rattle.kz_spec_machine.specs.Driver.{is_last_write, record_ops, write_ops}
 use Rattle.kz_spec_machine.specs.Sound.{IsStamped, HaveParents, TreeShape}
 use Rattle.kz_laws_trees.proofs.Rows.{still, created_found, set_found}
@@ -32,7 +32,7 @@ use Rattle.kz_laws_trees.proofs.Runs.{ran, Passes, ran_append, passes_left, pass
 use Rattle.kz_laws_trees.proofs.Parents.{Is, found_some, ran_parents}
 use Rattle.kz_laws_trees.proofs.Below.{parent_migrated, rendered_roots, parent_differs, not_empty}
 use Rattle.kz_laws_trees.proofs.Render.{render_rises}
-use Rattle.kz_laws_trees.proofs.Multi.{Ran, multi_ran, edits_to, edits_inside, chunk_is, chunk_avoids, migration_outside}
+use Rattle.kz_laws_trees.proofs.Multi.{Ran, multi_ran, edits_to, edits_inside, chunk_size, chunk_is, chunk_avoids, migration_outside}
 
 -- A znode of the area was written, or its children were, in this transaction.
 record Touched (zxid : ℤ) (rows : List Row) : Type 0 where
@@ -148,17 +148,26 @@ end_of_edits : (e : Edit Rendered (List ℕ)) (es : List (Edit Rendered (List �
 end_of_edits e [] = record { front = []; last = e; whole = refl }
 end_of_edits e (f ∷ es) = let rest = end_of_edits f es in record { front = e ∷ rest.front; last = rest.last; whole = ap (λ l. e ∷ l) rest.whole }
 
-has_last : (ds : List (Edit Rendered (List ℕ))) → is_last_write (map op_of ds) ≡ false → EndsWith (take MAX_CHUNK ds)
+chosen_length : (n : ℕ) (ops : List Op) (b : Bool) → (m : ℕ) × (chunk_length (suc n) ops ≡ suc m) → (m : ℕ) × ((if b then suc (suc n) else chunk_length (suc n) ops) ≡ suc m)
+chosen_length n ops true fewer = (suc n, refl)
+chosen_length n ops false fewer = fewer
+
+-- a write has an operation, where there is one
+some_chunk : (n : ℕ) (ops : List Op) → (m : ℕ) × (chunk_length (suc n) ops ≡ suc m)
+some_chunk zero ops = (0, refl)
+some_chunk (suc n) ops = chosen_length n ops (keeps_bytes (suc (suc n)) ops) (some_chunk n ops)
+
+has_last : (ds : List (Edit Rendered (List ℕ))) → is_last_write (map op_of ds) ≡ false → EndsWith (take (chunk_length MAX_CHUNK (map op_of ds)) ds)
 has_last [] more = absurd (cc)
-has_last (d ∷ ds) more = end_of_edits d (take 63 ds)
+has_last (d ∷ ds) more = let s = some_chunk 63 (map op_of (d ∷ ds)) in subst (λ (n : ℕ). EndsWith (take n (d ∷ ds))) (sym s.1) (end_of_edits d (take s.0 ds))
 
 inside_last : (front : List (Edit Rendered (List ℕ))) (e : Edit Rendered (List ℕ)) → Inside (front ++ e ∷ []) → is_migrated (edit_path e) ≡ true
 inside_last [] e inside = inside.0
 inside_last (f ∷ front) e inside = inside_last front e inside.1
 
-more_is : (t : Tree) (i : Image) → is_last_write (diff (area t) (render i)) ≡ false → is_last_write (map op_of (edits_to t (render i))) ≡ false
+end_is : (t : Tree) (i : Image) → is_last_write (diff (area t) (render i)) ≡ false → EndsWith (take (chunk_size t i) (edits_to t (render i)))
 unfolding diff
-more_is t i more = more
+end_is t i more = has_last (edits_to t (render i)) more
 
 pub nothing_more : (b : Bool) (target : Recorded) (ops : List Op) → b ≡ false → ops ++ record_ops b target ≡ ops
 nothing_more true target ops is = absurd (cc)
@@ -174,18 +183,17 @@ write_touches : (t new : Tree) (i : Image) (claim : ℤ) (target : Recorded) →
 write_touches t new i claim target shape more m =
     let zxid = t.zxid +ℤ pos 1 in
     let ds = edits_to t (render i) in
-    let es = take MAX_CHUNK ds in
-    let end = has_last ds (more_is t i more) in
+    let end = end_is t i more in
     let front = map op_of end.front in
     let ops : chunk (diff (area t) (render i)) ++ record_ops (is_last_write (diff (area t) (render i))) target ≡ front ++ op_of end.last ∷ [] =
     nothing_more (is_last_write (diff (area t) (render i))) target (chunk (diff (area t) (render i))) more ∙ chunk_is t i ∙ ap (map op_of) end.whole ∙ map-append op_of end.front (end.last ∷ []) in
     let rows : new.rows ≡ after_op zxid (op_of end.last) (ran zxid front t.rows) = m.rows ∙ ap (λ os. ran zxid os t.rows) ops ∙ ran_append zxid front (op_of end.last ∷ []) t.rows in
     let passes : Passes t.sessions zxid (front ++ op_of end.last ∷ []) t.rows = subst (λ os. Passes t.sessions zxid os t.rows) ops m.passes.1 in
     let parents = ran_parents t.sessions zxid front t.rows (passes_left t.sessions zxid front (op_of end.last ∷ []) t.rows passes) shape.rise shape.parents in
-    let inside = inside_last end.front end.last (subst Inside end.whole (inside_take MAX_CHUNK ds (edits_inside t i))) in
+    let inside = inside_last end.front end.last (subst Inside end.whole (inside_take (chunk_size t i) ds (edits_inside t i))) in
     let IsDueHere : Edit Rendered (List ℕ) → Type 0 = IsDue bytes_cmp path_of_rendered same_body (area t) (render i) in
     let due = All-contains IsDueHere (end.front ++ end.last ∷ []) end.last
-    (subst (All IsDueHere) end.whole (All-take IsDueHere MAX_CHUNK ds (each_is_due bytes_order path_of_rendered same_body (area t) (render i) (area_rises t.rows shape.rise) (render_rises i))))
+    (subst (All IsDueHere) end.whole (All-take IsDueHere (chunk_size t i) ds (each_is_due bytes_order path_of_rendered same_body (area t) (render i) (area_rises t.rows shape.rise) (render_rises i))))
     (Contains-append_right end.front (end.last ∷ []) end.last (Contains-head end.last [])) in
     subst (Touched zxid) (sym rows) (edit_touches t.sessions zxid end.last (ran zxid front t.rows) parents inside (λ p is. drop_up t i end.last p inside due is)
     (passes_right t.sessions zxid front (op_of end.last ∷ []) t.rows passes).0)

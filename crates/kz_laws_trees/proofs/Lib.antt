@@ -20,11 +20,13 @@ pub mod Unchanged
 pub mod Sessions
 pub mod Clients
 pub mod Standing
+pub mod Versions
 pub mod Logs
 pub mod Ends
 pub mod Pages
 pub mod Migration
 pub mod Asked
+pub mod Commits
 pub mod Growth
 pub mod Translated
 pub mod Refusals

@@ -17,7 +17,7 @@ abbrev pub AllAfter : ℤ → List Entry → Type 0
 AllAfter at [] = ⊤
 AllAfter at (e ∷ es) = (at <ℤ e.offset) × AllAfter at es
 
-not_at_most : (a b : ℤ) → a <ℤ b → int_le b a ≡ false
+pub not_at_most : (a b : ℤ) → a <ℤ b → int_le b a ≡ false
 not_at_most a b h = grind (arith, ints)
 
 not_less : (a b : ℤ) → a ≤ℤ b → int_lt b a ≡ false
@@ -26,17 +26,17 @@ not_less a b h = grind (arith, ints)
 at_most : (a b : ℤ) → int_le a b ≡ true → a ≤ℤ b
 at_most a b is = grind (arith, ints)
 
-and_second : (a b c : Bool) → b ≡ false → (a && b && c) ≡ false
+pub and_second : (a b c : Bool) → b ≡ false → (a && b && c) ≡ false
 and_second true true c is = absurd (cc)
 and_second true false c is = refl
 and_second false b c is = refl
 
-and_third : (a b c : Bool) → c ≡ false → (a && b && c) ≡ false
+pub and_third : (a b c : Bool) → c ≡ false → (a && b && c) ≡ false
 and_third true true c is = is
 and_third true false c is = refl
 and_third false b c is = refl
 
-and_last : (a b : Bool) → b ≡ false → (a && b) ≡ false
+pub and_last : (a b : Bool) → b ≡ false → (a && b) ≡ false
 and_last true b is = is
 and_last false b is = refl
 
@@ -44,15 +44,15 @@ none_of : (at : ℤ) (p : Entry → Bool) (new : List Entry) → ((e : Entry) �
 none_of at p [] not_one after = refl
 none_of at p (e ∷ new) not_one after = ap (λ b. b || list_any p new) (not_one e after.0) ∙ none_of at p new not_one after.1
 
-any_same : (at : ℤ) (p : Entry → Bool) (es new : List Entry) → ((e : Entry) → at <ℤ e.offset → p e ≡ false) → AllAfter at new → list_any p (es ++ new) ≡ list_any p es
+pub any_same : (at : ℤ) (p : Entry → Bool) (es new : List Entry) → ((e : Entry) → at <ℤ e.offset → p e ≡ false) → AllAfter at new → list_any p (es ++ new) ≡ list_any p es
 any_same at p [] new not_one after = none_of at p new not_one after
 any_same at p (e ∷ es) new not_one after = ap (λ b. p e || b) (any_same at p es new not_one after)
 
-any_agree : (p q : Entry → Bool) (es : List Entry) → ((e : Entry) → p e ≡ q e) → list_any p es ≡ list_any q es
+pub any_agree : (p q : Entry → Bool) (es : List Entry) → ((e : Entry) → p e ≡ q e) → list_any p es ≡ list_any q es
 any_agree p q [] agree = refl
 any_agree p q (e ∷ es) agree = ap (λ b. b || list_any p es) (agree e) ∙ ap (λ b. q e || b) (any_agree p q es agree)
 
-filter_none : (at : ℤ) (p : Entry → Bool) (new : List Entry) → ((e : Entry) → at <ℤ e.offset → p e ≡ false) → AllAfter at new → filter p new ≡ []
+pub filter_none : (at : ℤ) (p : Entry → Bool) (new : List Entry) → ((e : Entry) → at <ℤ e.offset → p e ≡ false) → AllAfter at new → filter p new ≡ []
 filter_none at p [] not_one after = refl
 filter_none at p (e ∷ new) not_one after = ap (λ b. cond b (e ∷ filter p new) (filter p new)) (not_one e after.0) ∙ filter_none at p new not_one after.1
 
@@ -78,7 +78,7 @@ between_same : (at from to : ℤ) (es new : List Entry) → to ≤ℤ at → All
 between_same at from to es new low after = any_same at (λ (e : Entry). closes e.item && int_lt from e.offset && int_lt e.offset to) es new
     (λ e later. and_third (closes e.item) (int_lt from e.offset) (int_lt e.offset to) (not_less to e.offset (omega (arith, ints)))) after
 
-abbrev opens : List Entry → ℤ → Entry → Bool
+abbrev pub opens : List Entry → ℤ → Entry → Bool
 opens es offset b = is_begin b.item && int_lt b.offset offset && not (is_closed_between es b.offset offset)
 
 pub inside_same : (at offset : ℤ) (es new : List Entry) → offset ≤ℤ at → AllAfter at new → is_inside (es ++ new) offset ≡ is_inside es offset
@@ -124,7 +124,7 @@ image_kept l epoch now items at low =
     ap (λ es. all_entries_applied (counting_records es at) l.base_image) more
     ∙ ap (λ es. all_entries_applied es l.base_image) (counted_same at (entries l.batches) (entries_of_batch b) (numbered_after at b.first epoch items (omega (arith, ints))))
 
-last_more : (from : ℤ) (bs : List BatchRow) (b : BatchRow) → last_end from (bs ++ b ∷ []) ≡ last_of b
+pub last_more : (from : ℤ) (bs : List BatchRow) (b : BatchRow) → last_end from (bs ++ b ∷ []) ≡ last_of b
 last_more from [] b = refl
 last_more from (x ∷ bs) b = last_more (last_of x) bs b
 

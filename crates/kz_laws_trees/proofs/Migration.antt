@@ -15,24 +15,24 @@ use Rattle.kz_spec_stores.specs.Metadata.{Image, topic_named, is_migrated_state}
 use Rattle.kz_spec_stores.specs.ImageRules.{broken_rule}
 use Rattle.kz_spec_stores.specs.Image.{with_changed, topic_configured, configurations_after, effect, unless_broken, image_with}
 use Rattle.kz_spec_stores.specs.Settlement.{is_end, closes, is_marker, is_inside, first_close, is_ended_by, is_counted, counting_records}
-use Rattle.kz_spec_stores.specs.Log.{Log, last_of, last_end, end_of, entries_at_offsets, entries_of_batch, entries, record_count, all_entries_applied, image_at, image_of, is_migrated_log, new_batch, with_batch}
+use Rattle.kz_spec_stores.specs.Log.{Log, Follow, last_of, last_end, end_of, entries_at_offsets, entries_of_batch, entries, record_count, all_entries_applied, image_at, image_of, is_migrated_log, new_batch, with_batch}
 use Rattle.kz_spec_machine.specs.Driver.{commit_records}
-use Rattle.kz_spec_machine.specs.Sound.{Follows, LogShape}
+use Rattle.kz_spec_machine.specs.Sound.{LogShape}
 use Rattle.kz_laws_trees.specs.LogLaws.{IsPlain, IsUncommitted}
 use Rattle.kz_laws_trees.proofs.Logs.{AllAfter, inside_same, end_more, numbered_after}
 use Rattle.kz_laws_trees.proofs.Ends.{end_counts, counted_up}
 
 -- ---- every record stands at or before the log's end
 
-abbrev AllUpTo : ℤ → List Entry → Type 0
+abbrev pub AllUpTo : ℤ → List Entry → Type 0
 AllUpTo at [] = ⊤
 AllUpTo at (e ∷ es) = (e.offset ≤ℤ at) × AllUpTo at es
 
-up_to_append : (at : ℤ) (xs ys : List Entry) → AllUpTo at xs → AllUpTo at ys → AllUpTo at (xs ++ ys)
+pub up_to_append : (at : ℤ) (xs ys : List Entry) → AllUpTo at xs → AllUpTo at ys → AllUpTo at (xs ++ ys)
 up_to_append at [] ys a b = b
 up_to_append at (x ∷ xs) ys a b = (a.0, up_to_append at xs ys a.1 b)
 
-numbered_up_to : (at first epoch : ℤ) (items : List MetaRecord) → ((first +ℤ pos (length items)) -ℤ pos 1) ≤ℤ at → AllUpTo at (entries_at_offsets first epoch items)
+pub numbered_up_to : (at first epoch : ℤ) (items : List MetaRecord) → ((first +ℤ pos (length items)) -ℤ pos 1) ≤ℤ at → AllUpTo at (entries_at_offsets first epoch items)
 numbered_up_to at first epoch [] low = tt
 numbered_up_to at first epoch (r ∷ rs) low = (here first (length rs) low, numbered_up_to at (first +ℤ pos 1) epoch rs (later first (length rs) low))
   where
@@ -42,11 +42,11 @@ numbered_up_to at first epoch (r ∷ rs) low = (here first (length rs) low, numb
     later : (f : ℤ) (n : ℕ) → ((f +ℤ pos (suc n)) -ℤ pos 1) ≤ℤ at → (((f +ℤ pos 1) +ℤ pos n) -ℤ pos 1) ≤ℤ at
     later f n low = omega (arith, ints)
 
-entries_up_to : (at from : ℤ) (bs : List BatchRow) → last_end from bs ≤ℤ at → Follows from bs → AllUpTo at (entries bs)
+entries_up_to : (at from : ℤ) (bs : List BatchRow) → last_end from bs ≤ℤ at → Follow from bs → AllUpTo at (entries bs)
 entries_up_to at from [] low follows = tt
 entries_up_to at from (b ∷ bs) low follows = up_to_append at (entries_of_batch b) (entries bs)
-    (numbered_up_to at b.first b.epoch b.items (before (last_of b) (last_end (last_of b) bs) (counted_up (last_of b) (last_end (last_of b) bs) (record_count bs) (end_counts (last_of b) bs follows.1)) low))
-    (entries_up_to at (last_of b) bs low follows.1)
+    (numbered_up_to at b.first b.epoch b.items (before (last_of b) (last_end (last_of b) bs) (counted_up (last_of b) (last_end (last_of b) bs) (record_count bs) (end_counts (last_of b) bs follows.2)) low))
+    (entries_up_to at (last_of b) bs low follows.2)
   where
     before : (a b : ℤ) → a ≤ℤ b → b ≤ℤ at → a ≤ℤ at
     before a b x y = omega (arith, ints)
@@ -81,11 +81,11 @@ unless_broken_leaves (Some rule) made i same = refl
 state_left : (epoch : ℤ) (r : MetaRecord) (i : Image) → IsPlain r → (image_with epoch r i).state ≡ i.state
 state_left epoch r i plain = unless_broken_leaves (broken_rule i r) (effect epoch r i) i (effect_leaves epoch r i plain)
 
-abbrev AllPlain : List Entry → Type 0
+abbrev pub AllPlain : List Entry → Type 0
 AllPlain [] = ⊤
 AllPlain (e ∷ es) = IsPlain e.item × AllPlain es
 
-numbered_plain : (offset epoch : ℤ) (items : List MetaRecord) → All IsPlain items → AllPlain (entries_at_offsets offset epoch items)
+pub numbered_plain : (offset epoch : ℤ) (items : List MetaRecord) → All IsPlain items → AllPlain (entries_at_offsets offset epoch items)
 numbered_plain offset epoch [] all = tt
 numbered_plain offset epoch (r ∷ rs) all = (All-head IsPlain r rs all, numbered_plain (offset +ℤ pos 1) epoch rs (All-tail IsPlain r rs all))
 
@@ -97,7 +97,7 @@ filter_plain : (p : Entry → Bool) (es : List Entry) → AllPlain es → AllPla
 filter_plain p [] all = tt
 filter_plain p (e ∷ es) all = kept_plain e (p e) (filter p es) all.0 (filter_plain p es all.1)
 
-applied_append : (xs ys : List Entry) (i : Image) → all_entries_applied (xs ++ ys) i ≡ all_entries_applied ys (all_entries_applied xs i)
+pub applied_append : (xs ys : List Entry) (i : Image) → all_entries_applied (xs ++ ys) i ≡ all_entries_applied ys (all_entries_applied xs i)
 applied_append [] ys i = refl
 applied_append (x ∷ xs) ys i = applied_append xs ys (image_with x.epoch x.item i)
 
@@ -114,7 +114,7 @@ not_ended at true e m one rest = and_first (is_end e.item) (int_le e.offset at) 
 not_ended at false e m one rest = rest
 
 -- none of these ends a transaction
-abbrev NoneEnds : List Entry → Type 0
+abbrev pub NoneEnds : List Entry → Type 0
 NoneEnds [] = ⊤
 NoneEnds (e ∷ es) = (is_end e.item ≡ false) × NoneEnds es
 
@@ -145,29 +145,29 @@ filter_same at p q [] up_to same = refl
 filter_same at p q (e ∷ es) up_to same = ap (λ b. cond b (e ∷ filter p es) (filter p es)) (same e up_to.0) ∙ ap (λ l. cond (q e) (e ∷ l) l) (filter_same at p q es up_to.1 same)
 
 -- the entries of a log with one batch more
-entries_more : (l : Log) (epoch now : ℤ) (items : List MetaRecord) → entries (with_batch l epoch now items).batches ≡ entries l.batches ++ entries_at_offsets (end_of l +ℤ pos 1) epoch items
+pub entries_more : (l : Log) (epoch now : ℤ) (items : List MetaRecord) → entries (with_batch l epoch now items).batches ≡ entries l.batches ++ entries_at_offsets (end_of l +ℤ pos 1) epoch items
 entries_more l epoch now items =
     let b = new_batch l epoch now items in
     flat_map-append entries_of_batch l.batches (b ∷ []) ∙ ap (λ es. entries l.batches ++ es) (append-nil (entries_of_batch b))
 
-up_to_end : (l : Log) → LogShape l → AllUpTo (end_of l) (entries l.batches)
-up_to_end l shape = entries_up_to (end_of l) l.base l.batches (omega (arith, ints)) shape.follows
+pub up_to_end : (l : Log) → LogShape l → AllUpTo (end_of l) (entries l.batches)
+up_to_end l shape = entries_up_to (end_of l) l.base l.batches (omega (arith, ints)) shape.log.follow
 
 not_before : (e n : ℤ) (k : ℕ) → n ≡ e +ℤ pos k → e ≤ℤ n
 not_before e n k is = omega (arith, ints)
 
 -- the entries of a batch after the log's end
-abbrev next_entries : Log → ℤ → List MetaRecord → List Entry
+abbrev pub next_entries : Log → ℤ → List MetaRecord → List Entry
 next_entries l epoch items = entries_at_offsets (end_of l +ℤ pos 1) epoch items
 
 -- those of them that count then
-abbrev next_counted : Log → ℤ → ℤ → List MetaRecord → List Entry
+abbrev pub next_counted : Log → ℤ → ℤ → List MetaRecord → List Entry
 next_counted l epoch now items = filter (is_counted (entries l.batches ++ next_entries l epoch items) (end_of (with_batch l epoch now items))) (next_entries l epoch items)
 
--- where none of a batch ends a transaction, those that count are applied to the image that was
-more_applied : (l : Log) (epoch now : ℤ) (items : List MetaRecord) → LogShape l → NoneEnds (next_entries l epoch items) → image_of (with_batch l epoch now items) ≡ all_entries_applied (next_counted l epoch now items) (image_of l)
-unfolding image_at
-more_applied l epoch now items shape none =
+-- where none of a batch ends a transaction, those of it that count are counted after what counted before
+pub counting_more : (l : Log) (epoch now : ℤ) (items : List MetaRecord) → LogShape l → NoneEnds (next_entries l epoch items)
+    → counting_records (entries (with_batch l epoch now items).batches) (end_of (with_batch l epoch now items)) ≡ counting_records (entries l.batches) (end_of l) ++ next_counted l epoch now items
+counting_more l epoch now items shape none =
     let es = entries l.batches in
     let new = next_entries l epoch items in
     let at = end_of l in
@@ -176,12 +176,18 @@ more_applied l epoch now items shape none =
     let after = numbered_after at (end_of l +ℤ pos 1) epoch items (omega (arith, ints)) in
     let more = not_before at later (length items) (end_more l epoch now items) in
     let test = is_counted (es ++ new) later in
-    ap (λ xs. all_entries_applied (counting_records xs later) l.base_image) (entries_more l epoch now items)
-    ∙ ap (λ xs. all_entries_applied xs l.base_image) (filter-append test es new)
-    ∙ applied_append (filter test es) (filter test new) l.base_image
-    ∙ ap (λ xs. all_entries_applied (filter test new) (all_entries_applied xs l.base_image)) (filter_same at test (is_counted es at) es up_to (λ e low. counted_as_before at later es new e more up_to after none low))
+    ap (λ xs. counting_records xs later) (entries_more l epoch now items)
+    ∙ filter-append test es new
+    ∙ ap (λ xs. xs ++ filter test new) (filter_same at test (is_counted es at) es up_to (λ e low. counted_as_before at later es new e more up_to after none low))
 
-plain_ends : (es : List Entry) → AllPlain es → NoneEnds es
+-- and are applied to the image that was
+pub more_applied : (l : Log) (epoch now : ℤ) (items : List MetaRecord) → LogShape l → NoneEnds (next_entries l epoch items) → image_of (with_batch l epoch now items) ≡ all_entries_applied (next_counted l epoch now items) (image_of l)
+unfolding image_at
+more_applied l epoch now items shape none =
+    ap (λ xs. all_entries_applied xs l.base_image) (counting_more l epoch now items shape none)
+    ∙ applied_append (counting_records (entries l.batches) (end_of l)) (next_counted l epoch now items) l.base_image
+
+pub plain_ends : (es : List Entry) → AllPlain es → NoneEnds es
 plain_ends [] all = tt
 plain_ends (e ∷ es) all = (no_end e.item all.0, plain_ends es all.1)
 
@@ -194,11 +200,11 @@ plain_keeps_state l epoch now items shape all =
 
 -- ---- a batch without the commit
 
-abbrev AllUncommitted : List Entry → Type 0
+abbrev pub AllUncommitted : List Entry → Type 0
 AllUncommitted [] = ⊤
 AllUncommitted (e ∷ es) = IsUncommitted e.item × AllUncommitted es
 
-numbered_uncommitted : (offset epoch : ℤ) (items : List MetaRecord) → All IsUncommitted items → AllUncommitted (entries_at_offsets offset epoch items)
+pub numbered_uncommitted : (offset epoch : ℤ) (items : List MetaRecord) → All IsUncommitted items → AllUncommitted (entries_at_offsets offset epoch items)
 numbered_uncommitted offset epoch [] all = tt
 numbered_uncommitted offset epoch (r ∷ rs) all = (All-head IsUncommitted r rs all, numbered_uncommitted (offset +ℤ pos 1) epoch rs (All-tail IsUncommitted r rs all))
 
@@ -214,7 +220,7 @@ ends_nothing : (r : MetaRecord) → IsUncommitted r → is_end r ≡ false
 ends_nothing r (inl plain) = no_end r plain
 ends_nothing r (inr state) = ap is_end state.1
 
-uncommitted_ends : (es : List Entry) → AllUncommitted es → NoneEnds es
+pub uncommitted_ends : (es : List Entry) → AllUncommitted es → NoneEnds es
 uncommitted_ends [] all = tt
 uncommitted_ends (e ∷ es) all = (ends_nothing e.item all.0, uncommitted_ends es all.1)
 
@@ -227,7 +233,7 @@ state_unbroken : (s : ℤ) (i : Image) → broken_rule i (meta.ZkMigrationState 
 unfolding broken_rule
 state_unbroken s i = refl
 
-state_applied : (epoch s : ℤ) (i : Image) → image_with epoch (meta.ZkMigrationState s) i ≡ effect epoch (meta.ZkMigrationState s) i
+pub state_applied : (epoch s : ℤ) (i : Image) → image_with epoch (meta.ZkMigrationState s) i ≡ effect epoch (meta.ZkMigrationState s) i
 state_applied epoch s i = ap (λ b. unless_broken b (effect epoch (meta.ZkMigrationState s) i) i) (state_unbroken s i)
 
 one_uncommitted : (epoch : ℤ) (r : MetaRecord) (i : Image) → IsUncommitted r → is_migrated_state i.state ≡ false → is_migrated_state (image_with epoch r i).state ≡ false

@@ -5,7 +5,6 @@ use Rattle.std.specs.Str.{bytes_eq}
 use Rattle.std.specs.Ordering.{int_cmp}
 use Rattle.std.proofs.lemmas.Bool.Decides.{nat_tests}
 use Rattle.std.proofs.lemmas.Int.{ints}
-use Rattle.std.proofs.lemmas.List.{take_all}
 use Rattle.std.proofs.lemmas.List.Elements.{All-nil, All-cons, All-append, All-head, All-tail, All-weaker, All-filter}
 use Rattle.std.proofs.lemmas.Slice.Eq.{bytes_eq-Decides}
 use Rattle.kz_types.specs.declared.limits.TheConstants.{MAX_CHUNK, MAX_LONG}
@@ -26,7 +25,7 @@ use Rattle.kz_spec_values.specs.Control.{control_path, epoch_path, migration_pat
 use Rattle.kz_spec_stores.specs.Tree.{path_of_op, Tree, path_of_row, row_at, op_refusal, set_refusal, set_row, with_zxid, after_ops, multi, migrated_rows, area, has_offset, is_later, first_path, unclosed_below, unclosed_path, path_of_rendered}
 use Rattle.kz_spec_stores.specs.Image.{Image}
 use Rattle.kz_spec_znodes.specs.Rendering.{render}
-use Rattle.kz_spec_znodes.specs.Difference.{same_body, op_of, diff, chunk}
+use Rattle.kz_spec_znodes.specs.Difference.{same_body, op_of, chunk_length, diff, chunk, after_chunk}
 use Rattle.kz_spec_machine.specs.Driver.{is_last_write, record_ops, write_ops}
 use Rattle.kz_spec_machine.specs.Sound.{IsStamped, HaveParents, Lasts, ParentsStay, IsNotRoot, IsUnreserved, IsOwned, IsSmall, Limits, TreeShape, claim_version}
 use Rattle.kz_laws_trees.specs.TreeLaws.{KeepsShape, Completed}
@@ -203,13 +202,17 @@ map_take zero es = refl
 map_take (suc n) [] = refl
 map_take (suc n) (e ∷ es) = ap (λ os. op_of e ∷ os) (map_take n es)
 
+-- how many edits a write applies
+abbrev pub chunk_size : Tree → Image → ℕ
+chunk_size t i = chunk_length MAX_CHUNK (diff (area t) (render i))
+
 -- the operations of a write are those of edits
-pub chunk_is : (t : Tree) (i : Image) → chunk (diff (area t) (render i)) ≡ map op_of (take MAX_CHUNK (edits_to t (render i)))
+pub chunk_is : (t : Tree) (i : Image) → chunk (diff (area t) (render i)) ≡ map op_of (take (chunk_size t i) (edits_to t (render i)))
 unfolding diff
-chunk_is t i = map_take MAX_CHUNK (edits_to t (render i))
+chunk_is t i = map_take (chunk_size t i) (edits_to t (render i))
 
 pub chunk_avoids : (t : Tree) (i : Image) (p : List ℕ) → is_migrated p ≡ false → Avoids p (chunk (diff (area t) (render i)))
-chunk_avoids t i p outside = subst (Avoids p) (sym (chunk_is t i)) (avoids_inside p (take MAX_CHUNK (edits_to t (render i))) outside (inside_take MAX_CHUNK (edits_to t (render i)) (edits_inside t i)))
+chunk_avoids t i p outside = subst (Avoids p) (sym (chunk_is t i)) (avoids_inside p (take (chunk_size t i) (edits_to t (render i))) outside (inside_take (chunk_size t i) (edits_to t (render i)) (edits_inside t i)))
 
 record_avoids : (b : Bool) (target : Recorded) (p : List ℕ) → p ≢ migration_path → Avoids p (record_ops b target)
 record_avoids true target p other = (other, tt)
@@ -253,7 +256,7 @@ record_keeps false target = All-nil KeepsShape
 pub write_keeps_shape : (t : Tree) (i : Image) (claim : ℤ) (target : Recorded) → All KeepsShape (write_ops claim (diff (area t) (render i)) target)
 write_keeps_shape t i claim target =
     All-cons KeepsShape (Check epoch_path claim) (rest_of_write t i target) tt (All-append KeepsShape (chunk (diff (area t) (render i))) (record_ops (is_last_write (diff (area t) (render i))) target)
-    (subst (All KeepsShape) (sym (chunk_is t i)) (edits_keep (take MAX_CHUNK (edits_to t (render i))) (inside_take MAX_CHUNK (edits_to t (render i)) (edits_inside t i))))
+    (subst (All KeepsShape) (sym (chunk_is t i)) (edits_keep (take (chunk_size t i) (edits_to t (render i))) (inside_take (chunk_size t i) (edits_to t (render i)) (edits_inside t i))))
     (record_keeps (is_last_write (diff (area t) (render i))) target))
 
 -- ---- the last write
@@ -291,14 +294,21 @@ set_last t new i body shape after zxid rows passes pass =
           (subst (λ z. filter (is_later z) (migrated_rows new) ≡ []) zxid (none_later (IsStamped new.zxid) new.zxid (stamped_low new.zxid) (migrated_rows new) (All-filter (λ (r : Row). is_migrated r.path) (IsStamped new.zxid) new.rows after.stamped)));
     }
 
+-- a first part that is as long as the whole
+take_whole : (n : ℕ) (ops : List Op) → length ops ≤ length (take n ops) → take n ops ≡ ops
+take_whole zero [] few = refl
+take_whole zero (o ∷ ops) few = absurd (omega (arith, few))
+take_whole (suc n) [] few = refl
+take_whole (suc n) (o ∷ ops) few = ap (λ os. o ∷ os) (take_whole n ops (omega (arith, few)))
+
+at_most : (a b : ℕ) → nat_le a b ≡ true → a ≤ b
+at_most a b is = grind (arith, nat_tests)
+
 -- the operations of the last write are all edits and the record of the offset
 last_is : (t : Tree) (i : Image) (target : Recorded) (b : Bool) → is_last_write (diff (area t) (render i)) ≡ b → b ≡ true
     → chunk (diff (area t) (render i)) ++ record_ops b target ≡ map op_of (edits_to t (render i)) ++ Set migration_path (written_recorded target) (negsuc 0) ∷ []
 unfolding diff
-last_is t i target true few is = ap (λ os. os ++ Set migration_path (written_recorded target) (negsuc 0) ∷ []) (take_all MAX_CHUNK (map op_of (edits_to t (render i))) (at_most (length (map op_of (edits_to t (render i)))) MAX_CHUNK few))
-  where
-    at_most : (a b : ℕ) → nat_le a b ≡ true → a ≤ b
-    at_most a b is = grind (arith, nat_tests)
+last_is t i target true few is = ap (λ os. os ++ Set migration_path (written_recorded target) (negsuc 0) ∷ []) (take_whole (chunk_size t i) (map op_of (edits_to t (render i))) (at_most (length (map op_of (edits_to t (render i)))) (length (take (chunk_size t i) (map op_of (edits_to t (render i))))) few))
 last_is t i target false few is = absurd (cc)
 
 pub last_write : (t new : Tree) (i : Image) (claim : ℤ) (target : Recorded) → TreeShape t → is_last_write (diff (area t) (render i)) ≡ true → multi t (write_ops claim (diff (area t) (render i)) target) ≡ Ok new
@@ -324,18 +334,18 @@ record_outside false target = tt
 
 -- a write applies the first edits, as many as it may have
 pub area_after_write : (t new : Tree) (i : Image) (claim : ℤ) (target : Recorded) → TreeShape t → multi t (write_ops claim (diff (area t) (render i)) target) ≡ Ok new
-    → area new ≡ all_edited bytes_cmp path_of_rendered (take MAX_CHUNK (edits_to t (render i))) (area t)
+    → area new ≡ all_edited bytes_cmp path_of_rendered (take (chunk_size t i) (edits_to t (render i))) (area t)
 area_after_write t new i claim target shape is =
     let m = multi_ran t new (write_ops claim (diff (area t) (render i)) target) is in
     let zxid = t.zxid +ℤ pos 1 in
     let chunk-ops = chunk (diff (area t) (render i)) in
     let last-ops = record_ops (is_last_write (diff (area t) (render i))) target in
-    let edits = take MAX_CHUNK (edits_to t (render i)) in
+    let edits = take (chunk_size t i) (edits_to t (render i)) in
     let passes : Passes t.sessions zxid (map op_of edits) t.rows = subst (λ os. Passes t.sessions zxid os t.rows) (chunk_is t i) (passes_left t.sessions zxid chunk-ops last-ops t.rows m.passes.1) in
     ap area_of (m.rows ∙ ran_append zxid chunk-ops last-ops t.rows)
     ∙ area_ran_left zxid last-ops (ran zxid chunk-ops t.rows) (ran_rises zxid chunk-ops t.rows shape.rise) (record_outside (is_last_write (diff (area t) (render i))) target)
     ∙ ap (λ os. area_of (ran zxid os t.rows)) (chunk_is t i)
-    ∙ area_ran t.sessions zxid edits t.rows shape.rise (inside_take MAX_CHUNK (edits_to t (render i)) (edits_inside t i)) passes
+    ∙ area_ran t.sessions zxid edits t.rows shape.rise (inside_take (chunk_size t i) (edits_to t (render i)) (edits_inside t i)) passes
 
 map_drop : (n : ℕ) (es : List (Edit Rendered (List ℕ))) → map op_of (drop n es) ≡ drop n (map op_of es)
 map_drop zero es = refl
@@ -344,12 +354,12 @@ map_drop (suc n) (e ∷ es) = map_drop n es
 
 -- and leaves the others to be written
 pub remaining_after_write : (t new : Tree) (i : Image) (claim : ℤ) (target : Recorded) → TreeShape t → multi t (write_ops claim (diff (area t) (render i)) target) ≡ Ok new
-    → diff (area new) (render i) ≡ drop MAX_CHUNK (diff (area t) (render i))
+    → diff (area new) (render i) ≡ after_chunk (diff (area t) (render i))
 unfolding diff
 remaining_after_write t new i claim target shape is =
     ap (λ have. map op_of (difference bytes_cmp path_of_rendered same_body have (render i))) (area_after_write t new i claim target shape is)
-    ∙ ap (map op_of) (prefix_leaves_rest bytes_order path_of_rendered same_body decides_body MAX_CHUNK (area t) (render i) (area_rises t.rows shape.rise) (render_rises i))
-    ∙ map_drop MAX_CHUNK (edits_to t (render i))
+    ∙ ap (map op_of) (prefix_leaves_rest bytes_order path_of_rendered same_body decides_body (chunk_size t i) (area t) (render i) (area_rises t.rows shape.rise) (render_rises i))
+    ∙ map_drop (chunk_size t i) (edits_to t (render i))
 
 -- ---- outside of the area
 

@@ -22,10 +22,10 @@ use Rattle.kz_spec_stores.specs.Tree.{path_of_op, Tree, row_at, fits_version, Re
 use Rattle.kz_spec_stores.specs.Image.{Image}
 use Rattle.kz_spec_stores.specs.InOrder.{IsInOrder}
 use Rattle.kz_spec_znodes.specs.Rendering.{render}
-use Rattle.kz_spec_znodes.specs.Difference.{same_body, op_of, diff}
+use Rattle.kz_spec_znodes.specs.Difference.{same_body, op_of, chunk_length, diff}
 use Rattle.kz_spec_machine.specs.Driver.{is_last_write, record_ops, write_ops}
-use Rattle.kz_spec_machine.specs.Sound.{Lasts, IsNotRoot, TreeShape, claim_version}
-use Rattle.kz_laws_trees.specs.RefusalLaws.{HasBases, IsOfOperation}
+use Rattle.kz_spec_machine.specs.Sound.{Lasts, IsNotRoot, TreeShape, HasBases, claim_version}
+use Rattle.kz_laws_trees.specs.RefusalLaws.{IsOfOperation}
 use Rattle.kz_laws_trees.proofs.Rows.{op_rises}
 use Rattle.kz_laws_trees.proofs.Area.{area_of, area_rises, area_changed, edit_path, path_of_edit}
 use Rattle.kz_laws_trees.proofs.Each.{Keeps, all_ran}
@@ -155,8 +155,8 @@ write_taken t i claim target index c shape bases order current there =
     let zxid = t.zxid +ℤ pos 1 in
     let ops = map op_of (edits_from t.rows i) in
     multi_taken t (write_ops claim ops target) index c
-    (one_taken 0 index c (check_refusal claim (row_at epoch_path t.rows)) (after_ops t.sessions zxid 1 (take MAX_CHUNK ops ++ record_ops (is_last_write ops) target) t.rows) (check_taken claim (row_at epoch_path t.rows) current)
-    (λ pass. edits_taken t.sessions zxid i (record_ops (is_last_write ops) target) (Is migration_path) order (set_follows t.sessions zxid (is_last_write ops) target) MAX_CHUNK (edits_from t.rows i) t.rows (tree_ready t shape bases) there refl 1 index c))
+    (one_taken 0 index c (check_refusal claim (row_at epoch_path t.rows)) (after_ops t.sessions zxid 1 (take (chunk_length MAX_CHUNK ops) ops ++ record_ops (is_last_write ops) target) t.rows) (check_taken claim (row_at epoch_path t.rows) current)
+    (λ pass. edits_taken t.sessions zxid i (record_ops (is_last_write ops) target) (Is migration_path) order (set_follows t.sessions zxid (is_last_write ops) target) (chunk_length MAX_CHUNK ops) (edits_from t.rows i) t.rows (tree_ready t shape bases) there refl 1 index c))
 
 -- ---- faults
 

@@ -22,7 +22,7 @@ use Rattle.kz_spec_values.specs.Control.{control_path, epoch_path, migration_pat
 use Rattle.kz_spec_stores.specs.Tree.{Tree, path_of_row, row_at, parent_of, is_root, is_ephemeral, is_live, may_own, begin_session, is_owner, is_owned, loses_child, after_loss, without_owned, end_session}
 use Rattle.kz_spec_machine.specs.Driver.{shown_by}
 use Rattle.kz_spec_machine.specs.Sound.{IsStamped, HaveParents, is_lasting, Lasts, ParentsStay, IsNotRoot, IsUnreserved, IsOwned, IsSmall, Limits, TreeShape, IsSession}
-use Rattle.kz_laws_trees.specs.TreeLaws.{Unchanged}
+use Rattle.kz_laws_drivers.specs.Effects.{IsUnchanged}
 use Rattle.kz_laws_trees.proofs.Rows.{still}
 use Rattle.kz_laws_trees.proofs.Parents.{Is}
 use Rattle.kz_laws_trees.proofs.Each.{all_from_contains}
@@ -141,7 +141,7 @@ begun_shape t new session m range shape = record {
       (All-weaker (IsOwned t.sessions) (IsOwned (with_session session t.sessions)) (λ r old. owner_stays_live r.owner session t.sessions old) t.rows shape.owned));
 }
 
-pub begin_leaves : (t new : Tree) (session : ℤ) → begin_session t session ≡ Ok new → TreeShape t → (IsSession session → TreeShape new) × Unchanged t new
+pub begin_leaves : (t new : Tree) (session : ℤ) → begin_session t session ≡ Ok new → TreeShape t → (IsSession session → TreeShape new) × IsUnchanged t new
 begin_leaves t new session is shape =
     let m = begun t new session is in (
       λ range. begun_shape t new session m range shape,
@@ -402,7 +402,7 @@ pub migration_left : (t new : Tree) (session : ℤ) → end_session t session �
 migration_left t new session is shape =
     ap (λ rows. option_map still (row_at migration_path rows)) (ended t new session is).rows ∙ lasting_alike (t.zxid +ℤ pos 1) session migration_path t.rows shape.rise shape.last migration_lasts
 
-pub end_leaves : (t new : Tree) (session : ℤ) → end_session t session ≡ Ok new → TreeShape t → TreeShape new × Unchanged t new
+pub end_leaves : (t new : Tree) (session : ℤ) → end_session t session ≡ Ok new → TreeShape t → TreeShape new × IsUnchanged t new
 end_leaves t new session is shape =
     let m = ended t new session is in
     let zxid = t.zxid +ℤ pos 1 in (

@@ -133,7 +133,7 @@ all_show zxid (o ∷ os) rows rise free none =
     all_show zxid os (after_op zxid o rows) (op_rises zxid o rows rise) (All-tail (λ x. is_reserved x ≡ false) o os free) (one_shows zxid o rows rise (All-head (λ x. is_reserved x ≡ false) o os free) none)
 
 -- a tree that none holds is held by none after a client's multi
-client_unheld : (t new : Tree) (ops : List Op) → Ran t new ops → client_refusal t ops ≡ None → TreeShape t → is_held_tree t ≡ false → is_held_tree new ≡ false
+pub client_unheld : (t new : Tree) (ops : List Op) → Ran t new ops → client_refusal t ops ≡ None → TreeShape t → is_held_tree t ≡ false → is_held_tree new ≡ false
 client_unheld t new ops m none shape unheld =
     ap (λ rows. is_some (shown_by (row_at control_path rows))) m.rows
     ∙ ap is_some (all_show (t.zxid +ℤ pos 1) ops t.rows shape.rise (none_reserved t ops none) (no_epoch (shown_in t) unheld))

@@ -1,14 +1,14 @@
 -- What a driver rests on is read from few znodes.
-use Rattle.std.proofs.Common.{◌≡◌, ℕ, List, Option, Some, None, option_map, refl, sym, ap, ◌∙◌}
+use Rattle.std.proofs.Common.{◌≡◌, ℕ, List, option_map, sym, ap, ◌∙◌}
 use Rattle.std.specs.Prelude.{option_and_then}
 use Rattle.kz_types.specs.declared.tree.Row.{Row}
 use Rattle.kz_spec_values.specs.Control.{epoch_path, migration_path, recorded_of}
-use Rattle.kz_spec_stores.specs.Tree.{Tree, row_at, migrated_rows, migration_record, unclosed_below}
+use Rattle.kz_spec_stores.specs.Tree.{Tree, row_at, migrated_rows, migration_record}
 use Rattle.kz_spec_machine.specs.Sound.{shown_in}
-use Rattle.kz_laws_trees.specs.TreeLaws.{Unchanged}
+use Rattle.kz_laws_drivers.specs.Effects.{IsUnchanged}
 use Rattle.kz_laws_trees.proofs.Rows.{still}
 use Rattle.kz_laws_trees.proofs.Multi.{version_still}
-use Rattle.kz_laws_trees.proofs.Beside.{recorded_still}
+use Rattle.kz_laws_trees.proofs.Beside.{recorded_still, unclosed_kept}
 
 -- these znodes have the same at a path, but for the transaction of its children
 abbrev pub Alike : List Row → List Row → List ℕ → Type 0
@@ -17,17 +17,12 @@ Alike old new p = option_map still (row_at p new) ≡ option_map still (row_at p
 pub recorded_alike : (t new : Tree) → Alike t.rows new.rows migration_path → migration_record new ≡ migration_record t
 recorded_alike t new alike = sym (recorded_still (row_at migration_path new.rows)) ∙ ap (option_and_then (λ (r : Row). recorded_of r.body)) alike ∙ recorded_still (row_at migration_path t.rows)
 
-unclosed_still : (m : Option Row) (rows : List Row) → unclosed_below (option_map still m) rows ≡ unclosed_below m rows
-unclosed_still None rows = refl
-unclosed_still (Some r) rows = refl
-
 -- the znodes of the area, `/migration`, `/controller_epoch` and what `/controller` shows are all
-pub unchanged_by : (t new : Tree) → migrated_rows new ≡ migrated_rows t → Alike t.rows new.rows migration_path → Alike t.rows new.rows epoch_path → shown_in new ≡ shown_in t → Unchanged t new
+pub unchanged_by : (t new : Tree) → migrated_rows new ≡ migrated_rows t → Alike t.rows new.rows migration_path → Alike t.rows new.rows epoch_path → shown_in new ≡ shown_in t → IsUnchanged t new
 unchanged_by t new rows migration epoch shown = record {
   rows = rows;
   recorded = recorded_alike t new migration;
-  unclosed = ap (unclosed_below (row_at migration_path new.rows)) rows ∙ sym (unclosed_still (row_at migration_path new.rows) (migrated_rows t))
-      ∙ ap (λ m. unclosed_below m (migrated_rows t)) migration ∙ unclosed_still (row_at migration_path t.rows) (migrated_rows t);
+  unclosed = unclosed_kept t new migration rows;
   version = sym (version_still (row_at epoch_path new.rows)) ∙ ap (option_map (λ (r : Row). r.version)) epoch ∙ version_still (row_at epoch_path t.rows);
   shown = shown;
 }

@@ -1,11 +1,12 @@
 -- What one batch more makes of a log.
-use Rattle.std.specs.Prelude.{◌≡◌, ◌⊎◌, false, ℤ, pos, ◌+ℤ◌, ◌≤ℤ◌, List, length, None, Ok, All, ⊤}
+use Rattle.std.specs.Prelude.{◌≡◌, ◌⊎◌, ◌≤◌, false, ℤ, pos, ◌+ℤ◌, ◌≤ℤ◌, List, length, None, Ok, All, ⊤}
 use Rattle.kz_types.specs.declared.record.MetaRecord.{MetaRecord}
 use Rattle.kz_types.specs.declared.record.MetaRecord.TheVariants as meta
-use Rattle.kz_spec_stores.specs.Log.{Log, end_of, image_at, image_of, is_migrated_log, with_batch, full_log, append}
+use Rattle.kz_spec_stores.specs.Log.{Log, View, IsAt, end_of, image_at, image_of, is_migrated_log, with_batch, full_log, append, read_view}
 use Rattle.kz_spec_stores.specs.Image.{is_migrated_state}
 use Rattle.kz_spec_machine.specs.Driver.{commit_records}
-use Rattle.kz_spec_machine.specs.Sound.{IsEpochOrNone, LogShape, IsBatchEnd}
+use Rattle.kz_spec_machine.specs.Sound.{IsEpoch, LogShape, IsBatchEnd}
+use Rattle.kz_laws_drivers.specs.Effects.{IsLonger}
 
 -- The metadata at every offset of the log stays.
 abbrev pub BatchLeavesImages : Type 0
@@ -19,14 +20,17 @@ BatchLeavesEnds = (l : Log) (epoch now : ℤ) (items : List MetaRecord) (at : �
 abbrev pub BatchMovesEnd : Type 0
 BatchMovesEnd = (l : Log) (epoch now : ℤ) (items : List MetaRecord) → end_of (with_batch l epoch now items) ≡ end_of l +ℤ pos (length items)
 
--- A batch within the limits keeps the shape of a log.
+-- A batch within the limits, of an epoch that isn't below the log's, keeps the shape of a log.
 abbrev pub BatchKeepsShape : Type 0
-BatchKeepsShape = (l : Log) (epoch now : ℤ) (items : List MetaRecord) → LogShape l → IsEpochOrNone epoch → full_log l items ≡ None
-    → (pos 1 ≤ℤ epoch → pos 0 ≤ℤ (end_of l +ℤ pos (length items))) → LogShape (with_batch l epoch now items)
+BatchKeepsShape = (l : Log) (epoch now : ℤ) (items : List MetaRecord) → LogShape l → l.epoch ≤ℤ epoch → IsEpoch epoch → 1 ≤ length items → full_log l items ≡ None → LogShape (with_batch l epoch now items)
 
 -- So does an append.
 abbrev pub AppendKeepsShape : Type 0
-AppendKeepsShape = (l new : Log) (epoch now : ℤ) (items : List MetaRecord) → LogShape l → append l epoch now items ≡ Ok new → LogShape new
+AppendKeepsShape = (l new : Log) (epoch now : ℤ) (items : List MetaRecord) → LogShape l → pos 1 ≤ℤ epoch → 1 ≤ length items → append l epoch now items ≡ Ok new → LogShape new
+
+-- A view that has read a log to its end is what the log says there.
+abbrev pub ReadViewsAreAtEnd : Type 0
+ReadViewsAreAtEnd = (l : Log) (v : View) → LogShape l → IsAt l (read_view l v)
 
 -- The log's end is a batch end, and no batch end is after it.
 abbrev pub EndIsLastBatchEnd : Type 0
@@ -39,6 +43,10 @@ abbrev pub IsPlain : MetaRecord → Type 0
 IsPlain meta.EndTransaction = ⊥
 IsPlain (meta.ZkMigrationState s) = ⊥
 IsPlain r = ⊤
+
+-- With a batch of such records, all that was known of a log stays true.
+abbrev pub BatchLengthens : Type 0
+BatchLengthens = (l : Log) (epoch now : ℤ) (items : List MetaRecord) → LogShape l → l.epoch ≤ℤ epoch → 1 ≤ length items → All IsPlain items → IsLonger l (with_batch l epoch now items)
 
 -- A batch of such records leaves the state of the migration.
 abbrev pub PlainKeepsState : Type 0

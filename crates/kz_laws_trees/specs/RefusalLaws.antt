@@ -1,11 +1,10 @@
 -- What is never refused.
-use Rattle.std.specs.Prelude.{◌≡◌, ◌≢◌, ◌⊎◌, ℕ, ℤ, true, List, take, Some, None, is_some, Ok, Err, All, ⊤}
+use Rattle.std.specs.Prelude.{◌≡◌, ◌≢◌, ◌⊎◌, ℕ, ℤ, true, List, take, Some, None, is_some, Ok, Err, ⊤}
 use Rattle.kz_types.specs.declared.tree.Op.{Op}
 use Rattle.kz_types.specs.declared.driver.ClaimSeen.{ClaimSeen}
 use Rattle.kz_types.specs.declared.machine.Recorded.{Recorded}
 use Rattle.kz_types.specs.declared.fault.TreeFault.{TreeFault}
 use Rattle.kz_types.specs.declared.fault.TreeFault.TheVariants.{Refused, Limit}
-use Rattle.kz_types.specs.Paths.{base_paths}
 use Rattle.kz_spec_values.specs.Control.{migration_path}
 use Rattle.kz_spec_stores.specs.Tree.{Tree, row_at, multi, begin_session, end_session, area}
 use Rattle.kz_spec_stores.specs.Image.{Image}
@@ -14,11 +13,7 @@ use Rattle.kz_spec_znodes.specs.Rendering.{render}
 use Rattle.kz_spec_znodes.specs.Difference.{diff}
 use Rattle.kz_spec_machine.specs.Driver.{Driver, views_migrated, claim_ops, write_ops}
 use Rattle.kz_spec_machine.specs.Machine.{is_held_tree, client_refusal}
-use Rattle.kz_spec_machine.specs.Sound.{TreeShape, claim_version}
-
--- every base path stands
-abbrev pub HasBases : Tree → Type 0
-HasBases t = All (λ base. is_some (row_at base t.rows) ≡ true) base_paths
+use Rattle.kz_spec_machine.specs.Sound.{TreeShape, HasBases, claim_version}
 
 -- Of the operations that lead from the migrated area to the rendering of a metadata, the first ones, as many as one likes,
 -- are refused by no code; they may pass a limit.

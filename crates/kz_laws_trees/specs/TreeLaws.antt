@@ -1,5 +1,5 @@
 -- What a multi that isn't refused makes of a tree.
-use Rattle.std.specs.Prelude.{◌≡◌, ◌≢◌, ℕ, ℤ, pos, ◌+ℤ◌, ◌≤ℤ◌, true, false, ◌&&◌, List, take, drop, Some, None, is_some, Ok, All, ⊤}
+use Rattle.std.specs.Prelude.{◌≡◌, ◌≢◌, ℕ, ℤ, pos, ◌+ℤ◌, ◌≤ℤ◌, true, false, ◌&&◌, List, take, Some, None, is_some, Ok, All, ⊤}
 use Rattle.std.specs.Str.{bytes_eq}
 use Rattle.kz_types.specs.declared.limits.TheConstants.{MAX_CHUNK}
 use Rattle.kz_types.specs.declared.tree.Row.{Row}
@@ -11,14 +11,15 @@ use Rattle.kz_types.specs.Paths.{is_migrated}
 use Rattle.kz_ordered.specs.Order.{bytes_cmp}
 use Rattle.kz_ordered.specs.Difference.{all_edited, difference}
 use Rattle.kz_spec_values.specs.Control.{control_path, shown_epoch, recorded_of, written_recorded}
-use Rattle.kz_spec_stores.specs.Tree.{path_of_op, Tree, created_row, multi, begin_session, end_session, migrated_rows, area, migration_record, has_offset, unclosed_path, path_of_rendered}
+use Rattle.kz_spec_stores.specs.Tree.{path_of_op, Tree, created_row, multi, begin_session, end_session, area, migration_record, has_offset, unclosed_path, path_of_rendered}
 use Rattle.kz_spec_stores.specs.Image.{Image}
 use Rattle.kz_spec_znodes.specs.Rendering.{render}
-use Rattle.kz_spec_znodes.specs.Difference.{same_body, diff}
+use Rattle.kz_spec_znodes.specs.Difference.{same_body, chunk_length, diff, after_chunk}
 use Rattle.kz_spec_machine.specs.Driver.{Driver, epoch_or_zero, views_migrated, record_before_offsets, is_last_write, write_ops, claimed_version, claim_ops}
 use Rattle.kz_spec_machine.specs.Machine.{is_held_tree, client_refusal}
 use Rattle.kz_spec_machine.specs.Sound.{IsNotRoot, IsUnreserved, Lasts, TreeShape, claim_version, shown_in, IsSession, IsLawfulOp}
 use Rattle.kz_laws_values.specs.Ranges.{IsLong, IsEpoch}
+use Rattle.kz_laws_drivers.specs.Effects.{IsUnchanged}
 
 -- ---- any multi
 
@@ -59,15 +60,15 @@ OutsideLeavesArea = (t new : Tree) (ops : List Op) → multi t ops ≡ Ok new �
 abbrev pub IsWritten : Tree → Tree → Image → ℤ → Recorded → Type 0
 IsWritten t new i claim target = multi t (write_ops claim (diff (area t) (render i)) target) ≡ Ok new
 
--- A write applies the first edits of the area's difference to the rendering, at most 64.
+-- A write applies the first edits of the area's difference to the rendering, as many as a write may have.
 abbrev pub WriteAppliesEdits : Type 0
 WriteAppliesEdits = (t new : Tree) (i : Image) (claim : ℤ) (target : Recorded) → TreeShape t → IsWritten t new i claim target
-    → area new ≡ all_edited bytes_cmp path_of_rendered (take MAX_CHUNK (difference bytes_cmp path_of_rendered same_body (area t) (render i))) (area t)
+    → area new ≡ all_edited bytes_cmp path_of_rendered (take (chunk_length MAX_CHUNK (diff (area t) (render i))) (difference bytes_cmp path_of_rendered same_body (area t) (render i))) (area t)
 
 -- What remains to be written then is the rest of the operations.
 abbrev pub WriteLeavesRest : Type 0
 WriteLeavesRest = (t new : Tree) (i : Image) (claim : ℤ) (target : Recorded) → TreeShape t → IsWritten t new i claim target
-    → diff (area new) (render i) ≡ drop MAX_CHUNK (diff (area t) (render i))
+    → diff (area new) (render i) ≡ after_chunk (diff (area t) (render i))
 
 -- A write leaves the data version of `/controller_epoch`.
 abbrev pub WriteKeepsClaim : Type 0
@@ -105,13 +106,13 @@ abbrev pub ClaimShowsEpoch : Type 0
 ClaimShowsEpoch = (t new : Tree) (seen : ClaimSeen) (d : Driver) (now : ℤ) → IsLong d.id → IsEpoch (epoch_or_zero d.epoch) → IsLong now → multi t (claim_ops seen d now) ≡ Ok new
     → shown_in new ≡ Some (epoch_or_zero d.epoch)
 
--- What is recorded and the migrated area stay, and a tree that is closed then was closed before.
+-- What is recorded and the migrated area stay, and whether the tree is closed.
 pub record Left (t new : Tree) : Type 0 where
   pub recorded : migration_record new ≡ migration_record t
   pub area : area new ≡ area t
-  pub closed : unclosed_path new ≡ None → unclosed_path t ≡ None
+  pub unclosed : unclosed_path new ≡ unclosed_path t
 
--- A claim of a driver that knows a migrated log leaves the area and what is recorded.
+-- A claim of a driver that knows a migrated log leaves the area, what is recorded, and whether the tree is closed.
 abbrev pub ClaimLeavesArea : Type 0
 ClaimLeavesArea = (t new : Tree) (seen : ClaimSeen) (d : Driver) (now : ℤ) → TreeShape t → views_migrated d ≡ true → multi t (claim_ops seen d now) ≡ Ok new → Left t new
 
@@ -121,22 +122,13 @@ ClaimRecordsNone = (t new : Tree) (seen : ClaimSeen) (d : Driver) (now : ℤ) �
 
 -- ---- ZooKeeper clients
 
--- All that a driver rests on stays: the znodes of the migrated area, what is recorded, whether the tree is closed, the data
--- version of `/controller_epoch`, and the epoch that `/controller` shows.
-pub record Unchanged (t new : Tree) : Type 0 where
-  pub rows : migrated_rows new ≡ migrated_rows t
-  pub recorded : migration_record new ≡ migration_record t
-  pub unclosed : unclosed_path new ≡ unclosed_path t
-  pub version : claim_version new ≡ claim_version t
-  pub shown : shown_in new ≡ shown_in t
-
--- A session that begins leaves all that a driver rests on, and where its number is in range it keeps the tree's shape.
+-- A session that begins leaves all that drivers read of the tree, and where its number is in range it keeps the tree's shape.
 abbrev pub BeginLeaves : Type 0
-BeginLeaves = (t new : Tree) (session : ℤ) → begin_session t session ≡ Ok new → TreeShape t → (IsSession session → TreeShape new) × Unchanged t new
+BeginLeaves = (t new : Tree) (session : ℤ) → begin_session t session ≡ Ok new → TreeShape t → (IsSession session → TreeShape new) × IsUnchanged t new
 
--- One that ends keeps the tree's shape and leaves all that a driver rests on, whatever znodes end with it.
+-- One that ends keeps the tree's shape and leaves all that drivers read of it, whatever znodes end with it.
 abbrev pub EndLeaves : Type 0
-EndLeaves = (t new : Tree) (session : ℤ) → end_session t session ≡ Ok new → TreeShape t → TreeShape new × Unchanged t new
+EndLeaves = (t new : Tree) (session : ℤ) → end_session t session ≡ Ok new → TreeShape t → TreeShape new × IsUnchanged t new
 
 -- A client's multi that isn't refused keeps the tree's shape, where its operations are those of a line.
 abbrev pub ClientKeepsShape : Type 0
@@ -146,6 +138,14 @@ ClientKeepsShape = (t new : Tree) (ops : List Op) → multi t ops ≡ Ok new →
 abbrev pub ClientLeavesRecorded : Type 0
 ClientLeavesRecorded = (t new : Tree) (ops : List Op) → multi t ops ≡ Ok new → client_refusal t ops ≡ None → migration_record new ≡ migration_record t
 
--- While a KRaft controller holds the tree, it leaves all that a driver rests on.
+-- While a KRaft controller holds the tree, it leaves all that drivers read of it.
 abbrev pub ClientLeavesHeld : Type 0
-ClientLeavesHeld = (t new : Tree) (ops : List Op) → multi t ops ≡ Ok new → client_refusal t ops ≡ None → is_held_tree t ≡ true → TreeShape t → Unchanged t new
+ClientLeavesHeld = (t new : Tree) (ops : List Op) → multi t ops ≡ Ok new → client_refusal t ops ≡ None → is_held_tree t ≡ true → TreeShape t → IsUnchanged t new
+
+-- It makes no tree held.
+abbrev pub ClientMakesNoneHeld : Type 0
+ClientMakesNoneHeld = (t new : Tree) (ops : List Op) → multi t ops ≡ Ok new → client_refusal t ops ≡ None → TreeShape t → is_held_tree t ≡ false → is_held_tree new ≡ false
+
+-- It doesn't lower the data version of `/controller_epoch`.
+abbrev pub ClientKeepsVersion : Type 0
+ClientKeepsVersion = (t new : Tree) (ops : List Op) (v : ℤ) → multi t ops ≡ Ok new → client_refusal t ops ≡ None → claim_version t ≡ Some v → (n : ℤ) × (claim_version new ≡ Some n) × (v ≤ℤ n)

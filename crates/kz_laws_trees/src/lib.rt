@@ -3,9 +3,9 @@
 //! A law is the contract of a function that does nothing.
 #![tactic(auto)]
 
-ghost use Rattle.kz_laws_trees.specs.TreeLaws.{MultiKeepsShape, ClaimKeepsShape, WriteKeepsShape, OutsideLeavesArea, WriteAppliesEdits, WriteLeavesRest, WriteKeepsClaim, WriteKeepsShown, LastWriteCompletes, EarlierWriteUnclosed, ClaimGivesVersion, ClaimShowsEpoch, ClaimLeavesArea, ClaimRecordsNone, BeginLeaves, EndLeaves, ClientKeepsShape, ClientLeavesRecorded, ClientLeavesHeld};
+ghost use Rattle.kz_laws_trees.specs.TreeLaws.{MultiKeepsShape, ClaimKeepsShape, WriteKeepsShape, OutsideLeavesArea, WriteAppliesEdits, WriteLeavesRest, WriteKeepsClaim, WriteKeepsShown, LastWriteCompletes, EarlierWriteUnclosed, ClaimGivesVersion, ClaimShowsEpoch, ClaimLeavesArea, ClaimRecordsNone, BeginLeaves, EndLeaves, ClientKeepsShape, ClientLeavesRecorded, ClientLeavesHeld, ClientMakesNoneHeld, ClientKeepsVersion};
 ghost use Rattle.kz_laws_trees.specs.RefusalLaws.{DifferenceIsTaken, WriteIsTaken, MultiFailsByOperation, ClaimHasMigration, WriteKeepsMigration, ClientKeepsMigration, SessionsKeepMigration};
-ghost use Rattle.kz_laws_trees.specs.LogLaws.{BatchLeavesImages, BatchLeavesEnds, BatchMovesEnd, BatchKeepsShape, AppendKeepsShape, EndIsLastBatchEnd, PlainKeepsState, UncommittedStays, CommitMigrates};
+ghost use Rattle.kz_laws_trees.specs.LogLaws.{BatchLeavesImages, BatchLeavesEnds, BatchMovesEnd, BatchKeepsShape, AppendKeepsShape, EndIsLastBatchEnd, BatchLengthens, ReadViewsAreAtEnd, PlainKeepsState, UncommittedStays, CommitMigrates};
 
 /// A multi that isn't refused gives the tree the next zxid, and keeps the tree's shape where each of its operations is one that
 /// does, as those of claims and writes are; outside of the migrated area it leaves the area.
@@ -16,7 +16,7 @@ pub fn multi_keeps()
     ensures area { OutsideLeavesArea }
 {}
 
-/// A write applies the next operations, at most 64, of those that lead from the migrated area to the rendering, and leaves
+/// A write applies the next operations, as many as it may have, of those that lead from the migrated area to the rendering, and leaves
 /// the others and the claim; an earlier write leaves the tree unclosed, and the last one completes the area and closes it.
 pub fn write_leads()
     ensures applies { WriteAppliesEdits }
@@ -54,7 +54,7 @@ pub fn claim_leads()
     ensures none { ClaimRecordsNone }
 {}
 
-/// A session of a ZooKeeper client that begins or ends keeps the tree's shape, and leaves all that a driver rests on: the
+/// A session of a ZooKeeper client that begins or ends keeps the tree's shape, and leaves all that drivers read of it: the
 /// migrated area, what is recorded, whether the tree is closed, the claim, and the epoch that `/controller` shows.
 pub fn session_leaves()
     ensures begin { BeginLeaves }
@@ -62,11 +62,14 @@ pub fn session_leaves()
 {}
 
 /// A multi of a ZooKeeper client that isn't refused keeps the tree's shape, where its operations are those of a line, and what
-/// is recorded; while a KRaft controller holds the tree it leaves all that a driver rests on.
+/// is recorded; while a KRaft controller holds the tree it leaves all that drivers read of it. It makes no tree held, and lowers
+/// no data version of `/controller_epoch`.
 pub fn client_leaves()
     ensures shape { ClientKeepsShape }
     ensures recorded { ClientLeavesRecorded }
     ensures held { ClientLeavesHeld }
+    ensures unheld { ClientMakesNoneHeld }
+    ensures version { ClientKeepsVersion }
 {}
 
 /// One batch more leaves the images and the batch ends of a log.
@@ -76,11 +79,14 @@ pub fn batch_leaves()
     ensures end { BatchMovesEnd }
 {}
 
-/// A log keeps its shape, and its end is the last batch end.
+/// A log keeps its shape, and its end is the last batch end. With one batch more, what was known of it stays true, and a view
+/// that reads it to its end is what it says there.
 pub fn log_keeps()
     ensures batch { BatchKeepsShape }
     ensures append { AppendKeepsShape }
     ensures end { EndIsLastBatchEnd }
+    ensures longer { BatchLengthens }
+    ensures view { ReadViewsAreAtEnd }
 {}
 
 /// The state of the migration changes by a record of it alone, once its transaction is ended: plain records leave it, records

@@ -32,7 +32,8 @@ use Rattle.kz_ordered.proofs.Order.{bytes_order, int_order}
 use Rattle.kz_ordered.proofs.Lookup.{some_is_none, same_some, contained_is_found, Contains-head}
 use Rattle.kz_ordered.proofs.Append.{Rises_left}
 use Rattle.kz_ordered.proofs.Maps.{find-map, Rises-map}
-use Rattle.kz_spec_values.specs.Bodies.{read_body, is_in}
+use Rattle.kz_types.specs.Numbers.{is_in}
+use Rattle.kz_spec_values.specs.Bodies.{read_body}
 use Rattle.kz_spec_stores.specs.Tree.{path_of_row, row_at, path_of_rendered}
 use Rattle.kz_spec_stores.specs.Metadata.{Image, same_id, number_of_partition}
 use Rattle.kz_spec_stores.specs.ImageRules.{is_empty, is_epoch}

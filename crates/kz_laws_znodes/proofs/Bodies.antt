@@ -14,7 +14,8 @@ use Rattle.kz_ordered.specs.Ordered.{Rises, RisesAbove}
 use Rattle.std.proofs.lemmas.Cmp.{int_ranked}
 use Rattle.kz_ordered.proofs.Order.{bytes_order, int_order}
 use Rattle.kz_ordered.proofs.Lookup.{rest_rises, rises_above_smaller, Contains-head, Contains-tail}
-use Rattle.kz_spec_values.specs.Bodies.{is_in, are_distinct, are_replicas, are_some_of}
+use Rattle.kz_types.specs.Numbers.{is_in, are_distinct}
+use Rattle.kz_spec_values.specs.Bodies.{are_replicas, are_some_of}
 use Rattle.kz_spec_stores.specs.Metadata.{number_of_partition, name_of_pair}
 use Rattle.kz_spec_stores.specs.ImageRules.{is_epoch, is_replica, is_assigned, is_recovery, is_row}
 use Rattle.kz_spec_znodes.specs.Rendering.{assignment_of}

@@ -10,7 +10,7 @@ use Rattle.kz_ordered.specs.Difference.{DecidesEqual, Edit, drop_key, make, alte
 use Rattle.kz_ordered.proofs.Order.{bytes_order}
 use Rattle.kz_ordered.proofs.Difference.{difference_leads, prefix_leaves_rest}
 use Rattle.kz_spec_stores.specs.Tree.{path_of_rendered}
-use Rattle.kz_spec_znodes.specs.Difference.{same_body, op_of, diff, chunk}
+use Rattle.kz_spec_znodes.specs.Difference.{same_body, op_of, chunk_length, diff, chunk, after_chunk}
 use Rattle.kz_laws_znodes.specs.Operations.{after_operation, all_made}
 
 decides_body : DecidesEqual path_of_rendered same_body
@@ -45,10 +45,10 @@ unfolding diff
 difference_is_made have want h w = edits_are_made (between have want) have ∙ difference_leads bytes_order path_of_rendered same_body decides_body have want h w
 
 pub chunk_leaves_rest : (have want : List Rendered) → Rises bytes_cmp path_of_rendered have → Rises bytes_cmp path_of_rendered want
-    → diff (all_made (chunk (diff have want)) have) want ≡ drop MAX_CHUNK (diff have want)
+    → diff (all_made (chunk (diff have want)) have) want ≡ after_chunk (diff have want)
 unfolding diff
 chunk_leaves_rest have want h w =
-    ap (λ ops. map op_of (between (all_made ops have) want)) (take-map op_of MAX_CHUNK (between have want))
-    ∙ ap (λ znodes. map op_of (between znodes want)) (edits_are_made (take MAX_CHUNK (between have want)) have)
-    ∙ ap (map op_of) (prefix_leaves_rest bytes_order path_of_rendered same_body decides_body MAX_CHUNK have want h w)
-    ∙ sym (drop-map op_of MAX_CHUNK (between have want))
+    ap (λ ops. map op_of (between (all_made ops have) want)) (take-map op_of (chunk_length MAX_CHUNK (map op_of (between have want))) (between have want))
+    ∙ ap (λ znodes. map op_of (between znodes want)) (edits_are_made (take (chunk_length MAX_CHUNK (map op_of (between have want))) (between have want)) have)
+    ∙ ap (map op_of) (prefix_leaves_rest bytes_order path_of_rendered same_body decides_body (chunk_length MAX_CHUNK (map op_of (between have want))) have want h w)
+    ∙ sym (drop-map op_of (chunk_length MAX_CHUNK (map op_of (between have want))) (between have want))

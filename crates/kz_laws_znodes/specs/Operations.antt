@@ -1,13 +1,12 @@
 -- What the operations between two renderings make of the first.
-use Rattle.std.specs.Prelude.{◌≡◌, ℕ, List, [], ◌∷◌, drop}
-use Rattle.kz_types.specs.declared.limits.TheConstants.{MAX_CHUNK}
+use Rattle.std.specs.Prelude.{◌≡◌, ℕ, List, [], ◌∷◌}
 use Rattle.kz_types.specs.declared.tree.Op.{Op}
 use Rattle.kz_types.specs.declared.tree.Op.TheVariants.{Create, Set, Delete, Check}
 use Rattle.kz_types.specs.declared.tree.Rendered.{Rendered}
 use Rattle.kz_ordered.specs.Order.{bytes_cmp}
 use Rattle.kz_ordered.specs.Ordered.{put, without, Rises}
 use Rattle.kz_spec_stores.specs.Tree.{path_of_rendered}
-use Rattle.kz_spec_znodes.specs.Difference.{diff, chunk}
+use Rattle.kz_spec_znodes.specs.Difference.{diff, chunk, after_chunk}
 
 -- the znodes with this data at this path
 abbrev pub with_data : List ℕ → List ℕ → List Rendered → List Rendered
@@ -34,4 +33,4 @@ DifferenceIsMade = (have want : List Rendered) → Rises bytes_cmp path_of_rende
 -- Once the next write's operations are made, the difference is the rest of the operations.
 abbrev pub ChunkLeavesRest : Type 0
 ChunkLeavesRest = (have want : List Rendered) → Rises bytes_cmp path_of_rendered have → Rises bytes_cmp path_of_rendered want
-    → diff (all_made (chunk (diff have want)) have) want ≡ drop MAX_CHUNK (diff have want)
+    → diff (all_made (chunk (diff have want)) have) want ≡ after_chunk (diff have want)

@@ -1,45 +1,16 @@
 -- What is put beside members without floats has none.
-use Rattle.std.proofs.Common.{◌≡◌, ℕ, Bool, true, false, ◌||◌, cond, List, [], ◌∷◌, Option, Some, None, refl, ◌∙◌, ℤ, pos, negsuc}
+use Rattle.std.proofs.Common.{◌≡◌, ℕ, Bool, true, false, cond, List, [], ◌∷◌, Option, Some, None, refl, ℤ, pos, negsuc}
 use Rattle.std.specs.Prelude.{map}
-use Rattle.std.specs.Ordering.{nat_cmp, match_ordering, int_eq}
-use Rattle.std.specs.Cmp.Lexicographic.{slice_cmp}
-use Rattle.std.specs.declared.cmp.Ordering.{Ordering}
-use Rattle.std.specs.declared.cmp.Ordering.TheVariants.{Less, Equal, Greater}
+use Rattle.std.specs.Ordering.{int_eq}
 use Rattle.base64.specs.Engines.{standard}
 use Rattle.base64.specs.GeneralPurpose.{encode_of}
-use Rattle.serde_json.specs.Data.{Data, boolean, string, Members, no_members, member, put}
+use Rattle.serde_json.specs.Data.{Data, boolean, string, Members, no_members, put}
 use Rattle.serde_json.specs.View.{items_of}
 use Rattle.serde_json.specs.Written.{has_float, members_have_float, items_have_float}
+use Rattle.kz_members.proofs.Floats.{neither, put_no_float}
 use Rattle.kz_types.specs.Ids.{id_text}
 use Rattle.kz_types.specs.declared.id.Id.{Id}
 use Rattle.kz_spec_lines.specs.Members.{whole_data, text_or_null_data, ints_data, with_text, with_whole, with_text_or_null, with_flag, with_id, with_bytes, with_ints, with_tagged_whole, with_tagged_ints, with_tagged_text}
-
-pub neither : (a b : Bool) → a ≡ false → b ≡ false → a || b ≡ false
-neither a b p q = (λ i. p i || b) ∙ q
-
-first_of_two : (a b : Bool) → a || b ≡ false → a ≡ false
-first_of_two true b h = h
-first_of_two false b h = refl
-
-second_of_two : (a b : Bool) → a || b ≡ false → b ≡ false
-second_of_two true true h = h
-second_of_two true false h = refl
-second_of_two false b h = h
-
-by_order : (o : Ordering) (a b c : Members) → members_have_float a ≡ false → members_have_float b ≡ false → members_have_float c ≡ false → members_have_float (match_ordering o a b c) ≡ false
-by_order Less a b c p q r = p
-by_order Equal a b c p q r = q
-by_order Greater a b c p q r = r
-
--- a member without floats brings none
-put_no_float : (k : List ℕ) (d : Data) (ms : Members) → has_float d ≡ false → members_have_float ms ≡ false → members_have_float (put k d ms) ≡ false
-put_no_float k d no_members none all = neither (has_float d) false none refl
-put_no_float k d (member l e ms) none all =
-    let rest : members_have_float ms ≡ false = second_of_two (has_float e) (members_have_float ms) all in
-    by_order (slice_cmp nat_cmp k l) (member k d (member l e ms)) (member l d ms) (member l e (put k d ms))
-    (neither (has_float d) (has_float e || members_have_float ms) none all)
-    (neither (has_float d) (members_have_float ms) none rest)
-    (neither (has_float e) (members_have_float (put k d ms)) (first_of_two (has_float e) (members_have_float ms) all) (put_no_float k d ms none rest))
 
 -- members without floats
 pub record Calm (ms : Members) : Type 0 where

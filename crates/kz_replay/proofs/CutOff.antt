@@ -78,6 +78,7 @@ turn_front line w new id now replies cut =
 failed_lines : (line : ℕ) (w new : World) (id now : ℤ) (a : Answer) → is_failure a ≡ true → IsLeft w (event.Turn id now) a new → IsFront (reply_lines line a) (reply_lines line (next w (event.Turn id now)).1)
 unfolding reply_lines
 failed_lines line w new id now (answer.Turn replies) failed left = turn_front line w new id now replies left
+failed_lines line w new id now (answer.Step r) failed left = no_text (reply_line line (reply_text r)) (reply_lines line (next w (event.Turn id now)).1) (ap (reply_line line) (failed_text r failed))
 failed_lines line w new id now (answer.TreeFailed f) failed left = no_text [] (reply_lines line (next w (event.Turn id now)).1) refl
 failed_lines line w new id now (answer.LogFailed f) failed left = no_text [] (reply_lines line (next w (event.Turn id now)).1) refl
 failed_lines line w new id now answer.NoMemory failed left = no_text [] (reply_lines line (next w (event.Turn id now)).1) refl

@@ -3,7 +3,7 @@ pub mod Cut
 pub mod Takings
 pub mod Runs
 pub mod Statuses
-pub mod Records
+pub mod Disks
 pub mod Memories
 pub mod Failures
 pub mod TopCall

@@ -6,8 +6,7 @@ use Rattle.kz_types.specs.declared.outside.Status.TheVariants as status
 use Rattle.kz_spec_runs.specs.Endings.{Agrees, EndsAs, EndsAtFailure, IsReplay}
 use Rattle.kz_spec_runs.specs.InStep.{StaysInStep, script_events}
 use Rattle.kz_spec_runs.specs.Output.{start_place, outcome_of_replay}
-use Rattle.kz_laws_machine.proofs.Lawful.{script_lawful}
-use Rattle.kz_laws_machine.proofs.Steady.{stays_in_step}
+use Rattle.kz_laws_scripts.proofs.Scripts.{script_in_step}
 use Rattle.kz_replay.specs.Pending.{State, outcome_to_come, pending_lines}
 use Rattle.kz_replay.specs.Runs.{StreamState, Runs}
 use Rattle.kz_replay.proofs.Cut.{state, lines_at_start}
@@ -40,5 +39,5 @@ replays words s input input_now out out_now result replay is ran output whole so
   whole = whole;
   source = source;
   sink = sink;
-  in_step = λ _. always input.bytes (λ script. StaysInStep (script_events script)) (λ script. stays_in_step (script_events script) (script_lawful script));
+  in_step = λ _. always input.bytes (λ script. StaysInStep (script_events script)) script_in_step;
 }

@@ -1,8 +1,8 @@
 //! What an answer of the machine means for the run.
 ghost use Rattle.std.specs.Prelude.{◌≡◌, true, false, option_map};
-ghost use Rattle.std.specs.List.{list_any};
+ghost use Rattle.std.specs.List.{list_any, filter_map};
 ghost use Rattle.kz_spec_machine.specs.Failures.{is_tree_failure, is_log_failure, is_failed_step, is_failure};
-ghost use Rattle.kz_spec_runs.specs.Output.{steps_of, ending, ending_of_reply};
+ghost use Rattle.kz_spec_runs.specs.Output.{steps_of, ending, ending_of_reply, first_ending};
 ghost use Rattle.kz_replay.specs.Endings.{status_of, IsNext};
 
 use crate::ending::{Ending, Next};
@@ -14,6 +14,7 @@ pub fn steps_of(answer: &Answer) -> usize
 {
     match answer {
         Answer::Turn(replies) => replies.len(),
+        Answer::Step(_) => 1,
         _ => 0,
     }
 }
@@ -47,7 +48,7 @@ fn has_failed_step(replies: &[Reply]) -> bool
     replies.iter().any(|reply| is_failed_step(reply))
 }
 
-/// Whether the event failed, or a step of its turn.
+/// Whether the event failed, or a step that it made.
 pub fn is_failure(answer: &Answer) -> bool
     ensures { result ≡ is_failure answer.now }
 {
@@ -55,6 +56,7 @@ pub fn is_failure(answer: &Answer) -> bool
         Answer::TreeFailed(fault) => is_tree_failure(*fault),
         Answer::LogFailed(fault) => is_log_failure(*fault),
         Answer::NoMemory => true,
+        Answer::Step(reply) => is_failed_step(reply),
         Answer::Turn(replies) => has_failed_step(replies.as_slice()),
         _ => false,
     }
@@ -69,19 +71,27 @@ fn ending_of_reply(reply: &Reply) -> Option<Ending>
     }
 }
 
-fn ending_of(answer: &Answer) -> Option<Ending>
-    ensures { option_map status_of result ≡ ending answer.now }
+// How the run ends by the first of these steps that ends it.
+fn first_ending(replies: &[Reply]) -> Option<Ending>
+    ensures { option_map status_of result ≡ first_ending (filter_map ending_of_reply replies.now) }
 {
-    let Answer::Turn(replies) = answer else {
-        return None;
-    };
-    for reply in replies.as_slice() {
+    for reply in replies {
         let ending = ending_of_reply(reply);
         if ending.is_some() {
             return ending;
         }
     }
     None
+}
+
+fn ending_of(answer: &Answer) -> Option<Ending>
+    ensures { option_map status_of result ≡ ending answer.now }
+{
+    match answer {
+        Answer::Turn(replies) => first_ending(replies.as_slice()),
+        Answer::Step(reply) => ending_of_reply(reply),
+        _ => None,
+    }
 }
 
 /// What the run does after this answer. It ends for memory where the event failed, as stores in memory have no disk that fails.

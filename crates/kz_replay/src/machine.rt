@@ -2,7 +2,7 @@
 ghost use Rattle.std.specs.Prelude.{◌≡◌, true, false, IfOk};
 ghost use Rattle.kz_spec_stores.specs.Log.{end_of};
 ghost use Rattle.kz_spec_machine.specs.Machine.{World as WorldValue, empty_world, next};
-ghost use Rattle.kz_spec_machine.specs.Sound.{IsLawful};
+ghost use Rattle.kz_spec_machine.specs.Sound.{Sound, IsLawful};
 ghost use Rattle.kz_spec_machine.specs.Failures.{is_failure, IsLeft};
 ghost use Rattle.kz_spec_runs.specs.Output.{recorded_offset};
 ghost use Rattle.kz_replay.specs.Failures.{FailsByNoDisk};
@@ -24,14 +24,16 @@ pub trait Machine: Drop + Sized {
     fn new(alloc: Global) -> Result<Self, NoMemory>
         ensures { IfOk result (λ machine. world machine ≡ empty_world) };
 
-    /// Lets an event happen, as a line of a script gives it, and answers it. Its stores are in memory, so no disk fails. An
-    /// event that fails leaves the world as it was, but for a turn: the last reply of `Turn` tells the failure after
-    /// the replies of the steps before, and the world is as these left it.
+    /// Lets an event happen, as a line of a script gives it, in a sound world, and answers it. The world stays sound. Its
+    /// stores are in memory, so no disk fails. An event that fails leaves the world as it was, but for a turn: the last
+    /// reply of `Turn` tells the failure after the replies of the steps before, and the world is as these left it.
     fn event(&mut self, event: &Event) -> Answer
-        requires { IsLawful event.now }
+        requires lawful { IsLawful event.now }
+        requires sound { Sound (world self.old) }
         ensures next { is_failure result ≡ false → next (world self.old) event.now ≡ (world self.new, result) }
         ensures failed { is_failure result ≡ true → IsLeft (world self.old) event.now result (world self.new) }
-        ensures disk { FailsByNoDisk result };
+        ensures sound { Sound (world self.new) }
+        ensures disk { FailsByNoDisk (world self.old) event.now result };
 
     /// The last transaction of the tree.
     fn zxid(&self) -> i64
@@ -53,7 +55,6 @@ impl Machine for World<MemoryTree, MemoryLog> {
         Ok(World::new(alloc, MemoryTree::new(alloc), MemoryLog::new(alloc)))
     }
 
-    #[tactic(auto, using(crate::proofs::Records::is_asked))]
     fn event(&mut self, event: &Event) -> Answer {
         World::event(self, event)
     }

@@ -1,10 +1,11 @@
 //! Where a run stands between two lines.
 ghost use Rattle.std.specs.Prelude.{◌≡◌, ◌+◌, ◌<◌, ◌≤◌, ◌^◌, IfOk};
 ghost use Rattle.kz_spec_lines.specs.Lines.{is_passed_over};
+ghost use Rattle.kz_spec_machine.specs.Machine.{empty_world};
 ghost use Rattle.kz_spec_machine.specs.Sound.{IsLawful};
-ghost use Rattle.kz_spec_runs.specs.Output.{Place as PlaceValue, summary};
+ghost use Rattle.kz_spec_runs.specs.Output.{Place as PlaceValue, start_place, summary};
 ghost use Rattle.kz_replay.specs.Failures.{printed_lines};
-ghost use Rattle.kz_replay.specs.Kept.{IsCounted};
+ghost use Rattle.kz_replay.specs.Kept.{IsPlace};
 ghost use Rattle.kz_replay.specs.Lines.{effect_of_event, effect_of_line, Prints};
 
 use crate::answer::{is_failure, next_after, steps_of};
@@ -15,7 +16,7 @@ use kz_types::{Answer, Event, NoMemory};
 use std::alloc::Global;
 use std::marker::Model;
 
-/// A run between two lines: its machine, and how many lines, events and steps it has gone over.
+/// A run between two lines: its machine, whose world is sound, and how many lines, events and steps it has gone over.
 #[derive(Drop)]
 pub struct Place<M: Machine> {
     machine: M,
@@ -29,7 +30,7 @@ impl<M: Machine> Model for Place<M> {
 
     ghost view = { λ p. record { lines = p.lines; events = p.events; steps = p.steps; world = M.world p.machine } };
 
-    ghost invariant = { λ p. IsCounted p.lines p.events p.steps };
+    ghost invariant = { λ p. IsPlace p.lines p.events p.steps (M.world p.machine) };
 }
 
 fn is_passed_over(line: &[u8]) -> bool
@@ -63,9 +64,10 @@ fn answer_lines(
 }
 
 impl<M: Machine> Place<M> {
-    /// The place before the first line.
+    /// The place before the first line, of a machine that has the empty world.
     pub fn new(machine: M) -> Self
-        ensures { result ≡ record { lines = 0; events = 0; steps = 0; world = M.world machine } }
+        requires { M.world machine ≡ empty_world }
+        ensures { result ≡ start_place }
     {
         Place {
             machine,
@@ -92,7 +94,7 @@ impl<M: Machine> Place<M> {
     }
 
     /// Goes over a line.
-    #[tactic(auto, using(kz_laws_machine::proofs::Lawful::lawful_line))]
+    #[tactic(auto, using(kz_laws_scripts::proofs::Lawful::lawful_line))]
     pub fn advance(&mut self, alloc: Global, line: &[u8]) -> Result<Printed, NoMemory>
         requires { self.old.lines < 2 ^ 33 }
         ensures prints { IfOk result (λ p. Prints (effect_of_line self.old line.now) p.text.items p.next self.new) }

@@ -92,9 +92,10 @@ fn with_summary<M: Machine>(
 }
 
 impl<M: Machine> Stream<M> {
-    /// The stream before the first byte.
+    /// The stream before the first byte, of a machine that has the empty world.
     pub fn new(alloc: Global, machine: M) -> Self
-        ensures { M.world machine ≡ empty_world → result ≡ record { place = start_place; line = []; taken = 0 } }
+        requires { M.world machine ≡ empty_world }
+        ensures { result ≡ record { place = start_place; line = []; taken = 0 } }
     {
         Stream {
             alloc,

@@ -42,6 +42,9 @@ const CHECK: &str = r#"{"event":"check"}
 const TURN: &str = r#"{"event":"turn","controller":3000}
 "#;
 
+const STEP: &str = r#"{"event":"step","controller":3000}
+"#;
+
 const CHANGE: &str =
     r#"{"event":"change","controller":3000,"records":[{"kind":"Config","resourceType":4,"resourceName":"1","name":"a","value":"1"}]}
 "#;
@@ -147,7 +150,7 @@ static SCRIPTS: [(&[Part], Status, &[Part]); 7] = [
         )],
     ),
     (
-        &[("{\"event\":\"stop\"}\n", 1)],
+        &[("{\"event\":\"none\"}\n", 1)],
         Status::Script { line: 1 },
         &[],
     ),
@@ -411,7 +414,8 @@ fn a_line_has_at_most_2097152_bytes(rt: HostRuntime) {
     }
 }
 
-// A script that changes the configurations of so many brokers, and then writes them and elects anew.
+// A script that changes the configurations of so many brokers, and then writes them, with a check after the first write, and
+// elects anew.
 fn many_changes(alloc: Global, count: u32) -> Result<String, AllocError> {
     let mut script = String::from_str(alloc, MIGRATION)?;
     for broker in 0..count {
@@ -420,6 +424,9 @@ fn many_changes(alloc: Global, count: u32) -> Result<String, AllocError> {
         )?;
         script.push_str(&line)?;
     }
+    script.push_str(STEP)?;
+    script.push_str(STEP)?;
+    script.push_str(CHECK)?;
     script.push_str(TURN)?;
     script.push_str(CHECK)?;
     script.push_str("{\"event\":\"elect\",\"controller\":3000}\n")?;
@@ -436,7 +443,7 @@ fn many_replies(alloc: Global, count: u32) -> Result<String, AllocError> {
         replies.push_str(&format!(in alloc; "{line} appended {line}\n")?)?;
     }
     replies.push_str(
-        "305 looked\n305 wrote 64\n305 wrote 64\n305 wrote 64\n305 wrote 64\n305 recorded 304\n305 idle\n306 closed 304\n307 elected 2 305\n308 moved BECOME_CONTROLLER\n308 looked\n308 claimed 2\n308 looked\n308 read 256\n308 read 61\n308 recorded 305\n308 moved DUAL_WRITE\n308 idle\n309 closed 305\nend events=309 steps=29 zxid=9 offset=305 recorded=305\n",
+        "305 looked\n306 wrote 64\n307 ahead 4 64\n308 wrote 64\n308 wrote 64\n308 wrote 64\n308 recorded 304\n308 idle\n309 closed 304\n310 elected 2 305\n311 moved BECOME_CONTROLLER\n311 looked\n311 claimed 2\n311 looked\n311 read 256\n311 read 61\n311 recorded 305\n311 moved DUAL_WRITE\n311 idle\n312 closed 305\nend events=312 steps=29 zxid=9 offset=305 recorded=305\n",
     )?;
     Ok(replies)
 }

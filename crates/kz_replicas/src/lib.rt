@@ -3,4 +3,4 @@
 
 mod replicas;
 
-pub use replicas::{are_replicas, are_some_of, is_in};
+pub use replicas::{are_distinct, are_replicas, are_some_of, is_in};

@@ -1,7 +1,8 @@
 //! Lists of brokers.
 ghost use Rattle.std.specs.Prelude.{◌≡◌};
 ghost use Rattle.std.specs.List.{list_all};
-ghost use Rattle.kz_spec_values.specs.Bodies.{is_in, are_distinct, are_replicas, are_some_of};
+ghost use Rattle.kz_types.specs.Numbers.{is_in, are_distinct};
+ghost use Rattle.kz_spec_values.specs.Bodies.{are_replicas, are_some_of};
 
 /// Whether a broker is among these.
 pub fn is_in(ids: &[i32], id: i32) -> bool
@@ -10,8 +11,8 @@ pub fn is_in(ids: &[i32], id: i32) -> bool
     ids.iter().any(|other| id == *other)
 }
 
-// Whether no broker stands twice.
-fn are_distinct(ids: &[i32]) -> bool
+/// Whether no id stands twice.
+pub fn are_distinct(ids: &[i32]) -> bool
     ensures { result ≡ are_distinct ids.now }
 {
     for at in 0..ids.len() {

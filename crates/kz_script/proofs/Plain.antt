@@ -6,13 +6,15 @@ use Rattle.std.specs.Str.{is_utf8}
 use Rattle.serde_json.specs.Data.{Members, no_members, array, object}
 use Rattle.serde_json.specs.View.{items_of}
 use Rattle.serde_json.specs.Written.{has_float}
+use Rattle.kz_types.specs.declared.plan.Plan.{Plan}
+use Rattle.kz_types.specs.declared.plan.Plan.TheVariants as plan
 use Rattle.kz_types.specs.declared.machine.Event.{Event}
-use Rattle.kz_types.specs.declared.machine.Event.TheVariants.{Quorum, Start, Elect, Turn, Register, Change, Check, ZkOpen, ZkExpire, Zk}
+use Rattle.kz_types.specs.declared.machine.Event.TheVariants.{Quorum, Start, Stop, Elect, Step, Turn, Register, Change, Check, ZkOpen, ZkExpire, Zk}
 use Rattle.kz_types.specs.declared.tree.Op.{Op}
 use Rattle.kz_types.specs.declared.tree.Op.TheVariants as op
 use Rattle.kz_spec_lines.specs.Members.{with_text, with_whole, with_bytes}
 use Rattle.kz_spec_lines.specs.WrittenRecords.{record_data}
-use Rattle.kz_spec_lines.specs.Written.{event_members, controller_members, with_now, with_body, with_owner, op_members, op_data, members_of_event}
+use Rattle.kz_spec_lines.specs.Written.{event_members, controller_members, with_now, with_plan, with_body, with_owner, op_members, op_data, members_of_event}
 use Rattle.kz_record_fields.proofs.Floats.{Calm, no_members_calm, put_calm, text_no_float, whole_no_float, one_of, flag_no_float, bytes_no_float, each_no_float, ints_no_float}
 use Rattle.kz_record_json.proofs.PlainRecords.{record_no_float}
 
@@ -24,6 +26,12 @@ event_members_no_float name = text_no_float (codes "event") name no_members no_m
 
 controller_no_float : (name : List ℕ) (controller : ℤ) → Calm (controller_members name controller)
 controller_no_float name controller = whole_no_float (codes "controller") controller (event_members name) (event_members_no_float name)
+
+plan_no_float : (p : Plan) (ms : Members) → Calm ms → Calm (with_plan p ms)
+plan_no_float plan.Deliver ms all = all
+plan_no_float plan.LostBefore ms all = text_no_float (codes "plan") (codes "lost-before") ms all
+plan_no_float plan.LostAfter ms all = text_no_float (codes "plan") (codes "lost-after") ms all
+plan_no_float plan.Expired ms all = text_no_float (codes "plan") (codes "expired") ms all
 
 session_no_float : (name : List ℕ) (session : ℤ) → Calm (with_whole (codes "session") session (event_members name))
 session_no_float name session = whole_no_float (codes "session") session (event_members name) (event_members_no_float name)
@@ -57,7 +65,10 @@ op_no_float (op.Check path version) = (versioned_no_float version _ (op_members_
 members_no_float : (e : Event) → Calm (members_of_event e)
 members_no_float (Quorum ids) = ints_no_float (codes "ids") ids _ (event_members_no_float (codes "quorum"))
 members_no_float (Start controller) = controller_no_float (codes "start") controller
+members_no_float (Stop None) = event_members_no_float (codes "stop")
+members_no_float (Stop (Some controller)) = controller_no_float (codes "stop") controller
 members_no_float (Elect controller now) = now_no_float now _ (controller_no_float (codes "elect") controller)
+members_no_float (Step controller now p) = plan_no_float p _ (now_no_float now _ (controller_no_float (codes "step") controller))
 members_no_float (Turn controller now) = now_no_float now _ (controller_no_float (codes "turn") controller)
 members_no_float (Change controller records now) =
     put_calm (codes "records") (array (items_of (map record_data records))) _ (each_no_float record_data record_no_float records) (now_no_float now _ (controller_no_float (codes "change") controller))

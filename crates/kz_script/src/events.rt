@@ -1,14 +1,17 @@
 //! The events that lines are.
-ghost use Rattle.std.specs.Prelude.{◌≡◌, ◌∷◌, [], IfOk, None, Some, Err};
+ghost use Rattle.std.specs.Prelude.{◌≡◌, IfOk, None, Some, Err, option_map, codes};
 ghost use Rattle.serde_json.specs.View.{view, items_view};
-ghost use Rattle.kz_spec_lines.specs.Events.{controller_of, now_of, timed_count, only_id, quorum_of, start_of, elect_of, turn_of, records_in, change_of, register_of, check_of, session_of, open_of, expire_of, ops_in, zk_of, event_of, line_event};
+ghost use Rattle.serde_json.specs.Find.{get};
+ghost use Rattle.kz_spec_lines.specs.Json.{count_with};
+ghost use Rattle.kz_spec_lines.specs.Events.{controller_of, now_of, timed_count, ids_in, distinct_ids, quorum_of, start_of, stop_by, stop_of, elect_of, turn_of, plan_named, plan_by, step_of, records_in, change_of, register_of, check_of, session_of, open_of, expire_of, ops_in, zk_of, event_of, line_event};
 
 use crate::numbers::{id_of, time_of};
 use crate::ops::{op_of, session_in};
 use kz_members::read_json;
 use kz_record_fields::{member_count, text_member};
 use kz_record_json::{LineFault, record_of};
-use kz_types::{Event, MetaRecord, NoMemory, Op, Sequence};
+use kz_replicas::are_distinct;
+use kz_types::{Event, MetaRecord, NoMemory, Op, Plan, Sequence};
 use serde_json::Value;
 use std::alloc::Global;
 
@@ -24,24 +27,45 @@ fn now_of(value: &Value) -> Option<i64>
     time_of(value.get("now"))
 }
 
+// How many members there are with one that may be absent, where there are so many others.
+fn count_with(member: Option<&Value>, others: u8) -> usize
+    ensures { result ≡ count_with (option_map (λ v. view v.now) member.entry) others }
+{
+    match member {
+        Some(_) => others as usize + 1,
+        None => others as usize,
+    }
+}
+
 // How many members there are with `now`, which may be absent, where there are so many others.
 fn timed_count(others: u8, value: &Value) -> usize
     ensures { result ≡ timed_count others (view value.now) }
 {
-    if value.get("now").is_some() {
-        others as usize + 1
-    } else {
-        others as usize
-    }
+    count_with(value.get("now"), others)
 }
 
-fn only_id(values: &[Value]) -> Option<i32>
-    ensures { result ≡ only_id (items_view values.now) }
+// The ids of a list, or `None` where one of them is none.
+fn ids_in(alloc: Global, values: &[Value]) -> Result<Option<Sequence<i32>>, NoMemory>
+    ensures { IfOk result (λ ids. ids ≡ ids_in (items_view values.now)) }
 {
-    match values {
-        [] => None,
-        [value] => id_of(value),
-        [_, _, ..] => None,
+    let mut ids = Sequence::new(alloc);
+    for value in values {
+        match id_of(value) {
+            Some(id) => ids.push(id)?,
+            None => return Ok(None),
+        }
+    }
+    Ok(Some(ids))
+}
+
+// The ids, or `None` where one of them stands twice.
+fn distinct_ids(ids: Sequence<i32>) -> Option<Sequence<i32>>
+    ensures { result ≡ distinct_ids ids }
+{
+    if are_distinct(ids.as_slice()) {
+        Some(ids)
+    } else {
+        None
     }
 }
 
@@ -54,12 +78,13 @@ fn quorum_of(alloc: Global, value: &Value) -> Result<Option<Event>, NoMemory>
     let Some(values) = value.get("ids").and_then(Value::as_array) else {
         return Ok(None);
     };
-    let Some(id) = only_id(values) else {
+    let Some(ids) = ids_in(alloc, values)? else {
         return Ok(None);
     };
-    let mut ids = Sequence::new(alloc);
-    ids.push(id)?;
-    Ok(Some(Event::Quorum { ids }))
+    match distinct_ids(ids) {
+        Some(ids) => Ok(Some(Event::Quorum { ids })),
+        None => Ok(None),
+    }
 }
 
 fn start_of(value: &Value) -> Option<Event>
@@ -70,6 +95,31 @@ fn start_of(value: &Value) -> Option<Event>
     }
     let controller = controller_of(value)?;
     Some(Event::Start { controller })
+}
+
+// `stop`, of the controller that is named, or of all.
+fn stop_by(named: Option<&Value>) -> Option<Event>
+    ensures { result ≡ stop_by (option_map (λ v. view v.now) named.entry) }
+{
+    match named {
+        None => Some(Event::Stop { controller: None }),
+        Some(value) => {
+            let controller = id_of(value)?;
+            Some(Event::Stop {
+                controller: Some(controller),
+            })
+        }
+    }
+}
+
+fn stop_of(value: &Value) -> Option<Event>
+    ensures { result ≡ stop_of (view value.now) }
+{
+    let named = value.get("controller");
+    if member_count(value) != count_with(named, 1) {
+        return None;
+    }
+    stop_by(named)
 }
 
 fn elect_of(value: &Value) -> Option<Event>
@@ -92,6 +142,58 @@ fn turn_of(value: &Value) -> Option<Event>
     let controller = controller_of(value)?;
     let now = now_of(value)?;
     Some(Event::Turn { controller, now })
+}
+
+fn plan_named(name: &str) -> Option<Plan>
+    ensures { result ≡ plan_named name.now }
+{
+    match name {
+        "deliver" => Some(Plan::Deliver),
+        "lost-before" => Some(Plan::LostBefore),
+        "lost-after" => Some(Plan::LostAfter),
+        "expired" => Some(Plan::Expired),
+        _ => None,
+    }
+}
+
+// The plan of a step, which may be absent.
+fn plan_by(value: Option<&Value>) -> Option<Plan>
+    ensures { result ≡ plan_by (option_map (λ v. view v.now) value.entry) }
+{
+    match value {
+        None => Some(Plan::Deliver),
+        Some(value) => plan_named(value.as_str()?),
+    }
+}
+
+// How many members a step has with `now` and `plan`, which may be absent.
+fn step_count(value: &Value) -> usize
+    ensures { result ≡ count_with (get (codes "plan") (view value.now)) (timed_count 2 (view value.now)) }
+{
+    let mut count = 2;
+    if value.get("now").is_some() {
+        count += 1;
+    }
+    if value.get("plan").is_some() {
+        count += 1;
+    }
+    count
+}
+
+fn step_of(value: &Value) -> Option<Event>
+    ensures { result ≡ step_of (view value.now) }
+{
+    if member_count(value) != step_count(value) {
+        return None;
+    }
+    let controller = controller_of(value)?;
+    let now = now_of(value)?;
+    let plan = plan_by(value.get("plan"))?;
+    Some(Event::Step {
+        controller,
+        now,
+        plan,
+    })
 }
 
 // The records of a list, or `None` where one of them is none.
@@ -225,7 +327,9 @@ fn event_of(alloc: Global, value: &Value) -> Result<Option<Event>, NoMemory>
     match name {
         "quorum" => quorum_of(alloc, value),
         "start" => Ok(start_of(value)),
+        "stop" => Ok(stop_of(value)),
         "elect" => Ok(elect_of(value)),
+        "step" => Ok(step_of(value)),
         "turn" => Ok(turn_of(value)),
         "register" => Ok(register_of(value)),
         "change" => change_of(alloc, value),

@@ -43,10 +43,39 @@ fn is_read_as(rt: &impl Abort, alloc: Global, line: &[u8], wanted: &str) -> bool
     }
 }
 
-static LINES: [(&[u8], &str); 19] = [
+static LINES: [(&[u8], &str); 27] = [
     (
         b"{\"event\":\"quorum\",\"ids\":[3000]}",
         r#"{"event":"quorum","ids":[3000]}"#,
+    ),
+    (
+        b"{\"event\":\"quorum\",\"ids\":[3001,0,2147483647]}",
+        r#"{"event":"quorum","ids":[3001,0,2147483647]}"#,
+    ),
+    (
+        b"{\"event\":\"quorum\",\"ids\":[]}",
+        r#"{"event":"quorum","ids":[]}"#,
+    ),
+    (
+        b"{\"event\":\"stop\",\"controller\":3000}",
+        r#"{"controller":3000,"event":"stop"}"#,
+    ),
+    (b"{\"event\":\"stop\"}", r#"{"event":"stop"}"#),
+    (
+        b"{\"event\":\"step\",\"controller\":3000,\"plan\":\"deliver\"}",
+        r#"{"controller":3000,"event":"step"}"#,
+    ),
+    (
+        b"{\"event\":\"step\",\"controller\":3000,\"plan\":\"lost-before\",\"now\":0}",
+        r#"{"controller":3000,"event":"step","plan":"lost-before"}"#,
+    ),
+    (
+        b"{\"plan\":\"lost-after\",\"event\":\"step\",\"now\":1,\"controller\":0}",
+        r#"{"controller":0,"event":"step","now":1,"plan":"lost-after"}"#,
+    ),
+    (
+        b"{\"event\":\"step\",\"controller\":1,\"plan\":\"lost-before\",\"plan\":\"expired\"}",
+        r#"{"controller":1,"event":"step","plan":"expired"}"#,
     ),
     (
         b"{\"event\":\"start\",\"controller\":3000}",
@@ -126,7 +155,7 @@ fn lines_are_read_as_their_events(rt: HostRuntime) {
     }
 }
 
-static BAD_LINES: [&[u8]; 50] = [
+static BAD_LINES: [&[u8]; 58] = [
     b"",
     b"# a comment",
     b" ",
@@ -138,7 +167,6 @@ static BAD_LINES: [&[u8]; 50] = [
     b"\xef\xbb\xbf{\"event\":\"check\"}",
     b"{\"event\":\"check\xff\"}",
     b"{\"event\":\"Check\"}",
-    b"{\"event\":\"stop\"}",
     b"{\"event\":null}",
     b"{\"event\":\"check\",\"now\":0}",
     b"{\"event\":\"start\"}",
@@ -152,8 +180,17 @@ static BAD_LINES: [&[u8]; 50] = [
     b"{\"event\":\"elect\",\"controller\":1,\"now\":null}",
     b"{\"event\":\"elect\",\"controller\":1,\"now\":9223372036854775808}",
     b"{\"event\":\"turn\",\"controller\":1,\"plan\":\"deliver\"}",
-    b"{\"event\":\"quorum\",\"ids\":[]}",
-    b"{\"event\":\"quorum\",\"ids\":[1,2]}",
+    b"{\"event\":\"stop\",\"controller\":null}",
+    b"{\"event\":\"stop\",\"controller\":-1}",
+    b"{\"event\":\"stop\",\"now\":0}",
+    b"{\"event\":\"stop\",\"controller\":1,\"now\":0}",
+    b"{\"event\":\"step\"}",
+    b"{\"event\":\"step\",\"plan\":\"deliver\"}",
+    b"{\"event\":\"step\",\"controller\":1,\"plan\":null}",
+    b"{\"event\":\"step\",\"controller\":1,\"plan\":\"lost\"}",
+    b"{\"event\":\"step\",\"controller\":1,\"plan\":\"Deliver\"}",
+    b"{\"event\":\"step\",\"controller\":1,\"now\":0,\"plan\":\"deliver\",\"epoch\":1}",
+    b"{\"event\":\"quorum\",\"ids\":[1,2,1]}",
     b"{\"event\":\"quorum\",\"ids\":1}",
     b"{\"event\":\"quorum\",\"ids\":[2147483648]}",
     b"{\"event\":\"change\",\"controller\":1,\"records\":[]}",

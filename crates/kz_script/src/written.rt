@@ -6,11 +6,11 @@ ghost use Rattle.serde_json.specs.View.{view, members_view, items_of};
 ghost use Rattle.serde_json.specs.Written.{compact_text, has_float};
 ghost use Rattle.kz_spec_lines.specs.Members.{with_whole};
 ghost use Rattle.kz_spec_lines.specs.WrittenRecords.{record_data};
-ghost use Rattle.kz_spec_lines.specs.Written.{event_members, controller_members, with_now, with_body, with_owner, op_members, op_data, members_of_event, written_event};
+ghost use Rattle.kz_spec_lines.specs.Written.{event_members, controller_members, with_now, with_plan, with_body, with_owner, op_members, op_data, members_of_event, written_event};
 
 use kz_record_fields::{ints_value, put_bytes, put_text, put_whole};
 use kz_record_json::write_item;
-use kz_types::{Event, MetaRecord, NoMemory, Op, ZPath};
+use kz_types::{Event, MetaRecord, NoMemory, Op, Plan, ZPath};
 use serde_json::{Map, Value};
 use std::alloc::Global;
 
@@ -54,6 +54,40 @@ fn timed_members(
 {
     let mut members = controller_members(alloc, name, controller)?;
     put_now(&mut members, alloc, now)?;
+    Ok(members)
+}
+
+fn stop_members(alloc: Global, controller: Option<i32>) -> Result<Map<String, Value>, NoMemory>
+    ensures { IfOk result (λ members. members_view members.entries ≡ members_of_event (Event.Stop controller)) }
+{
+    match controller {
+        None => event_members(alloc, "stop"),
+        Some(controller) => controller_members(alloc, "stop", controller),
+    }
+}
+
+// Puts the plan of a step, unless the request is delivered.
+fn put_plan(members: &mut Map<String, Value>, alloc: Global, plan: Plan) -> Result<(), NoMemory>
+    ensures { OnOk result (members_view members.new.entries ≡ with_plan plan (members_view members.old.entries)) }
+{
+    match plan {
+        Plan::Deliver => Ok(()),
+        Plan::LostBefore => put_text(members, alloc, "plan", "lost-before"),
+        Plan::LostAfter => put_text(members, alloc, "plan", "lost-after"),
+        Plan::Expired => put_text(members, alloc, "plan", "expired"),
+    }
+}
+
+fn step_members(
+    alloc: Global,
+    controller: i32,
+    now: i64,
+    plan: Plan,
+) -> Result<Map<String, Value>, NoMemory>
+    ensures { IfOk result (λ members. members_view members.entries ≡ with_plan plan (with_now now (controller_members (codes "step") controller))) }
+{
+    let mut members = timed_members(alloc, "step", controller, now)?;
+    put_plan(&mut members, alloc, plan)?;
     Ok(members)
 }
 
@@ -251,7 +285,13 @@ fn members_of_event(alloc: Global, event: &Event) -> Result<Map<String, Value>, 
             list_members(alloc, "quorum", "ids", ids)
         }
         Event::Start { controller } => controller_members(alloc, "start", *controller),
+        Event::Stop { controller } => stop_members(alloc, *controller),
         Event::Elect { controller, now } => timed_members(alloc, "elect", *controller, *now),
+        Event::Step {
+            controller,
+            now,
+            plan,
+        } => step_members(alloc, *controller, *now, *plan),
         Event::Turn { controller, now } => timed_members(alloc, "turn", *controller, *now),
         Event::Change {
             controller,
@@ -292,8 +332,8 @@ fn value_text(alloc: Global, value: &Value) -> Result<Vec<u8>, NoMemory>
 }
 
 /// The line of an event, without its end: compact JSON, with the members of an object in the order of their names'
-/// bytes. `now` is left out where it is 0, and the body of an operation where it is empty; a body that isn't UTF-8 is
-/// written in base64.
+/// bytes. `now` is left out where it is 0, the plan of a step where the request is delivered, and the body of an operation
+/// where it is empty; a body that isn't UTF-8 is written in base64.
 #[tactic(auto, unfolding(kz_spec_lines::specs::Written::written_event), using(crate::proofs::Plain::event_no_float))]
 pub fn write_event(alloc: Global, event: &Event) -> Result<Vec<u8>, NoMemory>
     ensures { IfOk result (λ line. line.items ≡ written_event event.now) }

@@ -1,10 +1,15 @@
 -- Which event a line of a script is: a JSON object with the event's name as `event`, and exactly its members.
 use Rattle.std.specs.Prelude.{ℕ, ◌==◌, ℤ, pos, List, [], ◌∷◌, Option, Some, None, option_map, option_and_then, if◌then◌else◌, codes}
+use Rattle.std.specs.Str.{bytes_eq}
+use Rattle.std.specs.List.{find}
 use Rattle.serde_json.specs.Data.{Data, Items, no_items, item}
-use Rattle.serde_json.specs.Find.{get, as_array, as_bool}
+use Rattle.serde_json.specs.Find.{get, as_array, as_bool, as_str}
+use Rattle.kz_types.specs.Numbers.{are_distinct}
 use Rattle.kz_types.specs.declared.limits.TheConstants.{MAX_NUMBER}
 use Rattle.kz_types.specs.declared.machine.Event.{Event}
-use Rattle.kz_types.specs.declared.machine.Event.TheVariants.{Quorum, Start, Elect, Turn, Register, Change, Check, ZkOpen, ZkExpire, Zk}
+use Rattle.kz_types.specs.declared.machine.Event.TheVariants.{Quorum, Start, Stop, Elect, Step, Turn, Register, Change, Check, ZkOpen, ZkExpire, Zk}
+use Rattle.kz_types.specs.declared.plan.Plan.{Plan}
+use Rattle.kz_types.specs.declared.plan.Plan.TheVariants as plan
 use Rattle.kz_types.specs.declared.record.MetaRecord.{MetaRecord}
 use Rattle.kz_types.specs.declared.tree.Op.{Op}
 use Rattle.kz_spec_lines.specs.Ops.{session_in, op_of}
@@ -36,20 +41,31 @@ timed_count others d = count_with (get (codes "now") d) others
 
 -- ---- events
 
--- the id in a list of one
-abbrev pub only_id : Items → Option ℤ
-only_id no_items = None
-only_id (item d no_items) = id_of d
-only_id (item d (item e ds)) = None
+-- the ids in a list
+abbrev pub ids_in : Items → Option (List ℤ)
+ids_in no_items = Some []
+ids_in (item d ds) = option_and_then (λ i. option_map (λ is. i ∷ is) (ids_in ds)) (id_of d)
 
--- `quorum`, with a list of exactly one id
+-- where no two of them are the same
+abbrev pub distinct_ids : List ℤ → Option (List ℤ)
+distinct_ids ids = if are_distinct ids then Some ids else None
+
+-- `quorum`, with a list of distinct ids
 abbrev pub quorum_of : Data → Option Event
 quorum_of d = if member_count d == 2
-    then option_map (λ i. Quorum (i ∷ [])) (option_and_then only_id (option_and_then as_array (get (codes "ids") d)))
+    then option_map (λ ids. Quorum ids) (option_and_then distinct_ids (option_and_then ids_in (option_and_then as_array (get (codes "ids") d))))
     else None
 
 abbrev pub start_of : Data → Option Event
 start_of d = if member_count d == 2 then option_map (λ c. Start c) (controller_of d) else None
+
+-- `stop`, of one controller or of all
+abbrev pub stop_by : Option Data → Option Event
+stop_by None = Some (Stop None)
+stop_by (Some d) = option_map (λ c. Stop (Some c)) (id_of d)
+
+abbrev pub stop_of : Data → Option Event
+stop_of d = if member_count d == count_with (get (codes "controller") d) 1 then stop_by (get (codes "controller") d) else None
 
 abbrev pub elect_of : Data → Option Event
 elect_of d = if member_count d == timed_count 2 d
@@ -59,6 +75,28 @@ elect_of d = if member_count d == timed_count 2 d
 abbrev pub turn_of : Data → Option Event
 turn_of d = if member_count d == timed_count 2 d
     then option_and_then (λ c. option_map (λ t. Turn c t) (now_of d)) (controller_of d)
+    else None
+
+-- the plans by their names
+abbrev pub plan_names : List (List ℕ × Plan)
+plan_names =
+    (codes "deliver", plan.Deliver)
+    ∷ (codes "lost-before", plan.LostBefore)
+    ∷ (codes "lost-after", plan.LostAfter)
+    ∷ (codes "expired", plan.Expired)
+    ∷ []
+
+abbrev pub plan_named : List ℕ → Option Plan
+plan_named name = option_map (λ p. p.1) (find (λ p. bytes_eq name p.0) plan_names)
+
+-- the plan of a step; where it is absent, the request is delivered
+abbrev pub plan_by : Option Data → Option Plan
+plan_by None = Some plan.Deliver
+plan_by (Some d) = option_and_then plan_named (as_str d)
+
+abbrev pub step_of : Data → Option Event
+step_of d = if member_count d == count_with (get (codes "plan") d) (timed_count 2 d)
+    then option_and_then (λ c. option_and_then (λ t. option_map (λ p. Step c t p) (plan_by (get (codes "plan") d))) (now_of d)) (controller_of d)
     else None
 
 -- the records in a list
@@ -125,7 +163,9 @@ abbrev pub event_forms : List (List ℕ × (Data → Option Event))
 event_forms =
     (codes "quorum", quorum_of)
     ∷ (codes "start", start_of)
+    ∷ (codes "stop", stop_of)
     ∷ (codes "elect", elect_of)
+    ∷ (codes "step", step_of)
     ∷ (codes "turn", turn_of)
     ∷ (codes "register", register_of)
     ∷ (codes "change", change_of)

@@ -5,8 +5,10 @@ use Rattle.std.specs.Str.{is_utf8}
 use Rattle.serde_json.specs.Data.{boolean, Data, array, object, Members, no_members, put}
 use Rattle.serde_json.specs.View.{items_of}
 use Rattle.serde_json.specs.Written.{compact_text}
+use Rattle.kz_types.specs.declared.plan.Plan.{Plan}
+use Rattle.kz_types.specs.declared.plan.Plan.TheVariants as plan
 use Rattle.kz_types.specs.declared.machine.Event.{Event}
-use Rattle.kz_types.specs.declared.machine.Event.TheVariants.{Quorum, Start, Elect, Turn, Register, Change, Check, ZkOpen, ZkExpire, Zk}
+use Rattle.kz_types.specs.declared.machine.Event.TheVariants.{Quorum, Start, Stop, Elect, Step, Turn, Register, Change, Check, ZkOpen, ZkExpire, Zk}
 use Rattle.kz_types.specs.declared.tree.Op.{Op}
 use Rattle.kz_types.specs.declared.tree.Op.TheVariants as op
 use Rattle.kz_spec_lines.specs.Members.{whole_data, with_text, with_whole, with_bytes}
@@ -53,11 +55,21 @@ op_data (op.Check path version) = object (with_whole (codes "version") version (
 
 -- ---- events
 
+-- the plan of a step, which is left out where the request is delivered
+abbrev pub with_plan : Plan → Members → Members
+with_plan plan.Deliver ms = ms
+with_plan plan.LostBefore ms = with_text (codes "plan") (codes "lost-before") ms
+with_plan plan.LostAfter ms = with_text (codes "plan") (codes "lost-after") ms
+with_plan plan.Expired ms = with_text (codes "plan") (codes "expired") ms
+
 -- an event's members
 abbrev pub members_of_event : Event → Members
 members_of_event (Quorum ids) = put (codes "ids") (array (items_of (map whole_data ids))) (event_members (codes "quorum"))
 members_of_event (Start controller) = controller_members (codes "start") controller
+members_of_event (Stop None) = event_members (codes "stop")
+members_of_event (Stop (Some controller)) = controller_members (codes "stop") controller
 members_of_event (Elect controller now) = with_now now (controller_members (codes "elect") controller)
+members_of_event (Step controller now p) = with_plan p (with_now now (controller_members (codes "step") controller))
 members_of_event (Turn controller now) = with_now now (controller_members (codes "turn") controller)
 members_of_event (Change controller records now) =
     put (codes "records") (array (items_of (map record_data records))) (with_now now (controller_members (codes "change") controller))

@@ -1,6 +1,7 @@
 //! Which events some lines are.
 ghost use Rattle.std.specs.Prelude.{◌≡◌, [], ◌∷◌, ◌++◌, None, Some, true, pos, codes};
-ghost use Rattle.kz_types.specs.declared.machine.Event.TheVariants.{Quorum, Start, Elect, Turn, Register, Change, Check};
+ghost use Rattle.kz_types.specs.declared.machine.Event.TheVariants.{Quorum, Start, Stop, Elect, Step, Turn, Register, Change, Check};
+ghost use Rattle.kz_types.specs.declared.plan.Plan.TheVariants.{Deliver, LostBefore, LostAfter, Expired};
 ghost use Rattle.kz_types.specs.declared.record.MetaRecord.TheVariants.{Config};
 ghost use Rattle.kz_spec_lines.specs.Events.{line_event};
 
@@ -52,11 +53,9 @@ pub fn no_events()
     ensures comment { line_event (codes "# a") ≡ None }
     ensures bare { line_event (codes "{}") ≡ None }
     ensures list { line_event (codes "[]") ≡ None }
-    ensures stop { line_event (codes "{\"event\":\"stop\"}") ≡ None }
     ensures extra { line_event (codes "{\"event\":\"check\",\"now\":1}") ≡ None }
     ensures missing { line_event (codes "{\"event\":\"start\"}") ≡ None }
-    ensures no_ids { line_event (codes "{\"event\":\"quorum\",\"ids\":[]}") ≡ None }
-    ensures two_ids { line_event (codes "{\"event\":\"quorum\",\"ids\":[1,2]}") ≡ None }
+    ensures unknown { line_event (codes "{\"event\":\"pause\"}") ≡ None }
     ensures after { line_event (codes "{\"event\":\"check\"}x") ≡ None }
     ensures not_utf8 { line_event (codes "{\"event\":\"check\"" ++ (255 ∷ codes "}")) ≡ None }
 {}
@@ -77,4 +76,30 @@ pub fn registrations_and_changes()
     ensures number { line_event (codes "{\"event\":\"register\",\"controller\":1,\"broker\":2,\"migrating\":1}") ≡ None }
     ensures two { line_event (codes "{\"event\":\"change\",\"controller\":1,\"records\":[{\"kind\":\"Config\",\"resourceType\":4,\"resourceName\":\"01\",\"name\":\"\",\"value\":null},{\"kind\":\"Config\",\"resourceType\":4,\"resourceName\":\"\",\"name\":\"a\",\"value\":\"1\"}]}")
         ≡ Some (Change (pos 1) (Config (record { resource_type = pos 4; resource_name = codes "01"; name = []; value = None }) ∷ Config (record { resource_type = pos 4; resource_name = []; name = codes "a"; value = Some (codes "1") }) ∷ []) (pos 0)) }
+{}
+
+/// Several controllers are declared, of which no two have the same id, and one of them or all are stopped.
+#[tactic(auto, unfolding(crate::proofs::OnLiterals::lines_on_literals))]
+pub fn several_controllers()
+    ensures two { line_event (codes "{\"event\":\"quorum\",\"ids\":[3001,3000]}") ≡ Some (Quorum (pos 3001 ∷ pos 3000 ∷ [])) }
+    ensures none { line_event (codes "{\"event\":\"quorum\",\"ids\":[]}") ≡ Some (Quorum []) }
+    ensures twice { line_event (codes "{\"event\":\"quorum\",\"ids\":[1,2,1]}") ≡ None }
+    ensures text { line_event (codes "{\"event\":\"quorum\",\"ids\":[1,\"2\"]}") ≡ None }
+    ensures one_stops { line_event (codes "{\"event\":\"stop\",\"controller\":3000}") ≡ Some (Stop (Some (pos 3000))) }
+    ensures all_stop { line_event (codes "{\"event\":\"stop\"}") ≡ Some (Stop None) }
+    ensures null_stops { line_event (codes "{\"event\":\"stop\",\"controller\":null}") ≡ None }
+    ensures timed_stop { line_event (codes "{\"event\":\"stop\",\"now\":0}") ≡ None }
+{}
+
+/// Steps, whose requests are delivered where no plan is named.
+#[tactic(auto, unfolding(crate::proofs::OnLiterals::lines_on_literals))]
+pub fn steps()
+    ensures absent { line_event (codes "{\"event\":\"step\",\"controller\":1}") ≡ Some (Step (pos 1) (pos 0) Deliver) }
+    ensures deliver { line_event (codes "{\"event\":\"step\",\"controller\":1,\"plan\":\"deliver\",\"now\":2}") ≡ Some (Step (pos 1) (pos 2) Deliver) }
+    ensures lost_before { line_event (codes "{\"event\":\"step\",\"controller\":1,\"plan\":\"lost-before\"}") ≡ Some (Step (pos 1) (pos 0) LostBefore) }
+    ensures lost_after { line_event (codes "{\"event\":\"step\",\"controller\":1,\"plan\":\"lost-after\"}") ≡ Some (Step (pos 1) (pos 0) LostAfter) }
+    ensures expired { line_event (codes "{\"event\":\"step\",\"controller\":1,\"plan\":\"expired\"}") ≡ Some (Step (pos 1) (pos 0) Expired) }
+    ensures other { line_event (codes "{\"event\":\"step\",\"controller\":1,\"plan\":\"lost\"}") ≡ None }
+    ensures null { line_event (codes "{\"event\":\"step\",\"controller\":1,\"plan\":null}") ≡ None }
+    ensures no_controller { line_event (codes "{\"event\":\"step\",\"plan\":\"deliver\"}") ≡ None }
 {}

@@ -22,6 +22,8 @@ use Rattle.kz_types.specs.declared.fault.LogFault.{LogFault}
 use Rattle.kz_types.specs.declared.fault.LogFault.TheVariants as log_fault
 use Rattle.kz_types.specs.declared.fault.BodyFault.{BodyFault}
 use Rattle.kz_types.specs.declared.fault.ReadWhy.TheVariants as why
+use Rattle.kz_types.specs.declared.plan.Plan.{Plan}
+use Rattle.kz_types.specs.declared.plan.Plan.TheVariants as plan
 use Rattle.kz_types.specs.declared.record.MetaRecord.{MetaRecord}
 use Rattle.kz_types.specs.declared.record.MetaRecord.TheVariants as meta
 use Rattle.kz_types.specs.declared.record.RegisterBrokerRecord.{RegisterBrokerRecord}
@@ -32,7 +34,7 @@ use Rattle.kz_spec_stores.specs.Image.{Image, is_migrated_state}
 use Rattle.kz_spec_stores.specs.Log.{Log, View, new_view, append, end_of, image_at, read_view}
 use Rattle.kz_spec_znodes.specs.Rendering.{render}
 use Rattle.kz_spec_znodes.specs.Translation.{Unreadable, translate}
-use Rattle.kz_spec_znodes.specs.Difference.{diff, chunk}
+use Rattle.kz_spec_znodes.specs.Difference.{diff, chunk, after_chunk}
 
 -- ---- what there is
 
@@ -194,7 +196,7 @@ abbrev pub remaining_at : Tree → Log → ℤ → List Op
 remaining_at t l offset = diff (area t) (render (image_at l offset))
 
 abbrev pub is_last_write : List Op → Bool
-is_last_write ops = nat_le (length ops) MAX_CHUNK
+is_last_write ops = nat_le (length ops) (length (chunk ops))
 
 abbrev pub record_ops : Bool → Recorded → List Op
 record_ops true target = op.Set migration_path (written_recorded target) (negsuc 0) ∷ []
@@ -374,7 +376,7 @@ after_records (r ∷ rs) = stage.AppendRecords (drop MAX_APPEND_RECORDS (r ∷ r
 abbrev pub written_driver : List Op → Recorded → (List Op → Stage) → Stage → Driver → Driver × Reply
 written_driver ops target more last d =
     if is_last_write ops then (record d { stage = last; recorded = Some target.offset }, reply.Recorded target.offset)
-    else (at_stage (more (drop MAX_CHUNK ops)) d, reply.Wrote (length (chunk ops)))
+    else (at_stage (more (after_chunk ops)) d, reply.Wrote (length (chunk ops)))
 
 -- the check of the claim fails: `/controller_epoch` has another version, or isn't there
 abbrev pub is_claim_refused : ℕ → ℤ → Bool
@@ -438,6 +440,51 @@ without_answer (read_page after) d = begins_again d
 without_answer (write ops) d = begins_again d
 without_answer (add records) d = resigned_driver d
 
+-- ---- how a request fares
+
+-- What a driver hears of its request.
+pub data Hearing : Type 0 where
+  hears_answer : Hearing  -- the store's answer, or that no request was made
+  hears_nothing : Hearing  -- the request or its answer was lost
+  hears_expiry : Hearing  -- its session had expired
+
+-- whether a request is one of the log, which knows no sessions
+abbrev pub is_of_log : Request → Bool
+is_of_log read_log = true
+is_of_log (add records) = true
+is_of_log request = false
+
+-- whether a request of the log, or of the tree, reaches its store
+abbrev pub reaches : Plan → Bool → Bool
+reaches plan.Deliver of_log = true
+reaches plan.LostBefore of_log = false
+reaches plan.LostAfter of_log = true
+reaches plan.Expired of_log = of_log
+
+abbrev pub reaches_store : Plan → Request → Bool
+reaches_store p request = reaches p (is_of_log request)
+
+abbrev pub is_limit : {A : Type 0} → Result A LogFault → Bool
+is_limit (Err (log_fault.Limit number)) = true
+is_limit result = false
+
+-- A log that can't take an append for a limit says so, even where the answer is to be lost.
+abbrev pub tells_limit : Shared → ℤ → ℤ → Request → Bool
+tells_limit s epoch now (add records) = is_limit (append s.log epoch now records)
+tells_limit s epoch now request = false
+
+-- what a driver hears of a request that is made
+abbrev pub hearing_of_request : Plan → Bool → Bool → Hearing
+hearing_of_request plan.Deliver of_log limit = hears_answer
+hearing_of_request plan.LostBefore of_log limit = hears_nothing
+hearing_of_request plan.LostAfter of_log limit = if limit then hears_answer else hears_nothing
+hearing_of_request plan.Expired of_log limit = if of_log then hears_answer else hears_expiry
+
+-- A step that makes no request can lose none.
+abbrev pub hearing : Plan → Shared → ℤ → ℤ → Request → Hearing
+hearing p s epoch now nothing = hears_answer
+hearing p s epoch now request = hearing_of_request p (is_of_log request) (tells_limit s epoch now request)
+
 -- ---- one step
 
 -- What is shared, the driver, and its reply.
@@ -446,10 +493,24 @@ pub record StepResult : Type 0 where
   pub driver : Driver
   pub reply : Reply
 
--- One step whose request is delivered: at most one request, and its answer.
-unfoldable pub step : Shared → List ℤ → ℤ → Driver → StepResult
-step s running now d = record {
-  shared = shared_after s (epoch_or_zero d.epoch) now (request_at s now d d.stage);
-  driver = (after_answer s running now d d.stage).0;
-  reply = (after_answer s running now d d.stage).1;
+-- the driver after its request, and what it replies, by what it hears
+abbrev pub driver_after : Hearing → Driver × Reply → Request → Driver → Driver × Reply
+driver_after hears_answer answer request d = answer
+driver_after hears_nothing answer request d = (without_answer request d, reply.Lost)
+driver_after hears_expiry answer request d = (without_answer request d, reply.Expired)
+
+-- a step whose request is this one
+abbrev pub step_of_request : Plan → Shared → List ℤ → ℤ → Driver → Request → StepResult
+step_of_request p s running now d request = record {
+  shared = if reaches_store p request then shared_after s (epoch_or_zero d.epoch) now request else s;
+  driver = (driver_after (hearing p s (epoch_or_zero d.epoch) now request) (after_answer s running now d d.stage) request d).0;
+  reply = (driver_after (hearing p s (epoch_or_zero d.epoch) now request) (after_answer s running now d d.stage) request d).1;
 }
+
+-- One step: at most one request, which fares by the plan, and what the driver makes of what it hears.
+unfoldable pub planned_step : Plan → Shared → List ℤ → ℤ → Driver → StepResult
+planned_step p s running now d = step_of_request p s running now d (request_at s now d d.stage)
+
+-- A step whose request is delivered.
+unfoldable pub step : Shared → List ℤ → ℤ → Driver → StepResult
+step s running now d = planned_step plan.Deliver s running now d

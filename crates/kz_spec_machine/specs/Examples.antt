@@ -23,3 +23,17 @@ migration_answers = answer.Done ∷ answer.Done ∷ answer.Elected (pos 1) (pos 
     ∷ reply.Claimed (pos 1) ∷ reply.Read 0 ∷ reply.Appended (pos 2) ∷ reply.Appended (pos 4) ∷ reply.Looked ∷ reply.Read 0
     ∷ reply.Recorded (pos 4) ∷ reply.Moved state.DualWrite ∷ reply.Idle ∷ [])
     ∷ []
+
+-- two controllers are declared and started; the first migrates, and the second takes over
+abbrev pub failover_events : List Event
+failover_events = event.Quorum (pos 1 ∷ pos 2 ∷ []) ∷ event.Start (pos 1) ∷ event.Start (pos 2) ∷ event.Elect (pos 1) (pos 0) ∷ event.Turn (pos 1) (pos 0) ∷ event.Elect (pos 2) (pos 0) ∷ event.Turn (pos 2) (pos 0) ∷ []
+
+abbrev pub failover_answers : List Answer
+failover_answers = answer.Done ∷ answer.Done ∷ answer.Done ∷ answer.Elected (pos 1) (pos 1)
+    ∷ answer.Turn (reply.Moved state.WaitForBrokers ∷ reply.Looked ∷ reply.Moved state.BecomeController ∷ reply.Looked
+    ∷ reply.Claimed (pos 1) ∷ reply.Read 0 ∷ reply.Appended (pos 2) ∷ reply.Appended (pos 4) ∷ reply.Looked ∷ reply.Read 0
+    ∷ reply.Recorded (pos 4) ∷ reply.Moved state.DualWrite ∷ reply.Idle ∷ [])
+    ∷ answer.Elected (pos 2) (pos 5)
+    ∷ answer.Turn (reply.Moved state.BecomeController ∷ reply.Looked ∷ reply.Claimed (pos 2) ∷ reply.Looked ∷ reply.Read 17
+    ∷ reply.Recorded (pos 5) ∷ reply.Moved state.DualWrite ∷ reply.Idle ∷ [])
+    ∷ []

@@ -36,6 +36,7 @@ abbrev pub is_failure : Answer → Bool
 is_failure (answer.TreeFailed fault) = is_tree_failure fault
 is_failure (answer.LogFailed fault) = is_log_failure fault
 is_failure answer.NoMemory = true
+is_failure (answer.Step reply) = is_failed_step reply
 is_failure (answer.Turn replies) = list_any is_failed_step replies
 is_failure other = false
 

@@ -1,14 +1,15 @@
 -- The machine: worlds, events, and what each event makes of a world.
-use Rattle.std.specs.Prelude.{ℕ, zero, suc, ◌+◌, ◌*◌, ◌/◌, Bool, true, false, not, ◌&&◌, ◌||◌, nat_lt, nat_le, ℤ, pos, ◌+ℤ◌, int_le, int_lt, List, [], ◌∷◌, ◌++◌, length, map, Option, Some, None, is_some, option_map, Result, Ok, Err, if◌then◌else◌}
+use Rattle.std.specs.Prelude.{ℕ, zero, suc, ◌+◌, ◌*◌, ◌/◌, Bool, true, false, not, ◌&&◌, ◌||◌, nat_lt, nat_le, ℤ, pos, ◌+ℤ◌, int_le, int_lt, List, [], ◌∷◌, ◌++◌, length, map, sum, Option, Some, None, is_some, option_map, Result, Ok, Err, if◌then◌else◌}
 use Rattle.std.specs.Str.{bytes_eq}
 use Rattle.std.specs.Ordering.{int_eq}
-use Rattle.std.specs.List.{find, list_any}
+use Rattle.std.specs.List.{filter, find, list_any}
 use Rattle.kz_types.specs.declared.codes.TheConstants.{NO_MIGRATION, PRE_MIGRATION}
 use Rattle.kz_types.specs.declared.limits.Limit.TheVariants as limits
 use Rattle.kz_types.specs.Limits.{number_of_limit}
-use Rattle.kz_types.specs.declared.limits.TheConstants.{MAX_APPEND_RECORDS, MAX_CHANGE_RECORDS, MAX_CHUNK, MAX_EPOCH, MAX_SCAN_ROWS}
+use Rattle.kz_types.specs.declared.limits.TheConstants.{MAX_APPEND_RECORDS, MAX_CHANGE_RECORDS, MAX_CHUNK, MAX_CHUNK_BYTES, MAX_CONTROLLERS, MAX_EPOCH, MAX_SCAN_ROWS, OP_BYTES}
 use Rattle.kz_types.specs.declared.tree.Op.{Op}
 use Rattle.kz_types.specs.declared.tree.Op.TheVariants as op
+use Rattle.kz_types.specs.declared.tree.Rendered.{Rendered}
 use Rattle.kz_types.specs.declared.fault.TreeFault.{TreeFault}
 use Rattle.kz_types.specs.declared.fault.TreeFault.TheVariants as tree_fault
 use Rattle.kz_types.specs.declared.move_fault.MoveFault.{MoveFault}
@@ -25,6 +26,8 @@ use Rattle.kz_types.specs.declared.machine.Event.{Event}
 use Rattle.kz_types.specs.declared.machine.Event.TheVariants as event
 use Rattle.kz_types.specs.declared.machine.Answer.{Answer}
 use Rattle.kz_types.specs.declared.machine.Answer.TheVariants as answer
+use Rattle.kz_types.specs.declared.plan.Plan.{Plan}
+use Rattle.kz_types.specs.declared.plan.Plan.TheVariants as plan
 use Rattle.kz_types.specs.declared.record.MetaRecord.{MetaRecord}
 use Rattle.kz_types.specs.declared.record.MetaRecord.TheVariants as meta
 use Rattle.kz_spec_stores.specs.Tree.{path_of_op, Tree, empty_tree, row_at, multi, begin_session, end_session, area, migrated_rows}
@@ -32,7 +35,8 @@ use Rattle.kz_spec_stores.specs.Image.{empty_image, all_applied, is_migrated_sta
 use Rattle.kz_spec_stores.specs.Log.{Log, empty_log, end_of, begun_of, image_at, image_of, is_migrated_log, is_open_log, batch_ends, with_batch, with_next_epoch, full_log}
 use Rattle.kz_spec_znodes.specs.Rendering.{Excess, render, excess}
 use Rattle.kz_spec_znodes.specs.Translation.{Unreadable, translate}
-use Rattle.kz_spec_machine.specs.Driver.{Shared, Driver, new_driver, elected_driver, is_one_of, least, shown_by, Request, nothing, request_at, StepResult, step}
+use Rattle.kz_spec_znodes.specs.Difference.{op_size}
+use Rattle.kz_spec_machine.specs.Driver.{Shared, Driver, new_driver, elected_driver, epoch_or_zero, is_one_of, least, shown_by, Request, nothing, request_at, StepResult, planned_step, step}
 use Rattle.kz_spec_machine.specs.Verdicts.{verdict}
 
 -- ---- worlds
@@ -74,8 +78,8 @@ pairs_after nothing s = []
 pairs_after request s = pair_of s ∷ []
 
 -- the tree and the log after the request of a step, where it makes one
-abbrev pub step_pairs : Shared → List ℤ → ℤ → Driver → List Pair
-step_pairs s running now d = pairs_after (request_at s now d d.stage) (step s running now d).shared
+abbrev pub step_pairs : Plan → Shared → List ℤ → ℤ → Driver → List Pair
+step_pairs p s running now d = pairs_after (request_at s now d d.stage) (planned_step p s running now d).shared
 
 -- ---- a turn
 
@@ -122,42 +126,63 @@ turn (suc n) s running now d =
 -- the tree and the log after each request of a turn
 unfoldable pub turn_pairs : ℕ → Shared → List ℤ → ℤ → Driver → List Pair
 turn_pairs zero s running now d = []
-turn_pairs (suc n) s running now d = step_pairs s running now d
+turn_pairs (suc n) s running now d = step_pairs plan.Deliver s running now d
     ++ (if ends (step s running now d).reply then [] else turn_pairs n (step s running now d).shared running now (step s running now d).driver)
 
 -- ---- how many steps a turn may have
+
+-- How many znodes or operations there are, and their bytes as operations of a write.
+pub record Amount : Type 0 where
+  pub count : ℕ
+  pub bytes : ℕ
+
+-- the size of the operation that creates a znode
+abbrev pub znode_size : Rendered → ℕ
+znode_size z = OP_BYTES + length z.path + length z.body
+
+abbrev pub amount_of_znodes : List Rendered → Amount
+amount_of_znodes znodes = record { count = length znodes; bytes = sum (map znode_size znodes) }
+
+abbrev pub amount_of_ops : List Op → Amount
+amount_of_ops ops = record { count = length ops; bytes = sum (map op_size ops) }
+
+abbrev pub no_amount : Amount
+no_amount = record { count = 0; bytes = 0 }
 
 abbrev pub translated_count : Result (List MetaRecord) Unreadable → ℕ
 translated_count (Ok records) = length records
 translated_count (Err e) = 0
 
 -- the znodes that a turn ends with: of the log's end, or, before the migration, of what the tree translates to, if it does
-abbrev pub rendered_count : Bool → Log → Result (List MetaRecord) Unreadable → ℕ
-rendered_count true l translation = length (render (image_of l))
-rendered_count false l (Ok records) = length (render (all_applied MAX_EPOCH records empty_image))
-rendered_count false l (Err e) = length (render (image_of l))
+abbrev pub final_znodes : Bool → Log → ℤ → Result (List MetaRecord) Unreadable → List Rendered
+final_znodes true l epoch translation = render (image_of l)
+final_znodes false l epoch (Ok records) = render (all_applied epoch records empty_image)
+final_znodes false l epoch (Err e) = render (image_of l)
 
-abbrev pub rendered_at : Log → Recorded → ℕ
-rendered_at l target = if is_one_of (batch_ends l) target.offset then length (render (image_at l target.offset)) else 0
+abbrev pub amount_at : Log → Recorded → Amount
+amount_at l target = if is_one_of (batch_ends l) target.offset then amount_of_znodes (render (image_at l target.offset)) else no_amount
 
--- how many operations may remain to be written
-abbrev pub remaining_count : Log → Stage → ℕ
-remaining_count l (stage.ScanForResync target rows) = rendered_at l target
-remaining_count l (stage.WriteResync target []) = rendered_at l target
-remaining_count l (stage.WriteResync target (o ∷ os)) = length (o ∷ os)
-remaining_count l (stage.WriteDelta target ops) = length ops
-remaining_count l s = 0
+-- what may remain to be written
+abbrev pub remaining_amount : Log → Stage → Amount
+remaining_amount l (stage.ScanForResync target rows) = amount_at l target
+remaining_amount l (stage.WriteResync target []) = amount_at l target
+remaining_amount l (stage.WriteResync target (o ∷ os)) = amount_of_ops (o ∷ os)
+remaining_amount l (stage.WriteDelta target ops) = amount_of_ops ops
+remaining_amount l s = no_amount
 
-abbrev pub most_steps : ℕ → ℕ → ℕ → ℕ → ℕ
-most_steps znodes records rendered remaining = 20 + 2 * (znodes / MAX_SCAN_ROWS) + records / MAX_APPEND_RECORDS + (znodes + rendered + 2 * remaining) / MAX_CHUNK
+abbrev pub most_steps : Amount → ℕ → Amount → Amount → ℕ
+most_steps znodes records rendered remaining =
+    20 + 2 * (znodes.count / MAX_SCAN_ROWS) + records / MAX_APPEND_RECORDS
+    + (znodes.count + rendered.count + 2 * remaining.count) / MAX_CHUNK
+    + (2 * (znodes.bytes + rendered.bytes + 2 * remaining.bytes)) / MAX_CHUNK_BYTES
 
 -- the most steps of a turn
 abbrev pub work : Shared → Driver → ℕ
 work s d = most_steps
-    (length (area s.tree))
+    (amount_of_znodes (area s.tree))
     (if is_migrated_log s.log then 0 else translated_count (translate (migrated_rows s.tree)))
-    (rendered_count (is_migrated_log s.log) s.log (translate (migrated_rows s.tree)))
-    (remaining_count s.log d.stage)
+    (amount_of_znodes (final_znodes (is_migrated_log s.log) s.log (epoch_or_zero d.epoch) (translate (migrated_rows s.tree))))
+    (remaining_amount s.log d.stage)
 
 -- ---- events
 
@@ -199,8 +224,9 @@ leader_refusal w id = first_of (running_refusal w id) (driver_refusal w.shared.l
 
 -- ---- quorum
 
-abbrev pub quorum_refusal : World → Option Answer
-quorum_refusal w = option_map (λ id. answer.Running id) (least (running_ids w.drivers))
+-- no controller runs, and not too many are declared
+abbrev pub quorum_refusal : World → List ℤ → Option Answer
+quorum_refusal w ids = first_of (option_map (λ id. answer.Running id) (least (running_ids w.drivers))) (unless (nat_le (length ids) MAX_CONTROLLERS) (over (number_of_limit limits.Controllers)))
 
 abbrev pub declared_world : World → List ℤ → World
 declared_world w ids = record { shared = record w.shared { declared = ids }; drivers = w.drivers }
@@ -212,6 +238,20 @@ start_refusal w id = first_of (unless (is_one_of w.shared.declared id) answer.Un
 
 abbrev pub started_world : World → ℤ → World
 started_world w id = record { shared = w.shared; drivers = w.drivers ++ new_driver id ∷ [] }
+
+-- ---- stop
+
+abbrev pub stop_refusal : World → Option ℤ → Option Answer
+stop_refusal w None = None
+stop_refusal w (Some id) = running_refusal w id
+
+-- the drivers without that of this controller, or none
+abbrev pub drivers_without : Option ℤ → List Driver → List Driver
+drivers_without None drivers = []
+drivers_without (Some id) drivers = filter (λ (d : Driver). not (int_eq d.id id)) drivers
+
+abbrev pub stopped_world : World → Option ℤ → World
+stopped_world w controller = record { shared = w.shared; drivers = drivers_without controller w.drivers }
 
 -- ---- elect
 
@@ -239,6 +279,20 @@ elected_world w id now = record {
 
 abbrev pub election_answer : World → ℤ → Answer
 election_answer w now = answer.Elected (next_epoch w.shared.log) (end_of (elected_log w.shared.log now))
+
+-- ---- step
+
+-- the world after a step of one driver, and its reply
+abbrev pub stepped_world : World → StepResult → World × Answer
+stepped_world w s = (record { shared = s.shared; drivers = with_driver s.driver w.drivers }, answer.Step s.reply)
+
+abbrev pub step_result : World → Plan → ℤ → Option Driver → World × Answer
+step_result w p now None = (w, answer.NotRunning)
+step_result w p now (Some d) = stepped_world w (planned_step p w.shared (running_ids w.drivers) now d)
+
+abbrev pub event_step_pairs : World → Plan → ℤ → Option Driver → List Pair
+event_step_pairs w p now None = []
+event_step_pairs w p now (Some d) = step_pairs p w.shared (running_ids w.drivers) now d
 
 -- ---- turn
 
@@ -363,9 +417,11 @@ unless_refused w None rest = rest
 
 -- The world after an event, and the answer.
 unfoldable pub next : World → Event → World × Answer
-next w (event.Quorum ids) = outcome_unless w (quorum_refusal w) (declared_world w ids) answer.Done
+next w (event.Quorum ids) = outcome_unless w (quorum_refusal w ids) (declared_world w ids) answer.Done
 next w (event.Start id) = outcome_unless w (start_refusal w id) (started_world w id) answer.Done
+next w (event.Stop controller) = outcome_unless w (stop_refusal w controller) (stopped_world w controller) answer.Done
 next w (event.Elect id now) = outcome_unless w (election_refusal w id) (elected_world w id now) (election_answer w now)
+next w (event.Step id now p) = unless_refused w (running_refusal w id) (step_result w p now (driver_of id w.drivers))
 next w (event.Turn id now) = unless_refused w (running_refusal w id) (turn_result w now (driver_of id w.drivers))
 next w (event.Change id records now) = outcome_unless w (change_refusal w id records) (changed_world w records now) (answer.Appended (end_of (changed_log w.shared.log records now)))
 next w (event.Register id broker migrating now) = outcome_unless w (register_refusal w id (registration broker migrating)) (changed_world w (registration broker migrating) now) (answer.Appended (end_of (changed_log w.shared.log (registration broker migrating) now)))
@@ -382,7 +438,9 @@ pairs_unless None ps = ps
 unfoldable pub event_pairs : World → Event → List Pair
 event_pairs w (event.Quorum ids) = []
 event_pairs w (event.Start id) = []
+event_pairs w (event.Stop controller) = []
 event_pairs w (event.Elect id now) = pairs_unless (election_refusal w id) (pair_of (elected_world w id now).shared ∷ [])
+event_pairs w (event.Step id now p) = pairs_unless (running_refusal w id) (event_step_pairs w p now (driver_of id w.drivers))
 event_pairs w (event.Turn id now) = pairs_unless (running_refusal w id) (event_turn_pairs w now (driver_of id w.drivers))
 event_pairs w (event.Change id records now) = pairs_unless (change_refusal w id records) (pair_of (changed_world w records now).shared ∷ [])
 event_pairs w (event.Register id broker migrating now) = pairs_unless (register_refusal w id (registration broker migrating)) (pair_of (changed_world w (registration broker migrating) now).shared ∷ [])

@@ -6,9 +6,9 @@ ghost use Rattle.kz_types.specs.declared.machine.Answer.TheVariants as answer;
 ghost use Rattle.kz_types.specs.declared.machine.Reply.TheVariants as reply;
 ghost use Rattle.kz_types.specs.declared.machine.DriverState.TheVariants as state;
 ghost use Rattle.kz_types.specs.declared.machine.Verdict.TheVariants as verdict;
-ghost use Rattle.kz_types.specs.declared.record.MetaRecord.TheVariants as meta;
+ghost use Rattle.kz_types.specs.declared.plan.Plan.TheVariants as plan;
 ghost use Rattle.kz_spec_machine.specs.Machine.{answers, empty_world};
-ghost use Rattle.kz_spec_machine.specs.Examples.{one_member, migration_events, migration_answers};
+ghost use Rattle.kz_spec_machine.specs.Examples.{one_member, migration_events, migration_answers, failover_events, failover_answers};
 
 /// An election of the first controller.
 #[tactic(auto, unfolding(crate::proofs::OnLiterals::machine_on_literals))]
@@ -36,4 +36,33 @@ pub fn write_back()
 pub fn refusals()
     ensures { answers empty_world (event.Quorum (pos 3000 ∷ []) ∷ event.Start (pos 3001) ∷ event.Start (pos 3000) ∷ event.Start (pos 3000) ∷ event.Change (pos 3000) (one_member ∷ []) (pos 0) ∷ [])
         ≡ answer.Done ∷ answer.UnknownController ∷ answer.Done ∷ answer.AlreadyRunning ∷ answer.NotLeader ∷ [] }
+{}
+
+/// At most nine controllers are declared, and only while none runs; one stops, or all do.
+#[tactic(auto, unfolding(crate::proofs::OnLiterals::machine_on_literals))]
+pub fn several_controllers()
+    ensures too_many { answers empty_world (event.Quorum (pos 1 ∷ pos 2 ∷ pos 3 ∷ pos 4 ∷ pos 5 ∷ pos 6 ∷ pos 7 ∷ pos 8 ∷ pos 9 ∷ pos 10 ∷ []) ∷ []) ≡ answer.Over 9 ∷ [] }
+    ensures stops { answers empty_world (event.Quorum (pos 1 ∷ pos 2 ∷ []) ∷ event.Start (pos 2) ∷ event.Start (pos 1) ∷ event.Quorum (pos 1 ∷ []) ∷ event.Stop (Some (pos 1)) ∷ event.Stop (Some (pos 1)) ∷ event.Stop (Some (pos 3)) ∷ event.Quorum [] ∷ event.Stop None ∷ event.Quorum [] ∷ event.Stop None ∷ [])
+        ≡ answer.Done ∷ answer.Done ∷ answer.Done ∷ answer.Running (pos 1) ∷ answer.Done ∷ answer.NotRunning ∷ answer.UnknownController ∷ answer.Running (pos 2) ∷ answer.Done ∷ answer.Done ∷ answer.Done ∷ [] }
+{}
+
+/// Steps under each plan. A step without a request loses none, and the log knows no sessions. A claim whose answer is lost
+/// was made, so that the next one has the number above. An append in an old epoch is stale.
+#[tactic(auto, unfolding(crate::proofs::OnLiterals::machine_on_literals))]
+pub fn lost_requests()
+    ensures { answers empty_world (event.Quorum (pos 1 ∷ pos 2 ∷ []) ∷ event.Start (pos 1) ∷ event.Start (pos 2) ∷ event.Step (pos 1) (pos 0) plan.LostBefore ∷ event.Step (pos 1) (pos 0) plan.Deliver ∷ event.Elect (pos 1) (pos 0)
+        ∷ event.Step (pos 1) (pos 0) plan.LostBefore ∷ event.Step (pos 1) (pos 0) plan.Expired ∷ event.Step (pos 1) (pos 0) plan.Deliver ∷ event.Step (pos 1) (pos 0) plan.Expired ∷ event.Step (pos 1) (pos 0) plan.Deliver ∷ event.Step (pos 1) (pos 0) plan.Deliver
+        ∷ event.Step (pos 1) (pos 0) plan.Deliver ∷ event.Step (pos 1) (pos 0) plan.LostAfter ∷ event.Step (pos 1) (pos 0) plan.Deliver ∷ event.Step (pos 1) (pos 0) plan.Deliver ∷ event.Step (pos 1) (pos 0) plan.Deliver
+        ∷ event.Elect (pos 2) (pos 0) ∷ event.Step (pos 1) (pos 0) plan.Deliver ∷ event.Step (pos 1) (pos 0) plan.LostAfter ∷ [])
+        ≡ answer.Done ∷ answer.Done ∷ answer.Done ∷ answer.Step (reply.Moved state.Inactive) ∷ answer.Step reply.Idle ∷ answer.Elected (pos 1) (pos 1)
+        ∷ answer.Step reply.Lost ∷ answer.Step (reply.Moved state.WaitForBrokers) ∷ answer.Step reply.Looked ∷ answer.Step reply.Expired ∷ answer.Step reply.Looked ∷ answer.Step (reply.Moved state.BecomeController)
+        ∷ answer.Step reply.Looked ∷ answer.Step reply.Lost ∷ answer.Step reply.Looked ∷ answer.Step (reply.Claimed (pos 2)) ∷ answer.Step (reply.Read 0)
+        ∷ answer.Elected (pos 2) (pos 2) ∷ answer.Step (reply.Stale (pos 2)) ∷ answer.Step reply.Idle ∷ [] }
+{}
+
+/// Another controller takes over after the migration. The first one can neither append nor write.
+#[tactic(auto, unfolding(crate::proofs::OnLiterals::machine_on_literals))]
+pub fn failover()
+    ensures { answers empty_world (failover_events ++ event.Change (pos 1) (one_member ∷ []) (pos 0) ∷ event.Step (pos 1) (pos 0) plan.Deliver ∷ event.Step (pos 1) (pos 0) plan.Deliver ∷ event.Check ∷ [])
+        ≡ failover_answers ++ answer.Stale (pos 2) ∷ answer.Step reply.Looked ∷ answer.Step (reply.FencedWrite (pos 0)) ∷ answer.Check (verdict.Closed (pos 5)) ∷ [] }
 {}

@@ -53,6 +53,7 @@ place_after_line p = record p { lines = p.lines + 1 }
 -- the steps that an event took
 abbrev pub steps_of : Answer → ℕ
 steps_of (answer.Turn replies) = length replies
+steps_of (answer.Step r) = 1
 steps_of a = 0
 
 -- the place after a line that is this event
@@ -85,6 +86,7 @@ first_ending (s ∷ ss) = Some s
 -- the status with which an event ends the run
 abbrev pub ending : Answer → Option Status
 ending (answer.Turn replies) = first_ending (filter_map ending_of_reply replies)
+ending (answer.Step r) = ending_of_reply r
 ending a = None
 
 -- ---- outcomes

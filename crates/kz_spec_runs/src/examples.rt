@@ -41,7 +41,7 @@ pub fn refusals()
 /// A line that is no event ends the run before anything is written.
 #[tactic(auto, unfolding(crate::proofs::OnLiterals::runs_on_literals))]
 pub fn no_event()
-    ensures { outcome_of_replay (codes "{\"event\":\"stop\"}\n")
+    ensures { outcome_of_replay (codes "{\"event\":\"pause\"}\n")
         ≡ record { text = []; status = status.Script 1 } }
 {}
 

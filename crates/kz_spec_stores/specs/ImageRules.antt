@@ -21,7 +21,8 @@ use Rattle.kz_types.specs.Ids.{zero_id}
 use Rattle.kz_types.specs.Numbers.{canonical}
 use Rattle.kz_types.specs.Quotas.{is_quota}
 use Rattle.kz_types.specs.Paths.{is_topic_name, is_part, is_pattern, is_resource_type, is_legal, has_path, is_among}
-use Rattle.kz_spec_values.specs.Bodies.{is_in, are_replicas, are_some_of}
+use Rattle.kz_types.specs.Numbers.{is_in}
+use Rattle.kz_spec_values.specs.Bodies.{are_replicas, are_some_of}
 use Rattle.kz_spec_values.specs.Credentials.{quota_keys}
 use Rattle.kz_spec_stores.specs.Metadata.{Image, topic_named, topic_with, partition_of, scram_of, acl_of}
 

@@ -9,7 +9,7 @@ use Rattle.serde_json.specs.Find.{get, as_number, as_i64, as_str, as_array, as_o
 use Rattle.serde_json.specs.View.{items_of}
 use Rattle.serde_json.specs.Written.{compact_text}
 use Rattle.kz_types.specs.declared.limits.TheConstants.{MAX_NUMBER}
-use Rattle.kz_types.specs.Numbers.{number_in, digits_up_to}
+use Rattle.kz_types.specs.Numbers.{number_in, digits_up_to, is_in, are_distinct}
 use Rattle.std.specs.Fmt.{signed_decimal}
 use Rattle.kz_types.specs.Ids.{id_of, id_text, zero_id}
 use Rattle.kz_types.specs.declared.id.Id.{Id}
@@ -91,14 +91,6 @@ abbrev pub quota_of_data : EntityKey → Data → Result Body BodyFault
 quota_of_data key d = then_read (pairs_of d) (λ pairs. then_read (entries_of key pairs) (λ entries. Ok (body.Quota entries.quotas entries.scrams)))
 
 -- ---- topics
-
-abbrev pub is_in : List ℤ → ℤ → Bool
-is_in ids id = list_any (λ other. int_eq id other) ids
-
--- no member twice
-abbrev pub are_distinct : List ℤ → Bool
-are_distinct [] = true
-are_distinct (id ∷ ids) = not (is_in ids id) && are_distinct ids
 
 -- replicas: at least one, and none twice
 abbrev pub are_replicas : List ℤ → Bool

@@ -30,7 +30,8 @@ use Rattle.kz_types.specs.declared.record.MetaRecord.TheVariants as meta
 use Rattle.kz_types.specs.declared.record.PartitionRecord.{PartitionRecord}
 use Rattle.kz_types.specs.declared.record.QuotaEntity.{QuotaEntity}
 use Rattle.kz_types.specs.Paths.{kind_of, key_of, path_of}
-use Rattle.kz_spec_values.specs.Bodies.{read_body, is_in, are_some_of}
+use Rattle.kz_types.specs.Numbers.{is_in}
+use Rattle.kz_spec_values.specs.Bodies.{read_body, are_some_of}
 use Rattle.kz_ordered.specs.Ordered.{find}
 use Rattle.kz_spec_stores.specs.Tree.{row_at}
 use Rattle.kz_spec_stores.specs.Image.{empty_image, all_applied, same_id}

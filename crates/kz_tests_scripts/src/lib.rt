@@ -6,6 +6,8 @@ mod brokers;
 #[cfg(test)]
 mod clients;
 #[cfg(test)]
+mod controllers;
+#[cfg(test)]
 mod entities;
 #[cfg(test)]
 mod made;

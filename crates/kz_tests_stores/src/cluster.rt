@@ -135,15 +135,15 @@ fn a_cluster_is_migrated_and_changes_are_written_back(rt: HostRuntime) {
     let alloc = rt.alloc();
     let mut stores = new_stores(&rt, alloc, &[3000], &[3000]);
     for (path, body) in &ZNODES {
-        create(&rt, alloc, &mut stores.tree, path, body);
+        create(&rt, alloc, stores.tree.inner_mut(), path, body);
     }
     elect(&rt, &mut stores, &MIGRATING);
     let mut driver = elected(alloc, 3000, 1);
     tells(&rt, alloc, &mut driver, &mut stores, MIGRATION);
     for (path, body) in &MIGRATED {
-        assert!(rt; has_body(&stores.tree, path, body));
+        assert!(rt; has_body(stores.tree.inner(), path, body));
     }
-    assert!(rt; is_written_once(&stores.tree));
+    assert!(rt; is_written_once(stores.tree.inner()));
     append(&rt, &mut stores, change(&rt, alloc, 1, -2));
     let lines = "1 looked\n1 recorded 14\n1 idle\n";
     tells(&rt, alloc, &mut driver, &mut stores, lines);
@@ -152,7 +152,7 @@ fn a_cluster_is_migrated_and_changes_are_written_back(rt: HostRuntime) {
     tells(&rt, alloc, &mut driver, &mut stores, lines);
     assert!(rt;
         has_body(
-            &stores.tree,
+            stores.tree.inner(),
             STATE,
             "{\"controller_epoch\":1,\"isr\":[2],\"leader\":2,\"leader_epoch\":5,\"leader_recovery_state\":0,\"version\":1}"
         )

@@ -101,8 +101,8 @@ pub fn are_znodes(znodes: &[Rendered], wanted: &[(&str, &str)]) -> bool {
 /// An operation of a table: a word, a path, a body, and a version, which is 0 for a create.
 pub type OpText = (&'static str, &'static str, &'static str, i32);
 
-/// Whether this is the operation.
-pub fn is_op(op: &Op, wanted: &OpText) -> bool {
+// Whether this is the operation.
+fn is_op(op: &Op, wanted: &OpText) -> bool {
     let (word, text, written, number) = wanted;
     match op {
         Op::Create { path, body, owner } => {

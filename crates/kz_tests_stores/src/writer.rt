@@ -128,8 +128,8 @@ fn an_area_is_made_what_the_metadata_says(rt: HostRuntime) {
     drop(tree);
 }
 
-/// So many checks.
-pub fn checks(rt: &impl Abort, alloc: Global, count: usize) -> Sequence<Op> {
+// So many checks.
+fn checks(rt: &impl Abort, alloc: Global, count: usize) -> Sequence<Op> {
     let mut ops = Sequence::new(alloc);
     for _ in 0..count {
         let path = path_of(rt, alloc, "/a");

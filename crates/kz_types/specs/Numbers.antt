@@ -1,6 +1,7 @@
 -- Decimals, and canonical ones: the decimal text of a number of 0 to 2147483647, without a sign and without leading zeros.
-use Rattle.std.specs.Prelude.{ℕ, Bool, ◌&&◌, nat_le, ℤ, pos, List, Option, Some, None, option_map, if◌then◌else◌, bytes_eq, decimal}
-use Rattle.std.specs.List.{list_all}
+use Rattle.std.specs.Prelude.{ℕ, Bool, true, not, ◌&&◌, nat_le, ℤ, pos, List, [], ◌∷◌, Option, Some, None, option_map, if◌then◌else◌, bytes_eq, decimal}
+use Rattle.std.specs.List.{list_all, list_any}
+use Rattle.std.specs.Ordering.{int_eq}
 use Rattle.std.specs.Str.Parse.{digits_value}
 use Rattle.kz_types.specs.declared.limits.TheConstants.{MAX_NUMBER}
 
@@ -22,3 +23,14 @@ canonical bytes = if bytes_eq (decimal (number_of bytes)) bytes && nat_le (numbe
 -- the same, as a signed number
 abbrev pub number_in : List ℕ → Option ℤ
 number_in bytes = option_map (λ n. pos n) (canonical bytes)
+
+-- ---- lists of numbers
+
+-- a number is in a list
+abbrev pub is_in : List ℤ → ℤ → Bool
+is_in ids id = list_any (λ other. int_eq id other) ids
+
+-- no member twice
+abbrev pub are_distinct : List ℤ → Bool
+are_distinct [] = true
+are_distinct (id ∷ ids) = not (is_in ids id) && are_distinct ids

@@ -32,6 +32,10 @@ pub const MAX_LONG: i64 = 9_223_372_036_854_775_807;
 pub const MAX_NUMBER: u64 = 2_147_483_647;
 /// The most operations of one write of a driver, beside the check of its claim and the offset that it records.
 pub const MAX_CHUNK: usize = 64;
+/// The most bytes of these operations, each counted with [`OP_BYTES`] more; a larger operation is written alone.
+pub const MAX_CHUNK_BYTES: usize = 1_048_576;
+/// What each operation of a write counts beside the bytes of its path and of its body.
+pub const OP_BYTES: usize = 32;
 /// The most records of one append of a migration.
 pub const MAX_APPEND_RECORDS: usize = 1000;
 /// The most znodes of one scan of a driver.

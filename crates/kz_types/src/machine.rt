@@ -1,5 +1,5 @@
 //! What a script asks of the machine, and what it answers.
-use crate::{LogFault, MetaRecord, Op, ReadWhy, Sequence, TreeFault, ZPath};
+use crate::{LogFault, MetaRecord, Op, Plan, ReadWhy, Sequence, TreeFault, ZPath};
 
 /// The states of a migration driver.
 /// The names are those of KIP-866.
@@ -128,6 +128,10 @@ pub enum Event {
     Start {
         controller: i32,
     },
+    /// Stops a controller, or all of them where none is named.
+    Stop {
+        controller: Option<i32>,
+    },
     /// Elects a controller as the leader of the log.
     Elect {
         controller: i32,
@@ -137,6 +141,12 @@ pub enum Event {
     Turn {
         controller: i32,
         now: i64,
+    },
+    /// Lets a controller's driver make one step, whose request fares by this plan.
+    Step {
+        controller: i32,
+        now: i64,
+        plan: Plan,
     },
     /// Asks a controller to append these records, of which there is at least one.
     Change {

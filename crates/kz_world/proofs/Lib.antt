@@ -1,7 +1,7 @@
-pub mod Agreements
+pub mod Events
 pub mod Listings
-pub mod OrderedZnodes
 pub mod Outcomes
-pub mod StepWise
+pub mod Runs
+pub mod Stops
 pub mod Told
 pub mod Views

@@ -1,5 +1,5 @@
 -- Lists of drivers: who runs, and changes of one of them.
-use Rattle.std.proofs.Common.{◌≡◌, ℕ, zero, suc, ◌+◌, ◌-◌, ◌<◌, Bool, true, false, cond, ◌||◌, ℤ, List, [], ◌∷◌, ◌++◌, length, drop, take, set, get_or, add-one, drop-cons, Option, Some, refl, sym, ap, ◌∙◌, subst, arith}
+use Rattle.std.proofs.Common.{filter, ◌≡◌, ℕ, zero, suc, ◌+◌, ◌-◌, ◌<◌, Bool, true, false, cond, ◌||◌, ℤ, List, [], ◌∷◌, ◌++◌, length, drop, take, set, get_or, add-one, drop-cons, Option, Some, refl, sym, ap, ◌∙◌, subst, arith}
 use Rattle.std.specs.Prelude.{slice_get, option_map, unwrap_or}
 use Rattle.std.specs.Ordering.{int_eq}
 use Rattle.std.specs.List.{list_any}
@@ -42,11 +42,6 @@ or_cases : (a b : Bool) → (a || b) ≡ false → (a ≡ false) × (b ≡ false
 or_cases true b h = absurd (false≢true (sym h))
 or_cases false b h = (refl, h)
 
-get_or-within : (ds : List Driver) (i : ℕ) (d e : Driver) → i < length ds → get_or ds i d ≡ get_or ds i e
-get_or-within [] i d e h = absurd (omega arith)
-get_or-within (x ∷ ds) zero d e h = refl
-get_or-within (x ∷ ds) (suc i) d e h = get_or-within ds i d e (omega (arith, h))
-
 length-set : (ds : List Driver) (i : ℕ) (d : Driver) → length (set ds i d) ≡ length ds
 length-set ds i d = grind (arith, common_steps)
 
@@ -87,6 +82,29 @@ ids-append (x ∷ ds) d = ap (λ is. x.id ∷ is) (ids-append ds d)
 
 pub started_distinct : (ds : List Driver) (d : Driver) → AreDistinct (running_ids ds) → is_running d.id ds ≡ false → AreDistinct (running_ids (ds ++ d ∷ []))
 started_distinct ds d h none = subst AreDistinct (sym (ids-append ds d)) (distinct_more (running_ids ds) d.id h none)
+
+-- some of them are still distinct
+none_if : (b : Bool) (x id : ℤ) (is : List ℤ) → int_eq x id ≡ false → is_one_of is id ≡ false → is_one_of (cond b (x ∷ is) is) id ≡ false
+none_if true x id is first none = rw first none
+none_if false x id is first none = none
+
+ids_if : (b : Bool) (d : Driver) (ds : List Driver) → running_ids (cond b (d ∷ ds) ds) ≡ cond b (d.id ∷ running_ids ds) (running_ids ds)
+ids_if true d ds = refl
+ids_if false d ds = refl
+
+none_of_some : (p : Driver → Bool) (ds : List Driver) (id : ℤ) → is_running id ds ≡ false → is_running id (filter p ds) ≡ false
+none_of_some p [] id none = refl
+none_of_some p (d ∷ ds) id none =
+    let both = or_cases (int_eq d.id id) (is_running id ds) none in
+    ap (λ is. is_one_of is id) (ids_if (p d) d (filter p ds)) ∙ none_if (p d) d.id id (running_ids (filter p ds)) both.0 (none_of_some p ds id both.1)
+
+distinct_if : (b : Bool) (id : ℤ) (is : List ℤ) → is_one_of is id ≡ false → AreDistinct is → AreDistinct (cond b (id ∷ is) is)
+distinct_if true id is none h = (none, h)
+distinct_if false id is none h = h
+
+pub filter_distinct : (p : Driver → Bool) (ds : List Driver) → AreDistinct (running_ids ds) → AreDistinct (running_ids (filter p ds))
+filter_distinct p [] h = tt
+filter_distinct p (d ∷ ds) h = subst AreDistinct (sym (ids_if (p d) d (filter p ds))) (distinct_if (p d) d.id (running_ids (filter p ds)) (none_of_some p ds d.id h.0) (filter_distinct p ds h.1))
 
 -- ---- one driver changes
 

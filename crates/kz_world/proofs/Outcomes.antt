@@ -1,7 +1,6 @@
--- What events make of a world.
-use Rattle.std.proofs.Common.{◌≡◌, ℕ, zero, suc, ◌<◌, inl, inr, Bool, true, false, cond, ℤ, List, [], ◌∷◌, length, set, not, Option, Some, None, option_map, Result, Ok, Err, refl, sym, ap, ◌∙◌, subst, arith}
-use Rattle.std.specs.Prelude.{slice_get, int_lt, nat_le, IfOk, OnErr}
-use Rattle.std.specs.List.{list_any}
+-- What events make of a world that change the metadata, the drivers or nothing.
+use Rattle.std.proofs.Common.{◌≡◌, ℕ, Bool, true, false, cond, ℤ, List, [], ◌∷◌, Contains, length, not, Option, Some, None, option_map, Result, Ok, Err, refl, sym, ap, ◌∙◌, subst, arith}
+use Rattle.std.specs.Prelude.{int_lt, nat_le, IfOk}
 use Rattle.kz_types.specs.declared.limits.TheConstants.{MAX_CHANGE_RECORDS, MAX_EPOCH}
 use Rattle.kz_types.specs.declared.limits.Limit.TheVariants as limits
 use Rattle.kz_types.specs.Limits.{number_of_limit}
@@ -11,25 +10,23 @@ use Rattle.kz_types.specs.declared.machine.Answer.{Answer}
 use Rattle.kz_types.specs.declared.machine.Answer.TheVariants as answer
 use Rattle.kz_types.specs.declared.machine.Event.{Event}
 use Rattle.kz_types.specs.declared.machine.Event.TheVariants as event
-use Rattle.kz_types.specs.declared.machine.Reply.{Reply}
 use Rattle.kz_types.specs.declared.record.MetaRecord.{MetaRecord}
+use Rattle.kz_types.specs.declared.tree.Op.{Op}
 use Rattle.kz_spec_stores.specs.Image.{all_applied, first_bad}
+use Rattle.kz_spec_stores.specs.Tree.{Tree, begin_session, end_session, multi}
 use Rattle.kz_spec_stores.specs.Log.{Log, append, elect, end_of, full_log, log_unless_limit, with_batch, image_of, begun_of, is_migrated_log}
 use Rattle.kz_spec_znodes.specs.Rendering.{excess}
-use Rattle.kz_spec_machine.specs.Driver.{Shared, Driver}
-use Rattle.kz_spec_machine.specs.Machine.{World, next, running_ids, is_running, start_refusal, turn, work, turned_world, outcome_unless, unless_refused, first_of, unless, over, full, running_refusal, leader_refusal, change_refusal, over_excess, election_refusal, election_records, elected_log, elected_world, election_answer, next_epoch, changed_log, changed_world, turn_result, driver_of, register_refusal, registration, bad_record}
-use Rattle.kz_spec_machine.specs.Failures.{is_failed_step, is_failure, IsCutOff, IsLeft}
-use Rattle.kz_driver.specs.declared.fault.StepFault.{StepFault}
-use Rattle.kz_driver.specs.Disks.{Disks, Payloads}
+use Rattle.kz_spec_machine.specs.Driver.{Driver}
+use Rattle.kz_spec_machine.specs.Machine.{World, next, is_running, start_refusal, outcome_unless, first_of, unless, over, full, running_refusal, leader_refusal, change_refusal, over_excess, election_refusal, election_records, elected_log, elected_world, election_answer, next_epoch, changed_log, changed_world, register_refusal, registration, bad_record, Pair, pair_of, pairs_unless, tree_pairs, client_refusal, event_pairs}
+use Rattle.kz_spec_machine.specs.Failures.{is_failure}
 use Rattle.kz_log.specs.Requests.{IsRefusal}
-use Rattle.kz_world.specs.Disks.{UnlessRefused, DriverTurnDisks, TurnEventDisks, ResultDisks, EventDisks}
-use Rattle.kz_world.specs.Faults.{after_log_fault, answer_of_result, result_of_answer}
+use Rattle.kz_world.specs.Disks.{UnlessRefused}
+use Rattle.kz_world.specs.Faults.{after_log_fault}
 use Rattle.kz_world.specs.Refusals.{records_refusal}
-use Rattle.kz_world.specs.Turns.{StepsEnd, IsTurned}
-use Rattle.kz_world.specs.Worlds.{AreDistinct, elected_drivers, world_after_append, IsDone, IsOutcome}
-use Rattle.kz_world.proofs.Told.{told_answer, log_refuses, event_told, left_by}
-use Rattle.kz_world.proofs.Listings.{itself, one_place}
-use Rattle.kz_world.proofs.StepWise.{turned, cut_off_fails}
+use Rattle.kz_world.specs.Stops.{append_pairs}
+use Rattle.kz_world.specs.Worlds.{elected_drivers, world_after_append, IsDone, IsOutcome}
+use Rattle.kz_world.proofs.Told.{told_answer, log_refuses}
+use Rattle.kz_world.proofs.Listings.{itself}
 
 -- ---- choices
 
@@ -55,12 +52,12 @@ pub told_by : {E : Type 0} (r : Result Answer E) (x y : World × Answer) (new : 
 told_by (Ok a) x y new h k = (h ∙ k.0, k.1)
 told_by (Err e) x y new h k = tt
 
-true_or_false : {A : Type 0} (b : Bool) → b ≡ true → b ≡ false → A
+pub true_or_false : {A : Type 0} (b : Bool) → b ≡ true → b ≡ false → A
 true_or_false true h k = absurd (cc)
 true_or_false false h k = absurd (cc)
 
 -- an answer that tells of no failure
-done_is_outcome : (w : World) (e : Event) (new : World) (a : Answer) → IsDone w e new a → IsOutcome w e new a
+pub done_is_outcome : (w : World) (e : Event) (new : World) (a : Answer) → IsDone w e new a → IsOutcome w e new a
 done_is_outcome w e new a h = record { done = λ none. h.0; failed = λ fails. true_or_false (is_failure a) fails h.1; told = told_answer a h.1 }
 
 pub outcomes : {E : Type 0} (r : Result Answer E) (w : World) (e : Event) (new : World) → IfOk r (IsDone w e new) → IfOk r (IsOutcome w e new)
@@ -233,97 +230,55 @@ not_true false h = refl
 pub starts : (w : World) (id : ℤ) → start_refusal w id ≡ None → is_running id w.drivers ≡ false
 starts w id h = not_true (is_running id w.drivers) (allowed (not (is_running id w.drivers)) answer.AlreadyRunning (first_none _ _ h).1)
 
--- ---- turns
+-- ---- what a request leaves
 
--- so many steps of a driver's turn
-turned_by : (w : World) (now : ℤ) (d : Driver) (at k : ℕ) (running : List ℤ) (s : Shared) (e : Driver) (rs : List Reply) → AreDistinct (running_ids w.drivers) → slice_get w.drivers at ≡ Some d
-    → running ≡ running_ids w.drivers → turn k w.shared running now d ≡ turned s e rs → e.id ≡ d.id
-    → turned_world w (turn k w.shared (running_ids w.drivers) now d) ≡ (record { shared = s; drivers = set w.drivers at e }, answer.Turn rs)
-turned_by w now d at k running s e rs distinct at_is running_is ok same =
-    ap (turned_world w) (ap (λ is. turn k w.shared is now d) (sym running_is) ∙ ok)
-    ∙ ap (λ ds. (record { shared = s; drivers = ds }, answer.Turn rs)) (one_place w.drivers at d e distinct at_is same)
+-- the only pair
+pub one_pair : (pair : Pair) → Contains (pair ∷ []) pair
+one_pair pair = (0, omega arith, refl)
 
--- a turn of the driver at a place
-pub turn_told : (w : World) (now : ℤ) (d : Driver) (at most : ℕ) (running : List ℤ) (s : Shared) (e : Driver) (rs : List Reply) → AreDistinct (running_ids w.drivers) → slice_get w.drivers at ≡ Some d
-    → most ≡ work w.shared d → running ≡ running_ids w.drivers → e.id ≡ d.id → StepsEnd most w.shared running now d rs s e → IsTurned w now d (record { shared = s; drivers = set w.drivers at e }) (answer.Turn rs)
-turn_told w now d at most running s e rs distinct at_is most_is running_is same (inl whole) =
-    inl (ap (λ n. turned_world w (turn n w.shared (running_ids w.drivers) now d)) (sym most_is) ∙ turned_by w now d at most running s e rs distinct at_is running_is whole.0 same, whole.1)
-turn_told w now d at most running s e rs distinct at_is most_is running_is same (inr cut) =
-    inr (record {
-      after = e;
-      cut_off = subst (λ n. IsCutOff n w.shared (running_ids w.drivers) now d rs s e) most_is (subst (λ is. IsCutOff most w.shared is now d rs s e) running_is cut);
-      drivers = sym (one_place w.drivers at d e distinct at_is same);
-    })
+-- a pair that nothing refuses
+pub pair_made : (refusal : Option Answer) (pair : Pair) → refusal ≡ None → Contains (pairs_unless refusal (pair ∷ [])) pair
+pair_made refusal pair is = subst (λ (o : Option Answer). Contains (pairs_unless o (pair ∷ [])) pair) (sym is) (one_pair pair)
 
-none_past : (ds : List Driver) (at : ℕ) → at < length ds → slice_get ds at ≡ None → ⊥
-none_past [] at h none = omega (arith, h)
-none_past (d ∷ ds) zero h none = absurd (cc)
-none_past (d ∷ ds) (suc at) h none = none_past ds at (omega (arith, h)) none
+-- an election that the log takes
+pub election_pair : (w : World) (id now : ℤ) (items : List MetaRecord) (m : Log) → running_refusal w id ≡ None → items ≡ election_records w.shared.log → elect w.shared.log now items ≡ Ok m → Contains (event_pairs w (event.Elect id now)) (pair_of (record w.shared { log = m }))
+unfolding event_pairs
+election_pair w id now items m runs items_are ok =
+    let old = w.shared.log in
+    let done = elect_ok (int_lt old.epoch MAX_EPOCH) (full_log old (election_records old)) (elected_log old now) m (ap (elect old now) (sym items_are) ∙ ok) in
+    let refusal : election_refusal w id ≡ None = rw (runs, done.0, done.1) refl in
+    subst (λ (l : Log). Contains (event_pairs w (event.Elect id now)) (pair_of (record w.shared { log = l }))) done.2 (pair_made (election_refusal w id) (pair_of (elected_world w id now).shared) refusal)
 
--- what holds of the driver at a place within the list
-by_driver : (holds : Option Driver → Type 0) (ds : List Driver) (at : ℕ) (o : Option Driver) → at < length ds → slice_get ds at ≡ o → ((d : Driver) → slice_get ds at ≡ Some d → holds (Some d)) → holds o
-by_driver holds ds at None h is each = absurd (none_past ds at h is)
-by_driver holds ds at (Some d) h is each = each d is
+-- an append that it takes
+pub append_pair : (w : World) (records : List MetaRecord) (now epoch : ℤ) (m : Log) → epoch ≡ w.shared.log.epoch → append w.shared.log epoch now records ≡ Ok m → Contains (append_pairs w records now) (pair_of (record w.shared { log = m }))
+append_pair w records now epoch m is made =
+    let l = w.shared.log in
+    let taken = added_ok (full_log l records) (with_batch l l.epoch now records) m (sym (append_is l epoch now records is) ∙ made) in
+    subst (λ (x : Log). Contains (append_pairs w records now) (pair_of (record w.shared { log = x }))) taken.1 (pair_made (full l records) (pair_of (changed_world w records now).shared) (ap (option_map over) taken.0))
 
-turn_whole : (w : World) (id now : ℤ) (d : Driver) (r : World × Answer) → running_refusal w id ≡ None → driver_of id w.drivers ≡ Some d → turn_result w now (Some d) ≡ r → next w (event.Turn id now) ≡ r
-unfolding next
-turn_whole w id now d r runs found is = ap (λ a. unless_refused w a (turn_result w now (driver_of id w.drivers))) runs ∙ ap (turn_result w now) found ∙ is
+-- those of a change and of a registration that only the log's room may refuse
+pub change_pairs : (w : World) (id now : ℤ) (records : List MetaRecord) → leader_refusal w id ≡ None → records_refusal w.shared.log.epoch (image_of w.shared.log) records ≡ None → append_pairs w records now ≡ event_pairs w (event.Change id records now)
+unfolding event_pairs
+change_pairs w id now records leads taken = ap (λ a. pairs_unless a (pair_of (changed_world w records now).shared ∷ [])) (sym (by_records w id records None leads taken))
 
-turn_is_outcome : (w : World) (id now : ℤ) (d : Driver) (new : World) (a : Answer) → running_refusal w id ≡ None → driver_of id w.drivers ≡ Some d → IsTurned w now d new a → IsOutcome w (event.Turn id now) new a
-turn_is_outcome w id now d new (answer.Turn rs) runs found (inl whole) = record {
-  done = λ none. turn_whole w id now d (new, answer.Turn rs) runs found whole.0;
-  failed = λ fails. true_or_false (list_any is_failed_step rs) fails whole.1;
-  told = refl;
-}
-turn_is_outcome w id now d new (answer.Turn rs) runs found (inr cut) = record {
-  done = λ none. true_or_false (list_any is_failed_step rs) (cut_off_fails _ _ _ _ _ rs _ _ cut.cut_off) none;
-  failed = λ fails. record { before = d; after = cut.after; runs = (runs, found); cut_off = cut.cut_off; drivers = cut.drivers };
-  told = refl;
-}
-turn_is_outcome w id now d new a runs found h = absurd h
+pub register_pairs : (w : World) (id broker : ℤ) (migrating : Bool) (now : ℤ) → leader_refusal w id ≡ None → begun_of w.shared.log ≡ None → append_pairs w (registration broker migrating) now ≡ event_pairs w (event.Register id broker migrating now)
+unfolding event_pairs
+register_pairs w id broker migrating now leads is =
+    let records = registration broker migrating in
+    ap (λ a. pairs_unless a (pair_of (changed_world w records now).shared ∷ [])) (sym (by_begun w id records None leads is))
 
-turn_outcome_at : {E : Type 0} (r : Result Answer E) (w : World) (id now : ℤ) (d : Driver) (new : World) → running_refusal w id ≡ None → driver_of id w.drivers ≡ Some d → IfOk r (IsTurned w now d new) → IfOk r (IsOutcome w (event.Turn id now) new)
-turn_outcome_at (Ok a) w id now d new runs found h = turn_is_outcome w id now d new a runs found h
-turn_outcome_at (Err f) w id now d new runs found h = tt
+-- a change of the tree that is made
+pub tree_pair : {E : Type 0} (w : World) (made : Result Tree E) (t : Tree) → made ≡ Ok t → Contains (tree_pairs w made) (pair_of (record w.shared { tree = t }))
+tree_pair {E} w made t is = subst (λ (r : Result Tree E). Contains (tree_pairs w r) (pair_of (record w.shared { tree = t }))) (sym is) (one_pair (pair_of (record w.shared { tree = t })))
 
--- the turn of a controller whose driver is at this place
-pub turn_outcome : {E : Type 0} (r : Result Answer E) (w : World) (id now : ℤ) (at : ℕ) (new : World) → running_refusal w id ≡ None → at < length w.drivers → driver_of id w.drivers ≡ slice_get w.drivers at
-    → ((d : Driver) → slice_get w.drivers at ≡ Some d → IfOk r (IsTurned w now d new)) → IfOk r (IsOutcome w (event.Turn id now) new)
-turn_outcome r w id now at new runs h found each =
-    by_driver (λ o. driver_of id w.drivers ≡ o → IfOk r (IsOutcome w (event.Turn id now) new)) w.drivers at (slice_get w.drivers at) h refl (λ d is same. turn_outcome_at r w id now d new runs same (each d is)) found
+pub begin_pair : (w : World) (session : ℤ) (t : Tree) → begin_session w.shared.tree session ≡ Ok t → Contains (event_pairs w (event.ZkOpen session)) (pair_of (record w.shared { tree = t }))
+unfolding event_pairs
+begin_pair w session t is = tree_pair w (begin_session w.shared.tree session) t is
 
--- what it does to the disks
-pub turn_disks : (r : Result Answer StepFault) (w : World) (id now : ℤ) (at : ℕ) (payloads : Payloads) (old new : Disks) → running_refusal w id ≡ None → at < length w.drivers → driver_of id w.drivers ≡ slice_get w.drivers at
-    → ((d : Driver) → slice_get w.drivers at ≡ Some d → DriverTurnDisks w now d payloads r old new) → ResultDisks w (event.Turn id now) payloads r old new
-turn_disks r w id now at payloads old new runs h found each =
-    unless_none (running_refusal w id) _ _ runs
-    (subst (λ o. TurnEventDisks w now o payloads r old new) (sym found) (by_driver (λ o. TurnEventDisks w now o payloads r old new) w.drivers at (slice_get w.drivers at) h refl each))
+pub end_pair : (w : World) (session : ℤ) (t : Tree) → end_session w.shared.tree session ≡ Ok t → Contains (event_pairs w (event.ZkExpire session)) (pair_of (record w.shared { tree = t }))
+unfolding event_pairs
+end_pair w session t is = tree_pair w (end_session w.shared.tree session) t is
 
--- a turn that is refused
-pub turn_refused : (w : World) (id now : ℤ) (r : Answer) → running_refusal w id ≡ Some r → is_failure r ≡ false → IsOutcome w (event.Turn id now) w r
-unfolding next
-turn_refused w id now r refused told =
-    done_is_outcome w (event.Turn id now) w r (ap (λ a. unless_refused w a (turn_result w now (driver_of id w.drivers))) refused, told)
-
--- a controller that runs has a driver
-pub turn_of_none : (w : World) (id now : ℤ) (new : World) → running_refusal w id ≡ None → driver_of id w.drivers ≡ None → new ≡ w → IsOutcome w (event.Turn id now) new answer.NotRunning
-unfolding next
-turn_of_none w id now new runs none same = done_is_outcome w (event.Turn id now) new answer.NotRunning
-    (ap (λ a. unless_refused w a (turn_result w now (driver_of id w.drivers))) runs ∙ ap (turn_result w now) none ∙ ap (λ (x : World). (x, answer.NotRunning)) (sym same), refl)
-
--- ---- answers of events
-
--- an answer that tells of no failure
-pub event_done : (w new : World) (e : Event) (payloads : Payloads) (r : Result Answer StepFault) (a : Answer) (old later : Disks) → a ≡ answer_of_result r → IfOk r (IsOutcome w e new) → ResultDisks w e payloads r old later → is_failure a ≡ false → next w e ≡ (new, a)
-event_done w new e payloads (Ok b) a old later is outcome disks none = outcome.done (sym (ap is_failure is) ∙ none) ∙ ap (λ x. (new, x)) (sym is)
-event_done w new e payloads (Err f) a old later is outcome disks none = true_or_false (is_failure a) (ap is_failure is ∙ (event_told w e payloads f old later disks).failure) none
-
--- one that tells of a failure
-pub event_failed : (w new : World) (e : Event) (r : Result Answer StepFault) (a : Answer) → a ≡ answer_of_result r → IfOk r (IsOutcome w e new) → OnErr r (new ≡ w) → is_failure a ≡ true → IsLeft w e a new
-event_failed w new e (Ok b) a is outcome same fails = subst (λ x. IsLeft w e x new) (sym is) (outcome.failed (sym (ap is_failure is) ∙ fails))
-event_failed w new e (Err f) a is outcome same fails = subst (λ x. IsLeft w e x new) (sym is) (left_by w e f new same)
-
--- what it says of the disks
-pub event_disks : (w new : World) (e : Event) (payloads : Payloads) (r : Result Answer StepFault) (a : Answer) (old later : Disks) → a ≡ answer_of_result r → IfOk r (IsOutcome w e new) → ResultDisks w e payloads r old later → EventDisks w e payloads a old later
-event_disks w new e payloads (Ok b) a old later is outcome disks = subst (λ x. ResultDisks w e payloads x old later) (sym (ap result_of_answer is ∙ outcome.told)) disks
-event_disks w new e payloads (Err f) a old later is outcome disks = subst (λ x. ResultDisks w e payloads x old later) (sym (ap result_of_answer is ∙ (event_told w e payloads f old later disks).answer)) disks
+pub multi_pair : (w : World) (ops : List Op) (t : Tree) → client_refusal w.shared.tree ops ≡ None → multi w.shared.tree ops ≡ Ok t → Contains (event_pairs w (event.Zk ops)) (pair_of (record w.shared { tree = t }))
+unfolding event_pairs
+multi_pair w ops t taken is = subst (λ (o : Option Answer). Contains (pairs_unless o (tree_pairs w (multi w.shared.tree ops))) (pair_of (record w.shared { tree = t }))) (sym taken) (tree_pair w (multi w.shared.tree ops) t is)

@@ -1,12 +1,11 @@
 -- A fault that is told is one: of a disk that failed or was down, of a full file, or of memory.
-use Rattle.std.proofs.Common.{◌≡◌, ℕ, ℤ, Bool, true, false, Option, Some, None, Result, Ok, Err, refl, sym, ap, inl, inr, cond, subst}
+use Rattle.std.proofs.Common.{◌≡◌, ℕ, ℤ, Bool, true, false, Option, Some, None, Result, Ok, Err, refl, sym, cond, subst}
 use Rattle.std.specs.Prelude.{IfOk, option_map}
 use Rattle.kz_types.specs.declared.fault.TreeFault.{TreeFault}
 use Rattle.kz_types.specs.declared.fault.TreeFault.TheVariants as tree_fault
 use Rattle.kz_types.specs.declared.fault.LogFault.{LogFault}
 use Rattle.kz_types.specs.declared.fault.LogFault.TheVariants as log_fault
-use Rattle.kz_types.specs.declared.machine.Reply.{Reply}
-use Rattle.kz_types.specs.declared.machine.Reply.TheVariants as reply
+use Rattle.kz_types.specs.declared.plan.Plan.{Plan}
 use Rattle.kz_types.specs.declared.machine.Event.{Event}
 use Rattle.kz_types.specs.declared.machine.Event.TheVariants as event
 use Rattle.kz_types.specs.declared.machine.Answer.{Answer}
@@ -15,103 +14,89 @@ use Rattle.kz_types.specs.declared.move_fault.MoveFault.{MoveFault}
 use Rattle.kz_spec_stores.specs.Tree.{Tree, multi, begin_session, end_session}
 use Rattle.kz_spec_stores.specs.Log.{Log, append, elect, begun_of, image_of}
 use Rattle.kz_spec_stores.specs.Requests.{Disk, StoreAnswer, Done, Multi, BeginSession, EndSession, Append, Elect, IsTaken, ChangesDisk, ReadsDisk, answer_of_tree_fault, answer_of_log_fault}
-use Rattle.kz_spec_machine.specs.Driver.{Shared, Driver, Request, nothing, read_log, list_brokers, look_up, read_page, write, add}
-use Rattle.kz_spec_machine.specs.Machine.{World, running_refusal, leader_refusal, client_refusal, driver_of, election_records, registration, ends}
-use Rattle.kz_spec_machine.specs.Failures.{is_tree_failure, is_log_failure, is_failed_step, is_failure, IsLeft}
-use Rattle.kz_driver.specs.declared.fault.StepFault.{StepFault}
-use Rattle.kz_driver.specs.declared.fault.StepFault.TheVariants as step_fault
-use Rattle.kz_driver.specs.Disks.{Disks, Payloads, OnTreeFault, OnLogFault, IsTreeChange, IsLogChange, answer_of_made, AsksNothing, ChangesLog, RequestDisks}
+use Rattle.kz_spec_machine.specs.Driver.{Driver}
+use Rattle.kz_spec_machine.specs.Machine.{World, running_refusal, leader_refusal, client_refusal, driver_of, election_records, registration}
+use Rattle.kz_spec_machine.specs.Failures.{is_tree_failure, is_log_failure, is_failure, IsLeft}
+use Rattle.kz_requests.specs.Disks.{answer_of_made}
+use Rattle.kz_driver.specs.Disks.{Disks, Payloads}
+use Rattle.kz_world.specs.declared.faults.EventFault.{EventFault}
+use Rattle.kz_world.specs.declared.faults.EventFault.TheVariants as event_fault
+use Rattle.kz_world.specs.Stores.{OnTreeFault, OnLogFault, IsTreeChange, IsLogChange, AsksNothing, ChangesLog}
 use Rattle.kz_log.specs.Requests.{IsRefusal as IsLogRefusal}
 use Rattle.kz_tree.specs.Requests.{IsRefusal as IsTreeRefusal}
 use Rattle.kz_session.specs.declared.sessions.SessionFault.{SessionFault}
 use Rattle.kz_session.specs.declared.sessions.SessionFault.TheVariants as session_fault
 use Rattle.kz_session.specs.Sessions.{answer_of_session_fault, IsRefusal as IsSessionRefusal}
-use Rattle.kz_world.specs.Faults.{result_of_reply, result_of_answer, reply_of_fault, answer_of_fault, after_log_fault, after_tree_fault, after_session_fault}
-use Rattle.kz_world.specs.Disks.{UnlessRefused, TurnEventDisks, ResultDisks}
+use Rattle.kz_world.specs.Faults.{result_of_answer, answer_of_fault, after_log_fault, after_tree_fault, after_session_fault}
+use Rattle.kz_world.specs.Disks.{UnlessRefused, TurnEventDisks, DriverStepDisks, ResultDisks}
 use Rattle.kz_world.specs.Refusals.{records_refusal}
 
--- ---- replies and answers that tell a fault
+-- ---- answers that tell a fault
 
--- a fault that is told as one, by a reply and by an answer
-pub record IsTold (f : StepFault) : Type 0 where
-  pub reply : result_of_reply (reply_of_fault f) ≡ Err f
-  pub failed_step : is_failed_step (reply_of_fault f) ≡ true
+-- a fault that is told as one
+pub record IsTold (f : EventFault) : Type 0 where
   pub answer : result_of_answer (answer_of_fault f) ≡ Err f
   pub failure : is_failure (answer_of_fault f) ≡ true
 
-no_memory_told : IsTold step_fault.NoMemory
-no_memory_told = record { reply = refl; failed_step = refl; answer = refl; failure = refl }
+no_memory_told : IsTold event_fault.NoMemory
+no_memory_told = record { answer = refl; failure = refl }
 
-tree_told : (holds : StoreAnswer → Type 0) (f : StepFault) → OnTreeFault holds f → IsTold f
-tree_told holds (step_fault.Tree tree_fault.Device) h = record { reply = refl; failed_step = refl; answer = refl; failure = refl }
-tree_told holds (step_fault.Tree tree_fault.Down) h = record { reply = refl; failed_step = refl; answer = refl; failure = refl }
-tree_told holds (step_fault.Tree (tree_fault.Full n)) h = record { reply = refl; failed_step = refl; answer = refl; failure = refl }
-tree_told holds (step_fault.Tree (tree_fault.Refused index code)) h = absurd h.0
-tree_told holds (step_fault.Tree (tree_fault.Limit index number)) h = absurd h.0
-tree_told holds (step_fault.Tree tree_fault.NoMemory) h = absurd h.0
-tree_told holds (step_fault.Log f) h = absurd h
-tree_told holds step_fault.NoMemory h = no_memory_told
+tree_told : (holds : StoreAnswer → Type 0) (f : EventFault) → OnTreeFault holds f → IsTold f
+tree_told holds (event_fault.Tree tree_fault.Device) h = record { answer = refl; failure = refl }
+tree_told holds (event_fault.Tree tree_fault.Down) h = record { answer = refl; failure = refl }
+tree_told holds (event_fault.Tree (tree_fault.Full n)) h = record { answer = refl; failure = refl }
+tree_told holds (event_fault.Tree (tree_fault.Refused index code)) h = absurd h.0
+tree_told holds (event_fault.Tree (tree_fault.Limit index number)) h = absurd h.0
+tree_told holds (event_fault.Tree tree_fault.NoMemory) h = absurd h.0
+tree_told holds (event_fault.Log f) h = absurd h
+tree_told holds event_fault.NoMemory h = no_memory_told
 
-log_told : (holds : StoreAnswer → Type 0) (f : StepFault) → OnLogFault holds f → IsTold f
-log_told holds (step_fault.Log log_fault.Failed) h = record { reply = refl; failed_step = refl; answer = refl; failure = refl }
-log_told holds (step_fault.Log log_fault.Down) h = record { reply = refl; failed_step = refl; answer = refl; failure = refl }
-log_told holds (step_fault.Log (log_fault.Full n)) h = record { reply = refl; failed_step = refl; answer = refl; failure = refl }
-log_told holds (step_fault.Log (log_fault.Stale epoch)) h = absurd h.0
-log_told holds (step_fault.Log (log_fault.Limit number)) h = absurd h.0
-log_told holds (step_fault.Log log_fault.NoMemory) h = absurd h.0
-log_told holds (step_fault.Tree f) h = absurd h
-log_told holds step_fault.NoMemory h = no_memory_told
+log_told : (holds : StoreAnswer → Type 0) (f : EventFault) → OnLogFault holds f → IsTold f
+log_told holds (event_fault.Log log_fault.Failed) h = record { answer = refl; failure = refl }
+log_told holds (event_fault.Log log_fault.Down) h = record { answer = refl; failure = refl }
+log_told holds (event_fault.Log (log_fault.Full n)) h = record { answer = refl; failure = refl }
+log_told holds (event_fault.Log (log_fault.Stale epoch)) h = absurd h.0
+log_told holds (event_fault.Log (log_fault.Limit number)) h = absurd h.0
+log_told holds (event_fault.Log log_fault.NoMemory) h = absurd h.0
+log_told holds (event_fault.Tree f) h = absurd h
+log_told holds event_fault.NoMemory h = no_memory_told
 
-nothing_told : (A : Type 0) (f : StepFault) (old new : Disks) → AsksNothing {A = A} (Err f) old new → IsTold f
-nothing_told A (step_fault.Tree f) old new h = absurd h
-nothing_told A (step_fault.Log f) old new h = absurd h
-nothing_told A step_fault.NoMemory old new h = no_memory_told
+nothing_told : (A : Type 0) (f : EventFault) (old new : Disks) → AsksNothing {A = A} (Err f) old new → IsTold f
+nothing_told A (event_fault.Tree f) old new h = absurd h
+nothing_told A (event_fault.Log f) old new h = absurd h
+nothing_told A event_fault.NoMemory old new h = no_memory_told
 
-tree_read_told : (f : StepFault) (old new : Disk) → OnTreeFault (λ a. ReadsDisk a old new) f → IsTold f
-tree_read_told f old new h = tree_told (λ a. ReadsDisk a old new) f h
-
-log_read_told : (f : StepFault) (old new : Disk) → OnLogFault (λ a. ReadsDisk a old new) f → IsTold f
+log_read_told : (f : EventFault) (old new : Disk) → OnLogFault (λ a. ReadsDisk a old new) f → IsTold f
 log_read_told f old new h = log_told (λ a. ReadsDisk a old new) f h
 
-tree_change_told : {B E : Type 0} (made : Result B E) (payload : ℕ) (f : StepFault) (old new : Disk) → OnTreeFault (λ a. ChangesDisk (IsTaken made) payload a old new) f → IsTold f
+tree_change_told : {B E : Type 0} (made : Result B E) (payload : ℕ) (f : EventFault) (old new : Disk) → OnTreeFault (λ a. ChangesDisk (IsTaken made) payload a old new) f → IsTold f
 tree_change_told made payload f old new h = tree_told (λ a. ChangesDisk (IsTaken made) payload a old new) f h
 
-log_change_told : {B E : Type 0} (made : Result B E) (payload : ℕ) (f : StepFault) (old new : Disk) → OnLogFault (λ a. ChangesDisk (IsTaken made) payload a old new) f → IsTold f
+log_change_told : {B E : Type 0} (made : Result B E) (payload : ℕ) (f : EventFault) (old new : Disk) → OnLogFault (λ a. ChangesDisk (IsTaken made) payload a old new) f → IsTold f
 log_change_told made payload f old new h = log_told (λ a. ChangesDisk (IsTaken made) payload a old new) f h
 
-err_or : {A : Type 0} → StepFault → Result A StepFault → StepFault
-err_or f (Ok a) = f
-err_or f (Err g) = g
-
--- the fault of a request of a driver
-pub request_told : (A : Type 0) (s : Shared) (epoch now position : ℤ) (payloads : Payloads) (r : Request) (f : StepFault) (old new : Disks) → RequestDisks {A = A} s epoch now position payloads r (Err f) old new → IsTold f
-unfolding err_or
-request_told A s epoch now position payloads nothing f old new h = nothing_told A f old new h
-request_told A s epoch now position payloads read_log f old new h = log_read_told f old.log new.log h.0
-request_told A s epoch now position payloads list_brokers f old new h = tree_read_told f old.tree new.tree h.0
-request_told A s epoch now position payloads look_up f old new h = tree_read_told f old.tree new.tree h.0
-request_told A s epoch now position payloads (read_page after) f old new h = tree_read_told f old.tree new.tree h.0
-request_told A s epoch now position payloads (write ops) f old new (inl h) = tree_change_told (multi s.tree ops) (payloads.tree s.tree (Multi ops)) f old.tree new.tree h.0
-request_told A s epoch now position payloads (write ops) f old new (inr h) =
-    subst IsTold (sym (ap (err_or f) h.told)) (record { reply = refl; failed_step = refl; answer = refl; failure = refl })
-request_told A s epoch now position payloads (add records) f old new h = log_change_told (append s.log epoch now records) (payloads.log s.log (Append epoch now records)) f old.log new.log h.0
-
-unless_told : (o : Option Answer) (asked refused : Type 0) (f : StepFault) → (asked → IsTold f) → (refused → IsTold f) → UnlessRefused o asked refused → IsTold f
+unless_told : (o : Option Answer) (asked refused : Type 0) (f : EventFault) → (asked → IsTold f) → (refused → IsTold f) → UnlessRefused o asked refused → IsTold f
 unless_told None asked refused f a b h = a h
 unless_told (Some r) asked refused f a b h = b h
 
-turn_told : (w : World) (now : ℤ) (o : Option Driver) (payloads : Payloads) (f : StepFault) (old new : Disks) → TurnEventDisks w now o payloads (Err f) old new → IsTold f
+turn_told : (w : World) (now : ℤ) (o : Option Driver) (payloads : Payloads) (f : EventFault) (old new : Disks) → TurnEventDisks w now o payloads (Err f) old new → IsTold f
 turn_told w now None payloads f old new h = nothing_told Answer f old new h
 turn_told w now (Some d) payloads f old new h = log_read_told f old.log new.log h.0
 
+step_told : (p : Plan) (w : World) (now : ℤ) (o : Option Driver) (payloads : Payloads) (f : EventFault) (old new : Disks) → DriverStepDisks p w now o payloads (Err f) old new → IsTold f
+step_told p w now None payloads f old new h = nothing_told Answer f old new h
+step_told p w now (Some d) payloads f old new h = nothing_told Answer f old new h
+
 -- the fault of an event that changes the log
-log_changed_told : {B E : Type 0} (made : Result B E) (payload : ℕ) (f : StepFault) (old new : Disks) → ChangesLog {A = Answer} made payload (Err f) old new → IsTold f
+log_changed_told : {B E : Type 0} (made : Result B E) (payload : ℕ) (f : EventFault) (old new : Disks) → ChangesLog {A = Answer} made payload (Err f) old new → IsTold f
 log_changed_told made payload f old new h = log_change_told made payload f old.log new.log h.0
 
 -- the fault of an event
-pub event_told : (w : World) (e : Event) (payloads : Payloads) (f : StepFault) (old new : Disks) → ResultDisks w e payloads (Err f) old new → IsTold f
+pub event_told : (w : World) (e : Event) (payloads : Payloads) (f : EventFault) (old new : Disks) → ResultDisks w e payloads (Err f) old new → IsTold f
 event_told w (event.Quorum ids) payloads f old new h = nothing_told Answer f old new h
 event_told w (event.Start id) payloads f old new h = nothing_told Answer f old new h
+event_told w (event.Stop controller) payloads f old new h = nothing_told Answer f old new h
+event_told w (event.Step id now p) payloads f old new h = unless_told (running_refusal w id) _ _ f (step_told p w now (driver_of id w.drivers) payloads f old new) (nothing_told Answer f old new) h
 event_told w (event.Elect id now) payloads f old new h =
     unless_told (running_refusal w id) _ _ f (log_changed_told (elect w.shared.log now (election_records w.shared.log)) (payloads.log w.shared.log (Elect now (election_records w.shared.log))) f old new) (nothing_told Answer f old new) h
 event_told w (event.Turn id now) payloads f old new h = unless_told (running_refusal w id) _ _ f (turn_told w now (driver_of id w.drivers) payloads f old new) (nothing_told Answer f old new) h
@@ -127,74 +112,20 @@ event_told w (event.Zk ops) payloads f old new h =
     unless_told (client_refusal w.shared.tree ops) _ _ f (λ k. tree_change_told (multi w.shared.tree ops) (payloads.tree w.shared.tree (Multi ops)) f old.tree new.tree k.0) (nothing_told Answer f old new) h
 
 -- an event that answers a fault leaves the world as it was
-pub left_by : (w : World) (e : Event) (f : StepFault) (new : World) → new ≡ w → IsLeft w e (answer_of_fault f) new
-left_by w e (step_fault.Tree f) new h = h
-left_by w e (step_fault.Log f) new h = h
-left_by w e step_fault.NoMemory new h = h
+pub left_by : (w : World) (e : Event) (f : EventFault) (new : World) → new ≡ w → IsLeft w e (answer_of_fault f) new
+left_by w e (event_fault.Tree f) new h = h
+left_by w e (event_fault.Log f) new h = h
+left_by w e event_fault.NoMemory new h = h
 
 -- ---- answers that tell of no failure
 
-tree_by : (b : Bool) (f : TreeFault) → b ≡ false → cond b (Err (step_fault.Tree f)) (Ok (reply.TreeFailed f)) ≡ Ok (reply.TreeFailed f)
+tree_by : (b : Bool) (f : TreeFault) → b ≡ false → cond b (Err (event_fault.Tree f)) (Ok (answer.TreeFailed f)) ≡ Ok (answer.TreeFailed f)
 tree_by true f h = absurd (cc)
 tree_by false f h = refl
 
-log_by : (b : Bool) (f : LogFault) → b ≡ false → cond b (Err (step_fault.Log f)) (Ok (reply.LogFailed f)) ≡ Ok (reply.LogFailed f)
+log_by : (b : Bool) (f : LogFault) → b ≡ false → cond b (Err (event_fault.Log f)) (Ok (answer.LogFailed f)) ≡ Ok (answer.LogFailed f)
 log_by true f h = absurd (cc)
 log_by false f h = refl
-
--- a reply that tells of no failure is a result
-pub told_reply : (r : Reply) → is_failed_step r ≡ false → result_of_reply r ≡ Ok r
-told_reply reply.Idle h = refl
-told_reply (reply.WaitQuorum id) h = refl
-told_reply (reply.WaitBroker id) h = refl
-told_reply (reply.Moved s) h = refl
-told_reply reply.Looked h = refl
-told_reply (reply.Claimed number) h = refl
-told_reply (reply.Read rows) h = refl
-told_reply (reply.Appended offset) h = refl
-told_reply (reply.Wrote ops) h = refl
-told_reply (reply.Recorded offset) h = refl
-told_reply (reply.FencedEpoch epoch) h = refl
-told_reply (reply.FencedWrite claim) h = refl
-told_reply (reply.Stale epoch) h = refl
-told_reply (reply.Untranslatable path why) h = refl
-told_reply (reply.Limit path) h = refl
-told_reply reply.Lost h = refl
-told_reply reply.Expired h = refl
-told_reply (reply.TreeFailed f) h = tree_by (is_tree_failure f) f h
-told_reply (reply.LogFailed f) h = log_by (is_log_failure f) f h
-told_reply reply.NoMemory h = absurd (cc)
-
--- a failure ends a turn
-pub goes_on_told : (r : Reply) → ends r ≡ false → is_failed_step r ≡ false
-goes_on_told reply.Idle h = refl
-goes_on_told (reply.WaitQuorum id) h = refl
-goes_on_told (reply.WaitBroker id) h = refl
-goes_on_told (reply.Moved s) h = refl
-goes_on_told reply.Looked h = refl
-goes_on_told (reply.Claimed number) h = refl
-goes_on_told (reply.Read rows) h = refl
-goes_on_told (reply.Appended offset) h = refl
-goes_on_told (reply.Wrote ops) h = refl
-goes_on_told (reply.Recorded offset) h = refl
-goes_on_told (reply.FencedEpoch epoch) h = refl
-goes_on_told (reply.FencedWrite claim) h = refl
-goes_on_told (reply.Stale epoch) h = refl
-goes_on_told (reply.Untranslatable path why) h = refl
-goes_on_told (reply.Limit path) h = refl
-goes_on_told reply.Lost h = refl
-goes_on_told reply.Expired h = refl
-goes_on_told (reply.TreeFailed f) h = absurd (cc)
-goes_on_told (reply.LogFailed f) h = absurd (cc)
-goes_on_told reply.NoMemory h = absurd (cc)
-
-answer_tree_by : (b : Bool) (f : TreeFault) → b ≡ false → cond b (Err (step_fault.Tree f)) (Ok (answer.TreeFailed f)) ≡ Ok (answer.TreeFailed f)
-answer_tree_by true f h = absurd (cc)
-answer_tree_by false f h = refl
-
-answer_log_by : (b : Bool) (f : LogFault) → b ≡ false → cond b (Err (step_fault.Log f)) (Ok (answer.LogFailed f)) ≡ Ok (answer.LogFailed f)
-answer_log_by true f h = absurd (cc)
-answer_log_by false f h = refl
 
 -- an answer that tells of no failure is a result
 pub told_answer : (a : Answer) → is_failure a ≡ false → result_of_answer a ≡ Ok a
@@ -227,8 +158,8 @@ told_answer (answer.Reserved path) h = refl
 told_answer (answer.KraftHolds path) h = refl
 told_answer (answer.Refused index code) h = refl
 told_answer (answer.OverOp index number) h = refl
-told_answer (answer.TreeFailed f) h = answer_tree_by (is_tree_failure f) f h
-told_answer (answer.LogFailed f) h = answer_log_by (is_log_failure f) f h
+told_answer (answer.TreeFailed f) h = tree_by (is_tree_failure f) f h
+told_answer (answer.LogFailed f) h = log_by (is_log_failure f) f h
 told_answer answer.NoMemory h = absurd (cc)
 
 -- ---- where a store doesn't do what is asked of it

@@ -1,7 +1,7 @@
 -- What an event does to the disks below the tree and the log: which store it asks, by its own refusals, and what the answer of
 -- that store says of its disk.
-use Rattle.std.specs.Prelude.{◌≡◌, false, ℤ, List, [], ◌∷◌, Option, Some, None, option_map, Result, Ok}
-use Rattle.kz_types.specs.declared.machine.Reply.{Reply}
+use Rattle.std.specs.Prelude.{◌≡◌, false, ℤ, List, Option, Some, None, option_map, Result, Ok}
+use Rattle.kz_types.specs.declared.plan.Plan.{Plan}
 use Rattle.kz_types.specs.declared.machine.Event.{Event}
 use Rattle.kz_types.specs.declared.machine.Event.TheVariants as event
 use Rattle.kz_types.specs.declared.machine.Answer.{Answer}
@@ -10,11 +10,13 @@ use Rattle.kz_types.specs.declared.record.MetaRecord.{MetaRecord}
 use Rattle.kz_spec_stores.specs.Requests.{Disk, Multi, BeginSession, EndSession, Append, Elect}
 use Rattle.kz_spec_stores.specs.Tree.{multi, begin_session, end_session}
 use Rattle.kz_spec_stores.specs.Log.{Log, append, elect, image_of, begun_of}
-use Rattle.kz_spec_machine.specs.Driver.{Shared, Driver, epoch_or_zero, request_at, step}
+use Rattle.kz_spec_machine.specs.Driver.{Driver}
 use Rattle.kz_spec_machine.specs.Machine.{World, running_ids, driver_of, running_refusal, leader_refusal, client_refusal, election_records, registration}
-use Rattle.kz_driver.specs.declared.fault.StepFault.{StepFault}
-use Rattle.kz_driver.specs.Disks.{Disks, disks_of, Payloads, AsksNothing, ReadsLog, ChangesTree, ChangesLog, RequestDisks}
-use Rattle.kz_world.specs.Faults.{result_of_reply, result_of_answer}
+use Rattle.kz_world.specs.declared.faults.EventFault.{EventFault}
+use Rattle.kz_driver.specs.Disks.{Disks, disks_of, Payloads}
+use Rattle.kz_turns.specs.Disks.{StepRequestDisks, TurnDisks}
+use Rattle.kz_world.specs.Faults.{result_of_answer}
+use Rattle.kz_world.specs.Stores.{AsksNothing, ReadsLog, ChangesTree, ChangesLog}
 use Rattle.kz_world.specs.Refusals.{records_refusal}
 use Rattle.kz_world.specs.Worlds.{WorldOver}
 
@@ -24,27 +26,19 @@ disks_in tree log w = disks_of (tree w.tree) (log w.log)
 
 -- ---- a turn
 
--- what the one request of a step does to the disks
-abbrev pub StepRequestDisks : Shared → ℤ → Driver → Payloads → Result Reply StepFault → Disks → Disks → Type 0
-StepRequestDisks s now d payloads r old new = RequestDisks s (epoch_or_zero d.epoch) now d.view.position payloads (request_at s now d d.stage) r old new
-
--- What the steps of a turn do to the disks, one after another, each by its one request. A step may be out of memory at every
--- stage, since its reply takes memory.
-abbrev pub TurnDisks : Shared → List ℤ → ℤ → Driver → Payloads → List Reply → Disks → Disks → Type 0
-TurnDisks s running now d payloads [] old new = new ≡ old
-TurnDisks s running now d payloads (r ∷ rs) old new =
-    (mid : Disks)
-    × StepRequestDisks s now d payloads (result_of_reply r) old mid
-    × TurnDisks (step s running now d).shared running now (step s running now d).driver payloads rs mid new
-
 -- A turn reads the log, for the bound on its steps, and makes its steps.
-abbrev pub DriverTurnDisks : World → ℤ → Driver → Payloads → Result Answer StepFault → Disks → Disks → Type 0
+abbrev pub DriverTurnDisks : World → ℤ → Driver → Payloads → Result Answer EventFault → Disks → Disks → Type 0
 DriverTurnDisks w now d payloads (Ok (answer.Turn replies)) old new = (old.log.down ≡ false) × TurnDisks w.shared (running_ids w.drivers) now d payloads replies old new
 DriverTurnDisks w now d payloads r old new = ReadsLog r old new
 
-abbrev pub TurnEventDisks : World → ℤ → Option Driver → Payloads → Result Answer StepFault → Disks → Disks → Type 0
+abbrev pub TurnEventDisks : World → ℤ → Option Driver → Payloads → Result Answer EventFault → Disks → Disks → Type 0
 TurnEventDisks w now None payloads r old new = AsksNothing r old new
 TurnEventDisks w now (Some d) payloads r old new = DriverTurnDisks w now d payloads r old new
+
+-- A step asks one store, or none; out of memory before that, it asks none.
+abbrev pub DriverStepDisks : Plan → World → ℤ → Option Driver → Payloads → Result Answer EventFault → Disks → Disks → Type 0
+DriverStepDisks p w now (Some d) payloads (Ok (answer.Step told)) old new = StepRequestDisks p w.shared now d payloads told old new
+DriverStepDisks p w now d payloads r old new = AsksNothing r old new
 
 -- ---- an event
 
@@ -54,18 +48,22 @@ UnlessRefused None asks refused = asks
 UnlessRefused (Some refusal) asks refused = refused
 
 -- the records are appended to the log
-abbrev pub AppendsRecords : Log → List MetaRecord → ℤ → Payloads → Result Answer StepFault → Disks → Disks → Type 0
+abbrev pub AppendsRecords : Log → List MetaRecord → ℤ → Payloads → Result Answer EventFault → Disks → Disks → Type 0
 AppendsRecords log records now payloads r old new = ChangesLog (append log log.epoch now records) (payloads.log log (Append log.epoch now records)) r old new
 
 -- a controller is elected
-abbrev pub ElectsController : Log → ℤ → Payloads → Result Answer StepFault → Disks → Disks → Type 0
+abbrev pub ElectsController : Log → ℤ → Payloads → Result Answer EventFault → Disks → Disks → Type 0
 ElectsController log now payloads r old new = ChangesLog (elect log now (election_records log)) (payloads.log log (Elect now (election_records log))) r old new
 
 -- What an event does to the disks, by its answer or the fault that it tells. Where a rule of the event itself refuses it, no
 -- store is asked, or the log is only read.
-abbrev pub ResultDisks : World → Event → Payloads → Result Answer StepFault → Disks → Disks → Type 0
+abbrev pub ResultDisks : World → Event → Payloads → Result Answer EventFault → Disks → Disks → Type 0
 ResultDisks w (event.Quorum ids) payloads r old new = AsksNothing r old new
 ResultDisks w (event.Start id) payloads r old new = AsksNothing r old new
+ResultDisks w (event.Stop controller) payloads r old new = AsksNothing r old new
+ResultDisks w (event.Step id now p) payloads r old new = UnlessRefused (running_refusal w id)
+    (DriverStepDisks p w now (driver_of id w.drivers) payloads r old new)
+    (AsksNothing r old new)
 ResultDisks w (event.Elect id now) payloads r old new = UnlessRefused (running_refusal w id)
     (ElectsController w.shared.log now payloads r old new)
     (AsksNothing r old new)

@@ -1,77 +1,59 @@
--- How a fault of a store is told: by the reply of a step, and by the answer of an event. A refusal of the tree or of the log is
--- an answer of the machine.
+-- How a fault of a store is told by the answer of an event. A refusal of the tree or of the log is an answer of the machine.
 use Rattle.std.specs.Prelude.{Result, Ok, Err, if◌then◌else◌}
 use Rattle.kz_types.specs.declared.fault.TreeFault.{TreeFault}
 use Rattle.kz_types.specs.declared.fault.TreeFault.TheVariants as tree_fault
 use Rattle.kz_types.specs.declared.fault.LogFault.{LogFault}
 use Rattle.kz_types.specs.declared.fault.LogFault.TheVariants as log_fault
-use Rattle.kz_types.specs.declared.machine.Reply.{Reply}
-use Rattle.kz_types.specs.declared.machine.Reply.TheVariants as reply
 use Rattle.kz_types.specs.declared.machine.Answer.{Answer}
 use Rattle.kz_types.specs.declared.machine.Answer.TheVariants as answer
 use Rattle.kz_session.specs.declared.sessions.SessionFault.{SessionFault}
 use Rattle.kz_session.specs.declared.sessions.SessionFault.TheVariants as session_fault
 use Rattle.kz_spec_machine.specs.Failures.{is_tree_failure, is_log_failure}
-use Rattle.kz_driver.specs.declared.fault.StepFault.{StepFault}
-use Rattle.kz_driver.specs.declared.fault.StepFault.TheVariants as step_fault
-
--- ---- replies of steps
-
--- the reply that tells a fault
-abbrev pub reply_of_fault : StepFault → Reply
-reply_of_fault (step_fault.Tree f) = reply.TreeFailed f
-reply_of_fault (step_fault.Log f) = reply.LogFailed f
-reply_of_fault step_fault.NoMemory = reply.NoMemory
-
--- a reply, or the fault of a step that it tells
-abbrev pub result_of_reply : Reply → Result Reply StepFault
-result_of_reply (reply.TreeFailed f) = if is_tree_failure f then Err (step_fault.Tree f) else Ok (reply.TreeFailed f)
-result_of_reply (reply.LogFailed f) = if is_log_failure f then Err (step_fault.Log f) else Ok (reply.LogFailed f)
-result_of_reply reply.NoMemory = Err step_fault.NoMemory
-result_of_reply r = Ok r
+use Rattle.kz_world.specs.declared.faults.EventFault.{EventFault}
+use Rattle.kz_world.specs.declared.faults.EventFault.TheVariants as event_fault
 
 -- ---- answers of events
 
 -- the answer that tells a fault
-abbrev pub answer_of_fault : StepFault → Answer
-answer_of_fault (step_fault.Tree f) = answer.TreeFailed f
-answer_of_fault (step_fault.Log f) = answer.LogFailed f
-answer_of_fault step_fault.NoMemory = answer.NoMemory
+abbrev pub answer_of_fault : EventFault → Answer
+answer_of_fault (event_fault.Tree f) = answer.TreeFailed f
+answer_of_fault (event_fault.Log f) = answer.LogFailed f
+answer_of_fault event_fault.NoMemory = answer.NoMemory
 
 -- the answer of an event, which tells its fault where it has one
-abbrev pub answer_of_result : Result Answer StepFault → Answer
+abbrev pub answer_of_result : Result Answer EventFault → Answer
 answer_of_result (Ok a) = a
 answer_of_result (Err f) = answer_of_fault f
 
 -- an answer, or the fault that it tells; the faults of a turn's steps are told by their replies
-abbrev pub result_of_answer : Answer → Result Answer StepFault
-result_of_answer (answer.TreeFailed f) = if is_tree_failure f then Err (step_fault.Tree f) else Ok (answer.TreeFailed f)
-result_of_answer (answer.LogFailed f) = if is_log_failure f then Err (step_fault.Log f) else Ok (answer.LogFailed f)
-result_of_answer answer.NoMemory = Err step_fault.NoMemory
+abbrev pub result_of_answer : Answer → Result Answer EventFault
+result_of_answer (answer.TreeFailed f) = if is_tree_failure f then Err (event_fault.Tree f) else Ok (answer.TreeFailed f)
+result_of_answer (answer.LogFailed f) = if is_log_failure f then Err (event_fault.Log f) else Ok (answer.LogFailed f)
+result_of_answer answer.NoMemory = Err event_fault.NoMemory
 result_of_answer a = Ok a
 
 -- ---- what follows where a store doesn't do what an event asks of it
 
 -- the tree refuses a client's multi, or there is a fault
-abbrev pub after_tree_fault : TreeFault → Result Answer StepFault
+abbrev pub after_tree_fault : TreeFault → Result Answer EventFault
 after_tree_fault (tree_fault.Refused index code) = Ok (answer.Refused index code)
 after_tree_fault (tree_fault.Limit index number) = Ok (answer.OverOp index number)
-after_tree_fault tree_fault.NoMemory = Err step_fault.NoMemory
-after_tree_fault f = Err (step_fault.Tree f)
+after_tree_fault tree_fault.NoMemory = Err event_fault.NoMemory
+after_tree_fault f = Err (event_fault.Tree f)
 
 -- the log refuses a batch, or there is a fault
-abbrev pub after_log_fault : LogFault → Result Answer StepFault
+abbrev pub after_log_fault : LogFault → Result Answer EventFault
 after_log_fault (log_fault.Stale epoch) = Ok (answer.Stale epoch)
 after_log_fault (log_fault.Limit number) = Ok (answer.Over number)
-after_log_fault log_fault.NoMemory = Err step_fault.NoMemory
-after_log_fault f = Err (step_fault.Log f)
+after_log_fault log_fault.NoMemory = Err event_fault.NoMemory
+after_log_fault f = Err (event_fault.Log f)
 
 -- a session doesn't begin or end, or there is a fault
-abbrev pub after_session_fault : SessionFault → Result Answer StepFault
+abbrev pub after_session_fault : SessionFault → Result Answer EventFault
 after_session_fault session_fault.Known = Ok answer.Known
 after_session_fault session_fault.Unknown = Ok answer.Unknown
-after_session_fault session_fault.NoMemory = Err step_fault.NoMemory
-after_session_fault session_fault.Device = Err (step_fault.Tree tree_fault.Device)
-after_session_fault session_fault.Down = Err (step_fault.Tree tree_fault.Down)
-after_session_fault (session_fault.Full length) = Err (step_fault.Tree (tree_fault.Full length))
+after_session_fault session_fault.NoMemory = Err event_fault.NoMemory
+after_session_fault session_fault.Device = Err (event_fault.Tree tree_fault.Device)
+after_session_fault session_fault.Down = Err (event_fault.Tree tree_fault.Down)
+after_session_fault (session_fault.Full length) = Err (event_fault.Tree (tree_fault.Full length))
 after_session_fault (session_fault.Limit number) = Ok (answer.Over number)

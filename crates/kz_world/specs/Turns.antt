@@ -1,18 +1,18 @@
--- What a turn of a driver tells and leaves: it ends as the definition says, or a failure cuts it off.
-use Rattle.std.specs.Prelude.{◌≡◌, ◌⊎◌, ℕ, false, ℤ, List, Some}
+-- What a step and a turn of a driver tell and leave of a world.
+use Rattle.std.specs.Prelude.{◌≡◌, ◌⊎◌, true, false, ℤ, List, Some}
 use Rattle.std.specs.List.{list_any}
+use Rattle.kz_types.specs.declared.plan.Plan.{Plan}
 use Rattle.kz_types.specs.declared.machine.Reply.{Reply}
 use Rattle.kz_types.specs.declared.machine.Answer.{Answer}
 use Rattle.kz_types.specs.declared.machine.Answer.TheVariants as answer
-use Rattle.kz_spec_machine.specs.Driver.{Shared, Driver}
-use Rattle.kz_spec_machine.specs.Machine.{World, running_ids, turn, turn_result, with_driver, work}
+use Rattle.kz_spec_machine.specs.Driver.{Driver}
+use Rattle.kz_spec_machine.specs.Machine.{World, running_ids, step_result, turn_result, with_driver, work}
 use Rattle.kz_spec_machine.specs.Failures.{is_failed_step, IsCutOff}
 
--- at most so many steps of a driver
-abbrev pub StepsEnd : ℕ → Shared → List ℤ → ℤ → Driver → List Reply → Shared → Driver → Type 0
-StepsEnd most s running now d replies shared driver =
-    ((turn most s running now d ≡ record { shared = shared; driver = driver; replies = replies }) × (list_any is_failed_step replies ≡ false))
-    ⊎ IsCutOff most s running now d replies shared driver
+-- A step of this driver, whose request fares by this plan, told this reply and left this world.
+pub record IsStepped (p : Plan) (w : World) (now : ℤ) (d : Driver) (new : World) (told : Reply) : Type 0 where
+  pub done : is_failed_step told ≡ false → step_result w p now (Some d) ≡ (new, answer.Step told)
+  pub failed : is_failed_step told ≡ true → new ≡ w
 
 -- a failure cut a turn of this driver off, which left this world
 pub record IsTurnCutOff (w : World) (now : ℤ) (d : Driver) (replies : List Reply) (new : World) : Type 0 where

@@ -1,9 +1,10 @@
 -- Worlds by their parts.
-use Rattle.std.specs.Prelude.{◌≡◌, ◌<◌, true, false, ℤ, pos, ◌≤ℤ◌, List, [], ◌∷◌, ◌++◌, length, map, Option, None, is_some, Ok, ⊤, if◌then◌else◌}
+use Rattle.std.specs.Prelude.{◌≡◌, true, false, ℤ, List, [], ◌∷◌, ◌++◌, map, Option, None, is_some, Ok, ⊤, if◌then◌else◌}
 use Rattle.std.specs.Ordering.{int_eq}
 use Rattle.kz_types.specs.declared.codes.TheConstants.{NO_MIGRATION, PRE_MIGRATION}
+use Rattle.kz_types.specs.declared.plan.Plan.{Plan}
+use Rattle.kz_types.specs.declared.plan.Plan.TheVariants as plan
 use Rattle.kz_types.specs.declared.machine.Event.{Event}
-use Rattle.kz_types.specs.declared.machine.Event.TheVariants as event
 use Rattle.kz_types.specs.declared.machine.Answer.{Answer}
 use Rattle.kz_types.specs.declared.machine.Answer.TheVariants as answer
 use Rattle.kz_types.specs.declared.record.MetaRecord.{MetaRecord}
@@ -19,7 +20,7 @@ use Rattle.kz_world.specs.declared.parts.Parts.{Parts}
 
 -- the world of these parts, where the stores' tree and log are told
 abbrev pub world_of : {T L : Type 0} → (T → Tree) → (L → Log) → Parts T L → World
-world_of tree log p = record { shared = shared_of (tree p.tree) (log p.log) p.declared; drivers = p.drivers.items }
+world_of tree log p = record { shared = shared_of (tree p.tree.inner) (log p.log.inner) p.declared; drivers = p.drivers.items }
 
 -- A store of a tree, a store of a log, the ids of the declared controllers, and the drivers of those that run.
 pub record WorldOver (T : Type 0) (L : Type 0) : Type 0 where
@@ -34,7 +35,7 @@ plain_world tree log w = record { shared = shared_of (tree w.tree) (log w.log) w
 
 -- the parts as a world over their stores
 abbrev pub world_of_parts : {T L : Type 0} → Parts T L → WorldOver T L
-world_of_parts p = record { tree = p.tree; log = p.log; declared = p.declared; drivers = p.drivers.items }
+world_of_parts p = record { tree = p.tree.inner; log = p.log.inner; declared = p.declared; drivers = p.drivers.items }
 
 -- no two of these ids are the same
 abbrev pub AreDistinct : List ℤ → Type 0
@@ -46,21 +47,21 @@ abbrev pub AreViews : Log → List Driver → Type 0
 AreViews l [] = ⊤
 AreViews l (d ∷ ds) = IsViewOf l d.view × AreViews l ds
 
--- What is true of every world: no two drivers have one id, and what the world and each driver know is a view of the log.
-pub record IsKept (l : Log) (view : View) (drivers : List Driver) : Type 0 where
+-- What is true of every world: the connections deliver, no two drivers have one id, and what the world and each driver know is
+-- a view of the log.
+pub record IsKept (tree_plan log_plan : Plan) (l : Log) (view : View) (drivers : List Driver) : Type 0 where
+  pub tree_delivers : tree_plan ≡ plan.Deliver
+  pub log_delivers : log_plan ≡ plan.Deliver
   pub distinct : AreDistinct (running_ids drivers)
   pub own : IsViewOf l view
   pub each : AreViews l drivers
 
+abbrev pub AreKept : {T L : Type 0} → (L → Log) → Parts T L → Type 0
+AreKept log_of p = IsKept p.tree.plan p.log.plan (log_of p.log.inner) p.view p.drivers.items
+
 -- the drivers, of which those of a controller are elected with an epoch
 abbrev pub elected_drivers : ℤ → ℤ → List Driver → List Driver
 elected_drivers id epoch drivers = map (λ (d : Driver). if int_eq d.id id then elected_driver epoch d else d) drivers
-
--- a change has a record, and a session that begins is at least 1
-abbrev pub IsAsked : Event → Type 0
-IsAsked (event.Change id records now) = 0 < length records
-IsAsked (event.ZkOpen session) = pos 1 ≤ℤ session
-IsAsked e = ⊤
 
 -- what an append by the leader makes of the world, and its answer
 abbrev pub world_after_append : World → List MetaRecord → ℤ → World × Answer

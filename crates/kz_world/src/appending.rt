@@ -3,11 +3,11 @@ ghost use Rattle.std.specs.Prelude.{◌≡◌, ◌<◌, pos, false, ◌≤ℤ◌
 ghost use Rattle.kz_spec_machine.specs.Failures.{is_failure};
 ghost use Rattle.kz_driver.specs.Disks.{payloads_of};
 ghost use Rattle.kz_world.specs.Disks.{disks_in, AppendsRecords};
-ghost use Rattle.kz_world.specs.Worlds.{world_of, world_of_parts, world_after_append, IsKept};
+ghost use Rattle.kz_world.specs.Stops.{FailureLeaves, append_pairs};
+ghost use Rattle.kz_world.specs.Worlds.{world_of, world_of_parts, world_after_append, AreKept};
 
-use crate::faults::after_log_fault;
+use crate::faults::{EventFault, after_log_fault};
 use crate::parts::Parts;
-use kz_driver::StepFault;
 use kz_log::MetaLog;
 use kz_tree::ZTree;
 use kz_types::{Answer, MetaRecord};
@@ -17,17 +17,18 @@ pub fn append<T: ZTree, L: MetaLog>(
     parts: &mut Parts<T, L>,
     records: &[MetaRecord],
     now: i64,
-) -> Result<Answer, StepFault>
-    requires kept { IsKept (L.log parts.old.log) parts.old.view parts.old.drivers.items }
-    requires elected { pos 1 ≤ℤ (L.log parts.old.log).epoch }
+) -> Result<Answer, EventFault>
+    requires kept { AreKept L.log parts.old }
+    requires elected { pos 1 ≤ℤ (L.log parts.old.log.inner).epoch }
     requires some { 0 < length records.now }
     ensures ok { IfOk result (λ answer. (world_after_append (world_of T.tree L.log parts.old) records.now now ≡ (world_of T.tree L.log parts.new, answer)) × (is_failure answer ≡ false)) }
-    ensures kept { IsKept (L.log parts.new.log) parts.new.view parts.new.drivers.items }
+    ensures kept { AreKept L.log parts.new }
     ensures err { OnErr result (world_of T.tree L.log parts.new ≡ world_of T.tree L.log parts.old) }
-    ensures disks { AppendsRecords (L.log parts.old.log) records.now now (payloads_of T.payload_bytes L.payload_bytes) result (disks_in T.disk L.disk (world_of_parts parts.old)) (disks_in T.disk L.disk (world_of_parts parts.new)) }
+    ensures disks { AppendsRecords (L.log parts.old.log.inner) records.now now (payloads_of T.payload_bytes L.payload_bytes) result (disks_in T.disk L.disk (world_of_parts parts.old)) (disks_in T.disk L.disk (world_of_parts parts.new)) }
+    ensures stop { FailureLeaves (world_of T.tree L.log parts.old) (append_pairs (world_of T.tree L.log parts.old) records.now now) result (disks_in T.disk L.disk (world_of_parts parts.old)) (T.left parts.new.tree.inner) (L.left parts.new.log.inner) }
 {
-    let epoch = parts.log.epoch();
-    match parts.log.append(epoch, now, records) {
+    let epoch = parts.log.inner().epoch();
+    match parts.log.inner_mut().append(epoch, now, records) {
         Ok(offset) => Ok(Answer::Appended { offset }),
         Err(fault) => after_log_fault(fault),
     }

@@ -1,15 +1,17 @@
 //! A change.
 ghost use Rattle.std.specs.Prelude.{◌≡◌, ◌<◌, length, IfOk, OnErr};
 ghost use Rattle.kz_types.specs.declared.machine.Event.TheVariants as event;
-ghost use Rattle.kz_driver.specs.Disks.{payloads_of, ReadsLog};
+ghost use Rattle.kz_driver.specs.Disks.{payloads_of};
+ghost use Rattle.kz_world.specs.Stores.{ReadsLog};
 ghost use Rattle.kz_world.specs.Disks.{disks_in, AppendsRecords, ResultDisks, UnlessRefused};
-ghost use Rattle.kz_world.specs.Worlds.{world_of, world_of_parts, IsDone, IsKept};
+ghost use Rattle.kz_world.specs.Stops.{EventLeaves};
+ghost use Rattle.kz_world.specs.Worlds.{world_of, world_of_parts, IsDone, AreKept};
 
 use crate::appending::append;
+use crate::faults::EventFault;
 use crate::parts::Parts;
 use crate::reading::read;
 use crate::refusals::{leader_refusal, records_refusal};
-use kz_driver::StepFault;
 use kz_log::MetaLog;
 use kz_tree::ZTree;
 use kz_types::{Answer, MetaRecord, NoMemory};
@@ -24,13 +26,14 @@ pub fn change<T: ZTree, L: MetaLog>(
     id: i32,
     records: &[MetaRecord],
     now: i64,
-) -> Result<Answer, StepFault>
-    requires kept { IsKept (L.log parts.old.log) parts.old.view parts.old.drivers.items }
+) -> Result<Answer, EventFault>
+    requires kept { AreKept L.log parts.old }
     requires some { 0 < length records.now }
     ensures ok { IfOk result (IsDone (world_of T.tree L.log parts.old) (event.Change id records.now now) (world_of T.tree L.log parts.new)) }
-    ensures kept { IsKept (L.log parts.new.log) parts.new.view parts.new.drivers.items }
+    ensures kept { AreKept L.log parts.new }
     ensures err { OnErr result (world_of T.tree L.log parts.new ≡ world_of T.tree L.log parts.old) }
     ensures disks { ResultDisks (world_of T.tree L.log parts.old) (event.Change id records.now now) (payloads_of T.payload_bytes L.payload_bytes) result (disks_in T.disk L.disk (world_of_parts parts.old)) (disks_in T.disk L.disk (world_of_parts parts.new)) }
+    ensures stop { EventLeaves (world_of T.tree L.log parts.old) (event.Change id records.now now) result (disks_in T.disk L.disk (world_of_parts parts.old)) (T.left parts.new.tree.inner) (L.left parts.new.log.inner) }
 {
     if let Some(refusal) = leader_refusal(parts, id) {
         return Ok(refusal);
@@ -39,9 +42,14 @@ pub fn change<T: ZTree, L: MetaLog>(
         Ok(()) => {}
         Err(fault) => return Err(fault),
     }
-    match records_refusal(alloc, parts.log.epoch(), parts.view.image(), records) {
+    match records_refusal(
+        alloc,
+        parts.log.inner().epoch(),
+        parts.view.image(),
+        records,
+    ) {
         Ok(None) => append(parts, records, now),
         Ok(Some(refusal)) => Ok(refusal),
-        Err(NoMemory) => Err(StepFault::NoMemory),
+        Err(NoMemory) => Err(EventFault::NoMemory),
     }
 }

@@ -8,16 +8,17 @@ ghost use Rattle.kz_spec_machine.specs.Machine.{is_reserved, is_held, is_held_pa
 ghost use Rattle.kz_spec_machine.specs.Failures.{is_failure};
 ghost use Rattle.kz_driver.specs.Disks.{payloads_of};
 ghost use Rattle.kz_world.specs.Disks.{disks_in, ResultDisks};
-ghost use Rattle.kz_world.specs.Worlds.{world_of, world_of_parts, IsDone, IsKept};
+ghost use Rattle.kz_world.specs.Stops.{EventLeaves};
+ghost use Rattle.kz_world.specs.Worlds.{world_of, world_of_parts, IsDone, AreKept};
 
-use crate::faults::after_tree_fault;
+use crate::faults::{EventFault, after_tree_fault};
 use crate::parts::Parts;
-use kz_driver::{StepFault, path_of_op};
 use kz_log::MetaLog;
 use kz_paths::{
     CONTROL_TEXT, is_base, is_below_control, is_controller_path, is_epoch_path, is_migrated,
     is_migration_path,
 };
+use kz_requests::path_of_op;
 use kz_state::read_control;
 use kz_tree::{Tree, ZTree};
 use kz_types::{Answer, Duplicate, NoMemory, Op, ZPath};
@@ -143,15 +144,16 @@ fn client_refusal(alloc: Global, tree: &Tree, ops: &[Op]) -> Result<Option<Answe
 
 // The tree's store is asked for a multi that no rule of clients refuses.
 #[tactic(auto, unfolding(kz_spec_machine::specs::Machine::next))]
-fn ask_tree<T: ZTree, L: MetaLog>(parts: &mut Parts<T, L>, ops: &[Op]) -> Result<Answer, StepFault>
-    requires kept { IsKept (L.log parts.old.log) parts.old.view parts.old.drivers.items }
-    requires taken { client_refusal (T.tree parts.old.tree) ops.now ≡ None }
+fn ask_tree<T: ZTree, L: MetaLog>(parts: &mut Parts<T, L>, ops: &[Op]) -> Result<Answer, EventFault>
+    requires kept { AreKept L.log parts.old }
+    requires taken { client_refusal (T.tree parts.old.tree.inner) ops.now ≡ None }
     ensures ok { IfOk result (IsDone (world_of T.tree L.log parts.old) (event.Zk ops.now) (world_of T.tree L.log parts.new)) }
-    ensures kept { IsKept (L.log parts.new.log) parts.new.view parts.new.drivers.items }
+    ensures kept { AreKept L.log parts.new }
     ensures err { OnErr result (world_of T.tree L.log parts.new ≡ world_of T.tree L.log parts.old) }
     ensures disks { ResultDisks (world_of T.tree L.log parts.old) (event.Zk ops.now) (payloads_of T.payload_bytes L.payload_bytes) result (disks_in T.disk L.disk (world_of_parts parts.old)) (disks_in T.disk L.disk (world_of_parts parts.new)) }
+    ensures stop { EventLeaves (world_of T.tree L.log parts.old) (event.Zk ops.now) result (disks_in T.disk L.disk (world_of_parts parts.old)) (T.left parts.new.tree.inner) (L.left parts.new.log.inner) }
 {
-    match parts.tree.multi(ops) {
+    match parts.tree.inner_mut().multi(ops) {
         Ok(zxid) => Ok(Answer::DoneAt { zxid }),
         Err(fault) => after_tree_fault(fault),
     }
@@ -164,16 +166,17 @@ pub fn ask<T: ZTree, L: MetaLog>(
     alloc: Global,
     parts: &mut Parts<T, L>,
     ops: &[Op],
-) -> Result<Answer, StepFault>
-    requires { IsKept (L.log parts.old.log) parts.old.view parts.old.drivers.items }
+) -> Result<Answer, EventFault>
+    requires { AreKept L.log parts.old }
     ensures ok { IfOk result (IsDone (world_of T.tree L.log parts.old) (event.Zk ops.now) (world_of T.tree L.log parts.new)) }
-    ensures kept { IsKept (L.log parts.new.log) parts.new.view parts.new.drivers.items }
+    ensures kept { AreKept L.log parts.new }
     ensures err { OnErr result (world_of T.tree L.log parts.new ≡ world_of T.tree L.log parts.old) }
     ensures disks { ResultDisks (world_of T.tree L.log parts.old) (event.Zk ops.now) (payloads_of T.payload_bytes L.payload_bytes) result (disks_in T.disk L.disk (world_of_parts parts.old)) (disks_in T.disk L.disk (world_of_parts parts.new)) }
+    ensures stop { EventLeaves (world_of T.tree L.log parts.old) (event.Zk ops.now) result (disks_in T.disk L.disk (world_of_parts parts.old)) (T.left parts.new.tree.inner) (L.left parts.new.log.inner) }
 {
-    match client_refusal(alloc, parts.tree.tree(), ops) {
+    match client_refusal(alloc, parts.tree.inner().tree(), ops) {
         Ok(Some(refusal)) => Ok(refusal),
         Ok(None) => ask_tree(parts, ops),
-        Err(NoMemory) => Err(StepFault::NoMemory),
+        Err(NoMemory) => Err(EventFault::NoMemory),
     }
 }

@@ -1,8 +1,8 @@
 //! The drivers of the controllers that run.
-ghost use Rattle.std.specs.Prelude.{◌≡◌, ◌<◌, pos, ◌≤ℤ◌, length, None, IfOk, MatchOption, slice_get, if◌then◌else◌};
+ghost use Rattle.std.specs.Prelude.{◌≡◌, ◌<◌, not, pos, ◌≤ℤ◌, length, None, Some, IfOk, MatchOption, slice_get, if◌then◌else◌};
 ghost use Rattle.std.specs.Ordering.{int_eq};
 ghost use Rattle.kz_spec_machine.specs.Driver.{elected_driver, is_one_of, least, less_of};
-ghost use Rattle.kz_spec_machine.specs.Machine.{driver_of, is_running, running_ids};
+ghost use Rattle.kz_spec_machine.specs.Machine.{driver_of, drivers_without, is_running, running_ids};
 ghost use Rattle.kz_world.specs.Worlds.{elected_drivers};
 
 use kz_driver::Driver;
@@ -90,5 +90,29 @@ pub fn elect_driver(drivers: &mut Vec<Driver>, id: i32, epoch: i32)
 {
     for at in 0..drivers.len() {
         elect_if(&mut drivers[at], id, epoch);
+    }
+}
+
+// Whether this is the driver of another controller.
+fn is_other(driver: &Driver, id: i32) -> bool
+    ensures { result ≡ not (int_eq driver.now.id id) }
+{
+    driver.id() != id
+}
+
+// Takes the drivers out whose controller has this id.
+fn take_out(drivers: &mut Vec<Driver>, id: i32)
+    ensures { drivers.new.items ≡ drivers_without (Some id) drivers.old.items }
+{
+    drivers.retain(|driver| is_other(driver, id));
+}
+
+/// Takes the driver of a controller out, or all of them where none is named.
+pub fn stop_drivers(drivers: &mut Vec<Driver>, controller: Option<i32>)
+    ensures { drivers.new.items ≡ drivers_without controller drivers.old.items }
+{
+    match controller {
+        Some(id) => take_out(drivers, id),
+        None => drivers.clear(),
     }
 }

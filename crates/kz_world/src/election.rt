@@ -5,14 +5,14 @@ ghost use Rattle.kz_spec_stores.specs.Log.{elect};
 ghost use Rattle.kz_spec_machine.specs.Machine.{election_records, running_refusal};
 ghost use Rattle.kz_driver.specs.Disks.{payloads_of};
 ghost use Rattle.kz_world.specs.Disks.{disks_in, ElectsController, ResultDisks};
-ghost use Rattle.kz_world.specs.Worlds.{world_of, world_of_parts, records_on_election, IsDone, IsKept};
+ghost use Rattle.kz_world.specs.Stops.{EventLeaves};
+ghost use Rattle.kz_world.specs.Worlds.{world_of, world_of_parts, records_on_election, IsDone, AreKept};
 
 use crate::drivers::elect_driver;
-use crate::faults::after_log_fault;
+use crate::faults::{EventFault, after_log_fault};
 use crate::parts::Parts;
 use crate::reading::read;
 use crate::refusals::running_refusal;
-use kz_driver::StepFault;
 use kz_log::{MetaLog, View};
 use kz_tree::ZTree;
 use kz_types::{Answer, MetaRecord, NO_MIGRATION, NoMemory, PRE_MIGRATION};
@@ -58,17 +58,18 @@ fn elect_running<T: ZTree, L: MetaLog>(
     id: i32,
     now: i64,
     items: &[MetaRecord],
-) -> Result<Answer, StepFault>
-    requires kept { IsKept (L.log parts.old.log) parts.old.view parts.old.drivers.items }
+) -> Result<Answer, EventFault>
+    requires kept { AreKept L.log parts.old }
     requires running { running_refusal (world_of T.tree L.log parts.old) id ≡ None }
-    requires items { items.now ≡ election_records (L.log parts.old.log) }
+    requires items { items.now ≡ election_records (L.log parts.old.log.inner) }
     requires some { 0 < length items.now }
     ensures ok { IfOk result (IsDone (world_of T.tree L.log parts.old) (event.Elect id now) (world_of T.tree L.log parts.new)) }
-    ensures kept { IsKept (L.log parts.new.log) parts.new.view parts.new.drivers.items }
+    ensures kept { AreKept L.log parts.new }
     ensures err { OnErr result (world_of T.tree L.log parts.new ≡ world_of T.tree L.log parts.old) }
-    ensures disks { ElectsController (L.log parts.old.log) now (payloads_of T.payload_bytes L.payload_bytes) result (disks_in T.disk L.disk (world_of_parts parts.old)) (disks_in T.disk L.disk (world_of_parts parts.new)) }
+    ensures disks { ElectsController (L.log parts.old.log.inner) now (payloads_of T.payload_bytes L.payload_bytes) result (disks_in T.disk L.disk (world_of_parts parts.old)) (disks_in T.disk L.disk (world_of_parts parts.new)) }
+    ensures stop { EventLeaves (world_of T.tree L.log parts.old) (event.Elect id now) result (disks_in T.disk L.disk (world_of_parts parts.old)) (T.left parts.new.tree.inner) (L.left parts.new.log.inner) }
 {
-    match parts.log.elect(now, items) {
+    match parts.log.inner_mut().elect(now, items) {
         Ok(elected) => {
             elect_driver(&mut parts.drivers, id, elected.epoch);
             Ok(Answer::Elected {
@@ -88,12 +89,13 @@ pub fn elect<T: ZTree, L: MetaLog>(
     parts: &mut Parts<T, L>,
     id: i32,
     now: i64,
-) -> Result<Answer, StepFault>
-    requires { IsKept (L.log parts.old.log) parts.old.view parts.old.drivers.items }
+) -> Result<Answer, EventFault>
+    requires { AreKept L.log parts.old }
     ensures ok { IfOk result (IsDone (world_of T.tree L.log parts.old) (event.Elect id now) (world_of T.tree L.log parts.new)) }
-    ensures kept { IsKept (L.log parts.new.log) parts.new.view parts.new.drivers.items }
+    ensures kept { AreKept L.log parts.new }
     ensures err { OnErr result (world_of T.tree L.log parts.new ≡ world_of T.tree L.log parts.old) }
     ensures disks { ResultDisks (world_of T.tree L.log parts.old) (event.Elect id now) (payloads_of T.payload_bytes L.payload_bytes) result (disks_in T.disk L.disk (world_of_parts parts.old)) (disks_in T.disk L.disk (world_of_parts parts.new)) }
+    ensures stop { EventLeaves (world_of T.tree L.log parts.old) (event.Elect id now) result (disks_in T.disk L.disk (world_of_parts parts.old)) (T.left parts.new.tree.inner) (L.left parts.new.log.inner) }
 {
     if let Some(refusal) = running_refusal(parts, id) {
         return Ok(refusal);
@@ -103,7 +105,7 @@ pub fn elect<T: ZTree, L: MetaLog>(
         Err(fault) => return Err(fault),
     }
     let Ok(items) = election_records(alloc, &parts.view) else {
-        return Err(StepFault::NoMemory);
+        return Err(EventFault::NoMemory);
     };
     elect_running(parts, id, now, &items)
 }

@@ -5,7 +5,6 @@ mod appending;
 mod change;
 mod checks;
 mod client;
-mod comparison;
 mod drivers;
 mod election;
 mod faults;
@@ -16,9 +15,8 @@ mod reading;
 mod refusals;
 mod registration;
 mod sessions;
-mod steps;
+mod single_steps;
 mod turns;
-mod work;
 
 pub use machine::World;
 

@@ -1,26 +1,31 @@
 //! The machine.
-ghost use Rattle.std.specs.Prelude.{◌≡◌, [], true, false, IfOk, OnErr};
+ghost use Rattle.std.specs.Prelude.{◌≡◌, ◌⊎◌, ◌∷◌, [], true, false, IfOk, OnErr};
 ghost use Rattle.kz_spec_stores.specs.Tree.{migration_record};
 ghost use Rattle.kz_spec_stores.specs.Log.{end_of};
-ghost use Rattle.kz_spec_machine.specs.Machine.{next};
+ghost use Rattle.kz_spec_machine.specs.Machine.{next, pair_of, event_pairs};
+ghost use Rattle.kz_spec_machine.specs.Sound.{Sound, IsLawful};
+ghost use Rattle.kz_turns.specs.Stops.{AreUp, LeavesOneOf};
+ghost use Rattle.kz_world.specs.Fences.{IsOfFenced, TellsFence};
 ghost use Rattle.kz_spec_machine.specs.Failures.{is_failure, IsLeft};
 ghost use Rattle.kz_driver.specs.Disks.{payloads_of};
 ghost use Rattle.kz_world.specs.Disks.{disks_in, ResultDisks, EventDisks};
-ghost use Rattle.kz_world.specs.Worlds.{WorldOver, world_of, plain_world, world_of_parts, IsKept, IsAsked, IsOutcome};
+ghost use Rattle.kz_world.specs.Stops.{EventLeaves};
+ghost use Rattle.kz_world.specs.Worlds.{WorldOver, world_of, plain_world, world_of_parts, AreKept, IsOutcome};
 
 use crate::change::change;
 use crate::checks::compare;
 use crate::client::ask;
 use crate::election::elect;
-use crate::faults::answered;
-use crate::members::{declare, start};
+use crate::faults::{EventFault, answered};
+use crate::members::{declare, start, stop};
 use crate::parts::Parts;
 use crate::registration::register;
 use crate::sessions::{expire, open};
+use crate::single_steps::step_of;
 use crate::turns::turn_of;
-use kz_driver::StepFault;
-use kz_log::{MetaLog, View};
+use kz_log::{LogWire, MetaLog, View};
 use kz_session::ZSessions;
+use kz_tree::Wire;
 use kz_types::{Answer, Event, NoMemory, Recorded, Sequence};
 use std::alloc::Global;
 use std::marker::Model;
@@ -37,7 +42,7 @@ impl<T: ZSessions, L: MetaLog> Model for World<T, L> {
 
     ghost view = { λ w. world_of_parts w.parts };
 
-    ghost invariant = { λ w. IsKept (L.log w.parts.log) w.parts.view w.parts.drivers.items };
+    ghost invariant = { λ w. AreKept L.log w.parts };
 }
 
 // What an event does to these parts. A step that fails, or is out of memory, is told by the last reply of its turn. At `Err`
@@ -46,18 +51,25 @@ fn happen<T: ZSessions, L: MetaLog>(
     alloc: Global,
     parts: &mut Parts<T, L>,
     event: &Event,
-) -> Result<Answer, StepFault>
-    requires kept { IsKept (L.log parts.old.log) parts.old.view parts.old.drivers.items }
-    requires asked { IsAsked event.now }
-    ensures ok { IfOk result (IsOutcome (world_of T.tree L.log parts.old) event.now (world_of T.tree L.log parts.new)) }
-    ensures kept { IsKept (L.log parts.new.log) parts.new.view parts.new.drivers.items }
+) -> Result<Answer, EventFault>
+    requires kept { AreKept L.log parts.old }
+    requires lawful { IsLawful event.now }
+    ensures ok { Sound (world_of T.tree L.log parts.old) → IfOk result (IsOutcome (world_of T.tree L.log parts.old) event.now (world_of T.tree L.log parts.new)) }
+    ensures kept { AreKept L.log parts.new }
     ensures err { OnErr result (world_of T.tree L.log parts.new ≡ world_of T.tree L.log parts.old) }
-    ensures disks { ResultDisks (world_of T.tree L.log parts.old) event.now (payloads_of T.payload_bytes L.payload_bytes) result (disks_in T.disk L.disk (world_of_parts parts.old)) (disks_in T.disk L.disk (world_of_parts parts.new)) }
+    ensures disks { Sound (world_of T.tree L.log parts.old) → ResultDisks (world_of T.tree L.log parts.old) event.now (payloads_of T.payload_bytes L.payload_bytes) result (disks_in T.disk L.disk (world_of_parts parts.old)) (disks_in T.disk L.disk (world_of_parts parts.new)) }
+    ensures stop { Sound (world_of T.tree L.log parts.old) → EventLeaves (world_of T.tree L.log parts.old) event.now result (disks_in T.disk L.disk (world_of_parts parts.old)) (T.left parts.new.tree.inner) (L.left parts.new.log.inner) }
 {
     match event {
         Event::Quorum { ids } => Ok(declare(alloc, parts, ids)?),
         Event::Start { controller } => Ok(start(alloc, parts, *controller)?),
+        Event::Stop { controller } => Ok(stop(parts, *controller)),
         Event::Elect { controller, now } => elect(alloc, parts, *controller, *now),
+        Event::Step {
+            controller,
+            now,
+            plan,
+        } => step_of(alloc, parts, *controller, *now, *plan),
         Event::Turn { controller, now } => turn_of(alloc, parts, *controller, *now),
         Event::Change {
             controller,
@@ -86,26 +98,34 @@ impl<T: ZSessions, L: MetaLog> World<T, L> {
             alloc,
             parts: Parts {
                 declared: Sequence::new(alloc),
-                tree,
-                log,
+                tree: Wire::new(tree),
+                log: LogWire::new(log),
                 view: View::new(alloc),
                 drivers: Vec::new(alloc),
             },
         }
     }
 
-    /// Lets an event happen, and answers it. A refused event leaves the world as it was. A change has a record, since the log
-    /// takes no batch without one, and a session that begins is at least 1.
+    /// Lets an event happen, and answers it. A refused event leaves the world as it was. The event is one that a line of a script
+    /// may give: its ids, times and sessions are in range.
     ///
     /// An event fails with `TreeFailed` or `LogFailed` where the disk below that store failed in this request or in an earlier
     /// one, or the store's file would pass its limit, and with `NoMemory`. It then leaves the world as it was, but for a turn
     /// whose step fails: the last reply of `Turn` tells the failure after the replies of the steps before it, and the world is
-    /// as these left it. A request that the tree or the log refuses is an answer.
+    /// as these left it. A request that the tree or the log refuses is an answer. Where neither store was down before, a stop
+    /// after a failure finds the tree and the log from before the event, or those after one of its requests.
+    ///
+    /// What follows is about a world that is sound, as every world of a run from the empty one is. An event keeps it
+    /// sound. A step of a controller that another one has taken over from leaves the tree and the log.
     pub fn event(&mut self, event: &Event) -> Answer
-        requires { IsAsked event.now }
-        ensures next { is_failure result ≡ false → next (plain_world T.tree L.log self.old) event.now ≡ (plain_world T.tree L.log self.new, result) }
-        ensures failed { is_failure result ≡ true → IsLeft (plain_world T.tree L.log self.old) event.now result (plain_world T.tree L.log self.new) }
-        ensures disks { EventDisks (plain_world T.tree L.log self.old) event.now (payloads_of T.payload_bytes L.payload_bytes) result (disks_in T.disk L.disk self.old) (disks_in T.disk L.disk self.new) }
+        requires { IsLawful event.now }
+        ensures next { Sound (plain_world T.tree L.log self.old) → is_failure result ≡ false → next (plain_world T.tree L.log self.old) event.now ≡ (plain_world T.tree L.log self.new, result) }
+        ensures failed { Sound (plain_world T.tree L.log self.old) → is_failure result ≡ true → IsLeft (plain_world T.tree L.log self.old) event.now result (plain_world T.tree L.log self.new) }
+        ensures sound { Sound (plain_world T.tree L.log self.old) → Sound (plain_world T.tree L.log self.new) }
+        ensures disks { Sound (plain_world T.tree L.log self.old) → EventDisks (plain_world T.tree L.log self.old) event.now (payloads_of T.payload_bytes L.payload_bytes) result (disks_in T.disk L.disk self.old) (disks_in T.disk L.disk self.new) }
+        ensures fenced { Sound (plain_world T.tree L.log self.old) → IsOfFenced (plain_world T.tree L.log self.old) event.now ⊎ TellsFence result → (plain_world T.tree L.log self.new).shared ≡ (plain_world T.tree L.log self.old).shared }
+        ensures stop { Sound (plain_world T.tree L.log self.old) → AreUp (disks_in T.disk L.disk self.old) → is_failure result ≡ true
+            → LeavesOneOf (pair_of (plain_world T.tree L.log self.old).shared ∷ event_pairs (plain_world T.tree L.log self.old) event.now) (T.left self.new.tree) (L.left self.new.log) }
     {
         answered(happen(self.alloc, &mut self.parts, event))
     }
@@ -114,21 +134,21 @@ impl<T: ZSessions, L: MetaLog> World<T, L> {
     pub fn zxid(&self) -> i64
         ensures { result ≡ (plain_world T.tree L.log self.now).shared.tree.zxid }
     {
-        self.parts.tree.tree().last_zxid()
+        self.parts.tree.inner().tree().last_zxid()
     }
 
     /// The last offset of the log, -1 where it is empty.
     pub fn end(&self) -> i64
         ensures { result ≡ end_of (plain_world T.tree L.log self.now).shared.log }
     {
-        self.parts.log.end()
+        self.parts.log.inner().end()
     }
 
     /// What `/migration` records, where it is there and can be read.
     pub fn recorded(&self) -> Result<Option<Recorded>, NoMemory>
         ensures { IfOk result (λ told. told ≡ migration_record (plain_world T.tree L.log self.now).shared.tree) }
     {
-        self.parts.tree.tree().recorded()
+        self.parts.tree.inner().tree().recorded()
     }
 
     /// Gives the two stores back, without memory.
@@ -144,6 +164,6 @@ impl<T: ZSessions, L: MetaLog> World<T, L> {
             view: _,
             drivers: _,
         } = parts;
-        (tree, log)
+        (tree.into_inner(), log.into_inner())
     }
 }

@@ -2,10 +2,11 @@
 ghost use Rattle.std.specs.Prelude.{◌≡◌, IfOk, OnErr};
 ghost use Rattle.kz_types.specs.declared.machine.Event.TheVariants as event;
 ghost use Rattle.kz_world.specs.Disks.{disks_in};
-ghost use Rattle.kz_world.specs.Worlds.{world_of, world_of_parts, IsDone, IsKept};
+ghost use Rattle.kz_world.specs.Worlds.{world_of, world_of_parts, IsDone, AreKept};
 
+use crate::drivers::stop_drivers;
 use crate::parts::Parts;
-use crate::refusals::{quorum_refusal, start_refusal};
+use crate::refusals::{quorum_refusal, start_refusal, stop_refusal};
 use kz_driver::Driver;
 use kz_log::MetaLog;
 use kz_tree::ZTree;
@@ -19,13 +20,13 @@ pub fn declare<T: ZTree, L: MetaLog>(
     parts: &mut Parts<T, L>,
     ids: &Sequence<i32>,
 ) -> Result<Answer, NoMemory>
-    requires { IsKept (L.log parts.old.log) parts.old.view parts.old.drivers.items }
+    requires { AreKept L.log parts.old }
     ensures ok { IfOk result (IsDone (world_of T.tree L.log parts.old) (event.Quorum ids.now) (world_of T.tree L.log parts.new)) }
-    ensures kept { IsKept (L.log parts.new.log) parts.new.view parts.new.drivers.items }
+    ensures kept { AreKept L.log parts.new }
     ensures err { OnErr result (world_of T.tree L.log parts.new ≡ world_of T.tree L.log parts.old) }
     ensures disks { disks_in T.disk L.disk (world_of_parts parts.new) ≡ disks_in T.disk L.disk (world_of_parts parts.old) }
 {
-    if let Some(refusal) = quorum_refusal(parts) {
+    if let Some(refusal) = quorum_refusal(parts, ids.as_slice()) {
         return Ok(refusal);
     }
     parts.declared = ids.copy(alloc)?;
@@ -39,9 +40,9 @@ pub fn start<T: ZTree, L: MetaLog>(
     parts: &mut Parts<T, L>,
     id: i32,
 ) -> Result<Answer, NoMemory>
-    requires { IsKept (L.log parts.old.log) parts.old.view parts.old.drivers.items }
+    requires { AreKept L.log parts.old }
     ensures ok { IfOk result (IsDone (world_of T.tree L.log parts.old) (event.Start id) (world_of T.tree L.log parts.new)) }
-    ensures kept { IsKept (L.log parts.new.log) parts.new.view parts.new.drivers.items }
+    ensures kept { AreKept L.log parts.new }
     ensures err { OnErr result (world_of T.tree L.log parts.new ≡ world_of T.tree L.log parts.old) }
     ensures disks { disks_in T.disk L.disk (world_of_parts parts.new) ≡ disks_in T.disk L.disk (world_of_parts parts.old) }
 {
@@ -50,6 +51,23 @@ pub fn start<T: ZTree, L: MetaLog>(
         None => {
             parts.drivers.push(Driver::new(alloc, id))?;
             Ok(Answer::Done)
+        }
+    }
+}
+
+/// Stops a controller, or all of them where none is named. Refused, it changes nothing. It takes no memory.
+#[tactic(auto, unfolding(kz_spec_machine::specs::Machine::next))]
+pub fn stop<T: ZTree, L: MetaLog>(parts: &mut Parts<T, L>, controller: Option<i32>) -> Answer
+    requires { AreKept L.log parts.old }
+    ensures done { IsDone (world_of T.tree L.log parts.old) (event.Stop controller) (world_of T.tree L.log parts.new) result }
+    ensures kept { AreKept L.log parts.new }
+    ensures disks { disks_in T.disk L.disk (world_of_parts parts.new) ≡ disks_in T.disk L.disk (world_of_parts parts.old) }
+{
+    match stop_refusal(parts, controller) {
+        Some(refusal) => refusal,
+        None => {
+            stop_drivers(&mut parts.drivers, controller);
+            Answer::Done
         }
     }
 }

@@ -2,7 +2,7 @@
 ghost use Rattle.std.specs.Prelude.{◌≡◌, pos, false, ◌≤ℤ◌, IfNone, IfSome, IfOk};
 ghost use Rattle.kz_spec_stores.specs.Image.{all_applied, first_bad, rule_number};
 ghost use Rattle.kz_spec_znodes.specs.Rendering.{excess};
-ghost use Rattle.kz_spec_machine.specs.Machine.{quorum_refusal, start_refusal, running_refusal, epoch_refusal, driver_refusal, driver_of, leader_refusal, over_excess, bad_record};
+ghost use Rattle.kz_spec_machine.specs.Machine.{quorum_refusal, start_refusal, stop_refusal, running_refusal, epoch_refusal, driver_refusal, driver_of, leader_refusal, over_excess, bad_record};
 ghost use Rattle.kz_spec_machine.specs.Failures.{is_failure};
 ghost use Rattle.kz_world.specs.Refusals.{records_refusal};
 ghost use Rattle.kz_world.specs.Worlds.{world_of};
@@ -14,18 +14,21 @@ use kz_log::MetaLog;
 use kz_render::{FitFault, fits};
 use kz_tree::ZTree;
 use kz_types::{
-    Answer, Duplicate, ImageFault, ImageRule, Limit, MAX_CHANGE_RECORDS, MIGRATION, MetaRecord,
-    NoMemory,
+    Answer, Duplicate, ImageFault, ImageRule, Limit, MAX_CHANGE_RECORDS, MAX_CONTROLLERS,
+    MIGRATION, MetaRecord, NoMemory,
 };
 use std::alloc::Global;
 
-/// A controller runs.
-pub fn quorum_refusal<T: ZTree, L: MetaLog>(parts: &Parts<T, L>) -> Option<Answer>
-    ensures refusal { result ≡ quorum_refusal (world_of T.tree L.log parts.now) }
+/// A controller runs, or the declared ones would be too many.
+pub fn quorum_refusal<T: ZTree, L: MetaLog>(parts: &Parts<T, L>, ids: &[i32]) -> Option<Answer>
+    ensures refusal { result ≡ quorum_refusal (world_of T.tree L.log parts.now) ids.now }
     ensures no_failure { IfSome result (λ answer. is_failure answer ≡ false) }
 {
     match least_running(&parts.drivers) {
         Some(id) => Some(Answer::Running { id }),
+        None if ids.len() > MAX_CONTROLLERS => Some(Answer::Over {
+            number: Limit::Controllers.number(),
+        }),
         None => None,
     }
 }
@@ -58,6 +61,20 @@ pub fn running_refusal<T: ZTree, L: MetaLog>(parts: &Parts<T, L>, id: i32) -> Op
     }
 }
 
+/// The controller that is named, if one is, isn't declared, or doesn't run.
+pub fn stop_refusal<T: ZTree, L: MetaLog>(
+    parts: &Parts<T, L>,
+    controller: Option<i32>,
+) -> Option<Answer>
+    ensures refusal { result ≡ stop_refusal (world_of T.tree L.log parts.now) controller }
+    ensures no_failure { IfSome result (λ answer. is_failure answer ≡ false) }
+{
+    match controller {
+        Some(id) => running_refusal(parts, id),
+        None => None,
+    }
+}
+
 // A driver of this epoch doesn't lead a log of that epoch.
 fn epoch_refusal(epoch: i32, driver: Option<i32>) -> Option<Answer>
     requires { IfSome driver (λ e. pos 1 ≤ℤ e) }
@@ -74,12 +91,12 @@ fn epoch_refusal(epoch: i32, driver: Option<i32>) -> Option<Answer>
 
 // The driver of a controller doesn't lead the log.
 fn driver_refusal<T: ZTree, L: MetaLog>(parts: &Parts<T, L>, id: i32) -> Option<Answer>
-    ensures refusal { result ≡ driver_refusal (L.log parts.now.log).epoch (driver_of id parts.now.drivers.items) }
+    ensures refusal { result ≡ driver_refusal (L.log parts.now.log.inner).epoch (driver_of id parts.now.drivers.items) }
     ensures no_failure { IfSome result (λ answer. is_failure answer ≡ false) }
-    ensures elected { IfNone result (pos 1 ≤ℤ (L.log parts.now.log).epoch) }
+    ensures elected { IfNone result (pos 1 ≤ℤ (L.log parts.now.log.inner).epoch) }
 {
     match place_of(&parts.drivers, id) {
-        Some(at) => epoch_refusal(parts.log.epoch(), parts.drivers[at].epoch()),
+        Some(at) => epoch_refusal(parts.log.inner().epoch(), parts.drivers[at].epoch()),
         None => Some(Answer::NotLeader),
     }
 }
@@ -88,7 +105,7 @@ fn driver_refusal<T: ZTree, L: MetaLog>(parts: &Parts<T, L>, id: i32) -> Option<
 pub fn leader_refusal<T: ZTree, L: MetaLog>(parts: &Parts<T, L>, id: i32) -> Option<Answer>
     ensures refusal { result ≡ leader_refusal (world_of T.tree L.log parts.now) id }
     ensures no_failure { IfSome result (λ answer. is_failure answer ≡ false) }
-    ensures elected { IfNone result (pos 1 ≤ℤ (L.log parts.now.log).epoch) }
+    ensures elected { IfNone result (pos 1 ≤ℤ (L.log parts.now.log.inner).epoch) }
 {
     match running_refusal(parts, id) {
         Some(refusal) => Some(refusal),

@@ -4,13 +4,14 @@ ghost use Rattle.kz_types.specs.declared.machine.Event.TheVariants as event;
 ghost use Rattle.kz_spec_machine.specs.Machine.{registration};
 ghost use Rattle.kz_driver.specs.Disks.{payloads_of};
 ghost use Rattle.kz_world.specs.Disks.{disks_in, ResultDisks};
-ghost use Rattle.kz_world.specs.Worlds.{world_of, world_of_parts, IsDone, IsKept};
+ghost use Rattle.kz_world.specs.Stops.{EventLeaves};
+ghost use Rattle.kz_world.specs.Worlds.{world_of, world_of_parts, IsDone, AreKept};
 
 use crate::appending::append;
+use crate::faults::EventFault;
 use crate::parts::Parts;
 use crate::reading::read;
 use crate::refusals::leader_refusal;
-use kz_driver::StepFault;
 use kz_log::MetaLog;
 use kz_tree::ZTree;
 use kz_types::{Answer, Id, MetaRecord, RegisterBrokerRecord, Sequence};
@@ -42,12 +43,13 @@ pub fn register<T: ZTree, L: MetaLog>(
     broker: i32,
     migrating: bool,
     now: i64,
-) -> Result<Answer, StepFault>
-    requires { IsKept (L.log parts.old.log) parts.old.view parts.old.drivers.items }
+) -> Result<Answer, EventFault>
+    requires { AreKept L.log parts.old }
     ensures ok { IfOk result (IsDone (world_of T.tree L.log parts.old) (event.Register id broker migrating now) (world_of T.tree L.log parts.new)) }
-    ensures kept { IsKept (L.log parts.new.log) parts.new.view parts.new.drivers.items }
+    ensures kept { AreKept L.log parts.new }
     ensures err { OnErr result (world_of T.tree L.log parts.new ≡ world_of T.tree L.log parts.old) }
     ensures disks { ResultDisks (world_of T.tree L.log parts.old) (event.Register id broker migrating now) (payloads_of T.payload_bytes L.payload_bytes) result (disks_in T.disk L.disk (world_of_parts parts.old)) (disks_in T.disk L.disk (world_of_parts parts.new)) }
+    ensures stop { EventLeaves (world_of T.tree L.log parts.old) (event.Register id broker migrating now) result (disks_in T.disk L.disk (world_of_parts parts.old)) (T.left parts.new.tree.inner) (L.left parts.new.log.inner) }
 {
     if let Some(refusal) = leader_refusal(parts, id) {
         return Ok(refusal);

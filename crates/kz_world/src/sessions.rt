@@ -3,11 +3,11 @@ ghost use Rattle.std.specs.Prelude.{◌≡◌, ◌≤ℤ◌, pos, IfOk, OnErr};
 ghost use Rattle.kz_types.specs.declared.machine.Event.TheVariants as event;
 ghost use Rattle.kz_driver.specs.Disks.{payloads_of};
 ghost use Rattle.kz_world.specs.Disks.{disks_in, ResultDisks};
-ghost use Rattle.kz_world.specs.Worlds.{world_of, world_of_parts, IsDone, IsKept};
+ghost use Rattle.kz_world.specs.Stops.{EventLeaves};
+ghost use Rattle.kz_world.specs.Worlds.{world_of, world_of_parts, IsDone, AreKept};
 
-use crate::faults::after_session_fault;
+use crate::faults::{EventFault, after_session_fault};
 use crate::parts::Parts;
-use kz_driver::StepFault;
 use kz_log::MetaLog;
 use kz_session::ZSessions;
 use kz_types::Answer;
@@ -17,15 +17,16 @@ use kz_types::Answer;
 pub fn open<T: ZSessions, L: MetaLog>(
     parts: &mut Parts<T, L>,
     session: i64,
-) -> Result<Answer, StepFault>
-    requires kept { IsKept (L.log parts.old.log) parts.old.view parts.old.drivers.items }
+) -> Result<Answer, EventFault>
+    requires kept { AreKept L.log parts.old }
     requires session { pos 1 ≤ℤ session }
     ensures ok { IfOk result (IsDone (world_of T.tree L.log parts.old) (event.ZkOpen session) (world_of T.tree L.log parts.new)) }
-    ensures kept { IsKept (L.log parts.new.log) parts.new.view parts.new.drivers.items }
+    ensures kept { AreKept L.log parts.new }
     ensures err { OnErr result (world_of T.tree L.log parts.new ≡ world_of T.tree L.log parts.old) }
     ensures disks { ResultDisks (world_of T.tree L.log parts.old) (event.ZkOpen session) (payloads_of T.payload_bytes L.payload_bytes) result (disks_in T.disk L.disk (world_of_parts parts.old)) (disks_in T.disk L.disk (world_of_parts parts.new)) }
+    ensures stop { EventLeaves (world_of T.tree L.log parts.old) (event.ZkOpen session) result (disks_in T.disk L.disk (world_of_parts parts.old)) (T.left parts.new.tree.inner) (L.left parts.new.log.inner) }
 {
-    match parts.tree.begin_session(session) {
+    match parts.tree.inner_mut().begin_session(session) {
         Ok(zxid) => Ok(Answer::DoneAt { zxid }),
         Err(fault) => after_session_fault(fault),
     }
@@ -37,14 +38,15 @@ pub fn open<T: ZSessions, L: MetaLog>(
 pub fn expire<T: ZSessions, L: MetaLog>(
     parts: &mut Parts<T, L>,
     session: i64,
-) -> Result<Answer, StepFault>
-    requires { IsKept (L.log parts.old.log) parts.old.view parts.old.drivers.items }
+) -> Result<Answer, EventFault>
+    requires { AreKept L.log parts.old }
     ensures ok { IfOk result (IsDone (world_of T.tree L.log parts.old) (event.ZkExpire session) (world_of T.tree L.log parts.new)) }
-    ensures kept { IsKept (L.log parts.new.log) parts.new.view parts.new.drivers.items }
+    ensures kept { AreKept L.log parts.new }
     ensures err { OnErr result (world_of T.tree L.log parts.new ≡ world_of T.tree L.log parts.old) }
     ensures disks { ResultDisks (world_of T.tree L.log parts.old) (event.ZkExpire session) (payloads_of T.payload_bytes L.payload_bytes) result (disks_in T.disk L.disk (world_of_parts parts.old)) (disks_in T.disk L.disk (world_of_parts parts.new)) }
+    ensures stop { EventLeaves (world_of T.tree L.log parts.old) (event.ZkExpire session) result (disks_in T.disk L.disk (world_of_parts parts.old)) (T.left parts.new.tree.inner) (L.left parts.new.log.inner) }
 {
-    match parts.tree.end_session(session) {
+    match parts.tree.inner_mut().end_session(session) {
         Ok(zxid) => Ok(Answer::DoneAt { zxid }),
         Err(fault) => after_session_fault(fault),
     }

@@ -1,13 +1,13 @@
-ghost use Rattle.std.specs.Prelude.{◌<◌, length};
+ghost use Rattle.std.specs.Prelude.{◌≡◌, ◌≤◌, ◌∷◌, [], All, length};
+ghost use Rattle.kz_spec_machine.specs.Sound.{IsLawful, IsLawfulOp};
 
 use super::World;
-use crate::comparison::verdict_of;
-use kz_log::{MemoryLog, MetaLog, read_all};
-use kz_render::bare_roots;
+use kz_log::{MemoryLog, MetaLog};
 use kz_session::MemoryTree;
-use kz_tree::{Tree, ZTree};
+use kz_tree::ZTree;
 use kz_types::{
-    Answer, ConfigRecord, Event, MetaRecord, Op, Rendered, Sequence, Text, Verdict, ZPath,
+    Answer, ConfigRecord, DriverState, Event, MetaRecord, Op, Plan, Reply, Sequence, Text, Verdict,
+    ZPath,
 };
 use std::alloc::Global;
 use std::process::Abort;
@@ -35,7 +35,7 @@ fn config(rt: &impl Abort, alloc: Global) -> MetaRecord {
 
 // A list of one item.
 fn one<T: Drop>(rt: &impl Abort, alloc: Global, item: T) -> Sequence<T>
-    ensures { 0 < length result }
+    ensures { result ≡ item ∷ [] }
 {
     let mut items = Sequence::new(alloc);
     match items.push(item) {
@@ -44,11 +44,18 @@ fn one<T: Drop>(rt: &impl Abort, alloc: Global, item: T) -> Sequence<T>
     }
 }
 
+// The controller 1 is declared.
+fn quorum(rt: &impl Abort, alloc: Global) -> Event
+    ensures { IsLawful result }
+{
+    Event::Quorum {
+        ids: one(rt, alloc, 1),
+    }
+}
+
 // Declares the controller 1.
 fn declare(rt: &impl Abort, alloc: Global, world: &mut World<MemoryTree, MemoryLog>) {
-    let quorum = Event::Quorum {
-        ids: one(rt, alloc, 1),
-    };
+    let quorum = quorum(rt, alloc);
     drop(world.event(&quorum));
     drop(quorum);
 }
@@ -90,6 +97,66 @@ const ELECT: Event = Event::Elect {
     now: 6,
 };
 
+const STOP: Event = Event::Stop {
+    controller: Some(1),
+};
+
+const STOP_ALL: Event = Event::Stop { controller: None };
+
+#[test]
+fn a_controller_stops_once(rt: HostRuntime) {
+    let mut world = started(&rt, rt.alloc());
+    let first = world.event(&STOP);
+    assert!(rt; matches!(first, Answer::Done));
+    let second = world.event(&STOP);
+    assert!(rt; matches!(second, Answer::NotRunning));
+    let all = world.event(&STOP_ALL);
+    assert!(rt; matches!(all, Answer::Done));
+    drop([first, second, all]);
+    drop(world);
+}
+
+const STEP: Event = Event::Step {
+    controller: 1,
+    now: 6,
+    plan: Plan::LostBefore,
+};
+
+#[test]
+fn a_step_that_asks_nothing_is_not_lost(rt: HostRuntime) {
+    let mut world = started(&rt, rt.alloc());
+    let first = world.event(&STEP);
+    assert!(rt; matches!(first, Answer::Step(Reply::Moved(DriverState::Inactive))));
+    let second = world.event(&STEP);
+    assert!(rt; matches!(second, Answer::Step(Reply::Idle)));
+    drop([first, second]);
+    drop(world);
+}
+
+const TURN: Event = Event::Turn {
+    controller: 1,
+    now: 6,
+};
+
+// How many replies a turn has.
+fn reply_count(told: &Answer) -> usize {
+    match told {
+        Answer::Turn(replies) => replies.len(),
+        _ => 0,
+    }
+}
+
+#[test]
+fn a_turn_goes_on_until_its_driver_rests(rt: HostRuntime) {
+    let mut world = started(&rt, rt.alloc());
+    let first = world.event(&TURN);
+    assert!(rt; reply_count(&first) == 2);
+    let second = world.event(&TURN);
+    assert!(rt; reply_count(&second) == 1);
+    drop([first, second]);
+    drop(world);
+}
+
 #[test]
 fn an_election_has_an_epoch(rt: HostRuntime) {
     let mut world = started(&rt, rt.alloc());
@@ -118,49 +185,18 @@ fn a_change_needs_a_leader(rt: HostRuntime) {
     drop(world);
 }
 
-fn put_create(
-    rt: &impl Abort,
-    alloc: Global,
-    ops: &mut Sequence<Op>,
-    path: &str,
-    body: Sequence<u8>,
-) {
-    let create = Op::Create {
-        path: made(rt, ZPath::new(alloc, path.as_bytes())),
-        body,
-        owner: None,
-    };
-    made(rt, ops.push(create));
-}
-
-static BASES: [&str; 5] = [
-    "/brokers",
-    "/config",
-    "/kafka-acl",
-    "/kafka-acl-extended",
-    "/kafka-acl-extended/prefixed",
-];
-
-// The base znodes, and the roots of the migrated area.
-fn rooted(rt: &impl Abort, alloc: Global) -> Tree {
-    let mut ops = Sequence::new(alloc);
-    for base in BASES {
-        put_create(rt, alloc, &mut ops, base, Sequence::new(alloc));
+// An operation that makes a znode.
+fn create(rt: &impl Abort, alloc: Global, path: &str, body: Sequence<u8>) -> Op
+    ensures { IsLawfulOp result }
+{
+    match ZPath::new(alloc, path.as_bytes()) {
+        Ok(path) => Op::Create {
+            path,
+            body,
+            owner: None,
+        },
+        Err(_) => panic!(rt; "no path"),
     }
-    let roots: Vec<Rendered> = made(rt, bare_roots(alloc));
-    for root in &roots {
-        put_create(
-            rt,
-            alloc,
-            &mut ops,
-            root.path.as_str(),
-            Sequence::new(alloc),
-        );
-    }
-    drop(roots);
-    let mut tree = Tree::new(alloc);
-    made(rt, tree.multi(ops.as_slice()));
-    tree
 }
 
 // A log whose migration is committed at its end, offset 1.
@@ -170,54 +206,6 @@ fn migrated(rt: &impl Abort, alloc: Global) -> MemoryLog {
     made(rt, log.elect(5, &items));
     drop(items);
     log
-}
-
-// What `/migration` holds where the log was written up to offset 1.
-static RECORDED: &[u8] =
-    b"{\"kraft_controller_epoch\":1,\"kraft_controller_id\":1,\"kraft_metadata_epoch\":1,\"kraft_metadata_offset\":1,\"version\":0}";
-
-fn add_recorded(rt: &impl Abort, alloc: Global, tree: &mut Tree) {
-    let mut ops = Sequence::new(alloc);
-    let body = Sequence::from_vec(made(rt, RECORDED.to_vec(alloc)));
-    put_create(rt, alloc, &mut ops, "/migration", body);
-    made(rt, tree.multi(ops.as_slice()));
-}
-
-#[test]
-fn a_recorded_tree_is_closed(rt: HostRuntime) {
-    let alloc = rt.alloc();
-    let mut tree = rooted(&rt, alloc);
-    add_recorded(&rt, alloc, &mut tree);
-    let mut log = migrated(&rt, alloc);
-    let rows = made(&rt, read_all(&mut log));
-    let told = made(&rt, verdict_of(alloc, &tree, &rows));
-    assert!(rt; matches!(told, Verdict::Closed { offset: 1 }));
-    drop(told);
-    drop(rows);
-    drop(log);
-    drop(tree);
-}
-
-fn disagrees_at(verdict: &Verdict, wanted: &str) -> bool {
-    match verdict {
-        Verdict::Disagrees { path } => path.as_str() == wanted,
-        _ => false,
-    }
-}
-
-#[test]
-fn a_root_that_is_missing_disagrees(rt: HostRuntime) {
-    let alloc = rt.alloc();
-    let mut tree = Tree::new(alloc);
-    add_recorded(&rt, alloc, &mut tree);
-    let mut log = migrated(&rt, alloc);
-    let rows = made(&rt, read_all(&mut log));
-    let told = made(&rt, verdict_of(alloc, &tree, &rows));
-    assert!(rt; disagrees_at(&told, "/brokers/topics"));
-    drop(told);
-    drop(rows);
-    drop(log);
-    drop(tree);
 }
 
 // A world over a migrated log, which ends at offset 2, whose controller leads it.
@@ -271,7 +259,7 @@ fn answer_to_change(
     world: &mut World<MemoryTree, MemoryLog>,
     records: Sequence<MetaRecord>,
 ) -> Answer
-    requires { 0 < length records }
+    requires { 1 ≤ length records }
 {
     let change = Event::Change {
         controller: 1,
@@ -285,7 +273,7 @@ fn answer_to_change(
 
 // The configuration's record, and a second one.
 fn config_and(rt: &impl Abort, alloc: Global, second: MetaRecord) -> Sequence<MetaRecord>
-    ensures { 0 < length result }
+    ensures { 1 ≤ length result }
 {
     let mut records = one(rt, alloc, config(rt, alloc));
     match records.push(second) {
@@ -331,7 +319,7 @@ fn a_bad_record_is_told_with_its_index(rt: HostRuntime) {
 
 // So many records of a configuration, and one more.
 fn configs(rt: &impl Abort, alloc: Global, more: u32) -> Sequence<MetaRecord>
-    ensures { 0 < length result }
+    ensures { 1 ≤ length result }
 {
     let mut records = Vec::new(alloc);
     for _done in 0..more {
@@ -368,8 +356,20 @@ fn a_session_begins_once_and_ends_once(rt: HostRuntime) {
     assert!(rt; matches!(ended, Answer::DoneAt { zxid: 2 }));
     let unknown = world.event(&Event::ZkExpire { session: 5 });
     assert!(rt; matches!(unknown, Answer::Unknown));
+    assert!(rt; world.zxid() == 2);
+    let recorded = made(&rt, world.recorded());
+    assert!(rt; recorded.is_none());
     drop([begun, known, ended, unknown]);
     drop(world);
+}
+
+// A client makes a znode of this path.
+fn client(rt: &impl Abort, alloc: Global, path: &str) -> Event
+    ensures { IsLawful result }
+{
+    Event::Zk {
+        ops: one(rt, alloc, create(rt, alloc, path, Sequence::new(alloc))),
+    }
 }
 
 // The answer to a client that makes a znode of this path.
@@ -379,9 +379,7 @@ fn answer_to(
     world: &mut World<MemoryTree, MemoryLog>,
     path: &str,
 ) -> Answer {
-    let mut ops = Sequence::new(alloc);
-    put_create(rt, alloc, &mut ops, path, Sequence::new(alloc));
-    let client = Event::Zk { ops };
+    let client = client(rt, alloc, path);
     let told = world.event(&client);
     drop(client);
     told
@@ -389,11 +387,10 @@ fn answer_to(
 
 // A world whose `/controller` is of this body.
 fn held(rt: &impl Abort, alloc: Global, body: &[u8]) -> World<MemoryTree, MemoryLog> {
-    let mut ops = Sequence::new(alloc);
     let body = Sequence::from_vec(made(rt, body.to_vec(alloc)));
-    put_create(rt, alloc, &mut ops, "/controller", body);
+    let ops = [create(rt, alloc, "/controller", body)];
     let mut tree = MemoryTree::new(alloc);
-    made(rt, tree.multi(ops.as_slice()));
+    made(rt, tree.multi(&ops));
     drop(ops);
     World::new(alloc, tree, MemoryLog::new(alloc))
 }

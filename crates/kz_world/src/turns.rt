@@ -1,27 +1,32 @@
 //! A turn.
-ghost use Rattle.std.specs.Prelude.{◌≡◌, ◌<◌, false, length, Some, IfOk, OnErr, slice_get};
+ghost use Rattle.std.specs.Prelude.{◌≡◌, ◌<◌, ◌∷◌, false, length, Some, IfOk, OnErr, slice_get};
 ghost use Rattle.kz_types.specs.declared.machine.Event.TheVariants as event;
 ghost use Rattle.kz_spec_machine.specs.Driver.{Driver as DriverValue};
-ghost use Rattle.kz_spec_machine.specs.Machine.{running_ids, work};
-ghost use Rattle.kz_driver.specs.Disks.{payloads_of, ReadsLog};
+ghost use Rattle.kz_spec_machine.specs.Machine.{running_ids, turn_pairs, work};
+ghost use Rattle.kz_spec_machine.specs.Sound.{IsTime, Sound};
+ghost use Rattle.kz_driver.specs.Disks.{payloads_of};
+ghost use Rattle.kz_turns.specs.Pairs.{IsSoundPair};
+ghost use Rattle.kz_world.specs.Stores.{ReadsLog};
 ghost use Rattle.kz_world.specs.Disks.{disks_in, DriverTurnDisks, ResultDisks};
+ghost use Rattle.kz_world.specs.Stops.{FailureLeaves, EventLeaves};
 ghost use Rattle.kz_world.specs.Turns.{IsTurned};
-ghost use Rattle.kz_world.specs.Worlds.{world_of, world_of_parts, IsKept, IsOutcome};
+ghost use Rattle.kz_world.specs.Worlds.{world_of, world_of_parts, AreKept, IsOutcome};
 
 use crate::drivers::{place_of, running_ids};
+use crate::faults::EventFault;
 use crate::parts::Parts;
 use crate::reading::read;
 use crate::refusals::running_refusal;
-use crate::steps::turn;
-use crate::work::work;
-use kz_driver::{Peers, StepFault};
+use kz_driver::Peers;
 use kz_log::MetaLog;
 use kz_tree::ZTree;
+use kz_turns::turn;
 use kz_types::{Answer, Duplicate, NoMemory, Sequence};
+use kz_work::work;
 use std::alloc::Global;
 
-// The controllers that a driver is told of.
-fn peers<T: ZTree, L: MetaLog>(alloc: Global, parts: &Parts<T, L>) -> Result<Peers, NoMemory>
+/// The controllers that a driver is told of.
+pub fn peers<T: ZTree, L: MetaLog>(alloc: Global, parts: &Parts<T, L>) -> Result<Peers, NoMemory>
     ensures declared { IfOk result (λ peers. peers.declared ≡ parts.now.declared) }
     ensures running { IfOk result (λ peers. peers.running ≡ running_ids parts.now.drivers.items) }
 {
@@ -36,11 +41,11 @@ fn most_steps<T: ZTree, L: MetaLog>(
     alloc: Global,
     parts: &mut Parts<T, L>,
     at: usize,
-) -> Result<u128, StepFault>
+) -> Result<u128, EventFault>
     requires within { at < length parts.old.drivers.items }
-    requires kept { IsKept (L.log parts.old.log) parts.old.view parts.old.drivers.items }
+    requires kept { AreKept L.log parts.old }
     ensures most { (d : DriverValue) → slice_get parts.old.drivers.items at ≡ Some d → IfOk result (λ most. most ≡ work (world_of T.tree L.log parts.old).shared d) }
-    ensures kept { IsKept (L.log parts.new.log) parts.new.view parts.new.drivers.items }
+    ensures kept { AreKept L.log parts.new }
     ensures world { world_of T.tree L.log parts.new ≡ world_of T.tree L.log parts.old }
     ensures disks { ReadsLog result (disks_in T.disk L.disk (world_of_parts parts.old)) (disks_in T.disk L.disk (world_of_parts parts.new)) }
 {
@@ -50,13 +55,13 @@ fn most_steps<T: ZTree, L: MetaLog>(
     }
     match work(
         alloc,
-        parts.tree.tree(),
+        parts.tree.inner().tree(),
         parts.view.image(),
-        &mut parts.log,
+        parts.log.inner_mut(),
         &parts.drivers[at],
     ) {
         Ok(most) => Ok(most),
-        Err(NoMemory) => Err(StepFault::NoMemory),
+        Err(NoMemory) => Err(EventFault::NoMemory),
     }
 }
 
@@ -68,17 +73,20 @@ fn turn_at<T: ZTree, L: MetaLog>(
     peers: &Peers,
     most: u128,
     now: i64,
-) -> Result<Answer, StepFault>
+) -> Result<Answer, EventFault>
     requires within { at < length parts.old.drivers.items }
-    requires kept { IsKept (L.log parts.old.log) parts.old.view parts.old.drivers.items }
+    requires kept { AreKept L.log parts.old }
     requires declared { peers.now.declared ≡ parts.old.declared }
     requires running { peers.now.running ≡ running_ids parts.old.drivers.items }
     requires most { (d : DriverValue) → slice_get parts.old.drivers.items at ≡ Some d → most ≡ work (world_of T.tree L.log parts.old).shared d }
-    requires up { (L.disk parts.old.log).down ≡ false }
-    ensures ok { (d : DriverValue) → slice_get parts.old.drivers.items at ≡ Some d → IfOk result (IsTurned (world_of T.tree L.log parts.old) now d (world_of T.tree L.log parts.new)) }
-    ensures kept { IsKept (L.log parts.new.log) parts.new.view parts.new.drivers.items }
+    requires up { (L.disk parts.old.log.inner).down ≡ false }
+    ensures ok { (d : DriverValue) → slice_get parts.old.drivers.items at ≡ Some d → IsSoundPair (world_of T.tree L.log parts.old).shared now d → IfOk result (IsTurned (world_of T.tree L.log parts.old) now d (world_of T.tree L.log parts.new)) }
+    ensures kept { AreKept L.log parts.new }
     ensures err { OnErr result (world_of T.tree L.log parts.new ≡ world_of T.tree L.log parts.old) }
-    ensures disks { (d : DriverValue) → slice_get parts.old.drivers.items at ≡ Some d → DriverTurnDisks (world_of T.tree L.log parts.old) now d (payloads_of T.payload_bytes L.payload_bytes) result (disks_in T.disk L.disk (world_of_parts parts.old)) (disks_in T.disk L.disk (world_of_parts parts.new)) }
+    ensures disks { (d : DriverValue) → slice_get parts.old.drivers.items at ≡ Some d → IsSoundPair (world_of T.tree L.log parts.old).shared now d
+        → DriverTurnDisks (world_of T.tree L.log parts.old) now d (payloads_of T.payload_bytes L.payload_bytes) result (disks_in T.disk L.disk (world_of_parts parts.old)) (disks_in T.disk L.disk (world_of_parts parts.new)) }
+    ensures stop { (d : DriverValue) → slice_get parts.old.drivers.items at ≡ Some d → IsSoundPair (world_of T.tree L.log parts.old).shared now d
+        → FailureLeaves (world_of T.tree L.log parts.old) (turn_pairs (work (world_of T.tree L.log parts.old).shared d) (world_of T.tree L.log parts.old).shared (running_ids parts.old.drivers.items) now d) result (disks_in T.disk L.disk (world_of_parts parts.old)) (T.left parts.new.tree.inner) (L.left parts.new.log.inner) }
 {
     match turn(
         alloc,
@@ -90,7 +98,7 @@ fn turn_at<T: ZTree, L: MetaLog>(
         most,
     ) {
         Ok(replies) => Ok(Answer::Turn(Sequence::from_vec(replies))),
-        Err(NoMemory) => Err(StepFault::NoMemory),
+        Err(NoMemory) => Err(EventFault::NoMemory),
     }
 }
 
@@ -100,16 +108,19 @@ fn prepared_turn<T: ZTree, L: MetaLog>(
     parts: &mut Parts<T, L>,
     at: usize,
     now: i64,
-) -> Result<Answer, StepFault>
+) -> Result<Answer, EventFault>
     requires within { at < length parts.old.drivers.items }
-    requires kept { IsKept (L.log parts.old.log) parts.old.view parts.old.drivers.items }
-    ensures ok { (d : DriverValue) → slice_get parts.old.drivers.items at ≡ Some d → IfOk result (IsTurned (world_of T.tree L.log parts.old) now d (world_of T.tree L.log parts.new)) }
-    ensures kept { IsKept (L.log parts.new.log) parts.new.view parts.new.drivers.items }
+    requires kept { AreKept L.log parts.old }
+    ensures ok { (d : DriverValue) → slice_get parts.old.drivers.items at ≡ Some d → IsSoundPair (world_of T.tree L.log parts.old).shared now d → IfOk result (IsTurned (world_of T.tree L.log parts.old) now d (world_of T.tree L.log parts.new)) }
+    ensures kept { AreKept L.log parts.new }
     ensures err { OnErr result (world_of T.tree L.log parts.new ≡ world_of T.tree L.log parts.old) }
-    ensures disks { (d : DriverValue) → slice_get parts.old.drivers.items at ≡ Some d → DriverTurnDisks (world_of T.tree L.log parts.old) now d (payloads_of T.payload_bytes L.payload_bytes) result (disks_in T.disk L.disk (world_of_parts parts.old)) (disks_in T.disk L.disk (world_of_parts parts.new)) }
+    ensures disks { (d : DriverValue) → slice_get parts.old.drivers.items at ≡ Some d → IsSoundPair (world_of T.tree L.log parts.old).shared now d
+        → DriverTurnDisks (world_of T.tree L.log parts.old) now d (payloads_of T.payload_bytes L.payload_bytes) result (disks_in T.disk L.disk (world_of_parts parts.old)) (disks_in T.disk L.disk (world_of_parts parts.new)) }
+    ensures stop { (d : DriverValue) → slice_get parts.old.drivers.items at ≡ Some d → IsSoundPair (world_of T.tree L.log parts.old).shared now d
+        → FailureLeaves (world_of T.tree L.log parts.old) (turn_pairs (work (world_of T.tree L.log parts.old).shared d) (world_of T.tree L.log parts.old).shared (running_ids parts.old.drivers.items) now d) result (disks_in T.disk L.disk (world_of_parts parts.old)) (T.left parts.new.tree.inner) (L.left parts.new.log.inner) }
 {
     let Ok(peers) = peers(alloc, parts) else {
-        return Err(StepFault::NoMemory);
+        return Err(EventFault::NoMemory);
     };
     let most = match most_steps(alloc, parts, at) {
         Ok(most) => most,
@@ -125,12 +136,14 @@ pub fn turn_of<T: ZTree, L: MetaLog>(
     parts: &mut Parts<T, L>,
     id: i32,
     now: i64,
-) -> Result<Answer, StepFault>
-    requires { IsKept (L.log parts.old.log) parts.old.view parts.old.drivers.items }
-    ensures ok { IfOk result (IsOutcome (world_of T.tree L.log parts.old) (event.Turn id now) (world_of T.tree L.log parts.new)) }
-    ensures kept { IsKept (L.log parts.new.log) parts.new.view parts.new.drivers.items }
+) -> Result<Answer, EventFault>
+    requires kept { AreKept L.log parts.old }
+    requires time { IsTime now }
+    ensures ok { Sound (world_of T.tree L.log parts.old) → IfOk result (IsOutcome (world_of T.tree L.log parts.old) (event.Turn id now) (world_of T.tree L.log parts.new)) }
+    ensures kept { AreKept L.log parts.new }
     ensures err { OnErr result (world_of T.tree L.log parts.new ≡ world_of T.tree L.log parts.old) }
-    ensures disks { ResultDisks (world_of T.tree L.log parts.old) (event.Turn id now) (payloads_of T.payload_bytes L.payload_bytes) result (disks_in T.disk L.disk (world_of_parts parts.old)) (disks_in T.disk L.disk (world_of_parts parts.new)) }
+    ensures disks { Sound (world_of T.tree L.log parts.old) → ResultDisks (world_of T.tree L.log parts.old) (event.Turn id now) (payloads_of T.payload_bytes L.payload_bytes) result (disks_in T.disk L.disk (world_of_parts parts.old)) (disks_in T.disk L.disk (world_of_parts parts.new)) }
+    ensures stop { Sound (world_of T.tree L.log parts.old) → EventLeaves (world_of T.tree L.log parts.old) (event.Turn id now) result (disks_in T.disk L.disk (world_of_parts parts.old)) (T.left parts.new.tree.inner) (L.left parts.new.log.inner) }
 {
     if let Some(refusal) = running_refusal(parts, id) {
         return Ok(refusal);

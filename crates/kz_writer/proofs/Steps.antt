@@ -1,7 +1,6 @@
 -- The parts of a difference, an item at a time.
-use Rattle.std.proofs.Common.{◌≡◌, ℕ, suc, ◌+◌, ◌-◌, ◌<◌, List, [], ◌∷◌, ◌++◌, length, take, drop, map, get_or, Option, Some, None, option_map, refl, sym, ap, ◌∙◌, arith, add-one, drop-cons, append_assoc, min}
+use Rattle.std.proofs.Common.{◌≡◌, ℕ, suc, ◌+◌, ◌-◌, ◌<◌, List, [], ◌∷◌, ◌++◌, length, drop, map, get_or, Option, Some, None, option_map, refl, sym, ap, ◌∙◌, arith, add-one, drop-cons, append_assoc}
 use Rattle.std.proofs.lemmas.List.{map-append}
-use Rattle.std.proofs.lemmas.Grind.{common_steps}
 use Rattle.kz_types.specs.declared.tree.Op.{Op}
 use Rattle.kz_types.specs.declared.tree.Rendered.{Rendered}
 use Rattle.kz_ordered.specs.Order.{bytes_cmp}
@@ -51,7 +50,3 @@ both_parts have want none first all start deleted put =
 pub option_map-twice : {A B C : Type 0} (f : A → B) (g : B → C) (x : Option A) → option_map (λ a. g (f a)) x ≡ option_map g (option_map f x)
 option_map-twice f g None = refl
 option_map-twice f g (Some a) = refl
-
--- the first operations, where there may be fewer
-pub first_ops : (ops : List Op) (most : ℕ) → take (min (length ops) most) ops ≡ take most ops
-first_ops ops most = grind (arith, common_steps)

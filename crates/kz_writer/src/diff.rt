@@ -3,20 +3,13 @@ ghost use Rattle.std.specs.Prelude.{◌≡◌, ◌++◌, map, option_map, IfOk, 
 ghost use Rattle.kz_ordered.specs.Order.{bytes_cmp};
 ghost use Rattle.kz_ordered.specs.Ordered.{find as find_in, Rises};
 ghost use Rattle.kz_spec_stores.specs.Tree.{path_of_row, path_of_rendered, rendered_row};
-ghost use Rattle.kz_spec_znodes.specs.Difference.{diff, chunk as chunk_of};
+ghost use Rattle.kz_spec_znodes.specs.Difference.{diff};
 ghost use Rattle.kz_writer.specs.Parts.{deletes, puts, delete_of, put_of};
 
 use crate::znode::Znode;
 use kz_sorted::find;
-use kz_types::{Duplicate, MAX_CHUNK, NoMemory, Op, Rendered, Row};
+use kz_types::{Duplicate, NoMemory, Op, Rendered, Row};
 use std::alloc::Global;
-
-/// The first operations, as many as one write has.
-pub fn chunk(ops: &[Op]) -> &[Op]
-    ensures { result.now ≡ chunk_of ops.entry.now }
-{
-    &ops[..ops.len().min(MAX_CHUNK)]
-}
 
 // The znode with this path.
 fn find_znode<'a, Z: Znode>(znodes: &'a [Z], path: &[u8]) -> Option<&'a Z>

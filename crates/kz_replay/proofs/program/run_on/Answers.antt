@@ -26,4 +26,4 @@ returns g c =
     let out = stream_state g.K.Sink.taken g.K.Sink.faults g.K.Sink.last_failed in
     let made = c.pump.ensures in
     replays c.args.words.now c.new-2.result (before c.args.input.now) (before c.pump.new.input) (out c.args.out.now) (out c.pump.new.out) c.pump.result
-    (c.is_replay.ensures.0 c.if-not-is_replay.false) (c.new-2.ensures c.in-Ok.ensures) made.ran made.output made.whole made.source made.sink
+    (c.is_replay.ensures.0 c.if-not-is_replay.false) c.new-2.ensures made.ran made.output made.whole made.source made.sink

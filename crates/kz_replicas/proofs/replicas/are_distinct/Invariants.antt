@@ -1,5 +1,5 @@
 use Rattle.std.proofs.Common.{◌≡◌, drop}
-use Rattle.kz_spec_values.specs.Bodies.{are_distinct}
+use Rattle.kz_types.specs.Numbers.{are_distinct}
 use Rattle.kz_replicas.proofs.replicas.are_distinct.Given as goal
 
 abbrev pub invariant-loop-at : goal.invariant-loop-at

@@ -1,4 +1,4 @@
-use Rattle.std.proofs.Common.{◌≡◌, ℤ, List, Option, false, rules, ◌∙◌, sym, ap, subst, w32, w64, to_z, of_z}
+use Rattle.std.proofs.Common.{◌≡◌, ℤ, List, Option, Err, false, rules, ◌∙◌, sym, ap, subst, w32, w64, to_z, of_z}
 use Rattle.std.specs.Prelude.{IfSome}
 use Rattle.std.proofs.lemmas.Int.{to_z-of_z}
 use mir.Val.{SFits}
@@ -8,10 +8,15 @@ use Rattle.kz_types.specs.declared.record.MetaRecord.{MetaRecord}
 use Rattle.kz_spec_stores.specs.Image.{Image}
 use Rattle.kz_spec_stores.specs.Log.{Log, image_of}
 use Rattle.kz_spec_machine.specs.Failures.{is_failure}
-use Rattle.kz_spec_machine.specs.Machine.{World, leader_refusal, next}
+use Rattle.kz_spec_machine.specs.Machine.{World, leader_refusal, next, event_pairs}
+use Rattle.kz_world.specs.declared.faults.EventFault.TheVariants as event_fault
+use Rattle.kz_world.specs.Disks.{disks_in}
 use Rattle.kz_world.specs.Refusals.{records_refusal}
-use Rattle.kz_world.specs.Worlds.{world_of, world_after_append}
-use Rattle.kz_world.proofs.Outcomes.{told_by, change_refused, change_appends}
+use Rattle.kz_world.specs.Stops.{append_pairs}
+use Rattle.kz_world.specs.Worlds.{world_of_parts, world_of, world_after_append}
+use Rattle.kz_world.proofs.Outcomes.{told_by, change_refused, change_appends, change_pairs}
+use Rattle.kz_world.proofs.Stops.{read_failure, still_failure, later_leaves}
+use Rattle.kz_world.proofs.Views.{read_keeps}
 use Rattle.kz_world.proofs.change.change.Goals as goal
 
 -- what is asked of the records, with the epoch and the metadata that are told
@@ -28,7 +33,7 @@ returns-in-Ok-None-clause-ok g c =
     let records = c.args.records.now in
     let now = to_z w64 (of_z w64 c.args.now) in
     let fits : SFits w32 c.epoch.result = search rules in
-    let epoch_is = to_z-of_z w32 c.epoch.result fits ∙ c.epoch.ensures ∙ ap (λ (m : Log). m.epoch) c.read.ensures.same in
+    let epoch_is = to_z-of_z w32 c.epoch.result fits ∙ c.epoch.ensures ∙ ap (λ x. (g.L.MetaLog.log x).epoch) c.inner.ensures ∙ ap (λ (m : Log). m.epoch) c.read.ensures.same in
     let leads = ap (leader_refusal w) (sym (to_z-of_z w32 id c.ranges.id)) ∙ sym c.leader_refusal.ensures.refusal ∙ c.in_default.is in
     let taken = asked l records _ _ _ _ epoch_is (c.image.ensures ∙ c.in-Ok.ensures.image) c.in-Ok-None.ensures.refusal c.in-Ok-None.field-0-is in
     told_by c.append.result (next w (event.Change id records c.args.now)) (world_after_append (world_of g.T.ZTree.tree g.L.MetaLog.log c.read.new.parts) records now) (world_of g.T.ZTree.tree g.L.MetaLog.log c.append.new.parts)
@@ -42,9 +47,47 @@ returns-in-Ok-Some-clause-ok g c =
     let records = c.args.records.now in
     let refusal = c.in-Ok-Some.refusal in
     let fits : SFits w32 c.epoch.result = search rules in
-    let epoch_is = to_z-of_z w32 c.epoch.result fits ∙ c.epoch.ensures ∙ ap (λ (m : Log). m.epoch) c.read.ensures.same in
+    let epoch_is = to_z-of_z w32 c.epoch.result fits ∙ c.epoch.ensures ∙ ap (λ x. (g.L.MetaLog.log x).epoch) c.inner.ensures ∙ ap (λ (m : Log). m.epoch) c.read.ensures.same in
     let leads = ap (leader_refusal w) (sym (to_z-of_z w32 id c.ranges.id)) ∙ sym c.leader_refusal.ensures.refusal ∙ c.in_default.is in
     let refused = asked l records _ _ _ _ epoch_is (c.image.ensures ∙ c.in-Ok.ensures.image) c.in-Ok-Some.ensures.refusal c.in-Ok-Some.field-0-is in (
       change_refused w id c.args.now records refusal leads refused ∙ ap (λ (x : World). (x, refusal)) (sym c.read.ensures.world),
       subst (λ (o : Option Answer). IfSome o (λ a. is_failure a ≡ false)) c.in-Ok-Some.field-0-is c.in-Ok-Some.ensures.no_failure,
     )
+
+pub returns-in-Err-clause-stop : goal.returns-in-Err-clause-stop
+returns-in-Err-clause-stop g c =
+    let p = c.args.parts.now in
+    let q = c.read.new.parts in
+    let world = world_of g.T.ZTree.tree g.L.MetaLog.log in
+    let disks = disks_in g.T.ZTree.disk g.L.MetaLog.disk in
+    read_failure (world p) (world q) (event_pairs (world p) (event.Change c.args.id c.args.records.now c.args.now)) (Err c.in-Err.fault) (disks (world_of_parts p)) (disks (world_of_parts q)) (g.T.ZTree.left q.tree.inner) (g.L.MetaLog.left q.log.inner) tt c.read.ensures.world c.in-Err.ensures.disks
+    (record { tree = g.met.T.ZTree.settled q.tree.inner; log = g.met.L.MetaLog.settled q.log.inner })
+
+pub returns-in-Err-records_refusal-clause-stop : goal.returns-in-Err-records_refusal-clause-stop
+returns-in-Err-records_refusal-clause-stop g c =
+    let p = c.args.parts.now in
+    let q = c.read.new.parts in
+    let world = world_of g.T.ZTree.tree g.L.MetaLog.log in
+    let disks = disks_in g.T.ZTree.disk g.L.MetaLog.disk in
+    let same = read_keeps (disks (world_of_parts p)) (disks (world_of_parts q)) c.in-Ok.ensures.disks.0.1 c.in-Ok.ensures.disks.1 in
+    still_failure (world p) (world q) (event_pairs (world p) (event.Change c.args.id c.args.records.now c.args.now)) (Err event_fault.NoMemory) (disks (world_of_parts p)) (disks (world_of_parts q)) (g.T.ZTree.left q.tree.inner) (g.L.MetaLog.left q.log.inner) c.read.ensures.world same
+    (record { tree = g.met.T.ZTree.settled q.tree.inner; log = g.met.L.MetaLog.settled q.log.inner })
+
+pub returns-in-Ok-None-clause-stop : goal.returns-in-Ok-None-clause-stop
+returns-in-Ok-None-clause-stop g c =
+    let world = world_of g.T.ZTree.tree g.L.MetaLog.log in
+    let disks = disks_in g.T.ZTree.disk g.L.MetaLog.disk in
+    let p = c.args.parts.now in
+    let q = c.read.new.parts in
+    let later = c.append.new.parts in
+    let w = world p in
+    let id = c.args.id in
+    let records = c.args.records.now in
+    let n = to_z w64 (of_z w64 c.args.now) in
+    let fits : SFits w32 c.epoch.result = search rules in
+    let epoch_is = to_z-of_z w32 c.epoch.result fits ∙ c.epoch.ensures ∙ ap (λ x. (g.L.MetaLog.log x).epoch) c.inner.ensures ∙ ap (λ (m : Log). m.epoch) c.read.ensures.same in
+    let leads = ap (leader_refusal w) (sym (to_z-of_z w32 id c.ranges.id)) ∙ sym c.leader_refusal.ensures.refusal ∙ c.in_default.is in
+    let taken = asked w.shared.log records _ _ _ _ epoch_is (c.image.ensures ∙ c.in-Ok.ensures.image) c.in-Ok-None.ensures.refusal c.in-Ok-None.field-0-is in
+    let same = read_keeps (disks (world_of_parts p)) (disks (world_of_parts q)) c.in-Ok.ensures.disks.0.1 c.in-Ok.ensures.disks.1 in
+    let pairs = ap (λ (x : World). append_pairs x records n) c.read.ensures.world ∙ ap (append_pairs w records) (to_z-of_z w64 c.args.now c.ranges.now) ∙ change_pairs w id c.args.now records leads taken in
+    later_leaves w (world q) (append_pairs (world q) records n) (event_pairs w (event.Change id records c.args.now)) c.append.result (disks (world_of_parts p)) (disks (world_of_parts q)) (g.T.ZTree.left later.tree.inner) (g.L.MetaLog.left later.log.inner) c.read.ensures.world same pairs c.append.ensures.stop

@@ -9,7 +9,12 @@ use Rattle.kz_world.proofs.turns.most_steps.Goals as goal
 
 pub returns-in-Ok-work-clause-most : goal.returns-in-Ok-work-clause-most
 returns-in-Ok-work-clause-most g c = λ d at_is.
-    let m = world_of g.T.ZTree.tree g.L.MetaLog.log c.read.new.parts in
+    let tree = g.T.ZTree.tree in
+    let log = g.L.MetaLog.log in
+    let m = world_of tree log c.read.new.parts in
+    let ids = m.shared.declared in
+    let read = c.index.result.now in
     let there : slice_get m.drivers c.args.at ≡ Some d = ap (λ (w : World). slice_get w.drivers c.args.at) c.read.ensures.world ∙ at_is in
-    let read_is : c.index.result.now ≡ d = c.index.ensures ∙ get_or_from_slice_get m.drivers c.args.at d c.index.result.now there in
-    c.in-Ok-work.ensures.ok m.shared.declared ∙ ap (λ (t : Tree). work (shared_of t m.shared.log m.shared.declared) c.index.result.now) c.tree.ensures ∙ ap (work m.shared) read_is ∙ ap (λ (w : World). work w.shared d) c.read.ensures.world
+    let read_is : read ≡ d = c.index.ensures ∙ get_or_from_slice_get m.drivers c.args.at d read there in
+    c.in-Ok-work.ensures.ok ids ∙ ap (λ (t : Tree). work (shared_of t (log c.inner_mut.result.now) ids) read) (c.tree.ensures ∙ ap tree c.inner.ensures)
+    ∙ ap (λ s. work (shared_of m.shared.tree (log s) ids) read) c.inner_mut.ensures.lent ∙ ap (work m.shared) read_is ∙ ap (λ (w : World). work w.shared d) c.read.ensures.world

@@ -1,35 +1,48 @@
-use Rattle.std.proofs.Common.{◌≡◌, sym, ap, subst, ◌∙◌, w64, to_z, of_z, List, ℤ, set}
+use Rattle.std.proofs.Common.{◌≡◌, true, Err, Ok, refl, sym, ap, subst, ◌∙◌, w64, to_z, of_z, List, ℕ, ℤ, ◌∷◌}
+use Rattle.std.specs.List.{list_any}
 use Rattle.std.proofs.lemmas.Int.{to_z-of_z}
 use Rattle.std.proofs.lemmas.Option.{get_or_from_slice_get}
 use Rattle.kz_types.specs.declared.machine.Reply.{Reply}
 use Rattle.kz_types.specs.declared.machine.Answer.TheVariants as answer
-use Rattle.kz_spec_machine.specs.Driver.{Driver}
-use Rattle.kz_spec_machine.specs.Machine.{World, running_ids}
+use Rattle.kz_spec_machine.specs.Driver.{Shared, Driver}
+use Rattle.kz_spec_machine.specs.Machine.{World, running_ids, pair_of, turn_pairs, work}
+use Rattle.kz_spec_machine.specs.Failures.{is_failed_step}
 use Rattle.kz_driver.specs.Disks.{Disks, disks_of, payloads_of}
 use Rattle.kz_driver.specs.Drivers.{shared_of}
-use Rattle.kz_world.specs.Disks.{disks_in, TurnDisks}
-use Rattle.kz_world.specs.Turns.{StepsEnd, IsTurned}
+use Rattle.kz_turns.specs.Disks.{TurnDisks}
+use Rattle.kz_turns.specs.Pairs.{IsSoundPair}
+use Rattle.kz_turns.specs.Steps.{TurnEnds}
+use Rattle.kz_turns.specs.Stops.{AreUp, LeavesOneOf}
+use Rattle.kz_world.specs.declared.faults.EventFault.TheVariants as event_fault
+use Rattle.kz_world.specs.Disks.{disks_in}
+use Rattle.kz_world.specs.Turns.{IsTurned}
 use Rattle.kz_world.specs.Worlds.{world_of_parts, world_of}
 use Rattle.kz_world.proofs.Listings.{get_here}
-use Rattle.kz_world.proofs.Outcomes.{turn_told}
+use Rattle.kz_world.proofs.Runs.{turn_told}
+use Rattle.kz_world.proofs.Stops.{still_failure}
 use Rattle.kz_world.proofs.Views.{view_at, kept_turned}
 use Rattle.kz_world.proofs.turns.turn_at.Goals as goal
 
-pub turn-requires : goal.turn-requires
-turn-requires g c =
+pub turn-requires-clause-view : goal.turn-requires-clause-view
+turn-requires-clause-view g c =
     let ds = c.args.parts.now.drivers.items in
     let d = c.index_mut.result.now in
-    view_at (g.L.MetaLog.log c.args.parts.now.log) ds c.args.at d c.requires.kept.each (get_here ds c.args.at d c.requires.within c.index_mut.ensures.value)
+    view_at (g.L.MetaLog.log c.args.parts.now.log.inner) ds c.args.at d c.requires.kept.each (get_here ds c.args.at d c.requires.within c.index_mut.ensures.value)
 
 pub returns-in-Ok-clause-kept : goal.returns-in-Ok-clause-kept
 returns-in-Ok-clause-kept g c =
     let p = c.args.parts.now in
+    let log = g.L.MetaLog.log in
     let ds = p.drivers.items in
     let d = c.index_mut.result.now in
-    kept_turned (g.L.MetaLog.log p.log) (g.L.MetaLog.log c.turn.new.log) p.view ds c.args.at d c.turn.new.driver (get_here ds c.args.at d c.requires.within c.index_mut.ensures.value) c.turn.ensures.id c.turn.ensures.views c.turn.ensures.view c.requires.kept
+    let t = c.turn.new.tree in
+    let l = c.turn.new.log in
+    let views = c.turn.ensures.views in
+    kept_turned p.tree.plan p.log.plan t.plan l.plan (log p.log.inner) (log l.inner) p.view ds c.args.at d c.turn.new.driver c.turn.ensures.delivers.0 c.turn.ensures.delivers.1
+    (get_here ds c.args.at d c.requires.within c.index_mut.ensures.value) views.same_id views.views views.own_view c.requires.kept
 
 pub returns-in-Ok-clause-ok : goal.returns-in-Ok-clause-ok
-returns-in-Ok-clause-ok g c = λ d at_is.
+returns-in-Ok-clause-ok g c = λ d at_is pair.
     let tree = g.T.ZTree.tree in
     let log = g.L.MetaLog.log in
     let p = c.args.parts.now in
@@ -41,21 +54,19 @@ returns-in-Ok-clause-ok g c = λ d at_is.
     let e = c.turn.new.driver in
     let most = c.args.most in
     let running = c.args.peers.now.running in
-    let ids = c.args.peers.now.declared in
     let first = c.index_mut.result.now in
     let first_is : first ≡ d = c.index_mut.ensures.value ∙ get_or_from_slice_get ds at d first at_is in
-    let old : List ℤ → Type 0 = λ is. StepsEnd most (shared_of (tree p.tree) (log p.log) is) running n first replies (shared_of (tree c.turn.new.tree) (log c.turn.new.log) is) e in
-    let here = subst old c.requires.declared c.in-Ok.ensures.ok in
-    let s = shared_of (tree p.tree) (log p.log) p.declared in
-    let t = shared_of (tree c.turn.new.tree) (log c.turn.new.log) p.declared in
-    let by_driver = subst (λ (x : Driver). StepsEnd most s running n x replies t e) first_is here in
-    let by_now = subst (λ x. StepsEnd most s running x d replies t e) (to_z-of_z w64 now c.ranges.now) by_driver in
-    let after : World = record { shared = t; drivers = set ds at e } in
+    let old : List ℤ → Shared = λ is. shared_of (tree p.tree.inner) (log p.log.inner) is in
+    let new : List ℤ → Shared = λ is. shared_of (tree c.turn.new.tree.inner) (log c.turn.new.log.inner) is in
+    let by_ids = subst (λ (is : List ℤ). IsSoundPair (old is) n first → TurnEnds most (old is) running n first replies (new is) e) c.requires.declared c.in-Ok.ensures.ends in
+    let by_driver = subst (λ (x : Driver). IsSoundPair (old p.declared) n x → TurnEnds most (old p.declared) running n x replies (new p.declared) e) first_is by_ids in
+    let by_now = subst (λ x. IsSoundPair (old p.declared) x d → TurnEnds most (old p.declared) running x d replies (new p.declared) e) (to_z-of_z w64 now c.ranges.now) by_driver in
+    let after : World = record { shared = new p.declared; drivers = Rattle.std.proofs.Common.set ds at e } in
     subst (λ (rs : List Reply). IsTurned (world_of tree log p) now d after (answer.Turn rs)) (sym c.from_vec.ensures)
-    (turn_told (world_of tree log p) now d at most running t e replies c.requires.kept.distinct at_is (c.requires.most d at_is) c.requires.running (c.turn.ensures.id ∙ ap (λ (x : Driver). x.id) first_is) by_now)
+    (turn_told (world_of tree log p) now d at most running (new p.declared) e replies c.requires.kept.distinct at_is (c.requires.most d at_is) c.requires.running (c.turn.ensures.views.same_id ∙ ap (λ (x : Driver). x.id) first_is) (by_now pair))
 
 pub returns-in-Ok-clause-disks : goal.returns-in-Ok-clause-disks
-returns-in-Ok-clause-disks g c = λ d at_is.
+returns-in-Ok-clause-disks g c = λ d at_is pair.
     let tree = g.T.ZTree.tree in
     let log = g.L.MetaLog.log in
     let p = c.args.parts.now in
@@ -64,15 +75,57 @@ returns-in-Ok-clause-disks g c = λ d at_is.
     let now = c.args.now in
     let n = to_z w64 (of_z w64 now) in
     let replies = c.in-Ok.replies.items in
-    let running = c.args.peers.now.running in
     let first = c.index_mut.result.now in
     let first_is : first ≡ d = c.index_mut.ensures.value ∙ get_or_from_slice_get ds at d first at_is in
     let payloads = payloads_of g.T.ZTree.payload_bytes g.L.MetaLog.payload_bytes in
+    let before = disks_in g.T.ZTree.disk g.L.MetaLog.disk (world_of_parts p) in
+    let after : Disks = disks_of (g.T.ZTree.disk c.turn.new.tree.inner) (g.L.MetaLog.disk c.turn.new.log.inner) in
+    let old : List ℤ → Shared = λ is. shared_of (tree p.tree.inner) (log p.log.inner) is in
+    let Moves : List ℤ → List ℤ → ℤ → Driver → Type 0 = λ is running x f. IsSoundPair (old is) x f → TurnDisks (old is) running x f payloads replies before after in
+    let by_ids = subst (λ (is : List ℤ). Moves is c.args.peers.now.running n first) c.requires.declared c.in-Ok.ensures.disks in
+    let by_running = subst (λ (is : List ℤ). Moves p.declared is n first) c.requires.running by_ids in
+    let by_driver = subst (λ (x : Driver). Moves p.declared (running_ids ds) n x) first_is by_running in
+    let by_now = subst (λ x. Moves p.declared (running_ids ds) x d) (to_z-of_z w64 now c.ranges.now) by_driver in
+    (c.requires.up, subst (λ (rs : List Reply). TurnDisks (old p.declared) (running_ids ds) now d payloads rs before after) (sym c.from_vec.ensures) (by_now pair))
+
+pub returns-in-Ok-clause-stop : goal.returns-in-Ok-clause-stop
+returns-in-Ok-clause-stop g c = λ d at_is pair up fails.
+    let tree = g.T.ZTree.tree in
+    let log = g.L.MetaLog.log in
+    let p = c.args.parts.now in
+    let ds = p.drivers.items in
+    let at = c.args.at in
+    let now = c.args.now in
+    let n = to_z w64 (of_z w64 now) in
+    let replies = c.in-Ok.replies.items in
+    let first = c.index_mut.result.now in
+    let first_is : first ≡ d = c.index_mut.ensures.value ∙ get_or_from_slice_get ds at d first at_is in
+    let before = disks_in g.T.ZTree.disk g.L.MetaLog.disk (world_of_parts p) in
+    let left = g.T.ZTree.left c.turn.new.tree.inner in
+    let log_left = g.L.MetaLog.left c.turn.new.log.inner in
+    let old : List ℤ → Shared = λ is. shared_of (tree p.tree.inner) (log p.log.inner) is in
+    let Leaves : ℕ → List ℤ → List ℤ → ℤ → Driver → Type 0 = λ most is running x f.
+    IsSoundPair (old is) x f → AreUp before → list_any is_failed_step replies ≡ true → LeavesOneOf (pair_of (old is) ∷ turn_pairs most (old is) running x f) left log_left in
+    let by_ids = subst (λ (is : List ℤ). Leaves c.args.most is c.args.peers.now.running n first) c.requires.declared c.in-Ok.ensures.stop in
+    let by_running = subst (λ (is : List ℤ). Leaves c.args.most p.declared is n first) c.requires.running by_ids in
+    let by_driver = subst (λ (x : Driver). Leaves c.args.most p.declared (running_ids ds) n x) first_is by_running in
+    let by_now = subst (λ x. Leaves c.args.most p.declared (running_ids ds) x d) (to_z-of_z w64 now c.ranges.now) by_driver in
+    subst (λ (most : ℕ). Leaves most p.declared (running_ids ds) now d) (c.requires.most d at_is) by_now pair up (ap (list_any is_failed_step) (sym c.from_vec.ensures) ∙ fails)
+
+pub returns-in-Err-clause-stop : goal.returns-in-Err-clause-stop
+returns-in-Err-clause-stop g c = λ d at_is pair.
+    let tree = g.T.ZTree.tree in
+    let log = g.L.MetaLog.log in
+    let p = c.args.parts.now in
+    let w = world_of tree log p in
+    let t = c.turn.new.tree in
+    let l = c.turn.new.log in
+    let disks = disks_of (g.T.ZTree.disk t.inner) (g.L.MetaLog.disk l.inner) in
     let old = disks_in g.T.ZTree.disk g.L.MetaLog.disk (world_of_parts p) in
-    let new : Disks = disks_of (g.T.ZTree.disk c.turn.new.tree) (g.L.MetaLog.disk c.turn.new.log) in
-    let s = shared_of (tree p.tree) (log p.log) p.declared in
-    let by_declared = subst (λ (is : List ℤ). TurnDisks (shared_of (tree p.tree) (log p.log) is) running n first payloads replies old new) c.requires.declared c.in-Ok.ensures.disks in
-    let by_running = subst (λ (is : List ℤ). TurnDisks s is n first payloads replies old new) c.requires.running by_declared in
-    let by_driver = subst (λ (x : Driver). TurnDisks s (running_ids ds) n x payloads replies old new) first_is by_running in
-    let by_now = subst (λ x. TurnDisks s (running_ids ds) x d payloads replies old new) (to_z-of_z w64 now c.ranges.now) by_driver in
-    (c.requires.up, subst (λ (rs : List Reply). TurnDisks s (running_ids ds) now d payloads rs old new) (sym c.from_vec.ensures) by_now)
+    let new : World = record { shared = shared_of (tree t.inner) (log l.inner) p.declared; drivers = w.drivers } in
+    let same_tree = c.in-Err.ensures.err.1 in
+    let same_log = c.in-Err.ensures.err.2 in
+    let same : new ≡ w = ap (λ x. record { shared = shared_of (tree x.inner) (log l.inner) p.declared; drivers = w.drivers }) same_tree ∙ ap (λ x. record { shared = shared_of (tree p.tree.inner) (log x.inner) p.declared; drivers = w.drivers }) same_log in
+    let same_disks : disks ≡ old = ap (λ x. disks_of (g.T.ZTree.disk x.inner) (g.L.MetaLog.disk l.inner)) same_tree ∙ ap (λ x. disks_of (g.T.ZTree.disk p.tree.inner) (g.L.MetaLog.disk x.inner)) same_log in
+    still_failure w new (turn_pairs (work w.shared d) w.shared (running_ids w.drivers) c.args.now d) (Err event_fault.NoMemory) old disks (g.T.ZTree.left t.inner) (g.L.MetaLog.left l.inner) same same_disks
+    (record { tree = g.met.T.ZTree.settled t.inner; log = g.met.L.MetaLog.settled l.inner })

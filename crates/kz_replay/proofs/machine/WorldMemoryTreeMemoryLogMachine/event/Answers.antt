@@ -6,4 +6,5 @@ use Rattle.kz_replay.proofs.machine.WorldMemoryTreeMemoryLogMachine.event.Goals 
 
 pub returns-clause-disk : goal.returns-clause-disk
 returns-clause-disk c =
-    no_disk_fails _ _ c.args.event.now _ c.event.result (disks_of no_disk no_disk) (disks_of no_disk no_disk) (refl, refl) (refl, refl) c.event.ensures.disks c.event.ensures.failed
+    no_disk_fails _ _ c.args.event.now _ c.event.result (disks_of no_disk no_disk) (disks_of no_disk no_disk) (record { tree = refl; log = refl }) (record { tree = refl; log = refl })
+    (c.event.ensures.disks c.requires.sound) (c.event.ensures.failed c.requires.sound)

@@ -1,8 +1,0 @@
-use Rattle.std.proofs.Common.{◌≡◌, ◌∷◌, take}
-use Rattle.kz_types.specs.declared.tree.Op.TheVariants as op
-use Rattle.kz_spec_values.specs.Control.{epoch_path}
-use Rattle.kz_spec_znodes.specs.Difference.{chunk}
-use Rattle.kz_driver.proofs.multis.write_ops.Given as goal
-
-abbrev pub invariant-loop-op : goal.invariant-loop-op
-invariant-loop-op l = l.made.items ≡ op.Check epoch_path l.claim ∷ take l.op-index (chunk l.ops)

@@ -1,0 +1,26 @@
+use Rattle.std.proofs.Common.{rules, ◌≡◌, ◌-◌, ◌<◌, ◌∷◌, length, drop, get_or, ◌∙◌, ap, arith, w64, to_z, of_z}
+use Rattle.std.proofs.lemmas.Int.{to_z-of_z}
+use mir.Val.{SFits}
+use Rattle.kz_spec_stores.specs.Log.{batch_ends}
+use Rattle.kz_dump.specs.Agreement.{all_first}
+use Rattle.kz_dump.proofs.Agreements.{ends_more}
+use Rattle.kz_dump.proofs.comparison.all_marks.Goals as goal
+
+pub loop-done-preserved : goal.loop-done-preserved
+loop-done-preserved c =
+    let l = c.args.log.now in
+    let es = batch_ends l in
+    let offset = to_z w64 (of_z w64 c.args.offset) in
+    let done = c.loop-done.done in
+    let end = c.index-end.result.now in
+    let fits : SFits w64 end = search rules in
+    let items_are = c.in_ok-ends.ensures in
+    let len = ap length items_are in
+    let count_is : c.len-count.result ≡ length es = omega (arith, c.len-count.ensures, c.in_ok-ends.ends.ok.0, len) in
+    let lt : done < c.len-count.result = c.loop-done-test.true in
+    let within : done < length es = omega (arith, lt, count_is) in
+    let is = c.index-end.ensures ∙ ap (λ xs. get_or xs (c.len-count.result - 1 - done) end) items_are ∙ ap (λ n. get_or es (n - 1 - done) end) count_is in (
+      c.in_ok-marks-2.ensures.marks (drop (length es - done) es) c.loop-done.invariant.0
+          ∙ ap (λ xs. all_first c.args.area.now l offset xs c.args.znodes.now) (ap (λ x. x ∷ drop (length es - done) es) (to_z-of_z w64 end fits) ∙ ends_more es done end within is),
+      c.in_ok-marks-2.ensures.as_many,
+    )

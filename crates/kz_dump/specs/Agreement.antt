@@ -1,0 +1,59 @@
+-- At which batch ends the tree is as the metadata is rendered there, path by path.
+use Rattle.std.specs.Prelude.{ℕ, Bool, true, false, not, ◌&&◌, ◌||◌, ℤ, int_le, List, [], ◌∷◌, map, Option, Some, None, option_map, is_none, if◌then◌else◌}
+use Rattle.std.specs.List.{find, filter_map}
+use Rattle.kz_types.specs.declared.tree.Rendered.{Rendered}
+use Rattle.kz_types.specs.declared.machine.AheadPath.{AheadPath}
+use Rattle.kz_types.specs.declared.machine.Verdict.{Verdict}
+use Rattle.kz_types.specs.declared.machine.Verdict.TheVariants.{Closed, Ahead, Disagrees}
+use Rattle.kz_spec_stores.specs.Tree.{Tree, area as area_of}
+use Rattle.kz_spec_stores.specs.Log.{Log, batch_ends, image_at}
+use Rattle.kz_spec_znodes.specs.Rendering.{body_at, render}
+use Rattle.kz_spec_machine.specs.Verdicts.{same_bodies, agrees_at}
+use Rattle.kz_dump.specs.declared.comparison.Found.{Found}
+
+-- whether two lists of znodes agree at a path, absence included
+abbrev pub agrees_in : List Rendered → List Rendered → List ℕ → Bool
+agrees_in area rendering path = same_bodies (body_at path area) (body_at path rendering)
+
+-- the first of these batch ends, from an offset on, at which the area is as rendered there at a path
+abbrev pub first_among : List Rendered → Log → ℤ → List ℤ → List ℕ → Option ℤ
+first_among area l offset ends path = find (λ e. int_le offset e && agrees_in area (render (image_at l e)) path) ends
+
+-- the first of these batch ends for each of these znodes
+abbrev pub all_first : List Rendered → Log → ℤ → List ℤ → List Rendered → List (Option ℤ)
+all_first area l offset ends znodes = map (λ (z : Rendered). first_among area l offset ends z.path) znodes
+
+-- one batch end more before the others, at which the tree is compared with this rendering
+abbrev pub marks_at_end : ℤ → List Rendered → List Rendered → List Rendered → List (Option ℤ) → List (Option ℤ)
+marks_at_end end area rendering [] marks = []
+marks_at_end end area rendering (z ∷ zs) [] = []
+marks_at_end end area rendering (z ∷ zs) (m ∷ ms) = (if agrees_in area rendering z.path then Some end else m) ∷ marks_at_end end area rendering zs ms
+
+-- what is found at each of these znodes, compared with a rendering
+abbrev pub all_found : List Rendered → List Rendered → List Rendered → List (Option ℤ) → List Found
+all_found area rendering [] marks = []
+all_found area rendering (z ∷ zs) [] = []
+all_found area rendering (z ∷ zs) (m ∷ ms) = record { path = z.path; here = agrees_in area rendering z.path; first = m } ∷ all_found area rendering zs ms
+
+-- what is found at a path
+abbrev pub found_at : Tree → Log → ℤ → List ℕ → Found
+found_at t l offset path = record { path = path; here = agrees_at t l path offset; first = first_among (area_of t) l offset (batch_ends l) path }
+
+abbrev pub is_disagreeing : Bool → Found → Bool
+is_disagreeing is_closed f = is_none f.first || (is_closed && not f.here)
+
+abbrev pub ahead_of : Found → Option AheadPath
+ahead_of f = if f.here then None else option_map (λ e. record { path = f.path; offset = e }) f.first
+
+-- the verdict where none of the paths disagrees
+abbrev pub found_closed_or_ahead : ℤ → Bool → List Found → Verdict
+found_closed_or_ahead offset true fs = Closed offset
+found_closed_or_ahead offset false fs = Ahead offset (filter_map ahead_of fs)
+
+abbrev pub unless_one_disagrees : Option Found → Verdict → Verdict
+unless_one_disagrees (Some f) rest = Disagrees f.path
+unless_one_disagrees None rest = rest
+
+-- the verdict by what is found at all paths
+abbrev pub found_verdict : ℤ → Bool → List Found → Verdict
+found_verdict offset is_closed fs = unless_one_disagrees (find (is_disagreeing is_closed) fs) (found_closed_or_ahead offset is_closed fs)

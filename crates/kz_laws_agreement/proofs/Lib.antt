@@ -1,0 +1,4 @@
+pub mod Edited
+pub mod Effects
+pub mod Steps
+pub mod Events

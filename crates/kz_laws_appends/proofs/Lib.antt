@@ -1,0 +1,6 @@
+pub mod Leading
+pub mod Uncommitted
+pub mod Filling
+pub mod Committed
+pub mod Planned
+pub mod Steps

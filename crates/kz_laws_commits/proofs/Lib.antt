@@ -1,0 +1,7 @@
+pub mod Quiet
+pub mod Own
+pub mod Others
+pub mod Steps
+pub mod Turns
+pub mod Events
+pub mod After

@@ -1,0 +1,53 @@
+-- A migration is committed as the translation of the znodes that stand then.
+use Rattle.std.specs.Prelude.{◌≡◌, ⊤, ℤ, List, [], ◌∷◌, ◌++◌, Some, Ok, All}
+use Rattle.kz_types.specs.declared.driver.Stage.{Stage}
+use Rattle.kz_types.specs.declared.driver.Stage.TheVariants as stage
+use Rattle.kz_types.specs.declared.machine.Event.{Event}
+use Rattle.kz_types.specs.declared.plan.Plan.{Plan}
+use Rattle.kz_types.specs.declared.record.MetaRecord.{MetaRecord}
+use Rattle.kz_spec_stores.specs.Tree.{Tree, migrated_rows}
+use Rattle.kz_spec_stores.specs.Log.{Log, append, end_of, begun_of, commit_of}
+use Rattle.kz_spec_znodes.specs.Translation.{translate}
+use Rattle.kz_spec_machine.specs.Driver.{Shared, Driver, epoch_or_zero, begin_record, commit_records, planned_step}
+use Rattle.kz_spec_machine.specs.Machine.{World, next, after_events}
+use Rattle.kz_spec_machine.specs.Sound.{IsTime, IsCurrent, IsSharedSound, records_from, IsSoundDriver, Each, Sound, IsLawful}
+use Rattle.kz_laws_steps.specs.Steps.{IsApartFrom}
+
+-- The records that a current driver has appended in its transaction, and those that it has still to append, are the translation
+-- of the migrated area.
+abbrev pub CopiesAtStage : Tree → Log → Driver → Stage → Type 0
+CopiesAtStage t l d (stage.AppendRecords rest) = IsCurrent t d.claim → d.epoch ≡ Some l.epoch → (from : ℤ) (records : List MetaRecord) → begun_of l ≡ Some from → records_from l from ≡ begin_record ∷ records → translate (migrated_rows t) ≡ Ok (records ++ rest)
+CopiesAtStage t l d x = ⊤
+
+abbrev pub Copies : Shared → Driver → Type 0
+Copies s d = CopiesAtStage s.tree s.log d d.stage
+
+-- What a step leaves of this: its own driver's, and that of each other one.
+pub record StepCopies (s : Shared) (d : Driver) (new : Shared) (after : Driver) : Type 0 where
+  pub driver : Copies new after
+  pub others : (other : Driver) → IsApartFrom d other → IsSoundDriver s other → Copies s other → Copies new other
+
+-- Every step keeps it, under every plan.
+abbrev pub StepsKeepCopies : Type 0
+StepsKeepCopies = (p : Plan) (s : Shared) (running : List ℤ) (now : ℤ) (d : Driver) → IsTime now → IsSharedSound s → IsSoundDriver s d → Copies s d → StepCopies s d (planned_step p s running now d).shared (planned_step p s running now d).driver
+
+-- The transaction of the commit: its Begin, the translation of the migrated area, the state and the End, one after another; and the
+-- End is the log's last record and its commit.
+pub record IsTranslation (t : Tree) (l : Log) : Type 0 where
+  pub from : ℤ
+  pub records : List MetaRecord
+  pub translated : translate (migrated_rows t) ≡ Ok records
+  pub transaction : records_from l from ≡ begin_record ∷ (records ++ commit_records)
+  pub commit : commit_of l ≡ Some (end_of l)
+
+-- An append that commits the migration leaves such a log.
+abbrev pub CommitsTranslate : Type 0
+CommitsTranslate = (s : Shared) (now : ℤ) (d : Driver) (new : Log) → IsSharedSound s → IsSoundDriver s d → Copies s d → d.stage ≡ stage.AppendRecords [] → append s.log (epoch_or_zero d.epoch) now commit_records ≡ Ok new → IsTranslation s.tree new
+
+-- Every event keeps it for each driver of a sound world.
+abbrev pub EventsKeepCopies : Type 0
+EventsKeepCopies = (w : World) (e : Event) → IsLawful e → Sound w → Each (Copies w.shared) w.drivers → Each (Copies (next w e).0.shared) (next w e).0.drivers
+
+-- So does every run.
+abbrev pub RunsKeepCopies : Type 0
+RunsKeepCopies = (es : List Event) (w : World) → All IsLawful es → Sound w → Each (Copies w.shared) w.drivers → Each (Copies (after_events w es).shared) (after_events w es).drivers

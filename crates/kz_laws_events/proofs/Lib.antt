@@ -1,0 +1,9 @@
+pub mod Refusals
+pub mod Grown
+pub mod Changed
+pub mod Elected
+pub mod Elections
+pub mod Turned
+pub mod Unheld
+pub mod Every
+pub mod Runs

@@ -1,0 +1,5 @@
+pub mod Related
+pub mod Raised
+pub mod Effects
+pub mod Sizes
+pub mod Keeps

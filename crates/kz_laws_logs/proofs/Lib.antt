@@ -1,0 +1,14 @@
+pub mod Rising
+pub mod Begun
+pub mod Settled
+pub mod Pending
+pub mod Commit
+pub mod Members
+pub mod CommitOf
+pub mod Opened
+pub mod Counted
+pub mod BatchEnds
+pub mod Bare
+pub mod Filled
+pub mod Epochs
+pub mod Batches

@@ -1,0 +1,4 @@
+pub mod Idle
+pub mod Told
+pub mod Rest
+pub mod Clients

@@ -1,0 +1,16 @@
+pub mod Tests
+pub mod Ways
+pub mod Reading
+pub mod Targets
+pub mod Resync
+pub mod Unheard
+pub mod Heard
+pub mod Claiming
+pub mod Writing
+pub mod Written
+pub mod Recording
+pub mod Stepped
+pub mod Named
+pub mod Worlds
+pub mod Resting
+pub mod Events

@@ -1,0 +1,8 @@
+use Rattle.std.proofs.Common.{◌≡◌, ◌++◌, drop}
+use Rattle.std.specs.Prelude.{option_map}
+use Rattle.serde_json.specs.View.{items_view}
+use Rattle.kz_spec_lines.specs.Events.{ids_in}
+use Rattle.kz_script.proofs.events.ids_in.Given as goal
+
+abbrev pub invariant-loop-value : goal.invariant-loop-value
+invariant-loop-value l = ids_in (items_view l.values) ≡ option_map (λ more. l.ids ++ more) (ids_in (items_view (drop l.value-index l.values)))

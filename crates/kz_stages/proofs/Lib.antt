@@ -1,0 +1,7 @@
+pub mod Batches
+pub mod Kept
+pub mod Looks
+pub mod Losses
+pub mod Pages
+pub mod Requests
+pub mod Writings

@@ -1,0 +1,5 @@
+pub mod Replies
+pub mod Requests
+pub mod Stops
+pub mod SingleStep
+pub mod Turns

@@ -1,0 +1,4 @@
+pub mod Pairs
+pub mod Disks
+pub mod Stops
+pub mod Steps

@@ -1,0 +1,12 @@
+use Rattle.std.proofs.Common.{◌≡◌, ◌+◌, ◌≤◌, drop, length, map, sum}
+use Rattle.kz_spec_machine.specs.Machine.{znode_size}
+use Rattle.kz_spec_stores.specs.Tree.{area}
+use Rattle.kz_work.specs.Amounts.{area_of_rows}
+use Rattle.kz_work.proofs.amount.amount_of_area.Given as goal
+
+abbrev pub invariant-loop-row : goal.invariant-loop-row
+invariant-loop-row l = record {
+  within : l.amount.count ≤ l.row-index;
+  count : l.amount.count + length (area_of_rows (drop l.row-index l.tree.rows)) ≡ length (area l.tree);
+  bytes : l.amount.bytes + sum (map znode_size (area_of_rows (drop l.row-index l.tree.rows))) ≡ sum (map znode_size (area l.tree));
+}

@@ -1,0 +1,176 @@
+//! How many steps a turn may have.
+ghost use Rattle.std.specs.Prelude.{◌≡◌, List, ℤ, false, IfOk, if◌then◌else◌};
+ghost use Rattle.kz_spec_stores.specs.Image.{empty_image, all_applied};
+ghost use Rattle.kz_spec_stores.specs.Log.{batch_ends, Log, image_of, is_migrated_log};
+ghost use Rattle.kz_spec_stores.specs.Tree.{migrated_rows};
+ghost use Rattle.kz_spec_znodes.specs.Rendering.{render};
+ghost use Rattle.kz_spec_znodes.specs.Translation.{translate};
+ghost use Rattle.kz_spec_machine.specs.Driver.{epoch_or_zero, is_one_of};
+ghost use Rattle.kz_spec_machine.specs.Machine.{amount_of_znodes as amount_of_all, translated_count, final_znodes, remaining_amount, work};
+ghost use Rattle.kz_driver.specs.Drivers.{shared_of};
+ghost use Rattle.kz_work.specs.Amounts.{amount_at_offset, remaining_by};
+
+use crate::amount::{Amount, amount_of_area, amount_of_ops, amount_of_znodes, most_steps};
+use crate::reading::read_whole;
+use kz_driver::Driver;
+use kz_image::Image;
+use kz_log::{LogRows, MetaLog};
+use kz_reader::{ReadFault, translate};
+use kz_render::render;
+use kz_tree::Tree;
+use kz_types::{DriverState, MIGRATION, MetaRecord, NoMemory, Op};
+use std::alloc::Global;
+
+// The znodes that the metadata is rendered as.
+fn rendered_amount(alloc: Global, image: &Image) -> Result<Amount, NoMemory>
+    ensures { IfOk result (λ amount. amount ≡ amount_of_all (render image.now)) }
+{
+    let znodes = render(alloc, image)?;
+    Ok(amount_of_znodes(&znodes))
+}
+
+// The znodes that these records, of a batch of this epoch, are rendered as.
+fn records_amount(alloc: Global, epoch: i32, records: &[MetaRecord]) -> Result<Amount, NoMemory>
+    ensures { IfOk result (λ amount. amount ≡ amount_of_all (render (all_applied epoch records.now empty_image))) }
+{
+    let mut image = Image::new(alloc);
+    image.apply_all(epoch, records)?;
+    rendered_amount(alloc, &image)
+}
+
+// Whether an offset is the base or the last one of a batch.
+fn is_batch_end(alloc: Global, log: &LogRows, offset: i64) -> Result<bool, NoMemory>
+    ensures { IfOk result (λ is_end. is_end ≡ is_one_of (batch_ends log.now) offset) }
+{
+    let ends = log.batch_ends(alloc)?;
+    Ok(ends.contains(&offset))
+}
+
+// The znodes that the metadata at an offset is rendered as, where the offset is a batch end.
+fn amount_at(alloc: Global, log: &LogRows, offset: i64) -> Result<Amount, NoMemory>
+    ensures { IfOk result (λ amount. amount ≡ amount_at_offset log.now offset) }
+{
+    if !is_batch_end(alloc, log, offset)? {
+        return Ok(Amount::none());
+    }
+    let image = log.image_at(alloc, offset)?;
+    rendered_amount(alloc, &image)
+}
+
+// The znodes that the metadata at an offset of a log that isn't down is rendered as, where the offset is a batch end. The log
+// is read whole.
+fn amount_in<L: MetaLog>(alloc: Global, log: &mut L, offset: i64) -> Result<Amount, NoMemory>
+    requires { (L.disk log.old).down ≡ false }
+    ensures ok { IfOk result (λ amount. amount ≡ amount_at_offset (L.log log.old) offset) }
+    ensures same { L.log log.new ≡ L.log log.old }
+    ensures disk { L.disk log.new ≡ L.disk log.old }
+{
+    let rows = read_whole(log)?;
+    amount_at(alloc, &rows, offset)
+}
+
+// What may remain to be written in this state, with a target of this offset and these operations. The log is read where a
+// resync has no operations yet.
+fn remaining_by<L: MetaLog>(
+    alloc: Global,
+    log: &mut L,
+    state: DriverState,
+    target: Option<i64>,
+    ops: &[Op],
+) -> Result<Amount, NoMemory>
+    requires { (L.disk log.old).down ≡ false }
+    ensures ok { IfOk result (λ amount. amount ≡ remaining_by (L.log log.old) state target ops.now) }
+    ensures same { L.log log.new ≡ L.log log.old }
+    ensures disk { L.disk log.new ≡ L.disk log.old }
+{
+    match (state, target, ops) {
+        (DriverState::SyncKraftToZk, Some(offset), []) => amount_in(alloc, log, offset),
+        _ => Ok(amount_of_ops(ops)),
+    }
+}
+
+// What may remain to be written of what a driver has under way.
+#[tactic(auto, using(crate::proofs::Stages::remaining_told))]
+fn remaining_amount<L: MetaLog>(
+    alloc: Global,
+    log: &mut L,
+    driver: &Driver,
+) -> Result<Amount, NoMemory>
+    requires { (L.disk log.old).down ≡ false }
+    ensures ok { IfOk result (λ amount. amount ≡ remaining_amount (L.log log.old) driver.now.stage) }
+    ensures same { L.log log.new ≡ L.log log.old }
+    ensures disk { L.disk log.new ≡ L.disk log.old }
+{
+    remaining_by(
+        alloc,
+        log,
+        driver.state(),
+        driver.target(),
+        driver.remaining(),
+    )
+}
+
+// The epoch of a driver, 0 where it has none.
+fn epoch_or_zero(epoch: Option<i32>) -> i32
+    ensures { result ≡ epoch_or_zero epoch }
+{
+    match epoch {
+        Some(epoch) => epoch,
+        None => 0,
+    }
+}
+
+// How many records the tree translates to, and the znodes that these are rendered as, in a batch of this epoch. Where it
+// doesn't translate, there are no records, and the znodes are those of the metadata.
+fn translated_amounts(
+    alloc: Global,
+    tree: &Tree,
+    image: &Image,
+    epoch: i32,
+) -> Result<(usize, Amount), NoMemory>
+    ensures { (l : Log) → image.now ≡ image_of l → IfOk result (λ made. (made.0 ≡ translated_count (translate (migrated_rows tree.now)))
+        × (made.1 ≡ amount_of_all (final_znodes false l epoch (translate (migrated_rows tree.now))))) }
+{
+    match translate(alloc, &tree.migrated_rows()?) {
+        Ok(records) => Ok((records.len(), records_amount(alloc, epoch, &records)?)),
+        Err(ReadFault::Untranslatable { .. }) => Ok((0, rendered_amount(alloc, image)?)),
+        Err(ReadFault::NoMemory) => Err(NoMemory),
+    }
+}
+
+// How many records a turn may append, and the znodes that it ends with, where the metadata at the log's end is told.
+fn final_amounts(
+    alloc: Global,
+    tree: &Tree,
+    image: &Image,
+    epoch: i32,
+) -> Result<(usize, Amount), NoMemory>
+    ensures { (l : Log) → image.now ≡ image_of l → IfOk result (λ made. (made.0 ≡ (if is_migrated_log l then 0 else translated_count (translate (migrated_rows tree.now))))
+        × (made.1 ≡ amount_of_all (final_znodes (is_migrated_log l) l epoch (translate (migrated_rows tree.now))))) }
+{
+    if image.state() >= MIGRATION {
+        Ok((0, rendered_amount(alloc, image)?))
+    } else {
+        translated_amounts(alloc, tree, image, epoch)
+    }
+}
+
+/// The most steps of a turn of a driver, where the log isn't down and its metadata at the end is told.
+pub fn work<L: MetaLog>(
+    alloc: Global,
+    tree: &Tree,
+    image: &Image,
+    log: &mut L,
+    driver: &Driver,
+) -> Result<u128, NoMemory>
+    requires image { image.now ≡ image_of (L.log log.old) }
+    requires up { (L.disk log.old).down ≡ false }
+    ensures ok { IfOk result (λ most. (ids : List ℤ) → most ≡ work (shared_of tree.now (L.log log.old) ids) driver.now) }
+    ensures same { L.log log.new ≡ L.log log.old }
+    ensures disk { L.disk log.new ≡ L.disk log.old }
+{
+    let znodes = amount_of_area(tree);
+    let (records, rendered) = final_amounts(alloc, tree, image, epoch_or_zero(driver.epoch()))?;
+    let remaining = remaining_amount(alloc, log, driver)?;
+    Ok(most_steps(&znodes, records, &rendered, &remaining))
+}

@@ -1,7 +1,0 @@
-use Rattle.std.proofs.Common.{◌≡◌, ◌++◌, drop}
-use Rattle.std.specs.List.{filter_map}
-use Rattle.kz_world.specs.Agreement.{ahead_of}
-use Rattle.kz_world.proofs.comparison.all_ahead.Given as goal
-
-abbrev pub invariant-loop-one : goal.invariant-loop-one
-invariant-loop-one l = l.paths ++ filter_map ahead_of (drop l.one-index l.found) ≡ filter_map ahead_of l.found
