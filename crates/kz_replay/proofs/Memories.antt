@@ -19,7 +19,7 @@ use Rattle.kz_spec_stores.specs.Log.{append, elect, image_of, begun_of}
 use Rattle.kz_spec_stores.specs.Requests.{Multi, BeginSession, EndSession, Append, Elect, answer_of_tree_fault, answer_of_log_fault, IsTaken}
 use Rattle.kz_spec_machine.specs.Driver.{Shared, Driver, epoch_or_zero, step}
 use Rattle.kz_spec_machine.specs.Machine.{World, ends, driver_of, running_ids, running_refusal, leader_refusal, client_refusal, election_records, registration, work}
-use Rattle.kz_spec_machine.specs.Failures.{is_failed_step, is_failure, IsCutOff, CutOffTurn, IsLeft}
+use Rattle.kz_spec_machine.specs.Failures.{is_failed_step, is_failure, IsCutOff, CutOffTurn, IsLeftByStep, IsLeft}
 use Rattle.kz_driver.specs.Disks.{Disks, Payloads}
 use Rattle.kz_driver.specs.Steps.{made_request, outcome_of}
 use Rattle.kz_turns.specs.Disks.{StepRequestDisks, TurnDisks}
@@ -28,7 +28,7 @@ use Rattle.kz_world.specs.declared.faults.EventFault.TheVariants as event_fault
 use Rattle.kz_world.specs.Stores.{AsksNothing, ReadsLog, ChangesTree, ChangesLog}
 use Rattle.kz_world.specs.Disks.{TurnEventDisks, DriverStepDisks, UnlessRefused, ResultDisks, EventDisks}
 use Rattle.kz_world.specs.Refusals.{records_refusal}
-use Rattle.kz_replay.specs.Failures.{is_disk_fault_of_tree, is_disk_fault_of_log, tells_disk_fault, IsMadeStep, FailsByNoDisk}
+use Rattle.kz_replay.specs.Failures.{is_disk_fault_of_tree, is_disk_fault_of_log, tells_disk_fault, FailsByNoDisk}
 use Rattle.kz_replay.proofs.Disks.{differ, IsCalm, IsFine, AreNone, change_calm, read_calm, request_fine}
 
 -- ---- a step
@@ -189,14 +189,20 @@ not_refused : (holds : Option Driver → Type 0) (refusal : Option Answer) (m : 
 not_refused holds None m d refused none found h = subst holds found h
 not_refused holds (Some x) m d refused none found h = absurd (cc)
 
-step_quiet : (w : World) (id now : ℤ) (p : Plan) (payloads : Payloads) (r : Reply) (old new : Disks) → AreNone old → AreNone new → EventDisks w (event.Step id now p) payloads (answer.Step r) old new → IsMadeStep w (event.Step id now p) → tells_disk_fault r ≡ false
-step_quiet w id now p payloads r old new none after h made =
-    reply_quiet r (AreNone new) after (step_fine p w.shared now made.1 payloads r old new none
-    (not_refused (λ m. DriverStepDisks p w now m payloads (Ok (answer.Step r)) old new) (running_refusal w id) (driver_of id w.drivers) made.1 _ made.0 made.2 h))
+step_quiet : (w left : World) (id now : ℤ) (p : Plan) (payloads : Payloads) (r : Reply) (old new : Disks) → AreNone old → AreNone new → EventDisks w (event.Step id now p) payloads (answer.Step r) old new → IsLeftByStep w (event.Step id now p) left → tells_disk_fault r ≡ false
+step_quiet w left id now p payloads r old new none after h made =
+    let d = made.1.0 in
+    reply_quiet r (AreNone new) after (step_fine p w.shared now d payloads r old new none
+    (not_refused (λ m. DriverStepDisks p w now m payloads (Ok (answer.Step r)) old new) (running_refusal w id) (driver_of id w.drivers) d _ made.0 made.1.1 h))
 
-single_quiet : (w : World) (e : Event) (payloads : Payloads) (r : Reply) (old new : Disks) → AreNone old → AreNone new → EventDisks w e payloads (answer.Step r) old new → IsMadeStep w e → tells_disk_fault r ≡ false
-single_quiet w (event.Step id now p) payloads r old new none after h made = step_quiet w id now p payloads r old new none after h made
-single_quiet w e payloads r old new none after h made = absurd made
+failed_step_quiet : (w left : World) (e : Event) (payloads : Payloads) (r : Reply) (old new : Disks) → AreNone old → AreNone new → EventDisks w e payloads (answer.Step r) old new → IsLeftByStep w e left → tells_disk_fault r ≡ false
+failed_step_quiet w left (event.Step id now p) payloads r old new none after h made = step_quiet w left id now p payloads r old new none after h made
+failed_step_quiet w left e payloads r old new none after h made = absurd made
+
+single_quiet : (w left : World) (e : Event) (payloads : Payloads) (r : Reply) (old new : Disks) (fails : Bool) → AreNone old → AreNone new → EventDisks w e payloads (answer.Step r) old new
+    → is_failed_step r ≡ fails → (fails ≡ true → IsLeftByStep w e left) → tells_disk_fault r ≡ false
+single_quiet w left e payloads r old new true none after h is made = failed_step_quiet w left e payloads r old new none after h (made refl)
+single_quiet w left e payloads r old new false none after h is made = quiet_by r is
 
 turn_quiet : (w left : World) (id now : ℤ) (payloads : Payloads) (replies : List Reply) (old new : Disks) (fails : Bool) → AreNone old → AreNone new → EventDisks w (event.Turn id now) payloads (answer.Turn replies) old new
     → list_any is_failed_step replies ≡ fails → (fails ≡ true → CutOffTurn w id now replies left) → list_any tells_disk_fault replies ≡ false
@@ -217,8 +223,8 @@ replies_quiet w left (event.Turn id now) payloads replies old new none after h c
 replies_quiet w left e payloads replies old new none after h cut = other_quiet replies (list_any is_failed_step replies) refl cut
 
 -- no disk fails in an event of stores that have none
-pub no_disk_fails : (w left : World) (e : Event) (payloads : Payloads) (a : Answer) (old new : Disks) → AreNone old → AreNone new → EventDisks w e payloads a old new → (is_failure a ≡ true → IsLeft w e a left) → FailsByNoDisk w e a
-no_disk_fails w left e payloads (answer.Step r) old new none after h cut = single_quiet w e payloads r old new none after h
+pub no_disk_fails : (w left : World) (e : Event) (payloads : Payloads) (a : Answer) (old new : Disks) → AreNone old → AreNone new → EventDisks w e payloads a old new → (is_failure a ≡ true → IsLeft w e a left) → FailsByNoDisk a
+no_disk_fails w left e payloads (answer.Step r) old new none after h cut = single_quiet w left e payloads r old new (is_failed_step r) none after h refl cut
 no_disk_fails w left e payloads (answer.Turn replies) old new none after h cut = replies_quiet w left e payloads replies old new none after h cut
 no_disk_fails w left e payloads (answer.TreeFailed f) old new none after h cut = tree_quiet w e payloads f old new none after h
 no_disk_fails w left e payloads (answer.LogFailed f) old new none after h cut = log_quiet w e payloads f old new none after h

@@ -1,5 +1,5 @@
 -- Answers that tell of a failure.
-use Rattle.std.specs.Prelude.{◌≡◌, ⊤, ℕ, Bool, true, false, List, [], Some, None, if◌then◌else◌}
+use Rattle.std.specs.Prelude.{◌≡◌, ⊤, ℕ, Bool, true, false, List, [], if◌then◌else◌}
 use Rattle.std.specs.List.{list_any}
 use Rattle.kz_types.specs.declared.fault.TreeFault.{TreeFault}
 use Rattle.kz_types.specs.declared.fault.TreeFault.TheVariants as tree_fault
@@ -12,8 +12,6 @@ use Rattle.kz_types.specs.declared.machine.Event.TheVariants as event
 use Rattle.kz_types.specs.declared.machine.Answer.{Answer}
 use Rattle.kz_types.specs.declared.machine.Answer.TheVariants as answer
 use Rattle.kz_spec_lines.specs.Replies.{reply_lines}
-use Rattle.kz_spec_machine.specs.Driver.{Driver}
-use Rattle.kz_spec_machine.specs.Machine.{World, driver_of, running_refusal}
 use Rattle.kz_spec_machine.specs.Failures.{is_failure}
 
 -- a disk failed, in this request or in an earlier one, or its file is full
@@ -34,18 +32,13 @@ tells_disk_fault (reply.TreeFailed fault) = is_disk_fault_of_tree fault
 tells_disk_fault (reply.LogFailed fault) = is_disk_fault_of_log fault
 tells_disk_fault other = false
 
--- A single step of a controller that runs. One that is refused asks no store.
-abbrev pub IsMadeStep : World → Event → Type 0
-IsMadeStep w (event.Step id now p) = (running_refusal w id ≡ None) × (d : Driver) × (driver_of id w.drivers ≡ Some d)
-IsMadeStep w e = ⊥
-
 -- No disk failed or is full: neither for the event itself nor for a step that it made.
-abbrev pub FailsByNoDisk : World → Event → Answer → Type 0
-FailsByNoDisk w e (answer.Step r) = IsMadeStep w e → tells_disk_fault r ≡ false
-FailsByNoDisk w e (answer.Turn replies) = list_any tells_disk_fault replies ≡ false
-FailsByNoDisk w e (answer.TreeFailed fault) = is_disk_fault_of_tree fault ≡ false
-FailsByNoDisk w e (answer.LogFailed fault) = is_disk_fault_of_log fault ≡ false
-FailsByNoDisk w e a = ⊤
+abbrev pub FailsByNoDisk : Answer → Type 0
+FailsByNoDisk (answer.Step r) = tells_disk_fault r ≡ false
+FailsByNoDisk (answer.Turn replies) = list_any tells_disk_fault replies ≡ false
+FailsByNoDisk (answer.TreeFailed fault) = is_disk_fault_of_tree fault ≡ false
+FailsByNoDisk (answer.LogFailed fault) = is_disk_fault_of_log fault ≡ false
+FailsByNoDisk a = ⊤
 
 -- The lines that are printed for the answer to the event of this line. An event that failed prints none, but for a turn: the lines
 -- of its steps before the failure.

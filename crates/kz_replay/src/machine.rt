@@ -33,7 +33,7 @@ pub trait Machine: Drop + Sized {
         ensures next { is_failure result ≡ false → next (world self.old) event.now ≡ (world self.new, result) }
         ensures failed { is_failure result ≡ true → IsLeft (world self.old) event.now result (world self.new) }
         ensures sound { Sound (world self.new) }
-        ensures disk { FailsByNoDisk (world self.old) event.now result };
+        ensures disk { FailsByNoDisk result };
 
     /// The last transaction of the tree.
     fn zxid(&self) -> i64

@@ -62,7 +62,13 @@ abbrev pub IsLeftByTurn : World → Event → List Reply → World → Type 0
 IsLeftByTurn w (event.Turn id now) replies new = CutOffTurn w id now replies new
 IsLeftByTurn w e replies new = ⊥
 
+-- A single step alone answers its reply, and it is made by a controller that runs. One that failed leaves the world as it was.
+abbrev pub IsLeftByStep : World → Event → World → Type 0
+IsLeftByStep w (event.Step id now p) new = (running_refusal w id ≡ None) × ((d : Driver) × (driver_of id w.drivers ≡ Some d)) × (new ≡ w)
+IsLeftByStep w e new = ⊥
+
 -- What an event leaves that failed. But for a turn that was cut off, it leaves the world as it was.
 abbrev pub IsLeft : World → Event → Answer → World → Type 0
 IsLeft w e (answer.Turn replies) new = IsLeftByTurn w e replies new
+IsLeft w e (answer.Step r) new = IsLeftByStep w e new
 IsLeft w e a new = new ≡ w

@@ -18,7 +18,8 @@ use Rattle.kz_turns.proofs.Requests.{StaysUpUnless, tree_failed, log_failed, Sta
 
 -- ---- lists of pairs
 
-first_of_all : (pair : Pair) (rest : List Pair) → Contains (pair ∷ rest) pair
+-- the first is among them
+pub first_of_all : (pair : Pair) (rest : List Pair) → Contains (pair ∷ rest) pair
 first_of_all pair rest = (0, omega arith, refl)
 
 none_of_none : (pair : Pair) → Contains [] pair → ⊥

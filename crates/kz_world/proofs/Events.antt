@@ -13,7 +13,7 @@ use Rattle.kz_spec_stores.specs.Tree.{Tree, begin_session, end_session, multi}
 use Rattle.kz_spec_stores.specs.Log.{Log}
 use Rattle.kz_spec_machine.specs.Driver.{Shared, Driver, StepResult, planned_step, step}
 use Rattle.kz_spec_machine.specs.Machine.{World, next, running_ids, driver_of, with_driver, running_refusal, outcome_unless, unless_refused, ends, TurnResult, turn, with_reply, work, step_result, turn_result, pair_of, event_pairs, moved_world, client_refusal, client_world, quorum_refusal, declared_world, start_refusal, started_world, stop_refusal, stopped_world, election_refusal, elected_world, election_answer, change_refusal, changed_world, register_refusal, registration}
-use Rattle.kz_spec_machine.specs.Failures.{is_failed_step, is_failure, IsCutOff, CutOffTurn, IsLeftByTurn, IsLeft}
+use Rattle.kz_spec_machine.specs.Failures.{is_failed_step, is_failure, IsCutOff, CutOffTurn, IsLeftByTurn, IsLeftByStep, IsLeft}
 use Rattle.kz_spec_machine.specs.Sound.{IsTime, IsLawful, Sound}
 use Rattle.kz_laws_fence.specs.Fence.{IsOfFence}
 use Rattle.kz_laws_fence.proofs.Drivers.{fenced_driver}
@@ -97,8 +97,14 @@ left_by_turn : (w : World) (e : Event) (replies : List Reply) (new : World) → 
 left_by_turn w (event.Turn id now) replies new lawful left sound = cut_off_sound w id now replies new lawful.1 left sound
 left_by_turn w e replies new lawful left sound = absurd left
 
+-- a step that failed leaves the world
+unmade_step : (w : World) (e : Event) (new : World) → IsLeftByStep w e new → new ≡ w
+unmade_step w (event.Step id now p) new left = left.2
+unmade_step w e new left = absurd left
+
 left_sound : (w : World) (e : Event) (a : Answer) (new : World) → IsLawful e → IsLeft w e a new → Sound w → Sound new
 left_sound w e (answer.Turn replies) new lawful left sound = left_by_turn w e replies new lawful left sound
+left_sound w e (answer.Step r) new lawful left sound = subst Sound (sym (unmade_step w e new left)) sound
 left_sound w e a new lawful left sound = subst Sound (sym left) sound
 
 sound_by : (b : Bool) (w : World) (e : Event) (a : Answer) (new : World) → is_failure a ≡ b → IsLawful e → (is_failure a ≡ false → next w e ≡ (new, a)) → (is_failure a ≡ true → IsLeft w e a new) → Sound w → Sound new
@@ -114,6 +120,7 @@ sound_after w e a new lawful done failed sound = sound_by (is_failure a) w e a n
 -- an event that isn't a turn, and failed, leaves the world
 left_alone : (w : World) (e : Event) (a : Answer) (new : World) → ((replies : List Reply) → IsLeftByTurn w e replies new → ⊥) → IsLeft w e a new → new ≡ w
 left_alone w e (answer.Turn replies) new alone left = absurd (alone replies left)
+left_alone w e (answer.Step r) new alone left = unmade_step w e new left
 left_alone w e a new alone left = left
 
 alone_by : (b : Bool) (w : World) (e : Event) (a : Answer) (new : World) → is_failure a ≡ b → (is_failure a ≡ false → next w e ≡ (new, a)) → (is_failure a ≡ true → IsLeft w e a new) → ((replies : List Reply) → IsLeftByTurn w e replies new → ⊥) → (next w e).0.shared ≡ w.shared → new.shared ≡ w.shared

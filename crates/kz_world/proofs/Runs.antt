@@ -66,7 +66,7 @@ step_whole w id now p d r runs found is = ap (λ a. unless_refused w a (step_res
 step_is_outcome : (w : World) (id now : ℤ) (p : Plan) (d : Driver) (new : World) (told : Reply) → running_refusal w id ≡ None → driver_of id w.drivers ≡ Some d → IsStepped p w now d new told → IsOutcome w (event.Step id now p) new (answer.Step told)
 step_is_outcome w id now p d new told runs found h = record {
   done = λ none. step_whole w id now p d (new, answer.Step told) runs found (h.done none);
-  failed = h.failed;
+  failed = λ fails. (runs, (d, found), h.failed fails);
   told = refl;
 }
 

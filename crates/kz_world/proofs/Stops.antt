@@ -21,6 +21,7 @@ use Rattle.kz_spec_machine.specs.Machine.{World, Pair, pair_of, event_pairs}
 use Rattle.kz_spec_machine.specs.Failures.{is_failure}
 use Rattle.kz_driver.specs.Disks.{Disks}
 use Rattle.kz_turns.specs.Stops.{AreUp, LeavesOneOf}
+use Rattle.kz_turns.proofs.Stops.{first_of_all, Settled, leaves_present}
 use Rattle.kz_world.specs.declared.faults.EventFault.{EventFault}
 use Rattle.kz_world.specs.declared.faults.EventFault.TheVariants as event_fault
 use Rattle.kz_world.specs.Faults.{after_tree_fault, after_log_fault, after_session_fault}
@@ -31,22 +32,8 @@ use Rattle.kz_world.proofs.Views.{read_keeps}
 
 -- ---- lists of pairs
 
-first_of_all : (pair : Pair) (rest : List Pair) → Contains (pair ∷ rest) pair
-first_of_all pair rest = (0, omega arith, refl)
-
 among_rest : (first pair : Pair) (rest : List Pair) → Contains rest pair → Contains (first ∷ rest) pair
 among_rest first pair rest h = Contains-append_right (first ∷ []) rest pair h
-
--- ---- both stores as they are
-
--- While a store is up, a stop leaves its value and nothing else.
-pub record Settled (s : Shared) (disks : Disks) (tree_left : Option Tree → Type 0) (log_left : Option Log → Type 0) : Type 0 where
-  pub tree : disks.tree.down ≡ false → Only s.tree tree_left
-  pub log : disks.log.down ≡ false → Only s.log log_left
-
--- a stop leaves this pair, where neither store is down
-pub leaves_present : (s : Shared) (rest : List Pair) (disks : Disks) (tree_left : Option Tree → Type 0) (log_left : Option Log → Type 0) → Settled s disks tree_left log_left → AreUp disks → LeavesOneOf (pair_of s ∷ rest) tree_left log_left
-leaves_present s rest disks tree_left log_left settled up t l in_tree in_log = (pair_of s, first_of_all (pair_of s) rest, settled.tree up.tree t in_tree, settled.log up.log l in_log)
 
 -- an event that failed and asked nothing of the disks
 pub still_failure : (w new : World) (pairs : List Pair) (r : Result Answer EventFault) (old later : Disks) (tree_left : Option Tree → Type 0) (log_left : Option Log → Type 0)
