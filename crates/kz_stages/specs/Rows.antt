@@ -1,4 +1,5 @@
 -- A driver as the code holds it, as the definitions have it.
+use Rattle.std.specs.Prelude.{◌≡◌}
 use Rattle.kz_types.specs.declared.driver.Stage.{Stage}
 use Rattle.kz_types.specs.declared.driver.Stage.TheVariants as stage
 use Rattle.kz_spec_machine.specs.Driver.{Driver}
@@ -26,3 +27,7 @@ stage_of (held.WriteDelta r) = stage.WriteDelta r.target r.ops
 
 abbrev pub driver_of : DriverRow → Driver
 driver_of r = record { id = r.id; epoch = r.epoch; claim = r.claim; stage = stage_of r.stage; view = r.view; recorded = r.recorded }
+
+-- the driver of the same controller, which knows the same of the metadata
+abbrev pub KnowsSame : DriverRow → DriverRow → Type 0
+KnowsSame new old = (new.id ≡ old.id) × (new.view ≡ old.view)

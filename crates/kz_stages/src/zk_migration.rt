@@ -18,7 +18,7 @@ ghost use Rattle.kz_requests.specs.Disks.{answer_of_made, LogDisk, TreeDisk};
 ghost use Rattle.kz_stages.specs.declared.row.Stage.TheVariants as held;
 ghost use Rattle.kz_stages.specs.Drivers.{HasRisen, shared_of};
 ghost use Rattle.kz_stages.specs.Migrations.{IsBegun, BeginFares, BeginDisk, BeginStop};
-ghost use Rattle.kz_stages.specs.Rows.{driver_of, stage_of};
+ghost use Rattle.kz_stages.specs.Rows.{driver_of, stage_of, KnowsSame};
 
 use crate::row::{DriverRow, Stage, resign};
 use kz_log::{LogWire, MetaLog};
@@ -211,13 +211,12 @@ pub fn begin_migration<L: MetaLog>(
     ensures driver { (rows : List RowValue) → row.old.stage ≡ held.BeginMigration rows → (t : Tree) (ids : List ℤ) → IfOk result (λ told.
         after_translation (shared_of t (L.log log.old.inner) ids) now (driver_of row.old) (translate rows) ≡ (driver_of row.new, told)) }
     ensures log { (rows : List RowValue) → row.old.stage ≡ held.BeginMigration rows → IsBegun (reaches log.old.plan true) (L.log log.old.inner) (epoch_or_zero row.old.epoch) now (translate rows) result (L.log log.new.inner) }
-    ensures view { row.new.view ≡ row.old.view }
+    ensures same { KnowsSame row.new row.old }
     ensures views { (v : ViewValue) → IsViewOf (L.log log.old.inner) v → IsViewOf (L.log log.new.inner) v }
     ensures err { OnErr result (row.new ≡ row.old) }
     ensures fares { (rows : List RowValue) → row.old.stage ≡ held.BeginMigration rows → BeginFares (L.log log.old.inner) (epoch_or_zero row.old.epoch) now (translate rows) result log.old log.new }
     ensures disk { (rows : List RowValue) → row.old.stage ≡ held.BeginMigration rows → BeginDisk L.payload_bytes (L.log log.old.inner) (epoch_or_zero row.old.epoch) now (translate rows) log.old.plan result (L.disk log.old.inner) (L.disk log.new.inner) }
     ensures stop { (rows : List RowValue) → row.old.stage ≡ held.BeginMigration rows → IsErrOf result (StepFault.Log LogFault.Failed) → BeginStop (reaches log.old.plan true) (L.log log.old.inner) (epoch_or_zero row.old.epoch) now (translate rows) (L.left log.new.inner) }
-    ensures id { row.new.id ≡ row.old.id }
 {
     let Stage::BeginMigration { scan } = &row.stage else {
         return Ok(Reply::Idle);
@@ -327,7 +326,7 @@ pub fn append_records<L: MetaLog>(
     ensures driver { (records : List MetaRecordValue) → row.old.stage ≡ held.AppendRecords records → IfOk result (λ told.
         after_append (after_records records) (driver_of row.old) (append (L.log log.old.inner) (epoch_or_zero row.old.epoch) now (next_records records)) ≡ (driver_of row.new, told)) }
     ensures log { (records : List MetaRecordValue) → row.old.stage ≡ held.AppendRecords records → IsAfterRequest (reaches log.old.plan true) (log_after (append (L.log log.old.inner) (epoch_or_zero row.old.epoch) now (next_records records)) (L.log log.old.inner)) (L.log log.old.inner) result (L.log log.new.inner) }
-    ensures view { row.new.view ≡ row.old.view }
+    ensures same { KnowsSame row.new row.old }
     ensures views { (v : ViewValue) → IsViewOf (L.log log.old.inner) v → IsViewOf (L.log log.new.inner) v }
     ensures err { OnErr result (row.new ≡ row.old) }
     ensures fares { (records : List MetaRecordValue) → row.old.stage ≡ held.AppendRecords records → Fares true (is_limit (append (L.log log.old.inner) (epoch_or_zero row.old.epoch) now (next_records records))) result log.old log.new }
@@ -335,7 +334,6 @@ pub fn append_records<L: MetaLog>(
         (answer_of_made (append (L.log log.old.inner) (epoch_or_zero row.old.epoch) now (next_records records))) log.old.plan result (L.disk log.old.inner) (L.disk log.new.inner) }
     ensures stop { (records : List MetaRecordValue) → row.old.stage ≡ held.AppendRecords records → IsErrOf result (StepFault.Log LogFault.Failed) → Either (L.log log.old.inner)
         (if reaches log.old.plan true then log_after (append (L.log log.old.inner) (epoch_or_zero row.old.epoch) now (next_records records)) (L.log log.old.inner) else L.log log.old.inner) (L.left log.new.inner) }
-    ensures id { row.new.id ≡ row.old.id }
 {
     let Stage::AppendRecords { records } = &row.stage else {
         return Ok(Reply::Idle);
