@@ -12,7 +12,7 @@ use Rattle.kz_types.specs.Numbers.{are_distinct}
 use Rattle.kz_types.specs.declared.plan.Plan.{Plan}
 use Rattle.kz_types.specs.declared.plan.Plan.TheVariants as plan
 use Rattle.kz_types.specs.declared.machine.Event.{Event}
-use Rattle.kz_types.specs.declared.machine.Event.TheVariants.{Quorum, Start, Stop, Elect, Step, Turn, Register, Change, Check, ZkOpen, ZkExpire, Zk}
+use Rattle.kz_types.specs.declared.machine.Event.TheVariants.{Quorum, Start, Stop, Elect, Step, Turn, Register, Change, Finalise, Rollback, Check, ZkOpen, ZkExpire, Zk}
 use Rattle.kz_types.specs.declared.record.MetaRecord.{MetaRecord}
 use Rattle.kz_types.specs.declared.tree.Op.{Op}
 use Rattle.kz_types.specs.declared.tree.Op.TheVariants as op
@@ -118,6 +118,11 @@ step_by c now plan.LostAfter false is id time = rw (id_is c id, time_is now time
 step_by c now plan.Expired true is id time = rw (id_is c id) (ap (λ t. Some (Step c t plan.Expired)) (is_zero now is))
 step_by c now plan.Expired false is id time = rw (id_is c id, time_is now time) refl
 
+finalise_by : (c now : ℤ) (zero : Bool) → int_eq now (pos 0) ≡ zero → IsId c → IsTime now
+    → event_of (object (cond zero (controller_members (codes "finalise") c) (with_whole (codes "now") now (controller_members (codes "finalise") c)))) ≡ Some (Finalise c now)
+finalise_by c now true is id time = rw (id_is c id) (ap (λ t. Some (Finalise c t)) (is_zero now is))
+finalise_by c now false is id time = rw (id_is c id, time_is now time) refl
+
 register_by : (c b now : ℤ) (m : Bool) (zero : Bool) → int_eq now (pos 0) ≡ zero → IsId c → IsId b → IsTime now
     → event_of (object (put (codes "migrating") (boolean m) (with_whole (codes "broker") b (cond zero (controller_members (codes "register") c) (with_whole (codes "now") now (controller_members (codes "register") c))))))
     ≡ Some (Register c b m now)
@@ -144,6 +149,8 @@ event_says (Step c now p) h = step_by c now p _ refl h.0 h.1
 event_says (Turn c now) h = turn_by c now _ refl h.0 h.1
 event_says (Register c b m now) h = register_by c b now m _ refl h.0 h.1 h.2
 event_says (Change c records now) h = change_by c now records _ refl h.0 h.1 h.2
+event_says (Finalise c now) h = finalise_by c now _ refl h.0 h.1
+event_says Rollback h = refl
 event_says Check h = refl
 event_says (ZkOpen s) h = rw (session_is s h) refl
 event_says (ZkExpire s) h = rw (session_is s h) refl

@@ -3,7 +3,7 @@
 use Rattle.std.specs.Prelude.{◌≡◌, ◌≤◌, ⊤, true, ℤ, pos, negsuc, ◌≤ℤ◌, length, Option, Some, None, All}
 use Rattle.kz_types.specs.Numbers.{are_distinct}
 use Rattle.kz_types.specs.declared.machine.Event.{Event}
-use Rattle.kz_types.specs.declared.machine.Event.TheVariants.{Quorum, Start, Stop, Elect, Step, Turn, Register, Change, Check, ZkOpen, ZkExpire, Zk}
+use Rattle.kz_types.specs.declared.machine.Event.TheVariants.{Quorum, Start, Stop, Elect, Step, Turn, Register, Change, Finalise, Rollback, Check, ZkOpen, ZkExpire, Zk}
 use Rattle.kz_types.specs.declared.tree.Op.{Op}
 use Rattle.kz_types.specs.declared.tree.Op.TheVariants as op
 
@@ -47,6 +47,8 @@ IsLawfulEvent (Step controller now plan) = IsNotNegative controller × IsNotNega
 IsLawfulEvent (Turn controller now) = IsNotNegative controller × IsNotNegative now
 IsLawfulEvent (Register controller broker migrating now) = IsNotNegative controller × IsNotNegative broker × IsNotNegative now
 IsLawfulEvent (Change controller records now) = IsNotNegative controller × (1 ≤ length records) × IsNotNegative now
+IsLawfulEvent (Finalise controller now) = IsNotNegative controller × IsNotNegative now
+IsLawfulEvent Rollback = ⊤
 IsLawfulEvent Check = ⊤
 IsLawfulEvent (ZkOpen session) = IsPositive session
 IsLawfulEvent (ZkExpire session) = IsPositive session

@@ -453,6 +453,11 @@ fn event(e: &Event)
             records: items,
             now,
         } => change(*controller, items.as_slice(), *now),
+        Event::Finalise { controller, now } => {
+            id(*controller);
+            time(*now);
+        }
+        Event::Rollback => {}
         Event::Check => {}
         Event::ZkOpen { session: opened } => session(*opened),
         Event::ZkExpire { session: expired } => session(*expired),

@@ -7,7 +7,7 @@ use Rattle.serde_json.specs.Find.{get, as_array, as_bool, as_str}
 use Rattle.kz_types.specs.Numbers.{are_distinct}
 use Rattle.kz_types.specs.declared.limits.TheConstants.{MAX_NUMBER}
 use Rattle.kz_types.specs.declared.machine.Event.{Event}
-use Rattle.kz_types.specs.declared.machine.Event.TheVariants.{Quorum, Start, Stop, Elect, Step, Turn, Register, Change, Check, ZkOpen, ZkExpire, Zk}
+use Rattle.kz_types.specs.declared.machine.Event.TheVariants.{Quorum, Start, Stop, Elect, Step, Turn, Register, Change, Finalise, Rollback, Check, ZkOpen, ZkExpire, Zk}
 use Rattle.kz_types.specs.declared.plan.Plan.{Plan}
 use Rattle.kz_types.specs.declared.plan.Plan.TheVariants as plan
 use Rattle.kz_types.specs.declared.record.MetaRecord.{MetaRecord}
@@ -126,6 +126,14 @@ register_of d = if member_count d == timed_count 4 d
     (controller_of d)
     else None
 
+abbrev pub finalise_of : Data → Option Event
+finalise_of d = if member_count d == timed_count 2 d
+    then option_and_then (λ c. option_map (λ t. Finalise c t) (now_of d)) (controller_of d)
+    else None
+
+abbrev pub rollback_of : Data → Option Event
+rollback_of d = if member_count d == 1 then Some Rollback else None
+
 abbrev pub check_of : Data → Option Event
 check_of d = if member_count d == 1 then Some Check else None
 
@@ -169,6 +177,8 @@ event_forms =
     ∷ (codes "turn", turn_of)
     ∷ (codes "register", register_of)
     ∷ (codes "change", change_of)
+    ∷ (codes "finalise", finalise_of)
+    ∷ (codes "rollback", rollback_of)
     ∷ (codes "check", check_of)
     ∷ (codes "zk-open", open_of)
     ∷ (codes "zk-expire", expire_of)

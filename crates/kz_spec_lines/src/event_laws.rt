@@ -1,6 +1,6 @@
 //! Which events some lines are.
 ghost use Rattle.std.specs.Prelude.{◌≡◌, [], ◌∷◌, ◌++◌, None, Some, true, pos, codes};
-ghost use Rattle.kz_types.specs.declared.machine.Event.TheVariants.{Quorum, Start, Stop, Elect, Step, Turn, Register, Change, Check};
+ghost use Rattle.kz_types.specs.declared.machine.Event.TheVariants.{Quorum, Start, Stop, Elect, Step, Turn, Register, Change, Finalise, Rollback, Check};
 ghost use Rattle.kz_types.specs.declared.plan.Plan.TheVariants.{Deliver, LostBefore, LostAfter, Expired};
 ghost use Rattle.kz_types.specs.declared.record.MetaRecord.TheVariants.{Config};
 ghost use Rattle.kz_spec_lines.specs.Events.{line_event};
@@ -22,6 +22,16 @@ pub fn a_change()
         ≡ Some (Change (pos 3000) (Config (record { resource_type = pos 4; resource_name = codes "1"; name = codes "a"; value = Some (codes "1") }) ∷ []) (pos 0)) }
     ensures brokers { line_event (codes "{\"now\":7,\"records\":[{\"value\":null,\"name\":\"a\",\"resourceName\":\"\",\"resourceType\":4,\"kind\":\"Config\"}],\"controller\":1,\"event\":\"change\"}")
         ≡ Some (Change (pos 1) (Config (record { resource_type = pos 4; resource_name = []; name = codes "a"; value = None }) ∷ []) (pos 7)) }
+{}
+
+/// The end of a migration, and its taking back.
+#[tactic(auto, unfolding(crate::proofs::OnLiterals::lines_on_literals))]
+pub fn ways_out()
+    ensures finalise { line_event (codes "{\"event\":\"finalise\",\"controller\":3000}") ≡ Some (Finalise (pos 3000) (pos 0)) }
+    ensures timed { line_event (codes "{\"event\":\"finalise\",\"now\":5,\"controller\":0}") ≡ Some (Finalise (pos 0) (pos 5)) }
+    ensures unnamed { line_event (codes "{\"event\":\"finalise\"}") ≡ None }
+    ensures rollback { line_event (codes "{\"event\":\"rollback\"}") ≡ Some Rollback }
+    ensures of_one { line_event (codes "{\"event\":\"rollback\",\"controller\":3000}") ≡ None }
 {}
 
 /// Blanks around a value, the order of members and escapes mean nothing. The last of two equal members counts.

@@ -1,6 +1,6 @@
 //! The lines of some events.
 ghost use Rattle.std.specs.Prelude.{◌≡◌, [], ◌∷◌, None, Some, pos, negsuc, codes};
-ghost use Rattle.kz_types.specs.declared.machine.Event.TheVariants.{Quorum, Start, Stop, Elect, Step, Turn, Change, Check, ZkOpen, ZkExpire, Zk};
+ghost use Rattle.kz_types.specs.declared.machine.Event.TheVariants.{Quorum, Start, Stop, Elect, Step, Turn, Change, Finalise, Rollback, Check, ZkOpen, ZkExpire, Zk};
 ghost use Rattle.kz_types.specs.declared.plan.Plan.TheVariants.{Deliver, LostBefore, LostAfter, Expired};
 ghost use Rattle.kz_types.specs.declared.record.MetaRecord.TheVariants.{Config};
 ghost use Rattle.kz_types.specs.declared.tree.Op.TheVariants as op;
@@ -15,6 +15,8 @@ pub fn a_line_of_each()
     ensures turn { written_event (Turn (pos 3000) (pos 5)) ≡ codes "{\"controller\":3000,\"event\":\"turn\",\"now\":5}" }
     ensures change { written_event (Change (pos 3000) (Config (record { resource_type = pos 4; resource_name = codes "1"; name = codes "a"; value = None }) ∷ []) (pos 0))
         ≡ codes "{\"controller\":3000,\"event\":\"change\",\"records\":[{\"kind\":\"Config\",\"name\":\"a\",\"resourceName\":\"1\",\"resourceType\":4,\"value\":null}]}" }
+    ensures finalise { written_event (Finalise (pos 3000) (pos 0)) ≡ codes "{\"controller\":3000,\"event\":\"finalise\"}" }
+    ensures rollback { written_event Rollback ≡ codes "{\"event\":\"rollback\"}" }
     ensures check { written_event Check ≡ codes "{\"event\":\"check\"}" }
     ensures open { written_event (ZkOpen (pos 7)) ≡ codes "{\"event\":\"zk-open\",\"session\":7}" }
     ensures expire { written_event (ZkExpire (pos 7)) ≡ codes "{\"event\":\"zk-expire\",\"session\":7}" }

@@ -1,5 +1,5 @@
 -- Answers that tell of a failure: a store or the memory failed, so that the event or the step could not be finished.
-use Rattle.std.specs.Prelude.{◌≡◌, ℕ, zero, suc, Bool, true, false, ◌||◌, ℤ, List, [], ◌∷◌, Option, Some, None}
+use Rattle.std.specs.Prelude.{◌≡◌, ◌⊎◌, ℕ, zero, suc, Bool, true, false, ◌||◌, ℤ, List, [], ◌∷◌, Option, Some, None}
 use Rattle.std.specs.List.{list_any}
 use Rattle.kz_types.specs.declared.fault.TreeFault.{TreeFault}
 use Rattle.kz_types.specs.declared.fault.TreeFault.TheVariants as tree_fault
@@ -12,7 +12,7 @@ use Rattle.kz_types.specs.declared.machine.Event.TheVariants as event
 use Rattle.kz_types.specs.declared.machine.Answer.{Answer}
 use Rattle.kz_types.specs.declared.machine.Answer.TheVariants as answer
 use Rattle.kz_spec_machine.specs.Driver.{Shared, Driver, step}
-use Rattle.kz_spec_machine.specs.Machine.{World, driver_of, ends, running_ids, running_refusal, with_driver, work}
+use Rattle.kz_spec_machine.specs.Machine.{World, driver_of, ends, reset_world, running_ids, running_refusal, with_driver, work}
 
 -- A refusal of the tree and of the log, a limit among them, is an answer of the machine. The other faults are failures.
 abbrev pub is_tree_failure : TreeFault → Bool
@@ -67,8 +67,19 @@ abbrev pub IsLeftByStep : World → Event → World → Type 0
 IsLeftByStep w (event.Step id now p) new = (running_refusal w id ≡ None) × ((d : Driver) × (driver_of id w.drivers ≡ Some d)) × (new ≡ w)
 IsLeftByStep w e new = ⊥
 
--- What an event leaves that failed. But for a turn that was cut off, it leaves the world as it was.
+-- A rollback whose tree failed, or that ran out of memory, may have reset the log before.
+abbrev pub IsLeftByTree : World → Event → World → Type 0
+IsLeftByTree w event.Rollback new = new ≡ reset_world w
+IsLeftByTree w e new = new ≡ w
+
+abbrev pub IsLeftOutOfMemory : World → Event → World → Type 0
+IsLeftOutOfMemory w event.Rollback new = (new ≡ w) ⊎ (new ≡ reset_world w)
+IsLeftOutOfMemory w e new = new ≡ w
+
+-- What an event leaves that failed. But for a turn that was cut off and a rollback, it leaves the world as it was.
 abbrev pub IsLeft : World → Event → Answer → World → Type 0
 IsLeft w e (answer.Turn replies) new = IsLeftByTurn w e replies new
 IsLeft w e (answer.Step r) new = IsLeftByStep w e new
+IsLeft w e (answer.TreeFailed f) new = IsLeftByTree w e new
+IsLeft w e answer.NoMemory new = IsLeftOutOfMemory w e new
 IsLeft w e a new = new ≡ w

@@ -1,9 +1,9 @@
 -- The machine: worlds, events, and what each event makes of a world.
-use Rattle.std.specs.Prelude.{ℕ, zero, suc, ◌+◌, ◌*◌, ◌/◌, Bool, true, false, not, ◌&&◌, ◌||◌, nat_lt, nat_le, ℤ, pos, ◌+ℤ◌, int_le, int_lt, List, [], ◌∷◌, ◌++◌, length, map, sum, Option, Some, None, is_some, option_map, Result, Ok, Err, if◌then◌else◌}
+use Rattle.std.specs.Prelude.{ℕ, zero, suc, ◌+◌, ◌*◌, ◌/◌, Bool, true, false, not, ◌&&◌, ◌||◌, nat_lt, nat_le, ℤ, pos, negsuc, ◌+ℤ◌, int_le, int_lt, List, [], ◌∷◌, ◌++◌, length, map, sum, Option, Some, None, is_some, option_map, Result, Ok, Err, if◌then◌else◌}
 use Rattle.std.specs.Str.{bytes_eq}
 use Rattle.std.specs.Ordering.{int_eq}
 use Rattle.std.specs.List.{filter, find, list_any}
-use Rattle.kz_types.specs.declared.codes.TheConstants.{NO_MIGRATION, PRE_MIGRATION}
+use Rattle.kz_types.specs.declared.codes.TheConstants.{NO_MIGRATION, POST_MIGRATION, PRE_MIGRATION}
 use Rattle.kz_types.specs.declared.limits.Limit.TheVariants as limits
 use Rattle.kz_types.specs.Limits.{number_of_limit}
 use Rattle.kz_types.specs.declared.limits.TheConstants.{MAX_APPEND_RECORDS, MAX_CHANGE_RECORDS, MAX_CHUNK, MAX_CHUNK_BYTES, MAX_CONTROLLERS, MAX_EPOCH, MAX_SCAN_ROWS, OP_BYTES}
@@ -19,6 +19,8 @@ use Rattle.kz_types.specs.Paths.{base_paths, control_paths, is_among, is_below, 
 use Rattle.kz_spec_values.specs.Control.{control_path, epoch_path, migration_path, shown_epoch}
 use Rattle.kz_types.specs.declared.driver.Stage.{Stage}
 use Rattle.kz_types.specs.declared.driver.Stage.TheVariants as stage
+use Rattle.kz_types.specs.declared.machine.DriverState.{DriverState}
+use Rattle.kz_types.specs.declared.machine.DriverState.TheVariants as state
 use Rattle.kz_types.specs.declared.machine.Recorded.{Recorded}
 use Rattle.kz_types.specs.declared.machine.Reply.{Reply}
 use Rattle.kz_types.specs.declared.machine.Reply.TheVariants as reply
@@ -30,13 +32,13 @@ use Rattle.kz_types.specs.declared.plan.Plan.{Plan}
 use Rattle.kz_types.specs.declared.plan.Plan.TheVariants as plan
 use Rattle.kz_types.specs.declared.record.MetaRecord.{MetaRecord}
 use Rattle.kz_types.specs.declared.record.MetaRecord.TheVariants as meta
-use Rattle.kz_spec_stores.specs.Tree.{path_of_op, Tree, empty_tree, row_at, multi, begin_session, end_session, area, migrated_rows}
+use Rattle.kz_spec_stores.specs.Tree.{path_of_op, Tree, empty_tree, row_at, multi, begin_session, end_session, area, migrated_rows, migration_record, unclosed_path}
 use Rattle.kz_spec_stores.specs.Image.{empty_image, all_applied, is_migrated_state, Bad, first_bad, rule_number}
-use Rattle.kz_spec_stores.specs.Log.{Log, empty_log, end_of, begun_of, image_at, image_of, is_migrated_log, is_open_log, batch_ends, with_batch, with_next_epoch, full_log}
+use Rattle.kz_spec_stores.specs.Log.{Log, empty_log, end_of, begun_of, image_at, image_of, is_migrated_log, is_open_log, batch_ends, reset, with_batch, with_next_epoch, full_log}
 use Rattle.kz_spec_znodes.specs.Rendering.{Excess, render, excess}
 use Rattle.kz_spec_znodes.specs.Translation.{Unreadable, translate}
 use Rattle.kz_spec_znodes.specs.Difference.{op_size}
-use Rattle.kz_spec_machine.specs.Driver.{Shared, Driver, new_driver, elected_driver, epoch_or_zero, is_one_of, least, shown_by, Request, nothing, request_at, StepResult, planned_step, step}
+use Rattle.kz_spec_machine.specs.Driver.{Shared, Driver, new_driver, elected_driver, epoch_or_zero, is_one_of, least, shown_by, state_of, Request, nothing, request_at, StepResult, planned_step, step}
 use Rattle.kz_spec_machine.specs.Verdicts.{verdict}
 
 -- ---- worlds
@@ -409,6 +411,75 @@ abbrev pub tree_pairs : {E : Type 0} → World → Result Tree E → List Pair
 tree_pairs w (Ok t) = pair_of (with_tree w t).shared ∷ []
 tree_pairs w (Err f) = []
 
+-- ---- the end of a migration
+
+-- whether the migration of a log is finalised
+abbrev pub is_finalised_log : Log → Bool
+is_finalised_log l = int_eq (image_of l).state POST_MIGRATION
+
+abbrev pub is_dual_write : DriverState → Bool
+is_dual_write state.DualWrite = true
+is_dual_write other = false
+
+-- the driver writes each change of the metadata to ZooKeeper, too
+abbrev pub dual_write_refusal : Option Driver → Option Answer
+dual_write_refusal None = None
+dual_write_refusal (Some d) = unless (is_dual_write (state_of d.stage)) (answer.NotDualWrite (state_of d.stage))
+
+abbrev pub behind_refusal : Option Recorded → ℤ → Option Answer
+behind_refusal None end = None
+behind_refusal (Some r) end = unless (int_eq r.offset end) (answer.Behind r.offset end)
+
+-- the tree is closed, and records the offset at which the log ends
+abbrev pub rest_refusal : Tree → ℤ → Option Answer
+rest_refusal t end = first_of (option_map (λ path. answer.Unclosed path) (unclosed_path t)) (behind_refusal (migration_record t) end)
+
+-- what finalises the migration
+abbrev pub final_records : List MetaRecord
+final_records = meta.ZkMigrationState POST_MIGRATION ∷ []
+
+abbrev pub finalise_refusal : World → ℤ → Option Answer
+finalise_refusal w id = first_of (leader_refusal w id) (
+    first_of (unless (is_migrated_log w.shared.log) answer.NotMigrated) (
+    first_of (unless (not (is_finalised_log w.shared.log)) answer.Finalised) (
+    first_of (dual_write_refusal (driver_of id w.drivers)) (
+    first_of (rest_refusal w.shared.tree (end_of w.shared.log)) (
+    full w.shared.log final_records)))))
+
+-- ---- a migration that is taken back
+
+-- No controller runs, and the migration isn't finalised. Where it is committed, ZooKeeper has all of the metadata.
+abbrev pub rollback_refusal : World → Option Answer
+rollback_refusal w = first_of (option_map (λ id. answer.Running id) (least (running_ids w.drivers))) (
+    first_of (unless (not (is_finalised_log w.shared.log)) answer.Finalised) (
+    if is_migrated_log w.shared.log then rest_refusal w.shared.tree (end_of w.shared.log) else None))
+
+abbrev pub deleted_if : Bool → List ℕ → List Op
+deleted_if true path = op.Delete path (negsuc 0) ∷ []
+deleted_if false path = []
+
+-- what gives ZooKeeper back: `/controller` goes where a KRaft controller holds it, and `/migration` where it is there
+abbrev pub exit_ops : Tree → List Op
+exit_ops t = deleted_if (is_held_tree t) control_path ++ deleted_if (is_some (row_at migration_path t.rows)) migration_path
+
+-- the tree after these operations, of which there may be none
+abbrev pub tree_after_ops : Tree → List Op → Result Tree TreeFault
+tree_after_ops t [] = Ok t
+tree_after_ops t (o ∷ os) = multi t (o ∷ os)
+
+-- the log is reset first
+abbrev pub reset_world : World → World
+reset_world w = record { shared = record w.shared { log = reset w.shared.log }; drivers = w.drivers }
+
+-- and then the tree is given back
+abbrev pub given_back : World → Result Tree TreeFault → World × Answer
+given_back w (Ok t) = (with_tree w t, answer.RolledBack)
+given_back w (Err f) = (w, answer.TreeFailed f)
+
+abbrev pub exit_pairs : World → List Op → List Pair
+exit_pairs w [] = []
+exit_pairs w (o ∷ os) = tree_pairs w (multi w.shared.tree (o ∷ os))
+
 -- ---- the machine
 
 abbrev pub unless_refused : World → Option Answer → World × Answer → World × Answer
@@ -425,6 +496,8 @@ next w (event.Step id now p) = unless_refused w (running_refusal w id) (step_res
 next w (event.Turn id now) = unless_refused w (running_refusal w id) (turn_result w now (driver_of id w.drivers))
 next w (event.Change id records now) = outcome_unless w (change_refusal w id records) (changed_world w records now) (answer.Appended (end_of (changed_log w.shared.log records now)))
 next w (event.Register id broker migrating now) = outcome_unless w (register_refusal w id (registration broker migrating)) (changed_world w (registration broker migrating) now) (answer.Appended (end_of (changed_log w.shared.log (registration broker migrating) now)))
+next w (event.Finalise id now) = outcome_unless w (finalise_refusal w id) (changed_world w final_records now) (answer.Appended (end_of (changed_log w.shared.log final_records now)))
+next w event.Rollback = unless_refused w (rollback_refusal w) (given_back (reset_world w) (tree_after_ops w.shared.tree (exit_ops w.shared.tree)))
 next w event.Check = (w, answer.Check (verdict w.shared.tree w.shared.log))
 next w (event.ZkOpen session) = moved_world w (begin_session w.shared.tree session)
 next w (event.ZkExpire session) = moved_world w (end_session w.shared.tree session)
@@ -444,6 +517,8 @@ event_pairs w (event.Step id now p) = pairs_unless (running_refusal w id) (event
 event_pairs w (event.Turn id now) = pairs_unless (running_refusal w id) (event_turn_pairs w now (driver_of id w.drivers))
 event_pairs w (event.Change id records now) = pairs_unless (change_refusal w id records) (pair_of (changed_world w records now).shared ∷ [])
 event_pairs w (event.Register id broker migrating now) = pairs_unless (register_refusal w id (registration broker migrating)) (pair_of (changed_world w (registration broker migrating) now).shared ∷ [])
+event_pairs w (event.Finalise id now) = pairs_unless (finalise_refusal w id) (pair_of (changed_world w final_records now).shared ∷ [])
+event_pairs w event.Rollback = pairs_unless (rollback_refusal w) (pair_of (reset_world w).shared ∷ exit_pairs (reset_world w) (exit_ops w.shared.tree))
 event_pairs w event.Check = []
 event_pairs w (event.ZkOpen session) = tree_pairs w (begin_session w.shared.tree session)
 event_pairs w (event.ZkExpire session) = tree_pairs w (end_session w.shared.tree session)

@@ -66,3 +66,29 @@ pub fn failover()
     ensures { answers empty_world (failover_events ++ event.Change (pos 1) (one_member ∷ []) (pos 0) ∷ event.Step (pos 1) (pos 0) plan.Deliver ∷ event.Step (pos 1) (pos 0) plan.Deliver ∷ event.Check ∷ [])
         ≡ failover_answers ++ answer.Stale (pos 2) ∷ answer.Step reply.Looked ∷ answer.Step (reply.FencedWrite (pos 0)) ∷ answer.Check (verdict.Closed (pos 5)) ∷ [] }
 {}
+
+/// A migration is finalised, and the driver resigns at its next step. Before the commit it can't be.
+#[tactic(auto, unfolding(crate::proofs::OnLiterals::machine_on_literals))]
+pub fn finalised()
+    ensures before { answers empty_world (event.Quorum (pos 1 ∷ []) ∷ event.Finalise (pos 2) (pos 0) ∷ event.Finalise (pos 1) (pos 0) ∷ event.Start (pos 1) ∷ event.Finalise (pos 1) (pos 0) ∷ event.Elect (pos 1) (pos 0) ∷ event.Finalise (pos 1) (pos 0) ∷ [])
+        ≡ answer.Done ∷ answer.UnknownController ∷ answer.NotRunning ∷ answer.Done ∷ answer.NotLeader ∷ answer.Elected (pos 1) (pos 1) ∷ answer.NotMigrated ∷ [] }
+    ensures after { answers empty_world (migration_events ++ event.Finalise (pos 3000) (pos 0) ∷ event.Finalise (pos 3000) (pos 0) ∷ event.Turn (pos 3000) (pos 0) ∷ event.Finalise (pos 3000) (pos 0) ∷ event.Check ∷ event.Stop None ∷ event.Rollback ∷ [])
+        ≡ migration_answers ++ answer.Appended (pos 5) ∷ answer.Finalised ∷ answer.Turn (reply.Moved state.Inactive ∷ reply.Idle ∷ []) ∷ answer.NotLeader ∷ answer.Check (verdict.Closed (pos 4)) ∷ answer.Done ∷ answer.Finalised ∷ [] }
+    ensures not_yet { answers empty_world (migration_events ++ event.Change (pos 3000) (one_member ∷ []) (pos 0) ∷ event.Finalise (pos 3000) (pos 0) ∷ event.Elect (pos 3000) (pos 0) ∷ event.Finalise (pos 3000) (pos 0) ∷ [])
+        ≡ migration_answers ++ answer.Appended (pos 5) ∷ answer.Behind (pos 4) (pos 5) ∷ answer.Elected (pos 2) (pos 6) ∷ answer.NotDualWrite state.WaitForControllerQuorum ∷ [] }
+{}
+
+/// A migration is taken back once no controller runs and ZooKeeper has all of the metadata. A further one begins with what
+/// stands there.
+#[tactic(auto, unfolding(crate::proofs::OnLiterals::machine_on_literals))]
+pub fn taken_back()
+    ensures nothing { answers empty_world (event.Rollback ∷ []) ≡ answer.RolledBack ∷ [] }
+    ensures runs { answers empty_world (migration_events ++ event.Rollback ∷ []) ≡ migration_answers ++ answer.Running (pos 3000) ∷ [] }
+    ensures not_yet { answers empty_world (migration_events ++ event.Register (pos 3000) (pos 1) true (pos 0) ∷ event.Stop None ∷ event.Rollback ∷ [])
+        ≡ migration_answers ++ answer.Appended (pos 5) ∷ answer.Done ∷ answer.Behind (pos 4) (pos 5) ∷ [] }
+    ensures again { answers empty_world (migration_events ++ event.Stop None ∷ event.Rollback ∷ event.Check ∷ event.Start (pos 3000) ∷ event.Elect (pos 3000) (pos 0) ∷ event.Turn (pos 3000) (pos 0) ∷ [])
+        ≡ migration_answers ++ answer.Done ∷ answer.RolledBack ∷ answer.Check verdict.Unmigrated ∷ answer.Done ∷ answer.Elected (pos 2) (pos 1)
+        ∷ answer.Turn (reply.Moved state.WaitForBrokers ∷ reply.Looked ∷ reply.Moved state.BecomeController ∷ reply.Looked
+        ∷ reply.Claimed (pos 2) ∷ reply.Read 17 ∷ reply.Appended (pos 2) ∷ reply.Appended (pos 4) ∷ reply.Looked ∷ reply.Read 17
+        ∷ reply.Recorded (pos 4) ∷ reply.Moved state.DualWrite ∷ reply.Idle ∷ []) ∷ [] }
+{}

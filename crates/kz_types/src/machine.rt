@@ -161,6 +161,13 @@ pub enum Event {
         migrating: bool,
         now: i64,
     },
+    /// Asks a controller to finalise the migration: ZooKeeper is written no more from then on.
+    Finalise {
+        controller: i32,
+        now: i64,
+    },
+    /// Takes the migration back: the log is reset, and ZooKeeper is given back.
+    Rollback,
     /// Compares the tree with the log.
     Check,
     /// A ZooKeeper session begins. Sessions are at least 1.
