@@ -13,7 +13,7 @@ use Rattle.kz_types.specs.declared.record.RegisterBrokerRecord.{RegisterBrokerRe
 use Rattle.kz_types.specs.Ids.{zero_id}
 use Rattle.kz_spec_stores.specs.Settlement.{is_marker}
 use Rattle.kz_spec_stores.specs.ImageRules.{is_kept_back, broken_rule}
-use Rattle.kz_spec_stores.specs.Image.{Image, all_applied, effect, unless_broken, image_with, first_bad}
+use Rattle.kz_spec_stores.specs.Image.{Image, all_applied, effect, unless_broken, image_with, first_bad, is_migrated_state}
 use Rattle.kz_spec_stores.specs.Log.{Log, end_of, entries_at_offsets, with_batch, full_log, image_of, is_migrated_log, is_open_log, begun_of}
 use Rattle.kz_spec_znodes.specs.Rendering.{excess}
 use Rattle.kz_spec_machine.specs.Driver.{Shared, Driver}
@@ -27,8 +27,8 @@ use Rattle.kz_laws_trees.specs.LogLaws.{IsPlain}
 use Rattle.kz_laws_trees.proofs.Asked.{asked_all, asked_plain}
 use Rattle.kz_laws_trees.proofs.Commits.{commit_kept}
 use Rattle.kz_laws_trees.proofs.Ends.{end_is_batch_end}
-use Rattle.kz_laws_trees.proofs.Growth.{batch_shape, plain_lengthens, plain_was, plain_stays}
-use Rattle.kz_laws_trees.proofs.Migration.{next_entries}
+use Rattle.kz_laws_trees.proofs.Growth.{batch_shape, batch_lengthens}
+use Rattle.kz_laws_trees.proofs.Migration.{next_entries, NoneEnds, plain_keeps_state}
 use Rattle.kz_laws_logs.proofs.Begun.{none_begun, begun_log, open_log}
 use Rattle.kz_laws_logs.proofs.Pending.{NoneMarks}
 use Rattle.kz_laws_logs.proofs.Opened.{unmarked_keep_settled}
@@ -49,7 +49,8 @@ numbered_unmarked offset epoch (r ∷ rs) all =
 -- what is known of it
 pub record IsLeaderBatch (s : Shared) (now : ℤ) (items : List MetaRecord) : Type 0 where
   pub kept : IsSharedSound s
-  pub plain : All IsPlain items
+  pub same : is_migrated_log (with_batch s.log s.log.epoch now items) ≡ is_migrated_log s.log
+  pub ends : NoneEnds (next_entries s.log s.log.epoch items)
   pub unmarked : All (λ (r : MetaRecord). is_marker r ≡ false) items
   pub some : 1 ≤ length items
   pub room : full_log s.log items ≡ None
@@ -63,7 +64,7 @@ pub shape_more : (s : Shared) (now : ℤ) (items : List MetaRecord) → IsLeader
 shape_more s now items b = batch_shape s.log s.log.epoch now items b.kept.log (at_least_itself s.log.epoch) b.range b.some b.room
 
 pub longer : (s : Shared) (now : ℤ) (items : List MetaRecord) → IsLeaderBatch s now items → IsLonger s.log (more_of s now items)
-longer s now items b = plain_lengthens s.log s.log.epoch now items b.kept.log (at_least_itself s.log.epoch) b.some b.plain
+longer s now items b = batch_lengthens s.log s.log.epoch now items b.kept.log (at_least_itself s.log.epoch) b.some (λ old. b.same ∙ old) (λ old. b.ends)
 
 marks : (s : Shared) (now : ℤ) (items : List MetaRecord) → IsLeaderBatch s now items → NoneMarks (next_entries s.log s.log.epoch items)
 marks s now items b = numbered_unmarked (end_of s.log +ℤ pos 1) s.log.epoch items b.unmarked
@@ -72,44 +73,44 @@ pub more_closed : (s : Shared) (now : ℤ) (items : List MetaRecord) → IsLeade
 more_closed s now items b = unmarked_keep_settled s.log s.log.epoch now items b.kept.log (shape_more s now items b) (marks s now items b) b.settled
 
 pub was : (s : Shared) (now : ℤ) (items : List MetaRecord) → IsLeaderBatch s now items → is_migrated_log (more_of s now items) ≡ true → is_migrated_log s.log ≡ true
-was s now items b migrated = plain_was s.log s.log.epoch now items b.kept.log b.plain migrated
+was s now items b migrated = sym b.same ∙ migrated
 
 applied : (s : Shared) (now : ℤ) (items : List MetaRecord) → IsLeaderBatch s now items → image_of (more_of s now items) ≡ all_applied s.log.epoch items (image_of s.log)
-applied s now items b = unmarked_applied s.log s.log.epoch now items b.kept.log b.settled (marks s now items b) (plain_end_none s.log s.log.epoch items b.plain)
+applied s now items b = unmarked_applied s.log s.log.epoch now items b.kept.log b.settled (marks s now items b) b.ends
 
 settled_batch : (s : Shared) (now : ℤ) (items : List MetaRecord) → IsLeaderBatch s now items → excess (all_applied s.log.epoch items (image_of s.log)) ≡ None → IsSettledBatch s.log s.log.epoch now items
 settled_batch s now items b fits = record {
   longer = longer s now items b;
-  commit = commit_kept s.log s.log.epoch now items b.kept.log (plain_end_none s.log s.log.epoch items b.plain);
+  commit = commit_kept s.log s.log.epoch now items b.kept.log b.ends;
   closed = more_closed s now items b;
   fits = ap excess (applied s now items b) ∙ fits;
 }
 
-shared_more : (s : Shared) (now : ℤ) (items : List MetaRecord) → IsLeaderBatch s now items → (is_migrated_log s.log ≡ true → excess (all_applied s.log.epoch items (image_of s.log)) ≡ None) → (is_migrated_log s.log ≡ false → Unmigrated (more_of s now items))
+pub shared_more : (s : Shared) (now : ℤ) (items : List MetaRecord) → IsLeaderBatch s now items → (is_migrated_log s.log ≡ true → excess (all_applied s.log.epoch items (image_of s.log)) ≡ None) → (is_migrated_log s.log ≡ false → Unmigrated (more_of s now items))
     → IsSharedSound (record s { log = more_of s now items })
 shared_more s now items b fits before = record {
   tree = b.kept.tree;
   log = shape_more s now items b;
-  before = λ none. before (not_yet (is_migrated_log s.log) refl none);
+  before = λ none. before (sym b.same ∙ none);
   agreement = λ migrated.
       let old = was s now items b migrated in
       agrees_more s.tree s.log s.log.epoch now items b.kept.log old (settled_batch s now items b (fits old)) (b.kept.agreement old);
 }
-  where
-    not_yet : (t : Bool) → is_migrated_log s.log ≡ t → is_migrated_log (more_of s now items) ≡ false → t ≡ false
-    not_yet true is none = absurd (true_or_false (is_migrated_log (more_of s now items)) (plain_stays s.log s.log.epoch now items b.kept.log b.plain is) none)
-    not_yet false is none = refl
 
 each_more : (s : Shared) (now : ℤ) (items : List MetaRecord) (f : Driver) → IsLeaderBatch s now items → IsSoundDriver s f → IsSoundDriver (record s { log = more_of s now items }) f
 each_more s now items f b fine =
     others_longer s (more_of s now items) f (longer s now items b) (was s now items b) (λ leads. (none_begun s.log b.kept.log b.settled, more_closed s now items b)) (λ r migrated found. recorded_within s r b.kept migrated found) fine
 
-changed : (w : World) (now : ℤ) (items : List MetaRecord) → IsLeaderBatch w.shared now items → Sound w → IsSharedSound (record w.shared { log = more_of w.shared now items }) → Sound (changed_world w items now)
+pub changed : (w : World) (now : ℤ) (items : List MetaRecord) → IsLeaderBatch w.shared now items → Sound w → IsSharedSound (record w.shared { log = more_of w.shared now items }) → Sound (changed_world w items now)
 changed w now items b sound kept = record {
   kept = kept;
   each = λ id d found. each_more w.shared now items d b (sound.each id d found);
   apart = sound.apart;
 }
+
+-- plain records leave the migration's state, and end no transaction
+plain_same : (l : Log) (now : ℤ) (items : List MetaRecord) → LogShape l → All IsPlain items → is_migrated_log (with_batch l l.epoch now items) ≡ is_migrated_log l
+plain_same l now items shape plain = ap is_migrated_state (plain_keeps_state l l.epoch now items shape plain)
 
 -- ---- changes
 
@@ -143,7 +144,8 @@ may_change w id records none =
 pub change_batch : (w : World) (id now : ℤ) (records : List MetaRecord) → 1 ≤ length records → Sound w → MayChange w id records → IsLeaderBatch w.shared now records
 change_batch w id now records some sound m = record {
   kept = sound.kept;
-  plain = asked_plain 0 records (image_of w.shared.log) m.lawful;
+  same = plain_same w.shared.log now records sound.kept.log (asked_plain 0 records (image_of w.shared.log) m.lawful);
+  ends = plain_end_none w.shared.log w.shared.log.epoch records (asked_plain 0 records (image_of w.shared.log) m.lawful);
   unmarked = asked_all (λ (r : MetaRecord). is_marker r ≡ false) unkept_unmarked 0 records (image_of w.shared.log) m.lawful;
   some = some;
   room = m.room;
@@ -171,9 +173,11 @@ register_batch w id broker now migrating sound none =
     let l = w.shared.log in
     let one = first_none (leader_refusal w id) (first_of (option_map (λ (offset : ℤ). answer.InTransaction offset) (begun_of l)) (full l (registration broker migrating))) none in
     let two = first_none (option_map (λ (offset : ℤ). answer.InTransaction offset) (begun_of l)) (full l (registration broker migrating)) one.1 in
+    let plain = All-cons IsPlain (meta.RegisterBroker (new_broker broker migrating)) [] tt (All-nil IsPlain) in
     record {
       kept = sound.kept;
-      plain = All-cons IsPlain (meta.RegisterBroker (new_broker broker migrating)) [] tt (All-nil IsPlain);
+      same = plain_same l now (registration broker migrating) sound.kept.log plain;
+      ends = plain_end_none l l.epoch (registration broker migrating) plain;
       unmarked = All-cons (λ (r : MetaRecord). is_marker r ≡ false) (meta.RegisterBroker (new_broker broker migrating)) [] refl (All-nil (λ (r : MetaRecord). is_marker r ≡ false));
       some = one_item;
       room = over_none (full_log l (registration broker migrating)) two.1;
@@ -199,7 +203,7 @@ registered_fits w broker now migrating sound migrated =
 registered_before : (s : Shared) (broker now : ℤ) (migrating : Bool) → IsLeaderBatch s now (registration broker migrating) → is_migrated_log s.log ≡ false → Unmigrated (more_of s now (registration broker migrating))
 registered_before s broker now migrating b before =
     let items = registration broker migrating in
-    unmigrated_more s.log s.log.epoch now items b.kept.log (plain_end_none s.log s.log.epoch items b.plain) (early_counted s.log s.log.epoch now items b.kept.log (λ none. tt, tt)) (b.kept.before before)
+    unmigrated_more s.log s.log.epoch now items b.kept.log b.ends (early_counted s.log s.log.epoch now items b.kept.log (λ none. tt, tt)) (b.kept.before before)
 
 pub registration_sound : (w : World) (id broker : ℤ) (migrating : Bool) (now : ℤ) → Sound w → Sound (next w (event.Register id broker migrating now)).0
 unfolding next

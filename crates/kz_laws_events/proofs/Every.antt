@@ -9,6 +9,7 @@ use Rattle.kz_laws_events.proofs.Changed.{change_sound, registration_sound}
 use Rattle.kz_laws_events.proofs.Elections.{election_sound}
 use Rattle.kz_laws_events.proofs.Turned.{step_event, turn_event}
 use Rattle.kz_laws_events.proofs.Unheld.{clients_sound}
+use Rattle.kz_laws_events.proofs.Exits.{finalise_sound, rollback_sound}
 
 check_sound : (w : World) → Sound w → Sound (next w event.Check).0
 unfolding next
@@ -23,6 +24,8 @@ event_sound w (event.Step id now p) lawful sound = step_event w id now p lawful.
 event_sound w (event.Turn id now) lawful sound = turn_event w id now lawful.1 sound
 event_sound w (event.Change id records now) lawful sound = change_sound w id now records lawful.2 sound
 event_sound w (event.Register id broker migrating now) lawful sound = registration_sound w id broker migrating now sound
+event_sound w (event.Finalise id now) lawful sound = finalise_sound w id now sound
+event_sound w event.Rollback lawful sound = rollback_sound w sound
 event_sound w event.Check lawful sound = check_sound w sound
 event_sound w (event.ZkOpen session) lawful sound = open_sound w session lawful sound
 event_sound w (event.ZkExpire session) lawful sound = expire_sound w session sound

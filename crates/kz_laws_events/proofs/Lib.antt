@@ -5,5 +5,6 @@ pub mod Elected
 pub mod Elections
 pub mod Turned
 pub mod Unheld
+pub mod Exits
 pub mod Every
 pub mod Runs

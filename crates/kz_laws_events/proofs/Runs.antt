@@ -10,12 +10,10 @@ use Rattle.kz_spec_stores.specs.Tree.{empty_tree}
 use Rattle.kz_spec_stores.specs.Log.{empty_log, image_at, is_migrated_log}
 use Rattle.kz_spec_machine.specs.Machine.{World, empty_world, next, after_events}
 use Rattle.kz_spec_machine.specs.Sound.{IsStamped, IsNotRoot, IsUnreserved, Lasts, IsOwned, IsSmall, IsBeforeMigration, TreeShape, LogShape, Sound, IsLawful}
+use Rattle.kz_laws_events.proofs.Exits.{empty_in_order}
 use Rattle.kz_laws_events.proofs.Every.{event_sound}
 
 -- ---- the empty world
-
-empty_in_order : IsInOrder empty_image
-empty_in_order = search rules
 
 empty_tree_shape : TreeShape empty_tree
 empty_tree_shape = record {

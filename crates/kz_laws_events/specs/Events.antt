@@ -1,12 +1,12 @@
 -- Every event keeps a world sound, and so does every run.
-use Rattle.std.specs.Prelude.{ℕ, ◌≤◌, ℤ, Bool, List, length, All}
+use Rattle.std.specs.Prelude.{◌≡◌, ℕ, ◌≤◌, ℤ, Bool, List, length, None, All}
 use Rattle.kz_types.specs.declared.tree.Op.{Op}
 use Rattle.kz_types.specs.declared.machine.Event.{Event}
 use Rattle.kz_types.specs.declared.machine.Event.TheVariants as event
 use Rattle.kz_types.specs.declared.plan.Plan.{Plan}
 use Rattle.kz_types.specs.declared.record.MetaRecord.{MetaRecord}
 use Rattle.kz_spec_machine.specs.Driver.{Shared, Driver}
-use Rattle.kz_spec_machine.specs.Machine.{World, empty_world, turn, next, after_events}
+use Rattle.kz_spec_machine.specs.Machine.{World, empty_world, turn, rollback_refusal, reset_world, next, after_events}
 use Rattle.kz_spec_machine.specs.Sound.{IsTime, IsSharedSound, IsSoundDriver, Sound, IsLawfulOp, IsLawful}
 use Rattle.kz_laws_steps.specs.Steps.{StepKeeps}
 
@@ -33,6 +33,14 @@ RegistrationsKeepSound = (w : World) (id broker : ℤ) (migrating : Bool) (now :
 -- So does a client's multi, whether a KRaft controller holds the tree or none does.
 abbrev pub ClientsKeepSound : Type 0
 ClientsKeepSound = (w : World) (ops : List Op) → All IsLawfulOp ops → Sound w → Sound (next w (event.Zk ops)).0
+
+-- So does a finalisation.
+abbrev pub FinalisationsKeepSound : Type 0
+FinalisationsKeepSound = (w : World) (id now : ℤ) → Sound w → Sound (next w (event.Finalise id now)).0
+
+-- So does a rollback, also one that stops before it has given the tree back.
+abbrev pub RollbacksKeepSound : Type 0
+RollbacksKeepSound = (w : World) → Sound w → Sound (next w event.Rollback).0 × (rollback_refusal w ≡ None → Sound (reset_world w))
 
 -- So does each event that a line of a script gives.
 abbrev pub EventsKeepSound : Type 0

@@ -3,10 +3,10 @@
 //! A law is the contract of a function that does nothing.
 #![tactic(auto)]
 
-ghost use Rattle.kz_laws_events.specs.Events.{TurnsKeep, StepsKeepSound, ElectionsKeepSound, ChangesKeepSound, RegistrationsKeepSound, ClientsKeepSound, EventsKeepSound, EmptyIsSound, RunsKeepSound};
+ghost use Rattle.kz_laws_events.specs.Events.{TurnsKeep, StepsKeepSound, ElectionsKeepSound, ChangesKeepSound, RegistrationsKeepSound, ClientsKeepSound, FinalisationsKeepSound, RollbacksKeepSound, EventsKeepSound, EmptyIsSound, RunsKeepSound};
 
 /// A world stays sound with every event: with steps under every plan, turns, elections, changes and registrations, with multis and
-/// sessions of clients, and with controllers that are declared, start and stop.
+/// sessions of clients, with finalisations and rollbacks, and with controllers that are declared, start and stop.
 pub fn events_keep_sound()
     ensures turn { TurnsKeep }
     ensures step { StepsKeepSound }
@@ -14,6 +14,8 @@ pub fn events_keep_sound()
     ensures change { ChangesKeepSound }
     ensures registration { RegistrationsKeepSound }
     ensures client { ClientsKeepSound }
+    ensures finalisation { FinalisationsKeepSound }
+    ensures rollback { RollbacksKeepSound }
     ensures all { EventsKeepSound }
 {}
 
