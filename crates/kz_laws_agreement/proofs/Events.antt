@@ -14,9 +14,9 @@ use Rattle.kz_types.specs.declared.plan.Plan.{Plan}
 use Rattle.kz_types.specs.declared.plan.Plan.TheVariants as plan
 use Rattle.kz_types.specs.declared.record.MetaRecord.{MetaRecord}
 use Rattle.kz_spec_stores.specs.Tree.{Tree, multi, begin_session, end_session, rendered_row}
-use Rattle.kz_spec_stores.specs.Log.{is_migrated_log}
+use Rattle.kz_spec_stores.specs.Log.{is_migrated_log, reset}
 use Rattle.kz_spec_machine.specs.Driver.{Shared, Driver, step}
-use Rattle.kz_spec_machine.specs.Machine.{World, running_ids, driver_of, running_refusal, quorum_refusal, declared_world, start_refusal, started_world, stop_refusal, stopped_world, election_refusal, elected_world, election_answer, step_result, ends, TurnResult, with_reply, turn, work, turn_result, change_refusal, changed_world, registration, register_refusal, moved_world, is_held_tree, client_refusal, client_world, unless_refused, next, after_events}
+use Rattle.kz_spec_machine.specs.Machine.{World, running_ids, driver_of, running_refusal, quorum_refusal, declared_world, start_refusal, started_world, stop_refusal, stopped_world, election_refusal, elected_world, election_answer, step_result, ends, TurnResult, with_reply, turn, work, turn_result, change_refusal, changed_world, registration, register_refusal, final_records, finalise_refusal, exit_ops, tree_after_ops, reset_world, given_back, rollback_refusal, moved_world, is_held_tree, client_refusal, client_world, unless_refused, next, after_events}
 use Rattle.kz_spec_machine.specs.Sound.{IsTime, IsSharedSound, IsSoundDriver, Sound, IsLawful}
 use Rattle.kz_laws_drivers.specs.Effects.{IsUnchanged}
 use Rattle.kz_laws_trees.proofs.Sessions.{begin_leaves, end_leaves}
@@ -28,11 +28,12 @@ use Rattle.kz_laws_events.proofs.Elected.{may_elect}
 use Rattle.kz_laws_events.proofs.Elected as elected
 use Rattle.kz_laws_events.proofs.Changed.{may_change, change_batch, register_batch}
 use Rattle.kz_laws_events.proofs.Changed as changed
+use Rattle.kz_laws_events.proofs.Exits.{may_finalise, final_batch, reset_unmigrated}
 use Rattle.kz_laws_events.proofs.Turned.{one_step}
 use Rattle.kz_laws_events.proofs.Unheld.{unmigrated}
 use Rattle.kz_laws_events.proofs.Every.{event_sound}
 use Rattle.kz_laws_agreement.specs.Agreement.{PathsAgree, source_after, source_of_turn, source_by_turn, source_unless, source_of_event, source_of_run}
-use Rattle.kz_laws_agreement.proofs.Effects.{same_agrees, Leaves, left_agrees, longer_agrees}
+use Rattle.kz_laws_agreement.proofs.Effects.{nothing_owed, same_agrees, Leaves, left_agrees, longer_agrees}
 use Rattle.kz_laws_agreement.proofs.Steps.{step_agrees}
 
 -- what is to hold of a world, for the source of the one before
@@ -84,6 +85,21 @@ register_agrees source w id broker now migrating sound agrees = decided_by (Agre
     let items = registration broker migrating in
     let b = register_batch w id broker now migrating sound none in
     longer_agrees source w.shared (changed.more_of w.shared now items) (changed.longer w.shared now items b) (changed.was w.shared now items b) agrees)
+
+finalise_agrees : (source : List Rendered) (w : World) (id now : ℤ) → Sound w → PathsAgree source w.shared → AgreesFrom source w (next w (event.Finalise id now)).0
+unfolding next
+finalise_agrees source w id now sound agrees = decided_by (AgreesFrom source w) w (finalise_refusal w id) (changed_world w final_records now) _ (same_agrees source w.shared agrees) (λ none.
+    let b = final_batch w id now sound (may_finalise w id none) in
+    longer_agrees source w.shared (changed.more_of w.shared now final_records) (changed.longer w.shared now final_records b) (changed.was w.shared now final_records b) agrees)
+
+given_back_agrees : (source : List Rendered) (w : World) (r : Result Tree TreeFault) → AgreesFrom source w (given_back (reset_world w) r).0
+given_back_agrees source w (Ok t) = nothing_owed (source_after source w.shared) (record w.shared { log = reset w.shared.log; tree = t }) (reset_unmigrated w.shared.log)
+given_back_agrees source w (Err f) = nothing_owed (source_after source w.shared) (record w.shared { log = reset w.shared.log }) (reset_unmigrated w.shared.log)
+
+rollback_agrees : (source : List Rendered) (w : World) → PathsAgree source w.shared → AgreesFrom source w (next w event.Rollback).0
+unfolding next
+rollback_agrees source w agrees =
+    refused_or (AgreesFrom source w) w (rollback_refusal w) (given_back (reset_world w) (tree_after_ops w.shared.tree (exit_ops w.shared.tree))) (same_agrees source w.shared agrees) (λ none. given_back_agrees source w (tree_after_ops w.shared.tree (exit_ops w.shared.tree)))
 
 -- ---- clients
 
@@ -169,6 +185,8 @@ event_agrees source w (event.Step id now p) lawful sound agrees = stepped_agrees
 event_agrees source w (event.Turn id now) lawful sound agrees = turned_agrees source w id now lawful.1 sound agrees
 event_agrees source w (event.Change id records now) lawful sound agrees = change_agrees source w id now records lawful.2 sound agrees
 event_agrees source w (event.Register id broker migrating now) lawful sound agrees = register_agrees source w id broker now migrating sound agrees
+event_agrees source w (event.Finalise id now) lawful sound agrees = finalise_agrees source w id now sound agrees
+event_agrees source w event.Rollback lawful sound agrees = rollback_agrees source w agrees
 event_agrees source w event.Check lawful sound agrees = check_agrees source w agrees
 event_agrees source w (event.ZkOpen session) lawful sound agrees = open_agrees source w session sound agrees
 event_agrees source w (event.ZkExpire session) lawful sound agrees = expire_agrees source w session sound agrees

@@ -20,7 +20,7 @@ use Rattle.kz_spec_stores.specs.Tree.{Tree, multi, begin_session, end_session}
 use Rattle.kz_spec_stores.specs.Log.{Log, append, is_migrated_log, is_open_log}
 use Rattle.kz_spec_znodes.specs.Translation.{Unreadable, translate}
 use Rattle.kz_spec_machine.specs.Driver.{Shared, Driver, epoch_or_zero, claim_ops, remaining_at, write_ops, begin_record, commit_records, begin_request, write_request, request_at, with_tree, with_log, shared_after, reaches_store, planned_step, step}
-use Rattle.kz_spec_machine.specs.Machine.{World, running_ids, driver_of, running_refusal, quorum_refusal, declared_world, start_refusal, started_world, stop_refusal, stopped_world, election_refusal, elected_world, election_answer, step_result, ends, TurnResult, with_reply, turn, work, turn_result, change_refusal, changed_world, registration, register_refusal, moved_world, client_refusal, client_world, next}
+use Rattle.kz_spec_machine.specs.Machine.{World, running_ids, driver_of, running_refusal, quorum_refusal, declared_world, start_refusal, started_world, stop_refusal, stopped_world, election_refusal, elected_world, election_answer, step_result, ends, TurnResult, with_reply, turn, work, turn_result, change_refusal, changed_world, registration, register_refusal, final_records, finalise_refusal, moved_world, client_refusal, client_world, next}
 use Rattle.kz_spec_machine.specs.Sound.{IsTime, IsSharedSound, IsSoundDriver, Sound, IsLawful}
 use Rattle.kz_laws_steps.specs.Steps.{StepKeeps}
 use Rattle.kz_laws_steps.proofs.Tests.{true_or_false}
@@ -33,8 +33,10 @@ use Rattle.kz_laws_events.proofs.Elected.{may_elect}
 use Rattle.kz_laws_events.proofs.Elected as elected
 use Rattle.kz_laws_events.proofs.Changed.{may_change, change_batch, register_batch}
 use Rattle.kz_laws_events.proofs.Changed as changed
+use Rattle.kz_laws_events.proofs.Exits.{may_finalise, final_batch}
 use Rattle.kz_laws_events.proofs.Turned.{one_step}
 use Rattle.kz_laws_events.proofs.Every.{event_sound}
+use Rattle.kz_laws_commits.specs.After.{TakesNothingBack}
 
 -- ---- a request
 
@@ -123,26 +125,29 @@ client_stays : (w : World) (r : Result Tree TreeFault) → IsMigrated w → IsMi
 client_stays w (Ok t) migrated = migrated
 client_stays w (Err f) migrated = migrated
 
-event_stays : (w : World) (e : Event) → IsLawful e → Sound w → IsMigrated w → IsMigrated (next w e).0
+event_stays : (w : World) (e : Event) → IsLawful e → TakesNothingBack e → Sound w → IsMigrated w → IsMigrated (next w e).0
 unfolding next
-event_stays w (event.Quorum ids) lawful sound migrated = decided IsMigrated w (quorum_refusal w ids) (declared_world w ids) answer.Done migrated migrated
-event_stays w (event.Start id) lawful sound migrated = decided IsMigrated w (start_refusal w id) (started_world w id) answer.Done migrated migrated
-event_stays w (event.Stop controller) lawful sound migrated = decided IsMigrated w (stop_refusal w controller) (stopped_world w controller) answer.Done migrated migrated
-event_stays w (event.Elect id now) lawful sound migrated = decided_by IsMigrated w (election_refusal w id) (elected_world w id now) (election_answer w now) migrated (λ none. (elected.longer w.shared now (may_elect w id sound none)).migrated migrated)
-event_stays w (event.Step id now p) lawful sound migrated = unless_made IsMigrated w (running_refusal w id) (step_result w p now (driver_of id w.drivers)) migrated (step_stays w id now p (driver_of id w.drivers) refl sound migrated)
-event_stays w (event.Turn id now) lawful sound migrated = unless_made IsMigrated w (running_refusal w id) (turn_result w now (driver_of id w.drivers)) migrated (turn_stays w id now (driver_of id w.drivers) refl lawful.1 sound migrated)
-event_stays w (event.Change id records now) lawful sound migrated = decided_by IsMigrated w (change_refusal w id records) (changed_world w records now) _ migrated
+event_stays w (event.Quorum ids) lawful forward sound migrated = decided IsMigrated w (quorum_refusal w ids) (declared_world w ids) answer.Done migrated migrated
+event_stays w (event.Start id) lawful forward sound migrated = decided IsMigrated w (start_refusal w id) (started_world w id) answer.Done migrated migrated
+event_stays w (event.Stop controller) lawful forward sound migrated = decided IsMigrated w (stop_refusal w controller) (stopped_world w controller) answer.Done migrated migrated
+event_stays w (event.Elect id now) lawful forward sound migrated = decided_by IsMigrated w (election_refusal w id) (elected_world w id now) (election_answer w now) migrated (λ none. (elected.longer w.shared now (may_elect w id sound none)).migrated migrated)
+event_stays w (event.Step id now p) lawful forward sound migrated = unless_made IsMigrated w (running_refusal w id) (step_result w p now (driver_of id w.drivers)) migrated (step_stays w id now p (driver_of id w.drivers) refl sound migrated)
+event_stays w (event.Turn id now) lawful forward sound migrated = unless_made IsMigrated w (running_refusal w id) (turn_result w now (driver_of id w.drivers)) migrated (turn_stays w id now (driver_of id w.drivers) refl lawful.1 sound migrated)
+event_stays w (event.Change id records now) lawful forward sound migrated = decided_by IsMigrated w (change_refusal w id records) (changed_world w records now) _ migrated
     (λ none. (changed.longer w.shared now records (change_batch w id now records lawful.2 sound (may_change w id records none))).migrated migrated)
-event_stays w (event.Register id broker migrating now) lawful sound migrated = decided_by IsMigrated w (register_refusal w id (registration broker migrating)) (changed_world w (registration broker migrating) now) _ migrated
+event_stays w (event.Register id broker migrating now) lawful forward sound migrated = decided_by IsMigrated w (register_refusal w id (registration broker migrating)) (changed_world w (registration broker migrating) now) _ migrated
     (λ none. (changed.longer w.shared now (registration broker migrating) (register_batch w id broker now migrating sound none)).migrated migrated)
-event_stays w event.Check lawful sound migrated = migrated
-event_stays w (event.ZkOpen session) lawful sound migrated = moved_stays w (begin_session w.shared.tree session) migrated
-event_stays w (event.ZkExpire session) lawful sound migrated = moved_stays w (end_session w.shared.tree session) migrated
-event_stays w (event.Zk ops) lawful sound migrated = unless_made IsMigrated w (client_refusal w.shared.tree ops) (client_world w (multi w.shared.tree ops)) migrated (client_stays w (multi w.shared.tree ops) migrated)
+event_stays w (event.Finalise id now) lawful forward sound migrated = decided_by IsMigrated w (finalise_refusal w id) (changed_world w final_records now) _ migrated
+    (λ none. (changed.longer w.shared now final_records (final_batch w id now sound (may_finalise w id none))).migrated migrated)
+event_stays w event.Rollback lawful forward sound migrated = absurd forward
+event_stays w event.Check lawful forward sound migrated = migrated
+event_stays w (event.ZkOpen session) lawful forward sound migrated = moved_stays w (begin_session w.shared.tree session) migrated
+event_stays w (event.ZkExpire session) lawful forward sound migrated = moved_stays w (end_session w.shared.tree session) migrated
+event_stays w (event.Zk ops) lawful forward sound migrated = unless_made IsMigrated w (client_refusal w.shared.tree ops) (client_world w (multi w.shared.tree ops)) migrated (client_stays w (multi w.shared.tree ops) migrated)
 
-pub migrated_stays : (w : World) (e : Event) → IsLawful e → Sound w → is_migrated_log w.shared.log ≡ true → (is_migrated_log (next w e).0.shared.log ≡ true) × (is_open_log (next w e).0.shared.log ≡ false)
-migrated_stays w e lawful sound migrated =
+pub migrated_stays : (w : World) (e : Event) → IsLawful e → TakesNothingBack e → Sound w → is_migrated_log w.shared.log ≡ true → (is_migrated_log (next w e).0.shared.log ≡ true) × (is_open_log (next w e).0.shared.log ≡ false)
+migrated_stays w e lawful forward sound migrated =
     let new : World = (next w e).0 in
-    let stays : is_migrated_log new.shared.log ≡ true = event_stays w e lawful sound migrated in
+    let stays : is_migrated_log new.shared.log ≡ true = event_stays w e lawful forward sound migrated in
     let kept : IsSharedSound new.shared = (event_sound w e lawful sound).kept in
     (stays, migrated_settled new.shared.tree new.shared.log kept.log (kept.agreement stays))

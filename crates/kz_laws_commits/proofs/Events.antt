@@ -1,5 +1,5 @@
 -- What is copied after an event and a run.
-use Rattle.std.proofs.Common.{◌≡◌, ℤ, Bool, true, false, List, [], ◌∷◌, Option, Some, None, All, refl, ◌∙◌}
+use Rattle.std.proofs.Common.{◌≡◌, ℤ, Bool, true, false, List, [], ◌∷◌, Option, Some, None, All, refl, ◌∙◌, subst}
 use Rattle.std.specs.Prelude.{◌≤◌, length, Result, Ok, Err}
 use Rattle.std.proofs.lemmas.List.Elements.{All-head, All-tail}
 use Rattle.kz_types.specs.declared.tree.Op.{Op}
@@ -14,7 +14,7 @@ use Rattle.kz_types.specs.declared.record.MetaRecord.{MetaRecord}
 use Rattle.kz_spec_stores.specs.Tree.{Tree, multi, begin_session, end_session}
 use Rattle.kz_spec_stores.specs.Log.{Log, is_open_log, begun_of}
 use Rattle.kz_spec_machine.specs.Driver.{Shared, Driver, new_driver}
-use Rattle.kz_spec_machine.specs.Machine.{World, quorum_refusal, declared_world, start_refusal, started_world, stop_refusal, stopped_world, election_refusal, elected_world, election_answer, change_refusal, changed_world, registration, register_refusal, with_tree, moved_world, is_held_tree, client_refusal, client_world, next, after_events}
+use Rattle.kz_spec_machine.specs.Machine.{World, quorum_refusal, declared_world, start_refusal, started_world, stop_refusal, stopped_world, election_refusal, elected_world, election_answer, change_refusal, changed_world, registration, register_refusal, driver_of, final_records, finalise_refusal, exit_ops, tree_after_ops, reset_world, given_back, rollback_refusal, with_tree, moved_world, is_held_tree, client_refusal, client_world, next, after_events}
 use Rattle.kz_spec_machine.specs.Sound.{LogShape, claim_version, shown_in, Sound, IsLawful}
 use Rattle.kz_laws_drivers.specs.Effects.{IsUnchanged}
 use Rattle.kz_laws_trees.proofs.Sessions.{begin_leaves, end_leaves}
@@ -25,6 +25,7 @@ use Rattle.kz_laws_steps.proofs.Events.{each_more, unless_taken}
 use Rattle.kz_laws_events.proofs.Refusals.{decided_by}
 use Rattle.kz_laws_events.proofs.Elected.{may_elect, elected_of, shape_elected, elected_closed}
 use Rattle.kz_laws_events.proofs.Changed.{IsLeaderBatch, may_change, change_batch, register_batch, more_of, shape_more, more_closed}
+use Rattle.kz_laws_events.proofs.Exits.{may_finalise, final_batch, may_roll_back}
 use Rattle.kz_laws_events.proofs.Unheld.{none_claimed}
 use Rattle.kz_laws_events.proofs.Every.{event_sound}
 use Rattle.kz_laws_commits.specs.Commits.{CopiesAtStage, Copies}
@@ -58,6 +59,24 @@ register_copies : (w : World) (id broker now : ℤ) (migrating : Bool) → Sound
 unfolding next
 register_copies w id broker now migrating sound copies = decided_by EachCopies w (register_refusal w id (registration broker migrating)) (changed_world w (registration broker migrating) now) _ copies (λ none j f found.
     batch_copies w.shared now (registration broker migrating) f (register_batch w id broker now migrating sound none))
+
+finalise_copies : (w : World) (id now : ℤ) → Sound w → EachCopies w → EachCopies (next w (event.Finalise id now)).0
+unfolding next
+finalise_copies w id now sound copies = decided_by EachCopies w (finalise_refusal w id) (changed_world w final_records now) _ copies (λ none j f found.
+    batch_copies w.shared now final_records f (final_batch w id now sound (may_finalise w id none)))
+
+-- a rollback is of a world without drivers
+none_copies : (w : World) → w.drivers ≡ [] → EachCopies w
+none_copies w none j f found = absurd (let nobody : driver_of j [] ≡ Some f = subst (λ (ds : List Driver). driver_of j ds ≡ Some f) none found in cc)
+
+given_back_copies : (w : World) (r : Result Tree TreeFault) → w.drivers ≡ [] → EachCopies (given_back (reset_world w) r).0
+given_back_copies w (Ok t) none = none_copies (with_tree (reset_world w) t) none
+given_back_copies w (Err f) none = none_copies (reset_world w) none
+
+rollback_copies : (w : World) → EachCopies w → EachCopies (next w event.Rollback).0
+unfolding next
+rollback_copies w copies = unless_taken EachCopies w (rollback_refusal w) (given_back (reset_world w) (tree_after_ops w.shared.tree (exit_ops w.shared.tree))) copies
+    (λ none. given_back_copies w (tree_after_ops w.shared.tree (exit_ops w.shared.tree)) (may_roll_back w none).alone)
 
 -- ---- clients
 
@@ -126,6 +145,8 @@ event_copies w (event.Step id now p) lawful sound copies = stepped_copies w id n
 event_copies w (event.Turn id now) lawful sound copies = turned_copies w id now lawful.1 sound copies
 event_copies w (event.Change id records now) lawful sound copies = change_copies w id now records lawful.2 sound copies
 event_copies w (event.Register id broker migrating now) lawful sound copies = register_copies w id broker now migrating sound copies
+event_copies w (event.Finalise id now) lawful sound copies = finalise_copies w id now sound copies
+event_copies w event.Rollback lawful sound copies = rollback_copies w copies
 event_copies w event.Check lawful sound copies = check_copies w copies
 event_copies w (event.ZkOpen session) lawful sound copies = open_copies w session sound copies
 event_copies w (event.ZkExpire session) lawful sound copies = expire_copies w session sound copies

@@ -448,11 +448,13 @@ finalise_refusal w id = first_of (leader_refusal w id) (
 
 -- ---- a migration that is taken back
 
--- No controller runs, and the migration isn't finalised. Where it is committed, ZooKeeper has all of the metadata.
+-- The migration isn't finalised. Where it is committed, ZooKeeper has all of the metadata.
+abbrev pub exit_refusal : Tree → Log → Option Answer
+exit_refusal t l = first_of (unless (not (is_finalised_log l)) answer.Finalised) (if is_migrated_log l then rest_refusal t (end_of l) else None)
+
+-- and no controller runs
 abbrev pub rollback_refusal : World → Option Answer
-rollback_refusal w = first_of (option_map (λ id. answer.Running id) (least (running_ids w.drivers))) (
-    first_of (unless (not (is_finalised_log w.shared.log)) answer.Finalised) (
-    if is_migrated_log w.shared.log then rest_refusal w.shared.tree (end_of w.shared.log) else None))
+rollback_refusal w = first_of (option_map (λ id. answer.Running id) (least (running_ids w.drivers))) (exit_refusal w.shared.tree w.shared.log)
 
 abbrev pub deleted_if : Bool → List ℕ → List Op
 deleted_if true path = op.Delete path (negsuc 0) ∷ []
