@@ -80,7 +80,7 @@ has_state : (state : ℤ) (b : Bool) → is_migrated_state state ≡ true → in
 has_state state true migrated is = absurd (let none : state ≡ NO_MIGRATION = (Decides-int_eq state NO_MIGRATION).0 is in true_or_false (is_migrated_state state) migrated (ap is_migrated_state none))
 has_state state false migrated is = refl
 
-stateless : (l : Log) → is_migrated_log l ≡ true → gets_state l ≡ false
+pub stateless : (l : Log) → is_migrated_log l ≡ true → gets_state l ≡ false
 stateless l migrated = has_state (image_of l).state (gets_state l) migrated refl
 
 stays : (s : Shared) (now : ℤ) → MayElect s → is_migrated_log s.log ≡ true → is_migrated_log (elected_of s.log now) ≡ true

@@ -52,10 +52,10 @@ same_id id epoch true d = refl
 same_id id epoch false d = refl
 
 -- a driver that is found was found before
-record WasFound (drivers : List Driver) (id epoch j : ℤ) (f : Driver) : Type 0 where
-  old : Driver
-  found : driver_of j drivers ≡ Some old
-  is : f ≡ elected_if id epoch old
+pub record WasFound (drivers : List Driver) (id epoch j : ℤ) (f : Driver) : Type 0 where
+  pub old : Driver
+  pub found : driver_of j drivers ≡ Some old
+  pub is : f ≡ elected_if id epoch old
 
 some_driver : (x y : Driver) → Some x ≡ Some y → y ≡ x
 some_driver x y is = cc
@@ -67,7 +67,7 @@ found_by drivers id epoch j f e false test rest found =
     let later = rest found in
     record { old = later.old; found = ap (λ (b : Bool). cond b (Some e) (driver_of j drivers)) test ∙ later.found; is = later.is }
 
-was_found : (drivers : List Driver) (id epoch j : ℤ) (f : Driver) → driver_of j (map (elected_if id epoch) drivers) ≡ Some f → WasFound drivers id epoch j f
+pub was_found : (drivers : List Driver) (id epoch j : ℤ) (f : Driver) → driver_of j (map (elected_if id epoch) drivers) ≡ Some f → WasFound drivers id epoch j f
 was_found [] id epoch j f is = absurd (cc)
 was_found (e ∷ drivers) id epoch j f is =
     found_by drivers id epoch j f e (int_eq e.id j) refl (was_found drivers id epoch j f)

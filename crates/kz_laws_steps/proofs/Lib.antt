@@ -11,6 +11,7 @@ pub mod Written
 pub mod Recording
 pub mod Stepped
 pub mod Named
+pub mod Succession
 pub mod Worlds
 pub mod Resting
 pub mod Events

@@ -1,0 +1,191 @@
+-- The stages to which a step leads, over what holds at each of them.
+use Rattle.std.proofs.Common.{◌≡◌, ℤ, nat_lt, map, length, ◌++◌, Bool, true, false, not, ◌&&◌, ◌||◌, if◌then◌else◌, List, [], ◌∷◌, drop, Option, Some, None}
+use Rattle.std.specs.Prelude.{Result, Ok, Err, int_lt, ⊤}
+use Rattle.std.specs.Ordering.{int_eq}
+use Rattle.kz_types.specs.declared.codes.TheConstants.{MIGRATION, POST_MIGRATION}
+use Rattle.kz_types.specs.declared.limits.TheConstants.{MAX_APPEND_RECORDS, MAX_SCAN_ROWS, MAX_VERSION}
+use Rattle.kz_types.specs.declared.tree.Row.{Row}
+use Rattle.kz_types.specs.declared.tree.Op.{Op}
+use Rattle.kz_types.specs.declared.driver.ClaimSeen.{ClaimSeen}
+use Rattle.kz_types.specs.declared.driver.Stage.{Stage}
+use Rattle.kz_types.specs.declared.driver.Stage.TheVariants as stage
+use Rattle.kz_types.specs.declared.machine.DriverState.TheVariants as state
+use Rattle.kz_types.specs.declared.machine.Recorded.{Recorded}
+use Rattle.kz_types.specs.declared.machine.Reply.{Reply}
+use Rattle.kz_types.specs.declared.machine.Reply.TheVariants as reply
+use Rattle.kz_types.specs.declared.fault.BodyFault.{BodyFault}
+use Rattle.kz_types.specs.declared.fault.TreeFault.{TreeFault}
+use Rattle.kz_types.specs.declared.fault.TreeFault.TheVariants as tree_fault
+use Rattle.kz_types.specs.declared.fault.LogFault.{LogFault}
+use Rattle.kz_types.specs.declared.fault.LogFault.TheVariants as log_fault
+use Rattle.kz_types.specs.declared.plan.Plan.{Plan}
+use Rattle.kz_types.specs.declared.record.MetaRecord.{MetaRecord}
+use Rattle.kz_spec_values.specs.Control.{epoch_path, migration_path, read_epoch}
+use Rattle.kz_spec_stores.specs.Tree.{Tree, multi, scan, broker_ids, rendered_row}
+use Rattle.kz_spec_stores.specs.Image.{Image}
+use Rattle.kz_spec_stores.specs.Log.{Log, append, end_of, image_of}
+use Rattle.kz_spec_znodes.specs.Translation.{Unreadable, translate}
+use Rattle.kz_spec_znodes.specs.Rendering.{render}
+use Rattle.kz_spec_znodes.specs.Difference.{diff, after_chunk}
+use Rattle.kz_spec_machine.specs.Driver.{Shared, Driver, at_stage, resigned_driver, begins_again, epoch_or_zero, views_migrated, seen_in, shown_by, unless_fenced, unless_full_epoch, unless_bad_epoch, unless_full_record, claim_ops, remaining_at, is_last_write, write_ops, target_of, last_path, Request, nothing, read_log, list_brokers, look_up, read_page, write, add, request_at, missing_controller, missing_broker, driver_at_log_end, unless_finalised, wait_or_move, after_quorum, after_brokers, after_claim, begin_record, next_records, after_append, after_translation, after_records, is_claim_refused, after_write, writes, is_recorded_at, after_rest, after_answer, without_answer, Hearing, hears_answer, hears_nothing, hears_expiry, hearing, driver_after, planned_step}
+use Rattle.kz_laws_steps.proofs.Ways.{either}
+
+-- ---- what holds at the stages at which a driver neither fills a transaction nor writes in dual write
+
+pub record HoldsAtPlain (P : Stage → Type 0) : Type 0 where
+  pub inactive : P stage.Inactive
+  pub quorum : P stage.WaitForControllerQuorum
+  pub brokers : P stage.WaitForBrokers
+  pub listing : P stage.ListBrokers
+  pub looking : P stage.ReadControlZnodes
+  pub claiming : (seen : ClaimSeen) → P (stage.ClaimLeadership seen)
+  pub scanning : (rows : List Row) → P (stage.ScanForMigration rows)
+  pub beginning : (rows : List Row) → P (stage.BeginMigration rows)
+  pub reading : P stage.ReadLogForResync
+  pub resync : (target : Recorded) (rows : List Row) → P (stage.ScanForResync target rows)
+  pub writing : (target : Recorded) (ops : List Op) → P (stage.WriteResync target ops)
+  pub informing : P stage.KraftControllerToBrokerComm
+  pub resting : P stage.DualWrite
+
+-- a driver at such a stage
+abbrev pub At : (Stage → Type 0) → Driver → Type 0
+At P d = P d.stage
+
+stage_if : (P : Stage → Type 0) (b : Bool) (x y : Stage) → P x → P y → P (if b then x else y)
+stage_if P true x y one other = one
+stage_if P false x y one other = other
+
+pub finalised : (P : Stage → Type 0) (d : Driver) (rest : Driver × Reply) → HoldsAtPlain P → At P rest.0 → At P (unless_finalised d rest).0
+finalised P d rest h on = either (At P) (int_eq d.view.image.state POST_MIGRATION) (resigned_driver d, reply.Moved state.Inactive) rest (λ over. h.inactive) (λ more. on)
+
+waits : (P : Stage → Type 0) (d : Driver) (m : Option ℤ) → HoldsAtPlain P → At P d → At P (wait_or_move m d).0
+waits P d (Some id) h own = own
+waits P d None h own = h.brokers
+
+quorum : (P : Stage → Type 0) (d : Driver) (declared running : List ℤ) → HoldsAtPlain P → At P d → At P (after_quorum declared running d).0
+quorum P d declared running h own = finalised P d _ h
+    (either (At P) (int_eq d.view.image.state MIGRATION) (at_stage stage.ReadControlZnodes d, reply.Moved state.BecomeController) (wait_or_move (missing_controller declared running) d) (λ over. h.looking) (λ more. waits P d (missing_controller declared running) h own))
+
+brokers : (P : Stage → Type 0) (d : Driver) (m : Option ℤ) → HoldsAtPlain P → At P (after_brokers m d).0
+brokers P d (Some id) h = h.brokers
+brokers P d None h = h.looking
+
+fenced : (P : Stage → Type 0) (d : Driver) (m : Option ℤ) (rest : Driver × Reply) → HoldsAtPlain P → At P rest.0 → At P (unless_fenced m d rest).0
+fenced P d None rest h on = on
+fenced P d (Some e) rest h on = either (At P) (int_lt (epoch_or_zero d.epoch) e) (resigned_driver d, reply.FencedEpoch e) rest (λ above. h.inactive) (λ low. on)
+
+full_epoch : (P : Stage → Type 0) (d : Driver) (r : Result ℤ BodyFault) (version : ℤ) (rest : Driver × Reply) → At P d → At P rest.0 → At P (unless_full_epoch r version d rest).0
+full_epoch P d (Err e) version rest own on = own
+full_epoch P d (Ok number) version rest own on = either (At P) (int_eq number MAX_VERSION || int_eq version MAX_VERSION) (d, reply.Limit epoch_path) rest (λ full. own) (λ room. on)
+
+bad_epoch : (P : Stage → Type 0) (d : Driver) (m : Option Row) (rest : Driver × Reply) → At P d → At P rest.0 → At P (unless_bad_epoch m d rest).0
+bad_epoch P d None rest own on = on
+bad_epoch P d (Some r) rest own on = full_epoch P d (read_epoch r.body) r.version rest own on
+
+full_record : (P : Stage → Type 0) (d : Driver) (m : Option Row) (rest : Driver × Reply) → At P d → At P rest.0 → At P (unless_full_record m d rest).0
+full_record P d None rest own on = on
+full_record P d (Some r) rest own on = either (At P) (not (views_migrated d) && int_eq r.version MAX_VERSION) (d, reply.Limit migration_path) rest (λ full. own) (λ room. on)
+
+claims : (P : Stage → Type 0) (d : Driver) (seen : ClaimSeen) (ops : List Op) (r : Result Tree TreeFault) → HoldsAtPlain P → At P d → At P (after_claim seen d ops r).0
+claims P d seen ops (Ok t) h own = stage_if P (views_migrated d) stage.ReadLogForResync (stage.ScanForMigration []) h.reading (h.scanning [])
+claims P d seen ops (Err (tree_fault.Refused index code)) h own = h.looking
+claims P d seen ops (Err (tree_fault.Limit index number)) h own = own
+claims P d seen ops (Err tree_fault.NoMemory) h own = own
+claims P d seen ops (Err tree_fault.Device) h own = own
+claims P d seen ops (Err tree_fault.Down) h own = own
+claims P d seen ops (Err (tree_fault.Full length)) h own = own
+
+written : (P : Stage → Type 0) (d : Driver) (claim : ℤ) (ops : List Op) (target : Recorded) (more : List Op → Stage) (last : Stage) (r : Result Tree TreeFault) → HoldsAtPlain P → ((rest : List Op) → P (more rest)) → P last → At P d → At P (after_write claim ops target more last d r).0
+written P d claim ops target more last (Ok t) h goes ends own = either (At P) (is_last_write ops) _ _ (λ is. ends) (λ is. goes (after_chunk ops))
+written P d claim ops target more last (Err (tree_fault.Refused index code)) h goes ends own = either (At P) (is_claim_refused index code) (resigned_driver d, reply.FencedWrite claim) (begins_again d, reply.Moved state.BecomeController) (λ is. h.inactive) (λ is. h.looking)
+written P d claim ops target more last (Err (tree_fault.Limit index number)) h goes ends own = own
+written P d claim ops target more last (Err tree_fault.NoMemory) h goes ends own = own
+written P d claim ops target more last (Err tree_fault.Device) h goes ends own = own
+written P d claim ops target more last (Err tree_fault.Down) h goes ends own = own
+written P d claim ops target more last (Err (tree_fault.Full length)) h goes ends own = own
+
+pub write_under : (P : Stage → Type 0) (t : Tree) (d : Driver) (m : Option ℤ) (ops : List Op) (target : Recorded) (more : List Op → Stage) (last : Stage) → HoldsAtPlain P → ((rest : List Op) → P (more rest)) → P last → At P d → At P (writes t m ops target more last d).0
+write_under P t d None ops target more last h goes ends own = h.looking
+write_under P t d (Some claim) ops target more last h goes ends own = written P d claim ops target more last (multi t (write_ops claim ops target)) h goes ends own
+
+-- a driver that appends, and goes to a stage where its records are in the log
+appended : (P : Stage → Type 0) (d : Driver) (next : Stage) (r : Result Log LogFault) → HoldsAtPlain P → P next → At P d → At P (after_append next d r).0
+appended P d next (Ok l) h on own = on
+appended P d next (Err (log_fault.Stale epoch)) h on own = h.inactive
+appended P d next (Err log_fault.Failed) h on own = own
+appended P d next (Err (log_fault.Limit number)) h on own = own
+appended P d next (Err log_fault.NoMemory) h on own = own
+appended P d next (Err log_fault.Down) h on own = own
+appended P d next (Err (log_fault.Full length)) h on own = own
+
+translated : (P : Stage → Type 0) (s : Shared) (now : ℤ) (d : Driver) (t : Result (List MetaRecord) Unreadable) → HoldsAtPlain P → ((records : List MetaRecord) → P (stage.AppendRecords records)) → At P d → At P (after_translation s now d t).0
+translated P s now d (Ok records) h fills own = appended P d (stage.AppendRecords records) (append s.log (epoch_or_zero d.epoch) now (begin_record ∷ [])) h (fills records) own
+translated P s now d (Err e) h fills own = h.scanning []
+
+filled : (P : Stage → Type 0) (records : List MetaRecord) → HoldsAtPlain P → ((rest : List MetaRecord) → P (stage.AppendRecords rest)) → P (after_records records)
+filled P [] h fills = h.reading
+filled P (r ∷ rs) h fills = fills (drop MAX_APPEND_RECORDS (r ∷ rs))
+
+-- a driver at rest in dual write: at rest again, or with what is new to write
+pub rested : (P : Stage → Type 0) (d : Driver) (i : Image) → HoldsAtPlain P → (is_recorded_at d.recorded d.view.position ≡ false → P (stage.WriteDelta (target_of d) (diff (render i) (render d.view.image)))) → At P d → At P (after_rest i d).0
+rested P d i h new own = finalised P d _ h
+    (either (At P) (is_recorded_at d.recorded d.view.position) (d, reply.Idle) (at_stage (stage.WriteDelta (target_of d) (diff (render i) (render d.view.image))) d, reply.Looked) (λ same. own) (λ more. new more))
+
+-- ---- a step
+
+-- what is to be known of the stages at which a driver fills a transaction or writes in dual write, for steps from this one
+abbrev pub Leads : (Stage → Type 0) → Shared → Driver → Stage → Type 0
+Leads P s d (stage.BeginMigration rows) = (records : List MetaRecord) → P (stage.AppendRecords records)
+Leads P s d (stage.AppendRecords records) = (rest : List MetaRecord) → P (stage.AppendRecords rest)
+Leads P s d stage.DualWrite = is_recorded_at d.recorded (end_of s.log) ≡ false → P (stage.WriteDelta (target_of (driver_at_log_end s.log d)) (diff (render d.view.image) (render (image_of s.log))))
+Leads P s d (stage.WriteDelta target ops) = (rest : List Op) → P (stage.WriteDelta target rest)
+Leads P s d x = ⊤
+
+pub answer_leads : (P : Stage → Type 0) (s : Shared) (running : List ℤ) (now : ℤ) (d : Driver) (x : Stage) → HoldsAtPlain P → Leads P s d x → At P d → At P (after_answer s running now d x).0
+answer_leads P s running now d stage.Uninitialized h on own = h.inactive
+answer_leads P s running now d stage.Inactive h on own = own
+answer_leads P s running now d stage.WaitForControllerQuorum h on own = quorum P (driver_at_log_end s.log d) s.declared running h own
+answer_leads P s running now d stage.WaitForBrokers h on own = finalised P (driver_at_log_end s.log d) (at_stage stage.ListBrokers (driver_at_log_end s.log d), reply.Looked) h h.listing
+answer_leads P s running now d stage.ListBrokers h on own = brokers P d (missing_broker (broker_ids s.tree) d.view.image) h
+answer_leads P s running now d stage.ReadControlZnodes h on own =
+    let seen = seen_in s.tree in
+    fenced P d (shown_by seen.control) _ h (bad_epoch P d seen.epoch _ own (full_record P d seen.migration (at_stage (stage.ClaimLeadership seen) d, reply.Looked) own (h.claiming seen)))
+answer_leads P s running now d (stage.ClaimLeadership seen) h on own = claims P d seen (claim_ops seen d now) (multi s.tree (claim_ops seen d now)) h own
+answer_leads P s running now d (stage.ScanForMigration rows) h on own =
+    let page = scan s.tree (last_path rows) MAX_SCAN_ROWS in
+    stage_if P (nat_lt (length page) MAX_SCAN_ROWS) (stage.BeginMigration (rows ++ page)) (stage.ScanForMigration (rows ++ page)) (h.beginning (rows ++ page)) (h.scanning (rows ++ page))
+answer_leads P s running now d (stage.BeginMigration rows) h on own = translated P s now d (translate rows) h on own
+answer_leads P s running now d (stage.AppendRecords records) h on own = appended P d (after_records records) (append s.log (epoch_or_zero d.epoch) now (next_records records)) h (filled P records h on) own
+answer_leads P s running now d stage.ReadLogForResync h on own =
+    let e : Driver = driver_at_log_end s.log d in
+    finalised P e (at_stage (stage.ScanForResync (target_of e) []) e, reply.Looked) h (h.resync (target_of e) [])
+answer_leads P s running now d (stage.ScanForResync target rows) h on own =
+    let page = scan s.tree (last_path rows) MAX_SCAN_ROWS in
+    let ops = diff (map rendered_row (rows ++ page)) (render d.view.image) in
+    stage_if P (nat_lt (length page) MAX_SCAN_ROWS) (stage.WriteResync target ops) (stage.ScanForResync target (rows ++ page)) (h.writing target ops) (h.resync target (rows ++ page))
+answer_leads P s running now d (stage.WriteResync target ops) h on own =
+    write_under P s.tree d d.claim (remaining_at s.tree s.log target.offset) target (λ rest. stage.WriteResync target rest) stage.KraftControllerToBrokerComm h (h.writing target) h.informing own
+answer_leads P s running now d stage.KraftControllerToBrokerComm h on own = h.resting
+answer_leads P s running now d stage.DualWrite h on own = rested P (driver_at_log_end s.log d) d.view.image h on own
+answer_leads P s running now d (stage.WriteDelta target ops) h on own = write_under P s.tree d d.claim (remaining_at s.tree s.log target.offset) target (λ rest. stage.WriteDelta target rest) stage.DualWrite h on h.resting own
+
+unheard_leads : (P : Stage → Type 0) (r : Request) (d : Driver) → HoldsAtPlain P → At P d → At P (without_answer r d)
+unheard_leads P nothing d h own = own
+unheard_leads P read_log d h own = own
+unheard_leads P list_brokers d h own = h.brokers
+unheard_leads P look_up d h own = h.looking
+unheard_leads P (read_page after) d h own = h.looking
+unheard_leads P (write ops) d h own = h.looking
+unheard_leads P (add records) d h own = h.inactive
+
+after_leads : (P : Stage → Type 0) (e : Hearing) (answer : Driver × Reply) (r : Request) (d : Driver) → HoldsAtPlain P → At P d → At P answer.0 → At P (driver_after e answer r d).0
+after_leads P hears_answer answer r d h own on = on
+after_leads P hears_nothing answer r d h own on = unheard_leads P r d h own
+after_leads P hears_expiry answer r d h own on = unheard_leads P r d h own
+
+-- What holds at the stage of a driver, and at each to which its step may lead, holds at its stage after the step.
+pub step_leads : (P : Stage → Type 0) (p : Plan) (s : Shared) (running : List ℤ) (now : ℤ) (d : Driver) → HoldsAtPlain P → Leads P s d d.stage → At P d → At P (planned_step p s running now d).driver
+unfolding planned_step
+step_leads P p s running now d h on own =
+    let r = request_at s now d d.stage in
+    after_leads P (hearing p s (epoch_or_zero d.epoch) now r) (after_answer s running now d d.stage) r d h own (answer_leads P s running now d d.stage h on own)
