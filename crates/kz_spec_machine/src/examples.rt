@@ -1,5 +1,5 @@
 //! Laws by example: the definitions computed on worked runs.
-ghost use Rattle.std.specs.Prelude.{◌≡◌, List, [], ◌∷◌, ◌++◌, Some, pos, codes};
+ghost use Rattle.std.specs.Prelude.{◌≡◌, true, List, [], ◌∷◌, ◌++◌, Some, pos, codes};
 ghost use Rattle.kz_types.specs.declared.machine.Event.{Event};
 ghost use Rattle.kz_types.specs.declared.machine.Event.TheVariants as event;
 ghost use Rattle.kz_types.specs.declared.machine.Answer.TheVariants as answer;
