@@ -48,7 +48,8 @@ same_copies t new l f x rows was copies = tt
 
 -- ---- a claim
 
-claim_past : (s : Shared) (now : ℤ) (d : Driver) (seen : ClaimSeen) (new : Tree) (f : Driver) → IsTime now → IsSharedSound s → IsSoundDriver s d → d.stage ≡ stage.ClaimLeadership seen → multi s.tree (claim_ops seen d now) ≡ Ok new → IsApartFrom d f → IsSoundDriver s f → IsCurrent new f.claim → ⊥
+-- after a claim that is taken no other claim is current
+pub claim_past : (s : Shared) (now : ℤ) (d : Driver) (seen : ClaimSeen) (new : Tree) (f : Driver) → IsTime now → IsSharedSound s → IsSoundDriver s d → d.stage ≡ stage.ClaimLeadership seen → multi s.tree (claim_ops seen d now) ≡ Ok new → IsApartFrom d f → IsSoundDriver s f → IsCurrent new f.claim → ⊥
 claim_past s now d seen new f time kept fine at is apart other current =
     let k = claim_leads s [] now d seen new time kept fine at is in
     let s-new : Shared = record s { tree = new } in
@@ -63,11 +64,16 @@ claim_copies s now d seen f (Err e) is time kept fine at apart other copies = co
 
 -- ---- a write
 
+-- nor is one after a write that is taken
+pub one_past : (s : Shared) (d : Driver) (claim : ℤ) (target : Recorded) (ops : List Op) (new : Tree) (f : Driver) → multi s.tree (write_ops claim (remaining_at s.tree s.log target.offset) target) ≡ Ok new → IsSharedSound s → IsSoundDriver s d → WritesTo d.stage target ops → d.claim ≡ Some claim
+    → IsApartFrom d f → IsSoundDriver s f → IsCurrent new f.claim → ⊥
+one_past s d claim target ops new f is kept fine at claimed apart other current =
+    let k : Took s d claim target new = took s d claim target ops new kept fine at claimed is in
+    one_current s d f fine other apart k.leads.current (current.0 ∙ k.leads.effect.version, current.1)
+
 write_by : (s : Shared) (d : Driver) (claim : ℤ) (target : Recorded) (ops : List Op) (f : Driver) (r : Result Tree TreeFault) → multi s.tree (write_ops claim (remaining_at s.tree s.log target.offset) target) ≡ r → IsSharedSound s → IsSoundDriver s d → WritesTo d.stage target ops → d.claim ≡ Some claim
     → IsApartFrom d f → IsSoundDriver s f → Copies s f → Copies (with_tree s r) f
-write_by s d claim target ops f (Ok new) is kept fine at claimed apart other copies =
-    let k : Took s d claim target new = took s d claim target ops new kept fine at claimed is in
-    past_copies new s.log f f.stage (λ current. one_current s d f fine other apart k.leads.current (current.0 ∙ k.leads.effect.version, current.1))
+write_by s d claim target ops f (Ok new) is kept fine at claimed apart other copies = past_copies new s.log f f.stage (one_past s d claim target ops new f is kept fine at claimed apart other)
 write_by s d claim target ops f (Err e) is kept fine at claimed apart other copies = copies
 
 write_copies : (s : Shared) (now : ℤ) (d : Driver) (m : Option ℤ) (target : Recorded) (ops : List Op) (f : Driver) → d.claim ≡ m → IsSharedSound s → IsSoundDriver s d → WritesTo d.stage target ops → IsApartFrom d f → IsSoundDriver s f → Copies s f

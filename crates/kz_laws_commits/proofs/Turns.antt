@@ -1,16 +1,15 @@
 -- What is copied after a step or a turn of a driver of the world.
-use Rattle.std.proofs.Common.{◌≡◌, ℕ, zero, suc, ℤ, Bool, true, false, if◌then◌else◌, List, [], ◌∷◌, Option, Some, None, refl, sym, ◌∙◌}
+use Rattle.std.proofs.Common.{◌≡◌, ℕ, ℤ, List, Option, Some, None, refl, sym, ◌∙◌}
 use Rattle.kz_types.specs.declared.machine.Event.TheVariants as event
 use Rattle.kz_types.specs.declared.plan.Plan.{Plan}
 use Rattle.kz_types.specs.declared.plan.Plan.TheVariants as plan
 use Rattle.kz_spec_machine.specs.Driver.{Shared, Driver, planned_step, step}
-use Rattle.kz_spec_machine.specs.Machine.{World, running_ids, driver_of, with_driver, running_refusal, step_result, ends, TurnResult, with_reply, turn, work, turn_result, next}
+use Rattle.kz_spec_machine.specs.Machine.{World, running_ids, driver_of, with_driver, running_refusal, step_result, TurnResult, turn, work, turn_result, next}
 use Rattle.kz_spec_machine.specs.Sound.{IsTime, IsSharedSound, IsSoundDriver, Each, Sound}
 use Rattle.kz_laws_drivers.proofs.Listed.{each_changed}
-use Rattle.kz_laws_steps.specs.Steps.{StepKeeps}
-use Rattle.kz_laws_steps.proofs.Named.{IsOf, step_of_own}
+use Rattle.kz_laws_steps.proofs.Named.{step_of_own}
 use Rattle.kz_laws_steps.proofs.Worlds.{unless_made, found_id}
-use Rattle.kz_laws_events.proofs.Turned.{still_apart, one_step, one_own, turn_own}
+use Rattle.kz_laws_events.proofs.Turned.{still_apart, turn_own, GoesOn, turn_leaves}
 use Rattle.kz_laws_commits.specs.Commits.{Copies, StepCopies}
 use Rattle.kz_laws_commits.proofs.Steps.{step_copies}
 
@@ -19,30 +18,26 @@ EachCopies w = Each (Copies w.shared) w.drivers
 
 -- ---- a turn
 
-one_copy : (s : Shared) (running : List ℤ) (now : ℤ) (d : Driver) → IsTime now → IsSharedSound s → IsSoundDriver s d → Copies s d → StepCopies s d (step s running now d).shared (step s running now d).driver
+-- what a step leaves of a driver that copied before
+abbrev StillCopies : Shared → Driver → Shared → Driver → Type 0
+StillCopies s d t e = Copies s d → StepCopies s d t e
+
+one_copies : (s : Shared) (running : List ℤ) (now : ℤ) (d : Driver) → IsTime now → IsSharedSound s → IsSoundDriver s d → StillCopies s d (step s running now d).shared (step s running now d).driver
 unfolding step
-one_copy s running now d time kept fine copies = step_copies plan.Deliver s running now d time kept fine copies
+one_copies s running now d time kept fine copies = step_copies plan.Deliver s running now d time kept fine copies
 
-then_copies : (s : Shared) (d : Driver) (t : Shared) (e : Driver) (u : Shared) (f : Driver) → IsOf d e → StepKeeps s d t e → StepCopies s d t e → StepCopies t e u f → StepCopies s d u f
-then_copies s d t e u f own keeps one two = record {
-  driver = two.driver;
-  others = λ other apart fine old. two.others other (still_apart d e other own.1 apart) (keeps.others other apart fine) (one.others other apart fine old);
-}
+then_copies : GoesOn StillCopies
+then_copies s d t e u f own keeps one two copies =
+    let first = one copies in
+    let second = two first.driver in
+    record {
+      driver = second.driver;
+      others = λ other apart fine old. second.others other (still_apart d e other own.1 apart) (keeps.others other apart fine) (first.others other apart fine old);
+    }
 
-ended_by : (s : Shared) (d : Driver) (b : Bool) (t u : TurnResult) → StepCopies s d t.shared t.driver → StepCopies s d u.shared u.driver → StepCopies s d (if b then t else u).shared (if b then t else u).driver
-ended_by s d true t u one other = one
-ended_by s d false t u one other = other
-
-turn_copies : (n : ℕ) (s : Shared) (running : List ℤ) (now : ℤ) (d : Driver) → IsTime now → IsSharedSound s → IsSoundDriver s d → Copies s d → StepCopies s d (turn n s running now d).shared (turn n s running now d).driver
-unfolding turn
-turn_copies zero s running now d time kept fine copies = record { driver = copies; others = λ f apart other old. old }
-turn_copies (suc n) s running now d time kept fine copies =
-    let r = step s running now d in
-    let k : StepKeeps s d r.shared r.driver = one_step s running now d time kept fine in
-    let c : StepCopies s d r.shared r.driver = one_copy s running now d time kept fine copies in
-    let t : TurnResult = turn n r.shared running now r.driver in
-    ended_by s d (ends r.reply) (record { shared = r.shared; driver = r.driver; replies = r.reply ∷ [] }) (with_reply r.reply t)
-    c (then_copies s d r.shared r.driver t.shared t.driver (one_own s running now d) k c (turn_copies n r.shared running now r.driver time k.shared k.driver c.driver))
+turn_copies : (n : ℕ) (s : Shared) (running : List ℤ) (now : ℤ) (d : Driver) → IsTime now → IsSharedSound s → IsSoundDriver s d → StillCopies s d (turn n s running now d).shared (turn n s running now d).driver
+turn_copies n s running now d time kept fine =
+    turn_leaves StillCopies (λ t e copies. record { driver = copies; others = λ f apart other old. old }) then_copies one_copies n s running now d time kept fine
 
 -- ---- a driver of the world
 

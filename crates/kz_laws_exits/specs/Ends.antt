@@ -12,6 +12,7 @@ use Rattle.kz_spec_stores.specs.Tree.{Tree, migration_record, unclosed_path}
 use Rattle.kz_spec_machine.specs.Driver.{Shared, Driver, planned_step}
 use Rattle.kz_spec_machine.specs.Machine.{World, is_finalised_log, next, after_events}
 use Rattle.kz_spec_machine.specs.Sound.{IsTime, IsCurrent, IsBelowShown, shown_in, IsSharedSound, IsSoundDriver, Each, Sound, IsLawful}
+use Rattle.kz_laws_steps.specs.Steps.{IsApartFrom}
 
 -- ---- what a driver does on a log whose migration is finalised
 
@@ -23,13 +24,13 @@ RestsAtStage t d stage.DualWrite = IsCurrent t d.claim ⊎ IsBelowShown (shown_i
 RestsAtStage t d s = IsBelowShown (shown_in t) d.epoch
 
 -- A current driver that writes in dual write will record a later offset than the tree records.
-abbrev pub IsAheadAtStage : Tree → Driver → Stage → Type 0
-IsAheadAtStage t d (stage.WriteDelta target ops) = IsCurrent t d.claim → (r : Recorded) → migration_record t ≡ Some r → r.offset <ℤ target.offset
-IsAheadAtStage t d s = ⊤
+abbrev pub IsAhead : Tree → Option ℤ → Stage → Type 0
+IsAhead t claim (stage.WriteDelta target ops) = IsCurrent t claim → (r : Recorded) → migration_record t ≡ Some r → r.offset <ℤ target.offset
+IsAhead t claim s = ⊤
 
 pub record HasEnded (s : Shared) (d : Driver) : Type 0 where
   pub rests : is_finalised_log s.log ≡ true → d.epoch ≢ None → RestsAtStage s.tree d d.stage
-  pub ahead : IsAheadAtStage s.tree d d.stage
+  pub ahead : IsAhead s.tree d.claim d.stage
 
 -- On such a log the tree is closed, and so an offset is recorded.
 abbrev pub IsClosedAtEnd : Shared → Type 0
@@ -46,7 +47,11 @@ pub record EndHolds (w : World) : Type 0 where
 pub record StepEnds (s : Shared) (d : Driver) (new : Shared) (after : Driver) : Type 0 where
   pub closed : IsClosedAtEnd s → IsClosedAtEnd new
   pub driver : HasEnded new after
-  pub others : (f : Driver) → HasEnded s f → HasEnded new f
+  pub others : (f : Driver) → IsApartFrom d f → IsSoundDriver s f → HasEnded s f → HasEnded new f
+
+-- Every step keeps it, under every plan.
+abbrev pub StepsKeepEnd : Type 0
+StepsKeepEnd = (p : Plan) (s : Shared) (running : List ℤ) (now : ℤ) (d : Driver) → IsTime now → IsSharedSound s → IsSoundDriver s d → HasEnded s d → StepEnds s d (planned_step p s running now d).shared (planned_step p s running now d).driver
 
 -- On a log whose migration is finalised no driver's step changes the tree or the log, under any plan.
 abbrev pub FinalStepsLeave : Type 0
