@@ -43,7 +43,7 @@ past_ahead t claim x past = tt
 
 -- ---- a driver at rest that has more to write
 
-less_by : (a b : ℤ) → a ≤ℤ b → int_eq a b ≡ false → a <ℤ b
+pub less_by : (a b : ℤ) → a ≤ℤ b → int_eq a b ≡ false → a <ℤ b
 less_by a b low differ = grind (arith, ints)
 
 same_offset : (m : Option Recorded) (own : Option ℤ) (position : ℤ) (r : Recorded) → option_map (λ (x : Recorded). x.offset) m ≡ own → own ≡ Some position → m ≡ Some r → r.offset ≡ position

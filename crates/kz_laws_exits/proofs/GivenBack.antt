@@ -192,7 +192,7 @@ rollback_gives_back w new sound told = by_refusal w new (rollback_refusal w) ref
 
 -- ---- a rollback that goes on
 
-reset_unfinished : (l : Log) → is_finalised_log (reset l) ≡ false
+pub reset_unfinished : (l : Log) → is_finalised_log (reset l) ≡ false
 unfolding image_at
 reset_unfinished l = refl
 
