@@ -87,7 +87,7 @@ full_record P d (Some r) rest own on = either (At P) (not (views_migrated d) && 
 
 claims : (P : ByStage) (d : Driver) (seen : ClaimSeen) (ops : List Op) (r : Result Tree TreeFault) → HoldsOfNothing P → At P d → At P (after_claim seen d ops r).0
 claims P d seen ops (Ok t) h own = stage_if P (Some (claimed_version seen.epoch)) (views_migrated d) stage.ReadLogForResync (stage.ScanForMigration []) (h _ stage.ReadLogForResync tt) (h _ (stage.ScanForMigration []) tt)
-claims P d seen ops (Err (tree_fault.Refused index code)) h own = h d.claim stage.ReadControlZnodes tt
+claims P d seen ops (Err (tree_fault.Refused index code)) h own = h None stage.ReadControlZnodes tt
 claims P d seen ops (Err (tree_fault.Limit index number)) h own = own
 claims P d seen ops (Err tree_fault.NoMemory) h own = own
 claims P d seen ops (Err tree_fault.Device) h own = own
@@ -96,7 +96,7 @@ claims P d seen ops (Err (tree_fault.Full length)) h own = own
 
 written : (P : ByStage) (d : Driver) (claim : ℤ) (ops : List Op) (target : Recorded) (more : List Op → Stage) (last : Stage) (r : Result Tree TreeFault) → HoldsOfNothing P → ((rest : List Op) → P d.claim (more rest)) → P d.claim last → At P d → At P (after_write claim ops target more last d r).0
 written P d claim ops target more last (Ok t) h goes ends own = either (At P) (is_last_write ops) _ _ (λ is. ends) (λ is. goes (after_chunk ops))
-written P d claim ops target more last (Err (tree_fault.Refused index code)) h goes ends own = either (At P) (is_claim_refused index code) (resigned_driver d, reply.FencedWrite claim) (begins_again d, reply.Moved state.BecomeController) (λ is. h None stage.Inactive tt) (λ is. h d.claim stage.ReadControlZnodes tt)
+written P d claim ops target more last (Err (tree_fault.Refused index code)) h goes ends own = either (At P) (is_claim_refused index code) (resigned_driver d, reply.FencedWrite claim) (begins_again d, reply.Moved state.BecomeController) (λ is. h None stage.Inactive tt) (λ is. h None stage.ReadControlZnodes tt)
 written P d claim ops target more last (Err (tree_fault.Limit index number)) h goes ends own = own
 written P d claim ops target more last (Err tree_fault.NoMemory) h goes ends own = own
 written P d claim ops target more last (Err tree_fault.Device) h goes ends own = own
@@ -104,7 +104,7 @@ written P d claim ops target more last (Err tree_fault.Down) h goes ends own = o
 written P d claim ops target more last (Err (tree_fault.Full length)) h goes ends own = own
 
 pub write_under : (P : ByStage) (t : Tree) (d : Driver) (m : Option ℤ) (ops : List Op) (target : Recorded) (more : List Op → Stage) (last : Stage) → HoldsOfNothing P → ((rest : List Op) → P d.claim (more rest)) → P d.claim last → At P d → At P (writes t m ops target more last d).0
-write_under P t d None ops target more last h goes ends own = h d.claim stage.ReadControlZnodes tt
+write_under P t d None ops target more last h goes ends own = h None stage.ReadControlZnodes tt
 write_under P t d (Some claim) ops target more last h goes ends own = written P d claim ops target more last (multi t (write_ops claim ops target)) h goes ends own
 
 -- a driver that appends, and goes to a stage where its records are in the log
@@ -174,9 +174,9 @@ unheard_leads : (P : ByStage) (r : Request) (d : Driver) → HoldsOfNothing P �
 unheard_leads P nothing d h own = own
 unheard_leads P read_log d h own = own
 unheard_leads P list_brokers d h own = h d.claim stage.WaitForBrokers tt
-unheard_leads P look_up d h own = h d.claim stage.ReadControlZnodes tt
-unheard_leads P (read_page after) d h own = h d.claim stage.ReadControlZnodes tt
-unheard_leads P (write ops) d h own = h d.claim stage.ReadControlZnodes tt
+unheard_leads P look_up d h own = h None stage.ReadControlZnodes tt
+unheard_leads P (read_page after) d h own = h None stage.ReadControlZnodes tt
+unheard_leads P (write ops) d h own = h None stage.ReadControlZnodes tt
 unheard_leads P (add records) d h own = h None stage.Inactive tt
 
 after_leads : (P : ByStage) (e : Hearing) (answer : Driver × Reply) (r : Request) (d : Driver) → HoldsOfNothing P → At P d → At P answer.0 → At P (driver_after e answer r d).0
