@@ -82,9 +82,9 @@ turn_own n s running now d time kept fine = (turns n s running now d time kept f
 abbrev pub GoesOn : (Shared → Driver → Shared → Driver → Type 0) → Type 0
 GoesOn R = (s : Shared) (d : Driver) (t : Shared) (e : Driver) (u : Shared) (f : Driver) → IsOf d e → StepKeeps s d t e → R s d t e → R t e u f → R s d u f
 
-ended_by : (R : Shared → Driver → Shared → Driver → Type 0) (s : Shared) (d : Driver) (b : Bool) (t u : TurnResult) → R s d t.shared t.driver → R s d u.shared u.driver → R s d (if b then t else u).shared (if b then t else u).driver
-ended_by R s d true t u one other = one
-ended_by R s d false t u one other = other
+ended_leaves : (R : Shared → Driver → Shared → Driver → Type 0) (s : Shared) (d : Driver) (b : Bool) (t u : TurnResult) → R s d t.shared t.driver → R s d u.shared u.driver → R s d (if b then t else u).shared (if b then t else u).driver
+ended_leaves R s d true t u one other = one
+ended_leaves R s d false t u one other = other
 
 pub turn_leaves : (R : Shared → Driver → Shared → Driver → Type 0) → ((s : Shared) (d : Driver) → R s d s d) → GoesOn R
     → ((s : Shared) (running : List ℤ) (now : ℤ) (d : Driver) → IsTime now → IsSharedSound s → IsSoundDriver s d → R s d (step s running now d).shared (step s running now d).driver)
@@ -96,7 +96,7 @@ turn_leaves R none goes_on one (suc n) s running now d time kept fine =
     let k : StepKeeps s d r.shared r.driver = one_step s running now d time kept fine in
     let first = one s running now d time kept fine in
     let t : TurnResult = turn n r.shared running now r.driver in
-    ended_by R s d (ends r.reply) (record { shared = r.shared; driver = r.driver; replies = r.reply ∷ [] }) (with_reply r.reply t) first
+    ended_leaves R s d (ends r.reply) (record { shared = r.shared; driver = r.driver; replies = r.reply ∷ [] }) (with_reply r.reply t) first
     (goes_on s d r.shared r.driver t.shared t.driver (one_own s running now d) k first (turn_leaves R none goes_on one n r.shared running now r.driver time k.shared k.driver))
 
 -- ---- worlds
