@@ -15,8 +15,9 @@ use Rattle.kz_types.specs.declared.plan.Plan.{Plan}
 use Rattle.kz_types.specs.declared.plan.Plan.TheVariants as plan
 use Rattle.kz_types.specs.declared.tree.Op.{Op}
 use Rattle.kz_spec_stores.specs.Tree.{Tree, multi, migration_record}
-use Rattle.kz_spec_stores.specs.Log.{Log, end_of, image_at}
-use Rattle.kz_spec_znodes.specs.Difference.{after_chunk}
+use Rattle.kz_spec_stores.specs.Log.{Log, end_of, image_at, image_of}
+use Rattle.kz_spec_znodes.specs.Difference.{diff, after_chunk}
+use Rattle.kz_spec_znodes.specs.Rendering.{render}
 use Rattle.kz_spec_machine.specs.Driver.{Shared, Driver, epoch_or_zero, remaining_at, is_last_write, write_ops, write_request, Request, read_log, request_at, with_tree, shared_after, reaches_store, target_of, driver_at_log_end, is_recorded_at, resigned_driver, begins_again, is_claim_refused, after_write, writes, after_answer, hearing, driver_after, planned_step}
 use Rattle.kz_spec_machine.specs.Sound.{claim_version, IsCurrent, LogShape, IsAfterMigration, IsAtRest, AtStage, IsSharedSound, IsSoundDriver}
 use Rattle.kz_laws_trees.proofs.Multi.{write_keeps_version}
@@ -140,7 +141,7 @@ ahead_by p s running now d (stage.WriteDelta target ops) at kept fine ahead = de
 ahead_by p s running now d stage.DualWrite at kept fine ahead =
     let same = rest_same p s running now d at in
     other_step p s running now d stage.DualWrite at
-    (λ new. subst (λ (t : Tree). IsAhead t d.claim (stage.WriteDelta (target_of (driver_at_log_end s.log d)) _)) (sym same) (new_ahead s d at kept fine new)) tt
+    (λ new. subst (λ (t : Tree). IsAhead t d.claim (stage.WriteDelta (target_of (driver_at_log_end s.log d)) (diff (render d.view.image) (render (image_of s.log))))) (sym same) (new_ahead s d at kept fine new)) tt
 ahead_by p s running now d (stage.BeginMigration rows) at kept fine ahead = other_step p s running now d (stage.BeginMigration rows) at (λ records. tt) tt
 ahead_by p s running now d (stage.AppendRecords records) at kept fine ahead = other_step p s running now d (stage.AppendRecords records) at (λ rest. tt) tt
 ahead_by p s running now d (stage.ScanForResync target rows) at kept fine ahead = other_step p s running now d (stage.ScanForResync target rows) at (λ ops. tt) tt

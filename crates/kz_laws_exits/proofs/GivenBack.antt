@@ -1,5 +1,5 @@
 -- What a rollback leaves.
-use Rattle.std.proofs.Common.{◌≡◌, ◌≢◌, ℕ, ℤ, pos, negsuc, Bool, true, false, not, List, [], ◌∷◌, ◌++◌, Option, Some, None, is_some, option_map, Result, Ok, Err, if◌then◌else◌, All, refl, sym, ap, ◌∙◌, subst, arith}
+use Rattle.std.proofs.Common.{◌≡◌, ◌≢◌, ℕ, ℤ, pos, negsuc, ◌+ℤ◌, Bool, true, false, not, List, [], ◌∷◌, ◌++◌, Option, Some, None, is_some, option_map, Result, Ok, Err, if◌then◌else◌, All, refl, sym, ap, ◌∙◌, subst, arith}
 use Rattle.std.specs.Prelude.{codes}
 use Rattle.std.specs.Ordering.{int_eq}
 use Rattle.std.proofs.lemmas.Bool.Decides.{Decides-int_eq}
@@ -22,7 +22,7 @@ use Rattle.kz_spec_machine.specs.Machine.{World, first_of, unless, behind_refusa
 use Rattle.kz_spec_machine.specs.Sound.{TreeShape, RecordAgrees, Agreement, shown_in, Sound}
 use Rattle.kz_laws_trees.proofs.Rows.{still, others_kept, op_rises, deleted_found}
 use Rattle.kz_laws_trees.proofs.Claim.{shown_still}
-use Rattle.kz_laws_trees.proofs.Multi.{Ran, multi_ran, outside_left}
+use Rattle.kz_laws_trees.proofs.Multi.{multi_ran, outside_left, control_outside, migration_outside}
 use Rattle.kz_laws_steps.proofs.Targets.{closed_offset}
 use Rattle.kz_laws_steps.proofs.Tests.{true_or_false}
 use Rattle.kz_laws_events.proofs.Refusals.{first_none, unless_none}
@@ -116,10 +116,10 @@ outside_deleted true path rest is all = All-cons (λ o. is_migrated (path_of_op 
 outside_deleted false path rest is all = all
 
 exit_outside : (t : Tree) → All (λ o. is_migrated (path_of_op o) ≡ false) (exit_ops t)
-exit_outside t = outside_deleted (is_held_tree t) control_path (deleted_if (is_some (row_at migration_path t.rows)) migration_path) refl (last (is_some (row_at migration_path t.rows)))
+exit_outside t = outside_deleted (is_held_tree t) control_path (deleted_if (is_some (row_at migration_path t.rows)) migration_path) control_outside (last (is_some (row_at migration_path t.rows)))
   where
     last : (b : Bool) → All (λ o. is_migrated (path_of_op o) ≡ false) (deleted_if b migration_path)
-    last true = All-cons (λ o. is_migrated (path_of_op o) ≡ false) (op.Delete migration_path (negsuc 0)) [] refl (All-nil (λ o. is_migrated (path_of_op o) ≡ false))
+    last true = All-cons (λ o. is_migrated (path_of_op o) ≡ false) (op.Delete migration_path (negsuc 0)) [] migration_outside (All-nil (λ o. is_migrated (path_of_op o) ≡ false))
     last false = All-nil (λ o. is_migrated (path_of_op o) ≡ false)
 
 area_left : (t new : Tree) (ops : List Op) → tree_after_ops t ops ≡ Ok new → TreeShape t → All (λ o. is_migrated (path_of_op o) ≡ false) ops → area new ≡ area t
