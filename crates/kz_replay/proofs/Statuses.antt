@@ -30,7 +30,7 @@ pub Stops-EndsAs : (o : Outcome) (lines sent : List ℕ) (s : Stop) → Stops o 
 Stops-EndsAs o lines sent (stop.Ends (ending.BadLine line)) h = h
 Stops-EndsAs o lines sent (stop.Ends ending.LongLine) h = h
 Stops-EndsAs o lines sent (stop.Ends ending.LongInput) h = h
-Stops-EndsAs o lines sent (stop.Ends (ending.LogLimit n)) h = limit_ends (limit_status n) (is_limit n) o lines sent h
+Stops-EndsAs o lines sent (stop.Ends (ending.StoreLimit n)) h = limit_ends (limit_status n) (is_limit n) o lines sent h
 Stops-EndsAs o lines sent stop.NoMemory h = h
 Stops-EndsAs o lines sent stop.SinkFailed h = h
 
@@ -51,7 +51,7 @@ other : (s : Stop) → IsOther (stop_status s)
 other (stop.Ends (ending.BadLine line)) = tt
 other (stop.Ends ending.LongLine) = tt
 other (stop.Ends ending.LongInput) = tt
-other (stop.Ends (ending.LogLimit n)) = limit_other (limit_status n) (is_limit n)
+other (stop.Ends (ending.StoreLimit n)) = limit_other (limit_status n) (is_limit n)
 other stop.NoMemory = tt
 other stop.SinkFailed = tt
 
@@ -72,6 +72,6 @@ pub stop_write : (s : Stop) → stop_status s ≡ status.WriteFault → s ≡ st
 stop_write (stop.Ends (ending.BadLine line)) e = cc
 stop_write (stop.Ends ending.LongLine) e = cc
 stop_write (stop.Ends ending.LongInput) e = cc
-stop_write (stop.Ends (ending.LogLimit n)) e = absurd (limit_not_write (limit_status n) (is_limit n) e)
+stop_write (stop.Ends (ending.StoreLimit n)) e = absurd (limit_not_write (limit_status n) (is_limit n) e)
 stop_write stop.NoMemory e = cc
 stop_write stop.SinkFailed e = refl

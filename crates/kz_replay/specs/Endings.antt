@@ -19,7 +19,7 @@ abbrev pub status_of : Ending → Status
 status_of (ending.BadLine line) = status.Script line
 status_of ending.LongLine = status.Limit (number_of_limit limits.LineBytes) MAX_LINE_BYTES
 status_of ending.LongInput = status.Limit (number_of_limit limits.InputBytes) MAX_INPUT_BYTES
-status_of (ending.LogLimit number) = limit_status number
+status_of (ending.StoreLimit number) = limit_status number
 
 -- the status of a run that stops for this reason
 abbrev pub stop_status : Stop → Status

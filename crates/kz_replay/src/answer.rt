@@ -66,7 +66,7 @@ fn ending_of_reply(reply: &Reply) -> Option<Ending>
     ensures { option_map status_of result ≡ ending_of_reply reply.now }
 {
     match reply {
-        Reply::LogFailed(LogFault::Limit { number }) => Some(Ending::LogLimit { number: *number }),
+        Reply::LogFailed(LogFault::Limit { number }) => Some(Ending::StoreLimit { number: *number }),
         _ => None,
     }
 }
@@ -90,6 +90,9 @@ fn ending_of(answer: &Answer) -> Option<Ending>
     match answer {
         Answer::Turn(replies) => first_ending(replies.as_slice()),
         Answer::Step(reply) => ending_of_reply(reply),
+        Answer::TreeFailed(TreeFault::Limit { number, .. }) => {
+            Some(Ending::StoreLimit { number: *number })
+        }
         _ => None,
     }
 }

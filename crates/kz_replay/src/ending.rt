@@ -15,8 +15,8 @@ pub enum Ending {
     LongLine,
     /// The input has too many bytes.
     LongInput,
-    /// A step of a driver would pass the limit of the log that has this number.
-    LogLimit { number: u8 },
+    /// A step of a driver would pass the limit of the log that has this number, or a rollback that of the tree.
+    StoreLimit { number: u8 },
 }
 
 /// What a run does after something is printed.
@@ -90,7 +90,7 @@ fn status_of(ending: Ending) -> Status
             which: Limit::InputBytes.number(),
             number: MAX_INPUT_BYTES,
         },
-        Ending::LogLimit { number } => limit_status(number),
+        Ending::StoreLimit { number } => limit_status(number),
     }
 }
 

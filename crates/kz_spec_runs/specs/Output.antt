@@ -11,6 +11,8 @@ use Rattle.kz_types.specs.declared.machine.Reply.{Reply}
 use Rattle.kz_types.specs.declared.machine.Reply.TheVariants as reply
 use Rattle.kz_types.specs.declared.machine.Recorded.{Recorded}
 use Rattle.kz_types.specs.declared.fault.LogFault.{LogFault}
+use Rattle.kz_types.specs.declared.fault.TreeFault.{TreeFault}
+use Rattle.kz_types.specs.declared.fault.TreeFault.TheVariants as tree_fault
 use Rattle.kz_types.specs.declared.fault.LogFault.TheVariants as fault
 use Rattle.kz_types.specs.declared.outside.Status.{Status}
 use Rattle.kz_types.specs.declared.outside.Status.TheVariants as status
@@ -83,10 +85,16 @@ abbrev pub first_ending : List Status → Option Status
 first_ending [] = None
 first_ending (s ∷ ss) = Some s
 
+-- a tree in memory refuses the operations of a rollback only where there is no further transaction, which is a limit
+abbrev pub ending_of_tree_fault : TreeFault → Option Status
+ending_of_tree_fault (tree_fault.Limit index number) = Some (limit_status number)
+ending_of_tree_fault f = None
+
 -- the status with which an event ends the run
 abbrev pub ending : Answer → Option Status
 ending (answer.Turn replies) = first_ending (filter_map ending_of_reply replies)
 ending (answer.Step r) = ending_of_reply r
+ending (answer.TreeFailed f) = ending_of_tree_fault f
 ending a = None
 
 -- ---- outcomes
