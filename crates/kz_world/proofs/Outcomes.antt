@@ -196,6 +196,27 @@ pub change_appends : (w : World) (id now : ℤ) (records : List MetaRecord) → 
 unfolding next
 change_appends w id now records leads taken = ap (λ a. outcome_unless w a (changed_world w records now) (answer.Appended (end_of (changed_log w.shared.log records now)))) (by_records w id records None leads taken)
 
+-- ---- finalisations
+
+-- a finalisation by a leader, with what is asked for before the log's room
+by_end : (w : World) (id : ℤ) (r : Option Answer) → leader_refusal w id ≡ None → end_refusal w id ≡ r → finalise_refusal w id ≡ first_of r (full w.shared.log final_records)
+by_end w id r leads is =
+    let l = w.shared.log in
+    let unmigrated = unless (is_migrated_log l) answer.NotMigrated in
+    let over_already = unless (not (is_finalised_log l)) answer.Finalised in
+    let dual = dual_write_refusal (driver_of id w.drivers) in
+    let rest = rest_refusal w.shared.tree (end_of l) in
+    ap (λ a. first_of a (first_of unmigrated (first_of over_already (first_of dual (first_of rest (full l final_records)))))) leads ∙ sym (joined unmigrated over_already dual rest (full l final_records)) ∙ ap (λ a. first_of a (full l final_records)) is
+
+pub finalise_refused : (w : World) (id now : ℤ) (r : Answer) → leader_refusal w id ≡ None → end_refusal w id ≡ Some r → next w (event.Finalise id now) ≡ (w, r)
+unfolding next
+finalise_refused w id now r leads refused =
+    by_refusal w (finalise_refusal w id) r (changed_world w final_records now) (answer.Appended (end_of (changed_log w.shared.log final_records now))) (by_end w id (Some r) leads refused)
+
+pub finalise_appends : (w : World) (id now : ℤ) → leader_refusal w id ≡ None → end_refusal w id ≡ None → next w (event.Finalise id now) ≡ world_after_append w final_records now
+unfolding next
+finalise_appends w id now leads taken = ap (λ a. outcome_unless w a (changed_world w final_records now) (answer.Appended (end_of (changed_log w.shared.log final_records now)))) (by_end w id None leads taken)
+
 -- ---- registrations
 
 by_begun : (w : World) (id : ℤ) (records : List MetaRecord) (b : Option ℤ) → leader_refusal w id ≡ None → begun_of w.shared.log ≡ b
@@ -260,6 +281,10 @@ append_pair w records now epoch m is made =
 pub change_pairs : (w : World) (id now : ℤ) (records : List MetaRecord) → leader_refusal w id ≡ None → records_refusal w.shared.log.epoch (image_of w.shared.log) records ≡ None → append_pairs w records now ≡ event_pairs w (event.Change id records now)
 unfolding event_pairs
 change_pairs w id now records leads taken = ap (λ a. pairs_unless a (pair_of (changed_world w records now).shared ∷ [])) (sym (by_records w id records None leads taken))
+
+pub finalise_pairs : (w : World) (id now : ℤ) → leader_refusal w id ≡ None → end_refusal w id ≡ None → append_pairs w final_records now ≡ event_pairs w (event.Finalise id now)
+unfolding event_pairs
+finalise_pairs w id now leads taken = ap (λ a. pairs_unless a (pair_of (changed_world w final_records now).shared ∷ [])) (sym (by_end w id None leads taken))
 
 pub register_pairs : (w : World) (id broker : ℤ) (migrating : Bool) (now : ℤ) → leader_refusal w id ≡ None → begun_of w.shared.log ≡ None → append_pairs w (registration broker migrating) now ≡ event_pairs w (event.Register id broker migrating now)
 unfolding event_pairs

@@ -1,23 +1,25 @@
 -- What an event does to the disks below the tree and the log: which store it asks, by its own refusals, and what the answer of
 -- that store says of its disk.
-use Rattle.std.specs.Prelude.{◌≡◌, false, ℤ, List, Option, Some, None, option_map, Result, Ok}
+use Rattle.std.specs.Prelude.{◌≡◌, ⊤, false, ℤ, List, Option, Some, None, option_map, Result, Ok}
 use Rattle.kz_types.specs.declared.plan.Plan.{Plan}
 use Rattle.kz_types.specs.declared.machine.Event.{Event}
 use Rattle.kz_types.specs.declared.machine.Event.TheVariants as event
 use Rattle.kz_types.specs.declared.machine.Answer.{Answer}
 use Rattle.kz_types.specs.declared.machine.Answer.TheVariants as answer
 use Rattle.kz_types.specs.declared.record.MetaRecord.{MetaRecord}
-use Rattle.kz_spec_stores.specs.Requests.{Disk, Multi, BeginSession, EndSession, Append, Elect}
+use Rattle.kz_spec_stores.specs.Requests.{Disk, Multi, BeginSession, EndSession, Append, Elect, Reset}
 use Rattle.kz_spec_stores.specs.Tree.{multi, begin_session, end_session}
 use Rattle.kz_spec_stores.specs.Log.{Log, append, elect, image_of, begun_of}
-use Rattle.kz_spec_machine.specs.Driver.{Driver}
-use Rattle.kz_spec_machine.specs.Machine.{World, running_ids, driver_of, running_refusal, leader_refusal, client_refusal, election_records, registration}
+use Rattle.kz_spec_machine.specs.Driver.{Shared, Driver, least}
+use Rattle.kz_spec_machine.specs.Machine.{World, running_ids, driver_of, running_refusal, leader_refusal, client_refusal, election_records, registration, final_records, exit_ops}
 use Rattle.kz_world.specs.declared.faults.EventFault.{EventFault}
 use Rattle.kz_driver.specs.Disks.{Disks, disks_of, Payloads}
 use Rattle.kz_turns.specs.Disks.{StepRequestDisks, TurnDisks}
-use Rattle.kz_world.specs.Faults.{result_of_answer}
+use Rattle.kz_exit.specs.declared.faults.ExitFault.{ExitFault}
+use Rattle.kz_exit.specs.Disks.{LogDisk, TreeDisk}
+use Rattle.kz_world.specs.Faults.{result_of_answer, after_exit}
 use Rattle.kz_world.specs.Stores.{AsksNothing, ReadsLog, ChangesTree, ChangesLog}
-use Rattle.kz_world.specs.Refusals.{records_refusal}
+use Rattle.kz_world.specs.Refusals.{records_refusal, end_refusal}
 use Rattle.kz_world.specs.Worlds.{WorldOver}
 
 -- the disks below the stores of a world, of which this is told
@@ -55,6 +57,13 @@ AppendsRecords log records now payloads r old new = ChangesLog (append log log.e
 abbrev pub ElectsController : Log → ℤ → Payloads → Result Answer EventFault → Disks → Disks → Type 0
 ElectsController log now payloads r old new = ChangesLog (elect log now (election_records log)) (payloads.log log (Elect now (election_records log))) r old new
 
+-- A rollback by its own result: what it did to the log's disk, and then to the tree's.
+pub record TakesBack (s : Shared) (payloads : Payloads) (r : Result Answer EventFault) (old new : Disks) : Type 0 where
+  pub result : Result ⊤ ExitFault
+  pub told : r ≡ after_exit result
+  pub log : LogDisk (payloads.log s.log Reset) result old.log new.log
+  pub tree : TreeDisk s.tree payloads.tree (exit_ops s.tree) result old.tree new.tree
+
 -- What an event does to the disks, by its answer or the fault that it tells. Where a rule of the event itself refuses it, no
 -- store is asked, or the log is only read.
 abbrev pub ResultDisks : World → Event → Payloads → Result Answer EventFault → Disks → Disks → Type 0
@@ -79,6 +88,14 @@ ResultDisks w (event.Register id broker migrating now) payloads r old new = Unle
     (UnlessRefused (option_map (λ offset. answer.InTransaction offset) (begun_of w.shared.log))
     (AppendsRecords w.shared.log (registration broker migrating) now payloads r old new)
     (ReadsLog r old new))
+    (AsksNothing r old new)
+ResultDisks w (event.Finalise id now) payloads r old new = UnlessRefused (leader_refusal w id)
+    (UnlessRefused (end_refusal w id)
+    (AppendsRecords w.shared.log final_records now payloads r old new)
+    (ReadsLog r old new))
+    (AsksNothing r old new)
+ResultDisks w event.Rollback payloads r old new = UnlessRefused (option_map (λ id. answer.Running id) (least (running_ids w.drivers)))
+    (TakesBack w.shared payloads r old new)
     (AsksNothing r old new)
 ResultDisks w event.Check payloads r old new = ReadsLog r old new
 ResultDisks w (event.ZkOpen session) payloads r old new = ChangesTree (begin_session w.shared.tree session) (payloads.tree w.shared.tree (BeginSession session)) r old new

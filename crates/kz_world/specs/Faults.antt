@@ -9,6 +9,8 @@ use Rattle.kz_types.specs.declared.machine.Answer.TheVariants as answer
 use Rattle.kz_session.specs.declared.sessions.SessionFault.{SessionFault}
 use Rattle.kz_session.specs.declared.sessions.SessionFault.TheVariants as session_fault
 use Rattle.kz_spec_machine.specs.Failures.{is_tree_failure, is_log_failure}
+use Rattle.kz_exit.specs.declared.faults.ExitFault.{ExitFault}
+use Rattle.kz_exit.specs.declared.faults.ExitFault.TheVariants as exit
 use Rattle.kz_world.specs.declared.faults.EventFault.{EventFault}
 use Rattle.kz_world.specs.declared.faults.EventFault.TheVariants as event_fault
 
@@ -57,3 +59,13 @@ after_session_fault session_fault.Device = Err (event_fault.Tree tree_fault.Devi
 after_session_fault session_fault.Down = Err (event_fault.Tree tree_fault.Down)
 after_session_fault (session_fault.Full length) = Err (event_fault.Tree (tree_fault.Full length))
 after_session_fault (session_fault.Limit number) = Ok (answer.Over number)
+
+-- what an event answers whose rollback ended so
+abbrev pub after_exit : {A : Type 0} → Result A ExitFault → Result Answer EventFault
+after_exit (Ok told) = Ok answer.RolledBack
+after_exit (Err exit.Finalised) = Ok answer.Finalised
+after_exit (Err (exit.Unclosed path)) = Ok (answer.Unclosed path)
+after_exit (Err (exit.Behind recorded end)) = Ok (answer.Behind recorded end)
+after_exit (Err (exit.Log f)) = Err (event_fault.Log f)
+after_exit (Err (exit.Tree f)) = result_of_answer (answer.TreeFailed f)
+after_exit (Err exit.NoMemory) = Err event_fault.NoMemory
