@@ -22,7 +22,7 @@ use Rattle.kz_laws_trees.proofs.Rows.{Same, same, other, compare}
 use Rattle.kz_laws_trees.proofs.Render.{render_rises}
 use Rattle.kz_laws_trees.proofs.Area.{area_rises}
 use Rattle.kz_laws_trees.proofs.Multi.{chunk_size, edits_to, area_after_write}
-use Rattle.kz_laws_agreement.specs.Agreement.{at_path}
+use Rattle.kz_spec_runs.specs.Promises.{at_path}
 
 -- each path has what it has in one of two lists
 abbrev pub Between : List Rendered → List Rendered → List Rendered → Type 0

@@ -13,7 +13,8 @@ use Rattle.kz_laws_trees.specs.TreeLaws.{Completed}
 use Rattle.kz_laws_trees.proofs.Beside.{write_keeps_recorded}
 use Rattle.kz_laws_steps.proofs.Tests.{true_or_false}
 use Rattle.kz_laws_steps.proofs.Written.{Took, completed}
-use Rattle.kz_laws_agreement.specs.Agreement.{at_path, IsRendered, IsAsCommitted, PathsAgree, source_after}
+use Rattle.kz_spec_runs.specs.Promises.{at_path, IsRendered, IsAsCommitted}
+use Rattle.kz_laws_agreement.specs.Agreement.{PathsAgree, source_after}
 use Rattle.kz_laws_agreement.proofs.Edited.{written_between}
 
 -- ---- the source

@@ -1,4 +1,3 @@
 pub mod Edited
 pub mod Effects
 pub mod Steps
-pub mod Events

@@ -13,7 +13,8 @@ use Rattle.kz_spec_machine.specs.Sound.{IsCurrent, IsSharedSound, Fills, records
 use Rattle.kz_laws_logs.proofs.Filled.{fill_stands}
 use Rattle.kz_laws_appends.proofs.Filling.{same_records, begun_log, appended_log}
 use Rattle.kz_laws_appends.proofs.Committed.{IsReady, ready, commit_agrees}
-use Rattle.kz_laws_commits.specs.Commits.{Copies, CopiesAtStage, IsTranslation}
+use Rattle.kz_spec_runs.specs.Promises.{IsTranslation}
+use Rattle.kz_laws_commits.specs.Commits.{Copies, CopiesAtStage}
 
 -- ---- the open transaction is one
 

@@ -11,6 +11,7 @@ use Rattle.kz_spec_znodes.specs.Translation.{translate}
 use Rattle.kz_spec_machine.specs.Driver.{Shared, Driver, epoch_or_zero, begin_record, commit_records, planned_step}
 use Rattle.kz_spec_machine.specs.Machine.{World, next, after_events}
 use Rattle.kz_spec_machine.specs.Sound.{IsTime, IsCurrent, IsSharedSound, records_from, IsSoundDriver, Each, Sound, IsLawful}
+use Rattle.kz_spec_runs.specs.Promises.{IsTranslation}
 use Rattle.kz_laws_steps.specs.Steps.{IsApartFrom}
 
 -- The records that a current driver has appended in its transaction, and those that it has still to append, are the translation
@@ -31,16 +32,7 @@ pub record StepCopies (s : Shared) (d : Driver) (new : Shared) (after : Driver) 
 abbrev pub StepsKeepCopies : Type 0
 StepsKeepCopies = (p : Plan) (s : Shared) (running : List ℤ) (now : ℤ) (d : Driver) → IsTime now → IsSharedSound s → IsSoundDriver s d → Copies s d → StepCopies s d (planned_step p s running now d).shared (planned_step p s running now d).driver
 
--- The transaction of the commit: its Begin, the translation of the migrated area, the state and the End, one after another; and the
--- End is the log's last record and its commit.
-pub record IsTranslation (t : Tree) (l : Log) : Type 0 where
-  pub from : ℤ
-  pub records : List MetaRecord
-  pub translated : translate (migrated_rows t) ≡ Ok records
-  pub transaction : records_from l from ≡ begin_record ∷ (records ++ commit_records)
-  pub commit : commit_of l ≡ Some (end_of l)
-
--- An append that commits the migration leaves such a log.
+-- An append that commits the migration leaves its translation in the log.
 abbrev pub CommitsTranslate : Type 0
 CommitsTranslate = (s : Shared) (now : ℤ) (d : Driver) (new : Log) → IsSharedSound s → IsSoundDriver s d → Copies s d → d.stage ≡ stage.AppendRecords [] → append s.log (epoch_or_zero d.epoch) now commit_records ≡ Ok new → IsTranslation s.tree new
 

@@ -38,7 +38,7 @@ empty_log_shape = record {
   image = empty_in_order;
 }
 
-not_migrated : is_migrated_log empty_log ≡ false
+pub not_migrated : is_migrated_log empty_log ≡ false
 unfolding image_at
 not_migrated = refl
 

@@ -2,3 +2,4 @@ pub mod Output
 pub mod Moments
 pub mod Endings
 pub mod InStep
+pub mod Promises

@@ -1,0 +1,4 @@
+pub mod Linked
+pub mod Commits
+pub mod Agrees
+pub mod Finalised

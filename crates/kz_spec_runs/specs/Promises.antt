@@ -1,0 +1,103 @@
+-- What is promised of every moment of a run: of the tree and the log at its beginning and after each of its requests.
+use Rattle.std.specs.Prelude.{◌≡◌, ◌⊎◌, ⊤, ⊥, ℕ, ℤ, negsuc, ◌≤ℤ◌, true, false, if◌then◌else◌, List, [], ◌∷◌, ◌++◌, Option, Some, Ok}
+use Rattle.kz_types.specs.declared.machine.Event.{Event}
+use Rattle.kz_types.specs.declared.machine.Event.TheVariants as event
+use Rattle.kz_types.specs.declared.machine.Recorded.{Recorded}
+use Rattle.kz_types.specs.declared.record.MetaRecord.{MetaRecord}
+use Rattle.kz_types.specs.declared.tree.Rendered.{Rendered}
+use Rattle.kz_ordered.specs.Order.{bytes_cmp}
+use Rattle.kz_ordered.specs.Ordered.{find}
+use Rattle.kz_spec_stores.specs.Tree.{Tree, area, migration_record, migrated_rows, path_of_rendered}
+use Rattle.kz_spec_stores.specs.Log.{Log, commit_of, end_of, image_at, is_migrated_log, is_open_log, reset}
+use Rattle.kz_spec_znodes.specs.Rendering.{render}
+use Rattle.kz_spec_znodes.specs.Translation.{translate}
+use Rattle.kz_spec_machine.specs.Driver.{begin_record, commit_records}
+use Rattle.kz_spec_machine.specs.Machine.{empty_world, Pair, pair_of, request_pairs, is_finalised_log, next, after_events}
+use Rattle.kz_spec_machine.specs.Sound.{IsBatchEnd, IsPastCommit, records_from}
+
+-- ---- moments
+
+-- Each request of a run leads from one moment to the next one so.
+abbrev pub Linked : (Pair → Pair → Type 0) → Pair → List Pair → Type 0
+Linked R p [] = ⊤
+Linked R p (q ∷ qs) = R p q × Linked R q qs
+
+-- ---- a migration is committed whole, as the translation of the znodes
+
+-- The transaction of a commit: its Begin, the translation of the migrated area, the state of the migration and the End, one after
+-- another; and the End is the log's last record and its commit.
+pub record IsTranslation (t : Tree) (l : Log) : Type 0 where
+  pub from : ℤ
+  pub records : List MetaRecord
+  pub translated : translate (migrated_rows t) ≡ Ok records
+  pub transaction : records_from l from ≡ begin_record ∷ (records ++ commit_records)
+  pub commit : commit_of l ≡ Some (end_of l)
+
+-- The request that commits a migration commits the translation of the znodes that stand then, and leaves the tree. After it
+-- the log stays migrated, and no transaction is open, until the log is reset.
+pub record CommitsWhole (p q : Pair) : Type 0 where
+  pub commits : is_migrated_log p.log ≡ false → is_migrated_log q.log ≡ true → IsTranslation p.tree q.log × (q.tree ≡ p.tree)
+  pub stays : is_migrated_log p.log ≡ true → (q.log ≡ reset p.log) ⊎ ((is_migrated_log q.log ≡ true) × (is_open_log q.log ≡ false))
+
+-- ---- each znode agrees with the log, path by path
+
+-- what stands at a path
+abbrev pub at_path : List ℕ → List Rendered → Option Rendered
+at_path path znodes = find bytes_cmp path_of_rendered path znodes
+
+-- A path is as it is rendered at a batch end, one that isn't before a commit, nor before the offset that is recorded.
+pub record IsRendered (t : Tree) (l : Log) (r : Recorded) (path : List ℕ) : Type 0 where
+  pub offset : ℤ
+  pub end : IsBatchEnd l offset
+  pub past : IsPastCommit l offset
+  pub recorded : r.offset ≤ℤ offset
+  pub same : at_path path (area t) ≡ at_path path (render (image_at l offset))
+
+-- A path is as it was at the commit, and no offset has been recorded since.
+pub record IsAsCommitted (t : Tree) (source : List Rendered) (r : Recorded) (path : List ℕ) : Type 0 where
+  pub none : r.offset ≡ negsuc 0
+  pub same : at_path path (area t) ≡ at_path path source
+
+-- Each path is one or the other, where the log is migrated: absence included, and each path by itself.
+abbrev pub PathsAgree : List Rendered → Pair → Type 0
+PathsAgree source p = is_migrated_log p.log ≡ true → (r : Recorded) → migration_record p.tree ≡ Some r → (path : List ℕ) → IsAsCommitted p.tree source r path ⊎ IsRendered p.tree p.log r path
+
+-- what the migrated area was at the commit, as is known at the next moment: what it is, until the log is migrated
+abbrev pub source_after : List Rendered → Pair → List Rendered
+source_after source p = if is_migrated_log p.log then source else area p.tree
+
+-- So it is at this moment and at those after it.
+abbrev pub AgreeFrom : List Rendered → Pair → List Pair → Type 0
+AgreeFrom source p [] = PathsAgree source p
+AgreeFrom source p (q ∷ qs) = PathsAgree source p × AgreeFrom (source_after source p) q qs
+
+-- ---- after a migration is finalised no controller writes
+
+-- an event by which controllers, or a rollback, could write
+abbrev pub IsOfControllers : Event → Type 0
+IsOfControllers (event.Step id now plan) = ⊤
+IsOfControllers (event.Turn id now) = ⊤
+IsOfControllers event.Rollback = ⊤
+IsOfControllers e = ⊥
+
+-- ---- scripts
+
+-- the moments of these events, from an empty tree and log on
+abbrev pub first_moment : Pair
+first_moment = pair_of empty_world.shared
+
+abbrev pub further_moments : List Event → List Pair
+further_moments es = request_pairs empty_world es
+
+-- A migration is committed whole or not at all.
+abbrev pub CommittedWhole : List Event → Type 0
+CommittedWhole es = Linked CommitsWhole first_moment (further_moments es)
+
+-- Each znode agrees with the log.
+abbrev pub Agreeing : List Event → Type 0
+Agreeing es = AgreeFrom [] first_moment (further_moments es)
+
+-- After a migration is finalised, no event of controllers and no rollback changes the tree or the log.
+abbrev pub FinalisedForGood : List Event → Type 0
+FinalisedForGood es = (before after : List Event) (e : Event) → es ≡ before ++ e ∷ after → is_finalised_log (after_events empty_world before).shared.log ≡ true → IsOfControllers e
+    → (next (after_events empty_world before) e).0.shared ≡ (after_events empty_world before).shared
