@@ -1,5 +1,5 @@
 -- What is promised of every moment of a run: of the tree and the log at its beginning and after each of its requests.
-use Rattle.std.specs.Prelude.{◌≡◌, ◌⊎◌, ⊤, ⊥, ℕ, ℤ, negsuc, ◌≤ℤ◌, true, false, if◌then◌else◌, List, [], ◌∷◌, ◌++◌, Option, Some, Ok}
+use Rattle.std.specs.Prelude.{◌≡◌, ◌⊎◌, ⊤, ℕ, ℤ, negsuc, ◌≤ℤ◌, true, false, if◌then◌else◌, List, [], ◌∷◌, ◌++◌, Option, Some, Ok}
 use Rattle.kz_types.specs.declared.machine.Event.{Event}
 use Rattle.kz_types.specs.declared.machine.Event.TheVariants as event
 use Rattle.kz_types.specs.declared.machine.Recorded.{Recorded}
