@@ -9,5 +9,5 @@ ghost use Rattle.kz_laws_agreement.specs.Agreement.{StepsKeepPaths};
 /// commit or before the recorded offset; until a first offset is recorded it may also be as it was at the commit. Every step
 /// keeps this under every plan.
 pub fn paths_agree()
-    ensures step { StepsKeepPaths }
+    ensures { StepsKeepPaths }
 {}

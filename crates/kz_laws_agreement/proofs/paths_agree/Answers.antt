@@ -1,5 +1,5 @@
 use Rattle.kz_laws_agreement.proofs.Steps.{step_agrees}
 use Rattle.kz_laws_agreement.proofs.paths_agree.Goals as goal
 
-pub returns-clause-step : goal.returns-clause-step
-returns-clause-step c = step_agrees
+pub returns : goal.returns
+returns c = step_agrees
