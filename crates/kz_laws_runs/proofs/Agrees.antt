@@ -50,13 +50,13 @@ reset_agrees s kept source agrees = nothing_owed (source_after source (pair_of s
 
 agrees_promised : Promised Anything Agrees
 agrees_promised = record {
-  step = step_agrees_by;
+  on_step = step_agrees_by;
   keeps = λ s running now d time kept fine any. tt;
-  events = λ w e lawful sound each id d found. tt;
-  elect = elected_agrees;
-  batch = batch_agrees;
-  tree = tree_agrees;
-  reset = reset_agrees;
+  each_event = λ w e lawful sound each id d found. tt;
+  on_election = elected_agrees;
+  on_batch = batch_agrees;
+  on_tree = tree_agrees;
+  on_reset = reset_agrees;
 }
 
 -- from one moment on

@@ -130,13 +130,13 @@ reset_commits s kept = record {
 
 commits_promised : Promised Copies CommitsWhole
 commits_promised = record {
-  step = step_commits;
+  on_step = step_commits;
   keeps = step_keeps;
-  events = event_copies;
-  elect = elected_commits;
-  batch = batch_commits;
-  tree = tree_commits;
-  reset = reset_commits;
+  each_event = event_copies;
+  on_election = elected_commits;
+  on_batch = batch_commits;
+  on_tree = tree_commits;
+  on_reset = reset_commits;
 }
 
 pub run_commits : (es : List Event) → All IsLawful es → CommittedWhole es

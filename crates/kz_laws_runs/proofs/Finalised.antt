@@ -50,17 +50,17 @@ turned : (w : World) (id now : ℤ) (m : Option Driver) → driver_of id w.drive
 turned w id now None found time sound ends final = refl
 turned w id now (Some d) found time sound ends final = (turn_rests (work w.shared d) w.shared (running_ids w.drivers) now d time sound.kept (sound.each id d found) final (ends.each id d found)).0
 
+step_event : (w : World) (id now : ℤ) (p : Plan) → Sound w → EndHolds w → is_finalised_log w.shared.log ≡ true → Stays w (next w (event.Step id now p)).0
+unfolding next
+step_event w id now p sound ends final = unless_made (Stays w) w (running_refusal w id) (step_result w p now (driver_of id w.drivers)) refl (stepped w id now p (driver_of id w.drivers) refl sound ends final)
+
+turn_event : (w : World) (id now : ℤ) → IsTime now → Sound w → EndHolds w → is_finalised_log w.shared.log ≡ true → Stays w (next w (event.Turn id now)).0
+unfolding next
+turn_event w id now time sound ends final = unless_made (Stays w) w (running_refusal w id) (turn_result w now (driver_of id w.drivers)) refl (turned w id now (driver_of id w.drivers) refl time sound ends final)
+
 event_rests : (w : World) (e : Event) → IsLawful e → IsOfControllers e → Sound w → EndHolds w → is_finalised_log w.shared.log ≡ true → Stays w (next w e).0
-event_rests w (event.Step id now p) lawful of sound ends final = step_rests w id now p sound ends final
-  where
-    step_rests : (w : World) (id now : ℤ) (p : Plan) → Sound w → EndHolds w → is_finalised_log w.shared.log ≡ true → Stays w (next w (event.Step id now p)).0
-    unfolding next
-    step_rests w id now p sound ends final = unless_made (Stays w) w (running_refusal w id) (step_result w p now (driver_of id w.drivers)) refl (stepped w id now p (driver_of id w.drivers) refl sound ends final)
+event_rests w (event.Step id now p) lawful of sound ends final = step_event w id now p sound ends final
 event_rests w (event.Turn id now) lawful of sound ends final = turn_event w id now lawful.1 sound ends final
-  where
-    turn_event : (w : World) (id now : ℤ) → IsTime now → Sound w → EndHolds w → is_finalised_log w.shared.log ≡ true → Stays w (next w (event.Turn id now)).0
-    unfolding next
-    turn_event w id now time sound ends final = unless_made (Stays w) w (running_refusal w id) (turn_result w now (driver_of id w.drivers)) refl (turned w id now (driver_of id w.drivers) refl time sound ends final)
 event_rests w event.Rollback lawful of sound ends final = ap (λ (x : World). x.shared) (final_rollback_refused w final).0
 event_rests w e lawful of sound ends final = absurd of
 

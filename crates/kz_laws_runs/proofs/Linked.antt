@@ -48,13 +48,13 @@ linked_of R p (x ∷ xs) q h = (h.0, linked_of R x xs q h.1)
 
 -- What each request does, and what each driver keeps for it.
 pub record Promised (J : Shared → Driver → Type 0) (R : Pair → Pair → Type 0) : Type 0 where
-  pub step : (p : Plan) (s : Shared) (running : List ℤ) (now : ℤ) (d : Driver) → IsTime now → IsSharedSound s → IsSoundDriver s d → J s d → R (pair_of s) (pair_of (planned_step p s running now d).shared)
+  pub on_step : (p : Plan) (s : Shared) (running : List ℤ) (now : ℤ) (d : Driver) → IsTime now → IsSharedSound s → IsSoundDriver s d → J s d → R (pair_of s) (pair_of (planned_step p s running now d).shared)
   pub keeps : (s : Shared) (running : List ℤ) (now : ℤ) (d : Driver) → IsTime now → IsSharedSound s → IsSoundDriver s d → J s d → J (step s running now d).shared (step s running now d).driver
-  pub events : (w : World) (e : Event) → IsLawful e → Sound w → Each (J w.shared) w.drivers → Each (J (next w e).0.shared) (next w e).0.drivers
-  pub elect : (s : Shared) (now : ℤ) → MayElect s → R (pair_of s) (pair_of (record s { log = elected_of s.log now }))
-  pub batch : (s : Shared) (now : ℤ) (items : List MetaRecord) → IsLeaderBatch s now items → R (pair_of s) (pair_of (record s { log = more_of s now items }))
-  pub tree : (s : Shared) (new : Tree) → IsSharedSound s → (is_migrated_log s.log ≡ true → IsUnchanged s.tree new) → R (pair_of s) (pair_of (record s { tree = new }))
-  pub reset : (s : Shared) → IsSharedSound s → R (pair_of s) (pair_of (record s { log = reset s.log }))
+  pub each_event : (w : World) (e : Event) → IsLawful e → Sound w → Each (J w.shared) w.drivers → Each (J (next w e).0.shared) (next w e).0.drivers
+  pub on_election : (s : Shared) (now : ℤ) → MayElect s → R (pair_of s) (pair_of (record s { log = elected_of s.log now }))
+  pub on_batch : (s : Shared) (now : ℤ) (items : List MetaRecord) → IsLeaderBatch s now items → R (pair_of s) (pair_of (record s { log = more_of s now items }))
+  pub on_tree : (s : Shared) (new : Tree) → IsSharedSound s → (is_migrated_log s.log ≡ true → IsUnchanged s.tree new) → R (pair_of s) (pair_of (record s { tree = new }))
+  pub on_reset : (s : Shared) → IsSharedSound s → R (pair_of s) (pair_of (record s { log = reset s.log }))
 
 -- ---- a step
 
@@ -73,7 +73,7 @@ step_linked R p s running now d h = by_request R p s (epoch_or_zero d.epoch) now
 
 one_linked : (J : Shared → Driver → Type 0) (R : Pair → Pair → Type 0) (s : Shared) (running : List ℤ) (now : ℤ) (d : Driver) → Promised J R → IsTime now → IsSharedSound s → IsSoundDriver s d → J s d → LinkedTo R (pair_of s) (step_pairs plan.Deliver s running now d) (pair_of (step s running now d).shared)
 unfolding step
-one_linked J R s running now d h time kept fine own = step_linked R plan.Deliver s running now d (h.step plan.Deliver s running now d time kept fine own)
+one_linked J R s running now d h time kept fine own = step_linked R plan.Deliver s running now d (h.on_step plan.Deliver s running now d time kept fine own)
 
 -- ---- a turn
 
@@ -114,7 +114,7 @@ more R w (Some r) ps rest h = refl
 more R w None ps rest h = h refl
 
 moved : (J : Shared → Driver → Type 0) (R : Pair → Pair → Type 0) (w : World) (r : Result Tree MoveFault) → Promised J R → Sound w → ((new : Tree) → r ≡ Ok new → IsUnchanged w.shared.tree new) → LinkedBy R w (tree_pairs w r) (moved_world w r).0
-moved J R w (Ok t) h sound unchanged = (h.tree w.shared t sound.kept (λ migrated. unchanged t refl), refl)
+moved J R w (Ok t) h sound unchanged = (h.on_tree w.shared t sound.kept (λ migrated. unchanged t refl), refl)
 moved J R w (Err f) h sound unchanged = refl
 
 client_leaves : (w : World) (ops : List Op) (new : Tree) (b : Bool) → is_held_tree w.shared.tree ≡ b → multi w.shared.tree ops ≡ Ok new → client_refusal w.shared.tree ops ≡ None → Sound w → is_migrated_log w.shared.log ≡ true → IsUnchanged w.shared.tree new
@@ -122,7 +122,7 @@ client_leaves w ops new true held is none sound migrated = client_leaves_held w.
 client_leaves w ops new false held is none sound migrated = absurd (true_or_false (is_migrated_log w.shared.log) migrated (unmigrated w.shared sound.kept held))
 
 client : (J : Shared → Driver → Type 0) (R : Pair → Pair → Type 0) (w : World) (ops : List Op) (r : Result Tree TreeFault) → multi w.shared.tree ops ≡ r → client_refusal w.shared.tree ops ≡ None → Promised J R → Sound w → LinkedBy R w (tree_pairs w r) (client_world w r).0
-client J R w ops (Ok t) is none h sound = (h.tree w.shared t sound.kept (client_leaves w ops t (is_held_tree w.shared.tree) refl is none sound), refl)
+client J R w ops (Ok t) is none h sound = (h.on_tree w.shared t sound.kept (client_leaves w ops t (is_held_tree w.shared.tree) refl is none sound), refl)
 client J R w ops (Err f) is none h sound = refl
 
 -- the tree is given back, on a log that was reset
@@ -131,16 +131,16 @@ given J R w [] h kept before = refl
 given J R w (o ∷ os) h kept before = by_result (multi w.shared.tree (o ∷ os))
   where
     by_result : (r : Result Tree TreeFault) → LinkedBy R w (tree_pairs w r) (given_back w r).0
-    by_result (Ok t) = (h.tree w.shared t kept (λ migrated. absurd (true_or_false (is_migrated_log w.shared.log) migrated before)), refl)
+    by_result (Ok t) = (h.on_tree w.shared t kept (λ migrated. absurd (true_or_false (is_migrated_log w.shared.log) migrated before)), refl)
     by_result (Err f) = refl
 
 rolled_back : (J : Shared → Driver → Type 0) (R : Pair → Pair → Type 0) (w : World) → Promised J R → Sound w → LinkedBy R w (pair_of (reset_world w).shared ∷ exit_pairs (reset_world w) (exit_ops w.shared.tree)) (given_back (reset_world w) (tree_after_ops w.shared.tree (exit_ops w.shared.tree))).0
-rolled_back J R w h sound = (h.reset w.shared sound.kept, given J R (reset_world w) (exit_ops w.shared.tree) h (reset_sound w.shared sound.kept) (reset_unmigrated w.shared.log))
+rolled_back J R w h sound = (h.on_reset w.shared sound.kept, given J R (reset_world w) (exit_ops w.shared.tree) h (reset_sound w.shared sound.kept) (reset_unmigrated w.shared.log))
 
 stepped : (J : Shared → Driver → Type 0) (R : Pair → Pair → Type 0) (w : World) (id now : ℤ) (p : Plan) (m : Option Driver) → driver_of id w.drivers ≡ m → Promised J R → IsTime now → Sound w → Each (J w.shared) w.drivers → LinkedBy R w (event_step_pairs w p now m) (step_result w p now m).0
 stepped J R w id now p None found h time sound each = refl
 stepped J R w id now p (Some d) found h time sound each =
-    step_linked R p w.shared (running_ids w.drivers) now d (h.step p w.shared (running_ids w.drivers) now d time sound.kept (sound.each id d found) (each id d found))
+    step_linked R p w.shared (running_ids w.drivers) now d (h.on_step p w.shared (running_ids w.drivers) now d time sound.kept (sound.each id d found) (each id d found))
 
 turned : (J : Shared → Driver → Type 0) (R : Pair → Pair → Type 0) (w : World) (id now : ℤ) (m : Option Driver) → driver_of id w.drivers ≡ m → Promised J R → IsTime now → Sound w → Each (J w.shared) w.drivers → LinkedBy R w (event_turn_pairs w now m) (turn_result w now m).0
 turned J R w id now None found h time sound each = refl
@@ -151,13 +151,13 @@ unfolding next event_pairs
 event_linked J R w (event.Quorum ids) h lawful sound each = quiet R w (quorum_refusal w ids) (declared_world w ids) _ refl
 event_linked J R w (event.Start id) h lawful sound each = quiet R w (start_refusal w id) (started_world w id) _ refl
 event_linked J R w (event.Stop controller) h lawful sound each = quiet R w (stop_refusal w controller) (stopped_world w controller) _ refl
-event_linked J R w (event.Elect id now) h lawful sound each = one R w (election_refusal w id) (elected_world w id now) _ (λ none. h.elect w.shared now (may_elect w id sound none))
+event_linked J R w (event.Elect id now) h lawful sound each = one R w (election_refusal w id) (elected_world w id now) _ (λ none. h.on_election w.shared now (may_elect w id sound none))
 event_linked J R w (event.Step id now p) h lawful sound each = more R w (running_refusal w id) (event_step_pairs w p now (driver_of id w.drivers)) (step_result w p now (driver_of id w.drivers)) (λ none. stepped J R w id now p (driver_of id w.drivers) refl h lawful.1 sound each)
 event_linked J R w (event.Turn id now) h lawful sound each = more R w (running_refusal w id) (event_turn_pairs w now (driver_of id w.drivers)) (turn_result w now (driver_of id w.drivers)) (λ none. turned J R w id now (driver_of id w.drivers) refl h lawful.1 sound each)
-event_linked J R w (event.Change id records now) h lawful sound each = one R w (change_refusal w id records) (changed_world w records now) _ (λ none. h.batch w.shared now records (change_batch w id now records lawful.2 sound (may_change w id records none)))
+event_linked J R w (event.Change id records now) h lawful sound each = one R w (change_refusal w id records) (changed_world w records now) _ (λ none. h.on_batch w.shared now records (change_batch w id now records lawful.2 sound (may_change w id records none)))
 event_linked J R w (event.Register id broker migrating now) h lawful sound each =
-    one R w (register_refusal w id (registration broker migrating)) (changed_world w (registration broker migrating) now) _ (λ none. h.batch w.shared now (registration broker migrating) (register_batch w id broker now migrating sound none))
-event_linked J R w (event.Finalise id now) h lawful sound each = one R w (finalise_refusal w id) (changed_world w final_records now) _ (λ none. h.batch w.shared now final_records (final_batch w id now sound (may_finalise w id none)))
+    one R w (register_refusal w id (registration broker migrating)) (changed_world w (registration broker migrating) now) _ (λ none. h.on_batch w.shared now (registration broker migrating) (register_batch w id broker now migrating sound none))
+event_linked J R w (event.Finalise id now) h lawful sound each = one R w (finalise_refusal w id) (changed_world w final_records now) _ (λ none. h.on_batch w.shared now final_records (final_batch w id now sound (may_finalise w id none)))
 event_linked J R w event.Rollback h lawful sound each =
     more R w (rollback_refusal w) (pair_of (reset_world w).shared ∷ exit_pairs (reset_world w) (exit_ops w.shared.tree)) (given_back (reset_world w) (tree_after_ops w.shared.tree (exit_ops w.shared.tree))) (λ none. rolled_back J R w h sound)
 event_linked J R w event.Check h lawful sound each = refl
@@ -175,4 +175,4 @@ run_linked J R (e ∷ es) w h lawful sound each =
     let new : World = (next w e).0 in
     linked_append R (pair_of w.shared) (event_pairs w e) (pair_of new.shared) (request_pairs new es) (pair_of (after_events new es).shared)
     (event_linked J R w e h own sound each)
-    (run_linked J R es new h (All-tail IsLawful e es lawful) (event_sound w e own sound) (h.events w e own sound each))
+    (run_linked J R es new h (All-tail IsLawful e es lawful) (event_sound w e own sound) (h.each_event w e own sound each))
