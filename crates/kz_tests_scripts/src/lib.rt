@@ -10,4 +10,6 @@ mod controllers;
 #[cfg(test)]
 mod entities;
 #[cfg(test)]
+mod exits;
+#[cfg(test)]
 mod made;
