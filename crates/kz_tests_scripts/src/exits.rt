@@ -11,7 +11,7 @@ static SCRIPTS: [(&str, Status, &str); 5] = [
 {"event":"elect","controller":3000}
 {"event":"turn","controller":3000}
 {"event":"rollback"}
-{"event":"change","controller":3000,"records":[{"kind":"ProducerIds","brokerId":1,"brokerEpoch":0,"nextProducerId":1000}]}
+{"event":"change","controller":3000,"records":[{"kind":"ProducerIds","brokerId":1,"brokerEpoch":0,"next":1000}]}
 {"event":"stop"}
 {"event":"rollback"}
 {"event":"start","controller":3000}
@@ -25,7 +25,7 @@ static SCRIPTS: [(&str, Status, &str); 5] = [
 {"event":"elect","controller":3000}
 {"event":"turn","controller":3000}
 "#,
-        Status::Script { line: 18 },
+        Status::Done,
         "1 done
 2 done
 3 elected 1 1
@@ -43,6 +43,40 @@ static SCRIPTS: [(&str, Status, &str); 5] = [
 4 moved DUAL_WRITE
 4 idle
 5 running 3000
+6 appended 5
+7 done
+8 behind 4 5
+9 done
+10 elected 2 6
+11 moved BECOME_CONTROLLER
+11 looked
+11 claimed 2
+11 looked
+11 read 17
+11 recorded 6
+11 moved DUAL_WRITE
+11 idle
+12 done
+13 rolled-back
+14 rolled-back
+15 unmigrated
+16 done
+17 elected 3 1
+18 moved WAIT_FOR_BROKERS
+18 looked
+18 moved BECOME_CONTROLLER
+18 looked
+18 claimed 3
+18 read 17
+18 appended 2
+18 appended 3
+18 appended 5
+18 looked
+18 read 17
+18 recorded 5
+18 moved DUAL_WRITE
+18 idle
+end events=18 steps=35 zxid=7 offset=5 recorded=5
 ",
     ),
     // a rollback in the middle of a write is refused
