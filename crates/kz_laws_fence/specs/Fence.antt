@@ -24,7 +24,7 @@ IsOfFence r = ⊥
 abbrev pub FencedRepliesLeave : Type 0
 FencedRepliesLeave = (p : Plan) (s : Shared) (running : List ℤ) (now : ℤ) (d : Driver) → IsOfFence (planned_step p s running now d).reply → (planned_step p s running now d).shared ≡ s
 
--- A change by a controller that doesn't lead the log leaves the world, and so does a registration.
+-- A change by a controller that doesn't lead the log leaves the world, and so do a registration and a finalisation.
 abbrev pub OnlyLeadersAppend : Type 0
 OnlyLeadersAppend = (w : World) (id now : ℤ) (records : List MetaRecord) (broker : ℤ) (migrating : Bool) → leader_refusal w id ≢ None
-    → ((next w (event.Change id records now)).0 ≡ w) × ((next w (event.Register id broker migrating now)).0 ≡ w)
+    → ((next w (event.Change id records now)).0 ≡ w) × ((next w (event.Register id broker migrating now)).0 ≡ w) × ((next w (event.Finalise id now)).0 ≡ w)

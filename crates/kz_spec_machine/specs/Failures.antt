@@ -12,7 +12,7 @@ use Rattle.kz_types.specs.declared.machine.Event.TheVariants as event
 use Rattle.kz_types.specs.declared.machine.Answer.{Answer}
 use Rattle.kz_types.specs.declared.machine.Answer.TheVariants as answer
 use Rattle.kz_spec_machine.specs.Driver.{Shared, Driver, step}
-use Rattle.kz_spec_machine.specs.Machine.{World, driver_of, ends, reset_world, running_ids, running_refusal, with_driver, work}
+use Rattle.kz_spec_machine.specs.Machine.{World, driver_of, ends, reset_world, rollback_refusal, running_ids, running_refusal, with_driver, work}
 
 -- A refusal of the tree and of the log, a limit among them, is an answer of the machine. The other faults are failures.
 abbrev pub is_tree_failure : TreeFault → Bool
@@ -67,13 +67,13 @@ abbrev pub IsLeftByStep : World → Event → World → Type 0
 IsLeftByStep w (event.Step id now p) new = (running_refusal w id ≡ None) × ((d : Driver) × (driver_of id w.drivers ≡ Some d)) × (new ≡ w)
 IsLeftByStep w e new = ⊥
 
--- A rollback whose tree failed, or that ran out of memory, may have reset the log before.
+-- A rollback that isn't refused resets the log first. It has done so where the tree failed, and may have where memory ran out.
 abbrev pub IsLeftByTree : World → Event → World → Type 0
-IsLeftByTree w event.Rollback new = new ≡ reset_world w
+IsLeftByTree w event.Rollback new = (rollback_refusal w ≡ None) × (new ≡ reset_world w)
 IsLeftByTree w e new = new ≡ w
 
 abbrev pub IsLeftOutOfMemory : World → Event → World → Type 0
-IsLeftOutOfMemory w event.Rollback new = (new ≡ w) ⊎ (new ≡ reset_world w)
+IsLeftOutOfMemory w event.Rollback new = (new ≡ w) ⊎ ((rollback_refusal w ≡ None) × (new ≡ reset_world w))
 IsLeftOutOfMemory w e new = new ≡ w
 
 -- What an event leaves that failed. But for a turn that was cut off and a rollback, it leaves the world as it was.

@@ -469,6 +469,10 @@ abbrev pub tree_after_ops : Tree → List Op → Result Tree TreeFault
 tree_after_ops t [] = Ok t
 tree_after_ops t (o ∷ os) = multi t (o ∷ os)
 
+abbrev pub is_rollback : Event → Bool
+is_rollback event.Rollback = true
+is_rollback e = false
+
 -- the log is reset first
 abbrev pub reset_world : World → World
 reset_world w = record { shared = record w.shared { log = reset w.shared.log }; drivers = w.drivers }

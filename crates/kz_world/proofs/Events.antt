@@ -13,7 +13,7 @@ use Rattle.kz_spec_stores.specs.Tree.{Tree, begin_session, end_session, multi}
 use Rattle.kz_spec_stores.specs.Log.{Log}
 use Rattle.kz_spec_machine.specs.Driver.{Shared, Driver, StepResult, planned_step, step}
 use Rattle.kz_spec_machine.specs.Machine.{World, next, running_ids, driver_of, with_driver, running_refusal, outcome_unless, unless_refused, ends, TurnResult, turn, with_reply, work, step_result, turn_result, pair_of, event_pairs, moved_world, client_refusal, client_world, quorum_refusal, declared_world, start_refusal, started_world, stop_refusal, stopped_world, election_refusal, elected_world, election_answer, change_refusal, changed_world, register_refusal, registration}
-use Rattle.kz_spec_machine.specs.Failures.{is_failed_step, is_failure, IsCutOff, CutOffTurn, IsLeftByTurn, IsLeftByStep, IsLeft}
+use Rattle.kz_spec_machine.specs.Failures.{is_failed_step, is_failure, IsCutOff, CutOffTurn, IsLeftByTurn, IsLeftByStep, IsLeftByTree, IsLeftOutOfMemory, IsLeft}
 use Rattle.kz_spec_machine.specs.Sound.{IsTime, IsLawful, Sound}
 use Rattle.kz_laws_fence.specs.Fence.{IsOfFence}
 use Rattle.kz_laws_fence.proofs.Drivers.{fenced_driver}
@@ -40,9 +40,9 @@ event_done w new e payloads (Ok b) a old later is outcome disks none = outcome.d
 event_done w new e payloads (Err f) a old later is outcome disks none = true_or_false (is_failure a) (ap is_failure is ∙ (event_told w e payloads f old later disks).failure) none
 
 -- one that tells of a failure
-pub event_failed : (w new : World) (e : Event) (r : Result Answer EventFault) (a : Answer) → a ≡ answer_of_result r → IfOk r (IsOutcome w e new) → OnErr r (new ≡ w) → is_failure a ≡ true → IsLeft w e a new
-event_failed w new e (Ok b) a is outcome same fails = subst (λ x. IsLeft w e x new) (sym is) (outcome.failed (sym (ap is_failure is) ∙ fails))
-event_failed w new e (Err f) a is outcome same fails = subst (λ x. IsLeft w e x new) (sym is) (left_by w e f new same)
+pub event_failed : (w new : World) (e : Event) (r : Result Answer EventFault) (a : Answer) → a ≡ answer_of_result r → IfOk r (IsOutcome w e new) → IfErr r (λ f. IsLeft w e (answer_of_fault f) new) → is_failure a ≡ true → IsLeft w e a new
+event_failed w new e (Ok b) a is outcome left fails = subst (λ x. IsLeft w e x new) (sym is) (outcome.failed (sym (ap is_failure is) ∙ fails))
+event_failed w new e (Err f) a is outcome left fails = subst (λ x. IsLeft w e x new) (sym is) left
 
 -- what it says of the disks
 pub event_disks : (w new : World) (e : Event) (payloads : Payloads) (r : Result Answer EventFault) (a : Answer) (old later : Disks) → a ≡ answer_of_result r → IfOk r (IsOutcome w e new) → ResultDisks w e payloads r old later → EventDisks w e payloads a old later
@@ -102,9 +102,21 @@ unmade_step : (w : World) (e : Event) (new : World) → IsLeftByStep w e new →
 unmade_step w (event.Step id now p) new left = left.2
 unmade_step w e new left = absurd left
 
+-- a rollback resets the log first
+left_by_tree : (w : World) (e : Event) (new : World) → IsLeftByTree w e new → Sound w → Sound new
+left_by_tree w event.Rollback new left sound = subst Sound (sym left.1) (reset_world_sound w sound left.0)
+left_by_tree w e new left sound = subst Sound (sym left) sound
+
+out_of_memory : (w : World) (e : Event) (new : World) → IsLeftOutOfMemory w e new → Sound w → Sound new
+out_of_memory w event.Rollback new (inl same) sound = subst Sound (sym same) sound
+out_of_memory w event.Rollback new (inr left) sound = subst Sound (sym left.1) (reset_world_sound w sound left.0)
+out_of_memory w e new left sound = subst Sound (sym left) sound
+
 left_sound : (w : World) (e : Event) (a : Answer) (new : World) → IsLawful e → IsLeft w e a new → Sound w → Sound new
 left_sound w e (answer.Turn replies) new lawful left sound = left_by_turn w e replies new lawful left sound
 left_sound w e (answer.Step r) new lawful left sound = subst Sound (sym (unmade_step w e new left)) sound
+left_sound w e (answer.TreeFailed f) new lawful left sound = left_by_tree w e new left sound
+left_sound w e answer.NoMemory new lawful left sound = out_of_memory w e new left sound
 left_sound w e a new lawful left sound = subst Sound (sym left) sound
 
 sound_by : (b : Bool) (w : World) (e : Event) (a : Answer) (new : World) → is_failure a ≡ b → IsLawful e → (is_failure a ≡ false → next w e ≡ (new, a)) → (is_failure a ≡ true → IsLeft w e a new) → Sound w → Sound new
@@ -117,15 +129,25 @@ sound_after w e a new lawful done failed sound = sound_by (is_failure a) w e a n
 
 -- ---- a controller that another one has taken over from
 
--- an event that isn't a turn, and failed, leaves the world
-left_alone : (w : World) (e : Event) (a : Answer) (new : World) → ((replies : List Reply) → IsLeftByTurn w e replies new → ⊥) → IsLeft w e a new → new ≡ w
-left_alone w e (answer.Turn replies) new alone left = absurd (alone replies left)
-left_alone w e (answer.Step r) new alone left = unmade_step w e new left
-left_alone w e a new alone left = left
+tree_alone : (w : World) (e : Event) (new : World) → is_rollback e ≡ false → IsLeftByTree w e new → new ≡ w
+tree_alone w event.Rollback new forward left = absurd (cc)
+tree_alone w e new forward left = left
 
-alone_by : (b : Bool) (w : World) (e : Event) (a : Answer) (new : World) → is_failure a ≡ b → (is_failure a ≡ false → next w e ≡ (new, a)) → (is_failure a ≡ true → IsLeft w e a new) → ((replies : List Reply) → IsLeftByTurn w e replies new → ⊥) → (next w e).0.shared ≡ w.shared → new.shared ≡ w.shared
-alone_by true w e a new is done failed alone leaves = ap (λ (x : World). x.shared) (left_alone w e a new alone (failed is))
-alone_by false w e a new is done failed alone leaves = sym (ap (λ (x : World × Answer). x.0.shared) (done is)) ∙ leaves
+memory_alone : (w : World) (e : Event) (new : World) → is_rollback e ≡ false → IsLeftOutOfMemory w e new → new ≡ w
+memory_alone w event.Rollback new forward left = absurd (cc)
+memory_alone w e new forward left = left
+
+-- an event that is no turn and no rollback, and failed, leaves the world
+left_alone : (w : World) (e : Event) (a : Answer) (new : World) → is_rollback e ≡ false → ((replies : List Reply) → IsLeftByTurn w e replies new → ⊥) → IsLeft w e a new → new ≡ w
+left_alone w e (answer.Turn replies) new forward alone left = absurd (alone replies left)
+left_alone w e (answer.Step r) new forward alone left = unmade_step w e new left
+left_alone w e (answer.TreeFailed f) new forward alone left = tree_alone w e new forward left
+left_alone w e answer.NoMemory new forward alone left = memory_alone w e new forward left
+left_alone w e a new forward alone left = left
+
+alone_by : (b : Bool) (w : World) (e : Event) (a : Answer) (new : World) → is_failure a ≡ b → (is_failure a ≡ false → next w e ≡ (new, a)) → (is_failure a ≡ true → IsLeft w e a new) → is_rollback e ≡ false → ((replies : List Reply) → IsLeftByTurn w e replies new → ⊥) → (next w e).0.shared ≡ w.shared → new.shared ≡ w.shared
+alone_by true w e a new is done failed forward alone leaves = ap (λ (x : World). x.shared) (left_alone w e a new forward alone (failed is))
+alone_by false w e a new is done failed forward alone leaves = sym (ap (λ (x : World × Answer). x.0.shared) (done is)) ∙ leaves
 
 step_leaves : (w : World) (now : ℤ) (id : ℤ) (p : Plan) (refusal : Option Answer) (m : Option Driver) → driver_of id w.drivers ≡ m → Sound w → IsFencedDriver w.shared m → (unless_refused w refusal (step_result w p now m)).0.shared ≡ w.shared
 step_leaves w now id p (Some a) m found sound fenced = refl
@@ -137,11 +159,11 @@ unfolding next
 fenced_step w id now p sound fenced = step_leaves w now id p (running_refusal w id) (driver_of id w.drivers) refl sound fenced
 
 fenced_event : (w : World) (e : Event) (a : Answer) (new : World) → (is_failure a ≡ false → next w e ≡ (new, a)) → (is_failure a ≡ true → IsLeft w e a new) → Sound w → IsOfFenced w e → new.shared ≡ w.shared
-fenced_event w (event.Step id now p) a new done failed sound fenced = alone_by (is_failure a) w (event.Step id now p) a new refl done failed (λ replies left. left) (fenced_step w id now p sound fenced)
+fenced_event w (event.Step id now p) a new done failed sound fenced = alone_by (is_failure a) w (event.Step id now p) a new refl done failed refl (λ replies left. left) (fenced_step w id now p sound fenced)
 fenced_event w (event.Change id records now) a new done failed sound fenced =
-    alone_by (is_failure a) w (event.Change id records now) a new refl done failed (λ replies left. left) (ap (λ (x : World). x.shared) (leader_alone w id now records (pos 0) true fenced).0)
+    alone_by (is_failure a) w (event.Change id records now) a new refl done failed refl (λ replies left. left) (ap (λ (x : World). x.shared) (leader_alone w id now records (pos 0) true fenced).0)
 fenced_event w (event.Register id broker migrating now) a new done failed sound fenced =
-    alone_by (is_failure a) w (event.Register id broker migrating now) a new refl done failed (λ replies left. left) (ap (λ (x : World). x.shared) (leader_alone w id now [] broker migrating fenced).1)
+    alone_by (is_failure a) w (event.Register id broker migrating now) a new refl done failed refl (λ replies left. left) (ap (λ (x : World). x.shared) (leader_alone w id now [] broker migrating fenced).1)
 fenced_event w e a new done failed sound fenced = absurd fenced
 
 -- ---- a step by whose reply its driver learns of it

@@ -14,9 +14,9 @@ use Rattle.kz_types.specs.declared.move_fault.MoveFault.{MoveFault}
 use Rattle.kz_spec_stores.specs.Tree.{Tree, multi, begin_session, end_session}
 use Rattle.kz_spec_stores.specs.Log.{Log, append, elect, begun_of, image_of}
 use Rattle.kz_spec_stores.specs.Requests.{Disk, StoreAnswer, Done, Multi, BeginSession, EndSession, Append, Elect, IsTaken, ChangesDisk, ReadsDisk, answer_of_tree_fault, answer_of_log_fault}
-use Rattle.kz_spec_machine.specs.Driver.{Driver}
-use Rattle.kz_spec_machine.specs.Machine.{World, running_refusal, leader_refusal, client_refusal, driver_of, election_records, registration}
-use Rattle.kz_spec_machine.specs.Failures.{is_tree_failure, is_log_failure, is_failure, IsLeft}
+use Rattle.kz_spec_machine.specs.Driver.{Driver, least}
+use Rattle.kz_spec_machine.specs.Machine.{World, running_refusal, leader_refusal, client_refusal, driver_of, running_ids, election_records, registration, final_records, is_rollback}
+use Rattle.kz_spec_machine.specs.Failures.{is_tree_failure, is_log_failure, is_failure, IsLeftByTree, IsLeftOutOfMemory, IsLeft}
 use Rattle.kz_requests.specs.Disks.{answer_of_made}
 use Rattle.kz_driver.specs.Disks.{Disks, Payloads}
 use Rattle.kz_world.specs.declared.faults.EventFault.{EventFault}
@@ -27,9 +27,11 @@ use Rattle.kz_tree.specs.Requests.{IsRefusal as IsTreeRefusal}
 use Rattle.kz_session.specs.declared.sessions.SessionFault.{SessionFault}
 use Rattle.kz_session.specs.declared.sessions.SessionFault.TheVariants as session_fault
 use Rattle.kz_session.specs.Sessions.{answer_of_session_fault, IsRefusal as IsSessionRefusal}
-use Rattle.kz_world.specs.Faults.{result_of_answer, answer_of_fault, after_log_fault, after_tree_fault, after_session_fault}
-use Rattle.kz_world.specs.Disks.{UnlessRefused, TurnEventDisks, DriverStepDisks, ResultDisks}
-use Rattle.kz_world.specs.Refusals.{records_refusal}
+use Rattle.kz_exit.specs.declared.faults.ExitFault.{ExitFault}
+use Rattle.kz_exit.specs.declared.faults.ExitFault.TheVariants as exit
+use Rattle.kz_world.specs.Faults.{result_of_answer, answer_of_fault, after_log_fault, after_tree_fault, after_session_fault, after_exit}
+use Rattle.kz_world.specs.Disks.{UnlessRefused, TurnEventDisks, DriverStepDisks, TakesBack, ResultDisks}
+use Rattle.kz_world.specs.Refusals.{records_refusal, end_refusal}
 
 -- ---- answers that tell a fault
 
@@ -91,6 +93,24 @@ step_told p w now (Some d) payloads f old new h = nothing_told Answer f old new 
 log_changed_told : {B E : Type 0} (made : Result B E) (payload : ℕ) (f : EventFault) (old new : Disks) → ChangesLog {A = Answer} made payload (Err f) old new → IsTold f
 log_changed_told made payload f old new h = log_change_told made payload f old.log new.log h.0
 
+tree_by_failure : (b : Bool) (f : TreeFault) (g : EventFault) → is_tree_failure f ≡ b → (if b then Err (event_fault.Tree f) else Ok (answer.TreeFailed f)) ≡ Err g → IsTold g
+tree_by_failure true f g fails is = subst IsTold (let one : event_fault.Tree f ≡ g = cc in one) (record { answer = ap (λ (b : Bool). if b then Err (event_fault.Tree f) else Ok (answer.TreeFailed f)) fails; failure = fails })
+tree_by_failure false f g fails is = absurd (cc)
+
+log_by_failure : (b : Bool) (f : LogFault) (g : EventFault) → is_log_failure f ≡ b → (if b then Err (event_fault.Log f) else Ok (answer.LogFailed f)) ≡ Err g → IsTold g
+log_by_failure true f g fails is = subst IsTold (let one : event_fault.Log f ≡ g = cc in one) (record { answer = ap (λ (b : Bool). if b then Err (event_fault.Log f) else Ok (answer.LogFailed f)) fails; failure = fails })
+log_by_failure false f g fails is = absurd (cc)
+
+-- the fault of a rollback
+exit_told : (r : Result ⊤ ExitFault) (g : EventFault) → Err g ≡ after_exit r → IsTold g
+exit_told (Ok told) g is = absurd (cc)
+exit_told (Err exit.Finalised) g is = absurd (cc)
+exit_told (Err (exit.Unclosed path)) g is = absurd (cc)
+exit_told (Err (exit.Behind recorded end)) g is = absurd (cc)
+exit_told (Err (exit.Log f)) g is = log_by_failure (is_log_failure f) f g refl (sym is)
+exit_told (Err (exit.Tree f)) g is = tree_by_failure (is_tree_failure f) f g refl (sym is)
+exit_told (Err exit.NoMemory) g is = subst IsTold (let one : event_fault.NoMemory ≡ g = cc in one) no_memory_told
+
 -- the fault of an event
 pub event_told : (w : World) (e : Event) (payloads : Payloads) (f : EventFault) (old new : Disks) → ResultDisks w e payloads (Err f) old new → IsTold f
 event_told w (event.Quorum ids) payloads f old new h = nothing_told Answer f old new h
@@ -105,17 +125,29 @@ event_told w (event.Change id records now) payloads f old new h =
 event_told w (event.Register id broker migrating now) payloads f old new h =
     unless_told (leader_refusal w id) _ _ f (unless_told (option_map (λ offset. answer.InTransaction offset) (begun_of w.shared.log)) _ _ f (log_changed_told (append w.shared.log w.shared.log.epoch now (registration broker migrating)) (payloads.log w.shared.log (Append w.shared.log.epoch now (registration broker migrating))) f old new) (λ k. log_read_told f old.log new.log k.0))
     (nothing_told Answer f old new) h
+event_told w (event.Finalise id now) payloads f old new h =
+    unless_told (leader_refusal w id) _ _ f (unless_told (end_refusal w id) _ _ f (log_changed_told (append w.shared.log w.shared.log.epoch now final_records) (payloads.log w.shared.log (Append w.shared.log.epoch now final_records)) f old new) (λ k. log_read_told f old.log new.log k.0)) (nothing_told Answer f old new) h
+event_told w event.Rollback payloads f old new h =
+    unless_told (option_map (λ id. answer.Running id) (least (running_ids w.drivers))) _ _ f (λ (k : TakesBack w.shared payloads (Err f) old new). exit_told k.result f k.told) (nothing_told Answer f old new) h
 event_told w event.Check payloads f old new h = log_read_told f old.log new.log h.0
 event_told w (event.ZkOpen session) payloads f old new h = tree_change_told (begin_session w.shared.tree session) (payloads.tree w.shared.tree (BeginSession session)) f old.tree new.tree h.0
 event_told w (event.ZkExpire session) payloads f old new h = tree_change_told (end_session w.shared.tree session) (payloads.tree w.shared.tree (EndSession session)) f old.tree new.tree h.0
 event_told w (event.Zk ops) payloads f old new h =
     unless_told (client_refusal w.shared.tree ops) _ _ f (λ k. tree_change_told (multi w.shared.tree ops) (payloads.tree w.shared.tree (Multi ops)) f old.tree new.tree k.0) (nothing_told Answer f old new) h
 
--- an event that answers a fault leaves the world as it was
-pub left_by : (w : World) (e : Event) (f : EventFault) (new : World) → new ≡ w → IsLeft w e (answer_of_fault f) new
-left_by w e (event_fault.Tree f) new h = h
-left_by w e (event_fault.Log f) new h = h
-left_by w e event_fault.NoMemory new h = h
+left_by_tree : (w : World) (e : Event) (new : World) → is_rollback e ≡ false → new ≡ w → IsLeftByTree w e new
+left_by_tree w event.Rollback new forward h = absurd (cc)
+left_by_tree w e new forward h = h
+
+left_out_of_memory : (w : World) (e : Event) (new : World) → is_rollback e ≡ false → new ≡ w → IsLeftOutOfMemory w e new
+left_out_of_memory w event.Rollback new forward h = absurd (cc)
+left_out_of_memory w e new forward h = h
+
+-- an event other than a rollback that answers a fault leaves the world as it was
+pub left_by : (w : World) (e : Event) (f : EventFault) (new : World) → is_rollback e ≡ false → new ≡ w → IsLeft w e (answer_of_fault f) new
+left_by w e (event_fault.Tree f) new forward h = left_by_tree w e new forward h
+left_by w e (event_fault.Log f) new forward h = h
+left_by w e event_fault.NoMemory new forward h = left_out_of_memory w e new forward h
 
 -- ---- answers that tell of no failure
 

@@ -66,6 +66,6 @@ after_exit (Ok told) = Ok answer.RolledBack
 after_exit (Err exit.Finalised) = Ok answer.Finalised
 after_exit (Err (exit.Unclosed path)) = Ok (answer.Unclosed path)
 after_exit (Err (exit.Behind recorded end)) = Ok (answer.Behind recorded end)
-after_exit (Err (exit.Log f)) = Err (event_fault.Log f)
+after_exit (Err (exit.Log f)) = result_of_answer (answer.LogFailed f)
 after_exit (Err (exit.Tree f)) = result_of_answer (answer.TreeFailed f)
 after_exit (Err exit.NoMemory) = Err event_fault.NoMemory

@@ -1,7 +1,8 @@
 //! How a fault of a store is told.
 ghost use Rattle.std.specs.Prelude.{◌≡◌};
-ghost use Rattle.kz_world.specs.Faults.{answer_of_result, after_tree_fault, after_log_fault, after_session_fault};
+ghost use Rattle.kz_world.specs.Faults.{answer_of_result, after_tree_fault, after_log_fault, after_session_fault, after_exit, result_of_answer};
 
+use kz_exit::ExitFault;
 use kz_session::SessionFault;
 use kz_types::{Answer, LogFault, NoMemory, TreeFault};
 
@@ -79,5 +80,40 @@ pub fn after_session_fault(fault: SessionFault) -> Result<Answer, EventFault>
         SessionFault::Down => Err(EventFault::Tree(TreeFault::Down)),
         SessionFault::Full { length } => Err(EventFault::Tree(TreeFault::Full { length })),
         SessionFault::Limit { number } => Ok(Answer::Over { number }),
+    }
+}
+
+// An answer that the tree failed so, or the fault that it tells.
+fn tree_failed(fault: TreeFault) -> Result<Answer, EventFault>
+    ensures { result ≡ result_of_answer (Answer.TreeFailed fault) }
+{
+    match fault {
+        TreeFault::Refused { .. } | TreeFault::Limit { .. } => Ok(Answer::TreeFailed(fault)),
+        _ => Err(EventFault::Tree(fault)),
+    }
+}
+
+// The same of the log.
+fn log_failed(fault: LogFault) -> Result<Answer, EventFault>
+    ensures { result ≡ result_of_answer (Answer.LogFailed fault) }
+{
+    match fault {
+        LogFault::Stale { .. } | LogFault::Limit { .. } => Ok(Answer::LogFailed(fault)),
+        _ => Err(EventFault::Log(fault)),
+    }
+}
+
+/// What an event answers whose rollback ended so.
+pub fn after_exit(outcome: Result<(), ExitFault>) -> Result<Answer, EventFault>
+    ensures { result ≡ after_exit outcome }
+{
+    match outcome {
+        Ok(()) => Ok(Answer::RolledBack),
+        Err(ExitFault::Finalised) => Ok(Answer::Finalised),
+        Err(ExitFault::Unclosed { path }) => Ok(Answer::Unclosed { path }),
+        Err(ExitFault::Behind { recorded, end }) => Ok(Answer::Behind { recorded, end }),
+        Err(ExitFault::Log(fault)) => log_failed(fault),
+        Err(ExitFault::Tree(fault)) => tree_failed(fault),
+        Err(ExitFault::NoMemory) => Err(EventFault::NoMemory),
     }
 }

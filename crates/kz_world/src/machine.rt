@@ -1,14 +1,15 @@
 //! The machine.
-ghost use Rattle.std.specs.Prelude.{◌≡◌, ◌⊎◌, ◌∷◌, [], true, false, IfOk, OnErr};
+ghost use Rattle.std.specs.Prelude.{◌≡◌, ◌⊎◌, ◌∷◌, [], true, false, IfOk, IfErr, OnErr};
 ghost use Rattle.kz_spec_stores.specs.Tree.{migration_record};
 ghost use Rattle.kz_spec_stores.specs.Log.{end_of};
-ghost use Rattle.kz_spec_machine.specs.Machine.{next, pair_of, event_pairs};
+ghost use Rattle.kz_spec_machine.specs.Machine.{next, pair_of, event_pairs, is_rollback};
 ghost use Rattle.kz_spec_machine.specs.Sound.{Sound, IsLawful};
 ghost use Rattle.kz_turns.specs.Stops.{AreUp, LeavesOneOf};
 ghost use Rattle.kz_world.specs.Fences.{IsOfFenced, TellsFence};
 ghost use Rattle.kz_spec_machine.specs.Failures.{is_failure, IsLeft};
 ghost use Rattle.kz_driver.specs.Disks.{payloads_of};
 ghost use Rattle.kz_world.specs.Disks.{disks_in, ResultDisks, EventDisks};
+ghost use Rattle.kz_world.specs.Faults.{answer_of_fault};
 ghost use Rattle.kz_world.specs.Stops.{EventLeaves};
 ghost use Rattle.kz_world.specs.Worlds.{WorldOver, world_of, plain_world, world_of_parts, AreKept, IsOutcome};
 
@@ -17,9 +18,11 @@ use crate::checks::compare;
 use crate::client::ask;
 use crate::election::elect;
 use crate::faults::{EventFault, answered};
+use crate::finalisation::finalise;
 use crate::members::{declare, start, stop};
 use crate::parts::Parts;
 use crate::registration::register;
+use crate::rollback::roll_back;
 use crate::sessions::{expire, open};
 use crate::single_steps::step_of;
 use crate::turns::turn_of;
@@ -45,7 +48,14 @@ impl<T: ZSessions, L: MetaLog> Model for World<T, L> {
     ghost invariant = { λ w. AreKept L.log w.parts };
 }
 
-// What an event does to these parts. A step that fails, or is out of memory, is told by the last reply of its turn. At `Err`
+// Whether the event is a rollback, which alone asks both stores.
+fn is_rollback(event: &Event) -> bool
+    ensures { result ≡ is_rollback event.now }
+{
+    matches!(event, Event::Rollback)
+}
+
+// What an event other than a rollback does to these parts. A step that fails, or is out of memory, is told by the last reply of its turn. At `Err`
 // nothing has changed but the disks.
 fn happen<T: ZSessions, L: MetaLog>(
     alloc: Global,
@@ -54,6 +64,7 @@ fn happen<T: ZSessions, L: MetaLog>(
 ) -> Result<Answer, EventFault>
     requires kept { AreKept L.log parts.old }
     requires lawful { IsLawful event.now }
+    requires forward { is_rollback event.now ≡ false }
     ensures ok { Sound (world_of T.tree L.log parts.old) → IfOk result (IsOutcome (world_of T.tree L.log parts.old) event.now (world_of T.tree L.log parts.new)) }
     ensures kept { AreKept L.log parts.new }
     ensures err { OnErr result (world_of T.tree L.log parts.new ≡ world_of T.tree L.log parts.old) }
@@ -82,10 +93,33 @@ fn happen<T: ZSessions, L: MetaLog>(
             migrating,
             now,
         } => register(alloc, parts, *controller, *broker, *migrating, *now),
+        Event::Finalise { controller, now } => finalise(parts, *controller, *now),
+        Event::Rollback => unreachable!(),
         Event::Check => compare(alloc, parts),
         Event::ZkOpen { session } => open(parts, *session),
         Event::ZkExpire { session } => expire(parts, *session),
         Event::Zk { ops } => ask(alloc, parts, ops.as_slice()),
+    }
+}
+
+// What an event does to these parts. At `Err` nothing has changed but the disks, or a rollback has reset the log.
+fn let_happen<T: ZSessions, L: MetaLog>(
+    alloc: Global,
+    parts: &mut Parts<T, L>,
+    event: &Event,
+) -> Result<Answer, EventFault>
+    requires kept { AreKept L.log parts.old }
+    requires lawful { IsLawful event.now }
+    ensures ok { Sound (world_of T.tree L.log parts.old) → IfOk result (IsOutcome (world_of T.tree L.log parts.old) event.now (world_of T.tree L.log parts.new)) }
+    ensures kept { AreKept L.log parts.new }
+    ensures err { IfErr result (λ fault. IsLeft (world_of T.tree L.log parts.old) event.now (answer_of_fault fault) (world_of T.tree L.log parts.new)) }
+    ensures disks { Sound (world_of T.tree L.log parts.old) → ResultDisks (world_of T.tree L.log parts.old) event.now (payloads_of T.payload_bytes L.payload_bytes) result (disks_in T.disk L.disk (world_of_parts parts.old)) (disks_in T.disk L.disk (world_of_parts parts.new)) }
+    ensures stop { Sound (world_of T.tree L.log parts.old) → EventLeaves (world_of T.tree L.log parts.old) event.now result (disks_in T.disk L.disk (world_of_parts parts.old)) (T.left parts.new.tree.inner) (L.left parts.new.log.inner) }
+{
+    if is_rollback(event) {
+        roll_back(alloc, parts)
+    } else {
+        happen(alloc, parts, event)
     }
 }
 
@@ -112,7 +146,8 @@ impl<T: ZSessions, L: MetaLog> World<T, L> {
     /// An event fails with `TreeFailed` or `LogFailed` where the disk below that store failed in this request or in an earlier
     /// one, or the store's file would pass its limit, and with `NoMemory`. It then leaves the world as it was, but for a turn
     /// whose step fails: the last reply of `Turn` tells the failure after the replies of the steps before it, and the world is
-    /// as these left it. A request that the tree or the log refuses is an answer. Where neither store was down before, a stop
+    /// as these left it. A rollback whose tree fails, or that runs out of memory, may leave the log reset, and a repeated one
+    /// goes on. A request that the tree or the log refuses is an answer. Where neither store was down before, a stop
     /// after a failure finds the tree and the log from before the event, or those after one of its requests.
     ///
     /// What follows is about a world that is sound, as every world of a run from the empty one is. An event keeps it
@@ -127,7 +162,7 @@ impl<T: ZSessions, L: MetaLog> World<T, L> {
         ensures stop { Sound (plain_world T.tree L.log self.old) → AreUp (disks_in T.disk L.disk self.old) → is_failure result ≡ true
             → LeavesOneOf (pair_of (plain_world T.tree L.log self.old).shared ∷ event_pairs (plain_world T.tree L.log self.old) event.now) (T.left self.new.tree) (L.left self.new.log) }
     {
-        answered(happen(self.alloc, &mut self.parts, event))
+        answered(let_happen(self.alloc, &mut self.parts, event))
     }
 
     /// The last transaction of the tree, 0 before the first.
