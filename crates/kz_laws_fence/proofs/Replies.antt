@@ -20,7 +20,7 @@ use Rattle.kz_spec_stores.specs.Log.{Log, append, end_of}
 use Rattle.kz_spec_znodes.specs.Translation.{Unreadable, translate}
 use Rattle.kz_spec_znodes.specs.Difference.{after_chunk, chunk}
 use Rattle.kz_spec_machine.specs.Driver.{Shared, Driver, at_stage, epoch_or_zero, claim_ops, remaining_at, is_last_write, write_ops, begin_record, begin_request, next_records, Request, write_request, request_at, with_tree, with_log, shared_after, after_claim, after_append, after_translation, after_records, after_write, writes, after_answer, Hearing, hears_answer, hears_nothing, hears_expiry, hearing, reaches_store, driver_after, planned_step}
-use Rattle.kz_spec_machine.specs.Machine.{World, outcome_unless, first_of, leader_refusal, changed_log, changed_world, change_refusal, registration, register_refusal, next}
+use Rattle.kz_spec_machine.specs.Machine.{World, outcome_unless, first_of, leader_refusal, changed_log, changed_world, change_refusal, registration, register_refusal, final_records, finalise_refusal, next}
 use Rattle.kz_laws_fence.specs.Fence.{IsOfFence}
 use Rattle.kz_laws_fence.proofs.Drivers.{either_same}
 
@@ -98,9 +98,10 @@ first_refuses (Some x) b some is = absurd (cc)
 first_refuses None b some is = absurd (some refl)
 
 pub leader_alone : (w : World) (id now : ℤ) (records : List MetaRecord) (broker : ℤ) (migrating : Bool) → leader_refusal w id ≢ None
-    → ((next w (event.Change id records now)).0 ≡ w) × ((next w (event.Register id broker migrating now)).0 ≡ w)
+    → ((next w (event.Change id records now)).0 ≡ w) × ((next w (event.Register id broker migrating now)).0 ≡ w) × ((next w (event.Finalise id now)).0 ≡ w)
 unfolding next
 leader_alone w id now records broker migrating some = (
   refused_leaves w (changed_world w records now) (answer.Appended (end_of (changed_log w.shared.log records now))) (change_refusal w id records) (first_refuses (leader_refusal w id) _ some),
   refused_leaves w (changed_world w (registration broker migrating) now) (answer.Appended (end_of (changed_log w.shared.log (registration broker migrating) now))) (register_refusal w id (registration broker migrating)) (first_refuses (leader_refusal w id) _ some),
+  refused_leaves w (changed_world w final_records now) (answer.Appended (end_of (changed_log w.shared.log final_records now))) (finalise_refusal w id) (first_refuses (leader_refusal w id) _ some),
 )

@@ -9,25 +9,30 @@ use Rattle.kz_types.specs.declared.fault.LogFault.TheVariants as log_fault
 use Rattle.kz_types.specs.declared.plan.Plan.{Plan}
 use Rattle.kz_types.specs.declared.plan.Plan.TheVariants as plan
 use Rattle.kz_types.specs.declared.machine.Reply.{Reply}
+use Rattle.kz_types.specs.declared.tree.Op.{Op}
 use Rattle.kz_types.specs.declared.machine.Reply.TheVariants as reply
 use Rattle.kz_types.specs.declared.machine.Event.{Event}
 use Rattle.kz_types.specs.declared.machine.Event.TheVariants as event
 use Rattle.kz_types.specs.declared.machine.Answer.{Answer}
 use Rattle.kz_types.specs.declared.machine.Answer.TheVariants as answer
-use Rattle.kz_spec_stores.specs.Tree.{multi, begin_session, end_session}
+use Rattle.kz_spec_stores.specs.Tree.{Tree, multi, begin_session, end_session}
 use Rattle.kz_spec_stores.specs.Log.{append, elect, image_of, begun_of}
-use Rattle.kz_spec_stores.specs.Requests.{Multi, BeginSession, EndSession, Append, Elect, answer_of_tree_fault, answer_of_log_fault, IsTaken}
-use Rattle.kz_spec_machine.specs.Driver.{Shared, Driver, epoch_or_zero, step}
-use Rattle.kz_spec_machine.specs.Machine.{World, ends, driver_of, running_ids, running_refusal, leader_refusal, client_refusal, election_records, registration, work}
-use Rattle.kz_spec_machine.specs.Failures.{is_failed_step, is_failure, IsCutOff, CutOffTurn, IsLeftByStep, IsLeft}
+use Rattle.kz_spec_stores.specs.Requests.{Disk, StoreAnswer, TreeChange, Multi, BeginSession, EndSession, Append, Elect, Reset, answer_of_tree_fault, answer_of_log_fault, IsTaken}
+use Rattle.kz_spec_machine.specs.Driver.{Shared, Driver, epoch_or_zero, least, step}
+use Rattle.kz_spec_machine.specs.Machine.{World, ends, driver_of, running_ids, running_refusal, leader_refusal, client_refusal, election_records, registration, final_records, exit_ops, work}
+use Rattle.kz_spec_machine.specs.Failures.{is_tree_failure, is_log_failure, is_failed_step, is_failure, IsCutOff, CutOffTurn, IsLeftByStep, IsLeft}
 use Rattle.kz_driver.specs.Disks.{Disks, Payloads}
 use Rattle.kz_driver.specs.Steps.{made_request, outcome_of}
 use Rattle.kz_turns.specs.Disks.{StepRequestDisks, TurnDisks}
 use Rattle.kz_world.specs.declared.faults.EventFault.{EventFault}
 use Rattle.kz_world.specs.declared.faults.EventFault.TheVariants as event_fault
 use Rattle.kz_world.specs.Stores.{AsksNothing, ReadsLog, ChangesTree, ChangesLog}
-use Rattle.kz_world.specs.Disks.{TurnEventDisks, DriverStepDisks, UnlessRefused, ResultDisks, EventDisks}
-use Rattle.kz_world.specs.Refusals.{records_refusal}
+use Rattle.kz_world.specs.Disks.{TurnEventDisks, DriverStepDisks, UnlessRefused, TakesBack, ResultDisks, EventDisks}
+use Rattle.kz_world.specs.Refusals.{records_refusal, end_refusal}
+use Rattle.kz_world.specs.Faults.{after_exit}
+use Rattle.kz_exit.specs.declared.faults.ExitFault.{ExitFault}
+use Rattle.kz_exit.specs.declared.faults.ExitFault.TheVariants as exit
+use Rattle.kz_exit.specs.Disks.{LogDisk, TreeDisk, MakesOps}
 use Rattle.kz_replay.specs.Failures.{is_disk_fault_of_tree, is_disk_fault_of_log, tells_disk_fault, FailsByNoDisk}
 use Rattle.kz_replay.proofs.Disks.{differ, IsCalm, IsFine, AreNone, change_calm, read_calm, request_fine}
 
@@ -145,6 +150,28 @@ step_calm : (p : Plan) (w : World) (now : ℤ) (m : Option Driver) (payloads : P
 step_calm p w now None payloads f old new h = nothing_calm f old new h
 step_calm p w now (Some d) payloads f old new h = nothing_calm f old new h
 
+-- a rollback
+given_calm : (t : Tree) (payload_bytes : Tree → TreeChange → ℕ) (ops : List Op) (a : StoreAnswer) (old new : Disk) → IsNone old → IsNone new → MakesOps t payload_bytes ops a old new → IsCalm a
+given_calm t payload_bytes [] a old new none after h = subst IsCalm (sym h.0) tt
+given_calm t payload_bytes (o ∷ os) a old new none after h = change_calm (IsTaken (multi t (o ∷ os))) (payload_bytes t (Multi (o ∷ os))) a old new none after h
+
+exit_calm : (s : Shared) (payloads : Payloads) (r : Result ⊤ ExitFault) (f : EventFault) (old new : Disks) → AreNone old → AreNone new → Err f ≡ after_exit r → LogDisk (payloads.log s.log Reset) r old.log new.log → TreeDisk s.tree payloads.tree (exit_ops s.tree) r old.tree new.tree → IsCalmFault f
+exit_calm s payloads (Ok told) f old new none after is log tree = absurd (cc)
+exit_calm s payloads (Err exit.Finalised) f old new none after is log tree = absurd (cc)
+exit_calm s payloads (Err (exit.Unclosed path)) f old new none after is log tree = absurd (cc)
+exit_calm s payloads (Err (exit.Behind recorded end)) f old new none after is log tree = absurd (cc)
+exit_calm s payloads (Err (exit.Log g)) f old new none after is log tree = by_failure (is_log_failure g) is
+  where
+    by_failure : (b : Bool) → Err f ≡ (if b then Err (event_fault.Log g) else Ok (answer.LogFailed g)) → IsCalmFault f
+    by_failure true is = subst IsCalmFault (let one : event_fault.Log g ≡ f = cc in one) (change_calm ⊤ (payloads.log s.log Reset) (answer_of_log_fault g) old.log new.log none.log after.log log)
+    by_failure false is = absurd (cc)
+exit_calm s payloads (Err (exit.Tree g)) f old new none after is log tree = by_failure (is_tree_failure g) is
+  where
+    by_failure : (b : Bool) → Err f ≡ (if b then Err (event_fault.Tree g) else Ok (answer.TreeFailed g)) → IsCalmFault f
+    by_failure true is = subst IsCalmFault (let one : event_fault.Tree g ≡ f = cc in one) (given_calm s.tree payloads.tree (exit_ops s.tree) (answer_of_tree_fault g) old.tree new.tree none.tree after.tree tree)
+    by_failure false is = absurd (cc)
+exit_calm s payloads (Err exit.NoMemory) f old new none after is log tree = subst IsCalmFault (let one : event_fault.NoMemory ≡ f = cc in one) tt
+
 module _ (w : World) (payloads : Payloads) (f : EventFault) (old new : Disks) (none : AreNone old) (after : AreNone new) where
   event_calm : (e : Event) → ResultDisks w e payloads (Err f) old new → IsCalmFault f
   event_calm (event.Quorum ids) h = nothing_calm f old new h
@@ -165,6 +192,14 @@ module _ (w : World) (payloads : Payloads) (f : EventFault) (old new : Disks) (n
       unless (option_map (λ offset. answer.InTransaction offset) (begun_of w.shared.log)) _ _ (IsCalmFault f) (λ k. log_change_calm (append w.shared.log w.shared.log.epoch now (registration broker migrating)) (payloads.log w.shared.log (Append w.shared.log.epoch now (registration broker migrating))) f old new none after k)
       (λ k. log_read_calm f old new none k) j)
       (λ k. nothing_calm f old new k) h
+  event_calm (event.Finalise id now) h =
+      unless (leader_refusal w id) _ _ (IsCalmFault f)
+      (λ j.
+      unless (end_refusal w id) _ _ (IsCalmFault f) (λ k. log_change_calm (append w.shared.log w.shared.log.epoch now final_records) (payloads.log w.shared.log (Append w.shared.log.epoch now final_records)) f old new none after k) (λ k. log_read_calm f old new none k) j)
+      (λ k. nothing_calm f old new k) h
+  event_calm event.Rollback h =
+      unless (option_map (λ id. answer.Running id) (least (running_ids w.drivers))) _ _ (IsCalmFault f)
+      (λ (k : TakesBack w.shared payloads (Err f) old new). exit_calm w.shared payloads k.result f old new none after k.told k.log k.tree) (λ k. nothing_calm f old new k) h
   event_calm event.Check h = log_read_calm f old new none h
   event_calm (event.ZkOpen session) h = tree_change_calm (begin_session w.shared.tree session) (payloads.tree w.shared.tree (BeginSession session)) f old new none after h
   event_calm (event.ZkExpire session) h = tree_change_calm (end_session w.shared.tree session) (payloads.tree w.shared.tree (EndSession session)) f old new none after h

@@ -12,7 +12,7 @@ use Rattle.kz_types.specs.declared.plan.Plan.{Plan}
 use Rattle.kz_spec_stores.specs.Tree.{Tree, begin_session, end_session, multi}
 use Rattle.kz_spec_stores.specs.Log.{Log}
 use Rattle.kz_spec_machine.specs.Driver.{Shared, Driver, StepResult, planned_step, step}
-use Rattle.kz_spec_machine.specs.Machine.{World, next, running_ids, driver_of, with_driver, running_refusal, outcome_unless, unless_refused, ends, TurnResult, turn, with_reply, work, step_result, turn_result, pair_of, event_pairs, moved_world, client_refusal, client_world, quorum_refusal, declared_world, start_refusal, started_world, stop_refusal, stopped_world, election_refusal, elected_world, election_answer, change_refusal, changed_world, register_refusal, registration}
+use Rattle.kz_spec_machine.specs.Machine.{World, next, running_ids, driver_of, with_driver, running_refusal, outcome_unless, unless_refused, ends, TurnResult, turn, with_reply, work, step_result, turn_result, pair_of, event_pairs, moved_world, client_refusal, client_world, quorum_refusal, declared_world, start_refusal, started_world, stop_refusal, stopped_world, election_refusal, elected_world, election_answer, change_refusal, changed_world, register_refusal, final_records, finalise_refusal, exit_ops, tree_after_ops, reset_world, given_back, rollback_refusal, is_rollback, registration}
 use Rattle.kz_spec_machine.specs.Failures.{is_failed_step, is_failure, IsCutOff, CutOffTurn, IsLeftByTurn, IsLeftByStep, IsLeftByTree, IsLeftOutOfMemory, IsLeft}
 use Rattle.kz_spec_machine.specs.Sound.{IsTime, IsLawful, Sound}
 use Rattle.kz_laws_fence.specs.Fence.{IsOfFence}
@@ -30,7 +30,8 @@ use Rattle.kz_world.specs.Fences.{IsFencedDriver, IsOfFenced, TellsFence}
 use Rattle.kz_world.specs.Stops.{EventLeaves}
 use Rattle.kz_world.specs.Worlds.{IsOutcome}
 use Rattle.kz_world.proofs.Outcomes.{true_or_false}
-use Rattle.kz_world.proofs.Told.{event_told, left_by}
+use Rattle.kz_laws_events.proofs.Exits.{reset_world_sound}
+use Rattle.kz_world.proofs.Told.{event_told}
 
 -- ---- what it answers
 
@@ -164,6 +165,8 @@ fenced_event w (event.Change id records now) a new done failed sound fenced =
     alone_by (is_failure a) w (event.Change id records now) a new refl done failed refl (λ replies left. left) (ap (λ (x : World). x.shared) (leader_alone w id now records (pos 0) true fenced).0)
 fenced_event w (event.Register id broker migrating now) a new done failed sound fenced =
     alone_by (is_failure a) w (event.Register id broker migrating now) a new refl done failed refl (λ replies left. left) (ap (λ (x : World). x.shared) (leader_alone w id now [] broker migrating fenced).1)
+fenced_event w (event.Finalise id now) a new done failed sound fenced =
+    alone_by (is_failure a) w (event.Finalise id now) a new refl done failed refl (λ replies left. left) (ap (λ (x : World). x.shared) (leader_alone w id now [] (pos 0) true fenced).2)
 fenced_event w e a new done failed sound fenced = absurd fenced
 
 -- ---- a step by whose reply its driver learns of it
@@ -187,6 +190,11 @@ client_leaves : (w : World) (refusal : Option Answer) (r : Result Tree TreeFault
 client_leaves w (Some x) r new t h = sym (ap (λ (p : World × Answer). p.0) h)
 client_leaves w None (Ok m) new t h = absurd (let said = ap (λ (p : World × Answer). p.1) h in cc)
 client_leaves w None (Err f) new t h = sym (ap (λ (p : World × Answer). p.0) h)
+
+rollback_leaves : (w : World) (refusal : Option Answer) (r : Result Tree TreeFault) (new : World) (t : Reply) → unless_refused w refusal (given_back (reset_world w) r) ≡ (new, answer.Step t) → new ≡ w
+rollback_leaves w (Some x) r new t h = sym (ap (λ (p : World × Answer). p.0) h)
+rollback_leaves w None (Ok m) new t h = absurd (let said = ap (λ (p : World × Answer). p.1) h in cc)
+rollback_leaves w None (Err f) new t h = absurd (let said = ap (λ (p : World × Answer). p.1) h in cc)
 
 turn_leaves : (w : World) (refusal : Option Answer) (now : ℤ) (m : Option Driver) (new : World) (t : Reply) → unless_refused w refusal (turn_result w now m) ≡ (new, answer.Step t) → new ≡ w
 turn_leaves w (Some x) now m new t h = sym (ap (λ (p : World × Answer). p.0) h)
@@ -217,6 +225,8 @@ told_fence w (event.Step id now p) new t fence h = step_tells w (running_refusal
 told_fence w (event.Turn id now) new t fence h = ap shared_in (turn_leaves w (running_refusal w id) now (driver_of id w.drivers) new t h)
 told_fence w (event.Change id records now) new t fence h = ap shared_in (outcome_leaves w (change_refusal w id records) (changed_world w records now) new _ (answer.Step t) (λ is. absurd (cc)) h)
 told_fence w (event.Register id broker migrating now) new t fence h = ap shared_in (outcome_leaves w (register_refusal w id (registration broker migrating)) (changed_world w (registration broker migrating) now) new _ (answer.Step t) (λ is. absurd (cc)) h)
+told_fence w (event.Finalise id now) new t fence h = ap shared_in (outcome_leaves w (finalise_refusal w id) (changed_world w final_records now) new _ (answer.Step t) (λ is. absurd (cc)) h)
+told_fence w event.Rollback new t fence h = ap shared_in (rollback_leaves w (rollback_refusal w) (tree_after_ops w.shared.tree (exit_ops w.shared.tree)) new t h)
 told_fence w event.Check new t fence h = absurd (let said = ap (λ (p : World × Answer). p.1) h in cc)
 told_fence w (event.ZkOpen session) new t fence h = ap shared_in (moved_leaves w (begin_session w.shared.tree session) new t h)
 told_fence w (event.ZkExpire session) new t fence h = ap shared_in (moved_leaves w (end_session w.shared.tree session) new t h)
