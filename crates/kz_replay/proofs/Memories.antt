@@ -17,7 +17,7 @@ use Rattle.kz_types.specs.declared.machine.Answer.{Answer}
 use Rattle.kz_types.specs.declared.machine.Answer.TheVariants as answer
 use Rattle.kz_spec_stores.specs.Tree.{Tree, multi, begin_session, end_session}
 use Rattle.kz_spec_stores.specs.Log.{append, elect, image_of, begun_of}
-use Rattle.kz_spec_stores.specs.Requests.{Disk, StoreAnswer, TreeChange, Multi, BeginSession, EndSession, Append, Elect, Reset, answer_of_tree_fault, answer_of_log_fault, IsTaken}
+use Rattle.kz_spec_stores.specs.Requests.{Disk, StoreAnswer, TreeChange, Multi, BeginSession, EndSession, Append, Elect, Reset, no_disk, answer_of_tree_fault, answer_of_log_fault, IsTaken}
 use Rattle.kz_spec_machine.specs.Driver.{Shared, Driver, epoch_or_zero, least, step}
 use Rattle.kz_spec_machine.specs.Machine.{World, ends, driver_of, running_ids, running_refusal, leader_refusal, client_refusal, election_records, registration, final_records, exit_ops, work}
 use Rattle.kz_spec_machine.specs.Failures.{is_tree_failure, is_log_failure, is_failed_step, is_failure, IsCutOff, CutOffTurn, IsLeftByStep, IsLeft}
@@ -151,7 +151,7 @@ step_calm p w now None payloads f old new h = nothing_calm f old new h
 step_calm p w now (Some d) payloads f old new h = nothing_calm f old new h
 
 -- a rollback
-given_calm : (t : Tree) (payload_bytes : Tree → TreeChange → ℕ) (ops : List Op) (a : StoreAnswer) (old new : Disk) → IsNone old → IsNone new → MakesOps t payload_bytes ops a old new → IsCalm a
+given_calm : (t : Tree) (payload_bytes : Tree → TreeChange → ℕ) (ops : List Op) (a : StoreAnswer) (old new : Disk) → old ≡ no_disk → new ≡ no_disk → MakesOps t payload_bytes ops a old new → IsCalm a
 given_calm t payload_bytes [] a old new none after h = subst IsCalm (sym h.0) tt
 given_calm t payload_bytes (o ∷ os) a old new none after h = change_calm (IsTaken (multi t (o ∷ os))) (payload_bytes t (Multi (o ∷ os))) a old new none after h
 
