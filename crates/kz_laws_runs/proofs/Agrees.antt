@@ -27,7 +27,7 @@ abbrev Agrees : Pair → Pair → Type 0
 Agrees p q = (source : List Rendered) → PathsAgree source p → PathsAgree (source_after source p) q
 
 -- nothing is asked of drivers
-abbrev Anything : Shared → Driver → Type 0
+abbrev pub Anything : Shared → Driver → Type 0
 Anything s d = ⊤
 
 step_agrees_by : (p : Plan) (s : Shared) (running : List ℤ) (now : ℤ) (d : Driver) → IsTime now → IsSharedSound s → IsSoundDriver s d → Anything s d → Agrees (pair_of s) (pair_of (planned_step p s running now d).shared)

@@ -1,4 +1,5 @@
 pub mod Linked
 pub mod Commits
 pub mod Agrees
+pub mod Recorded
 pub mod Finalised

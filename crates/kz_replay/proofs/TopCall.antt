@@ -4,9 +4,15 @@ use Rattle.std.specs.Io.KnownBytes.{Appends, Consumes, IsAtEnd}
 use Rattle.kz_types.specs.declared.outside.Status.{Status}
 use Rattle.kz_types.specs.declared.outside.Status.TheVariants as status
 use Rattle.kz_spec_runs.specs.Endings.{Agrees, EndsAs, EndsAtFailure, IsReplay}
-use Rattle.kz_spec_runs.specs.InStep.{StaysInStep, script_events}
+use Rattle.kz_spec_runs.specs.InStep.{script_events}
+use Rattle.kz_spec_runs.specs.Promises.{Promises}
 use Rattle.kz_spec_runs.specs.Output.{start_place, outcome_of_replay}
+use Rattle.kz_laws_scripts.proofs.Lawful.{script_lawful}
 use Rattle.kz_laws_scripts.proofs.Scripts.{script_in_step}
+use Rattle.kz_laws_runs.proofs.Commits.{run_commits}
+use Rattle.kz_laws_runs.proofs.Agrees.{run_agrees}
+use Rattle.kz_laws_runs.proofs.Recorded.{run_recorded}
+use Rattle.kz_laws_runs.proofs.Finalised.{run_finalised}
 use Rattle.kz_replay.specs.Pending.{State, outcome_to_come, pending_lines}
 use Rattle.kz_replay.specs.Runs.{StreamState, Runs}
 use Rattle.kz_replay.proofs.Cut.{state, lines_at_start}
@@ -16,6 +22,15 @@ use Rattle.kz_replay.proofs.Runs.{always}
 agrees : (s : State) → s ≡ state start_place [] 0 → (script taken sent : List ℕ) (result : Status) → EndsAs (outcome_to_come s script) (pending_lines s taken) sent result → Agrees script taken sent result
 agrees s is script taken sent result h =
     subst (λ (t : List ℕ). EndsAs (outcome_of_replay script) t sent result) (sym (lines_at_start start_place 0 taken)) (subst (λ (x : State). EndsAs (outcome_to_come x script) (pending_lines x taken) sent result) is h)
+
+script_promises : (script : List ℕ) → Promises (script_events script)
+script_promises script = let es = script_events script in let lawful = script_lawful script in record {
+  committed = run_commits es lawful;
+  agrees = run_agrees es lawful;
+  recorded = run_recorded es lawful;
+  in_step = script_in_step script;
+  finalised = run_finalised es lawful;
+}
 
 -- what is told of a run from this state on
 abbrev pub Told : State → StreamState → StreamState → StreamState → StreamState → Status → List ℕ → Type 0
@@ -39,5 +54,5 @@ replays words s input input_now out out_now result replay is ran output whole so
   whole = whole;
   source = source;
   sink = sink;
-  in_step = λ _. always input.bytes (λ script. StaysInStep (script_events script)) script_in_step;
+  promises = λ _. always input.bytes (λ script. Promises (script_events script)) script_promises;
 }

@@ -5,7 +5,8 @@ use Rattle.std.specs.declared.alloc.Global.{Global}
 use Rattle.kz_types.specs.declared.outside.Status.{Status}
 use Rattle.kz_types.specs.declared.outside.Status.TheVariants as status
 use Rattle.kz_spec_runs.specs.Endings.{Agrees, EndsAtFailure, IsReplay}
-use Rattle.kz_spec_runs.specs.InStep.{StaysInStep, script_events}
+use Rattle.kz_spec_runs.specs.InStep.{script_events}
+use Rattle.kz_spec_runs.specs.Promises.{Promises}
 
 -- What a source or a sink tells: the bytes that are left, or taken so far, where they are told; how often a call has failed; and
 -- whether the last call did.
@@ -32,5 +33,5 @@ pub record Runs (words : List (String Global)) (input input_now out out_now : St
   pub source : EndsAtFailure status.ReadFault result input.faults input_now.faults input.last_failed input_now.last_failed
   -- The run ends with `WriteFault` exactly where a write failed, or took nothing, and that was the last write.
   pub sink : EndsAtFailure status.WriteFault result out.faults out_now.faults out.last_failed out_now.last_failed
-  -- After each turn of the script that comes to rest in dual write, the tree is in step with the log.
-  pub in_step : IsReplay words → IfSome input.bytes (λ script. StaysInStep (script_events script))
+  -- What is promised of the events of the script holds at every moment.
+  pub promises : IsReplay words → IfSome input.bytes (λ script. Promises (script_events script))

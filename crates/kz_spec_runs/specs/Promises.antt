@@ -1,5 +1,5 @@
 -- What is promised of every moment of a run: of the tree and the log at its beginning and after each of its requests.
-use Rattle.std.specs.Prelude.{◌≡◌, ◌⊎◌, ⊤, ℕ, ℤ, negsuc, ◌≤ℤ◌, true, false, if◌then◌else◌, List, [], ◌∷◌, ◌++◌, Option, Some, Ok}
+use Rattle.std.specs.Prelude.{◌≡◌, ◌⊎◌, ⊤, All, ℕ, ℤ, pos, negsuc, ◌≤ℤ◌, true, false, if◌then◌else◌, List, [], ◌∷◌, ◌++◌, Option, Some, None, Ok}
 use Rattle.kz_types.specs.declared.machine.Event.{Event}
 use Rattle.kz_types.specs.declared.machine.Event.TheVariants as event
 use Rattle.kz_types.specs.declared.machine.Recorded.{Recorded}
@@ -7,13 +7,14 @@ use Rattle.kz_types.specs.declared.record.MetaRecord.{MetaRecord}
 use Rattle.kz_types.specs.declared.tree.Rendered.{Rendered}
 use Rattle.kz_ordered.specs.Order.{bytes_cmp}
 use Rattle.kz_ordered.specs.Ordered.{find}
-use Rattle.kz_spec_stores.specs.Tree.{Tree, area, migration_record, migrated_rows, path_of_rendered}
+use Rattle.kz_spec_stores.specs.Tree.{Tree, area, migration_record, migrated_rows, path_of_rendered, unclosed_path}
 use Rattle.kz_spec_stores.specs.Log.{Log, commit_of, end_of, image_at, is_migrated_log, is_open_log, reset}
 use Rattle.kz_spec_znodes.specs.Rendering.{render}
 use Rattle.kz_spec_znodes.specs.Translation.{translate}
 use Rattle.kz_spec_machine.specs.Driver.{begin_record, commit_records}
 use Rattle.kz_spec_machine.specs.Machine.{empty_world, Pair, pair_of, request_pairs, is_finalised_log, next, after_events}
 use Rattle.kz_spec_machine.specs.Sound.{IsBatchEnd, IsPastCommit, records_from}
+use Rattle.kz_spec_runs.specs.InStep.{StaysInStep}
 
 -- ---- moments
 
@@ -71,6 +72,10 @@ abbrev pub AgreeFrom : List Rendered → Pair → List Pair → Type 0
 AgreeFrom source p [] = PathsAgree source p
 AgreeFrom source p (q ∷ qs) = PathsAgree source p × AgreeFrom (source_after source p) q qs
 
+-- Where an offset is recorded and no znode of the migrated area was written since, all of them are as they are rendered at it.
+abbrev pub IsAsRecorded : Pair → Type 0
+IsAsRecorded p = is_migrated_log p.log ≡ true → (r : Recorded) → migration_record p.tree ≡ Some r → pos 0 ≤ℤ r.offset → unclosed_path p.tree ≡ None → area p.tree ≡ render (image_at p.log r.offset)
+
 -- ---- after a migration is finalised no controller writes
 
 -- an event by which controllers, or a rollback, could write
@@ -97,7 +102,24 @@ CommittedWhole es = Linked CommitsWhole first_moment (further_moments es)
 abbrev pub Agreeing : List Event → Type 0
 Agreeing es = AgreeFrom [] first_moment (further_moments es)
 
+-- A tree that wasn't written since an offset was recorded is as it was recorded.
+abbrev pub StayingAsRecorded : List Event → Type 0
+StayingAsRecorded es = All IsAsRecorded (first_moment ∷ further_moments es)
+
 -- After a migration is finalised, no event of controllers and no rollback changes the tree or the log.
 abbrev pub FinalisedForGood : List Event → Type 0
 FinalisedForGood es = (before after : List Event) (e : Event) → es ≡ before ++ e ∷ after → is_finalised_log (after_events empty_world before).shared.log ≡ true → IsOfControllers e
     → (next (after_events empty_world before) e).0.shared ≡ (after_events empty_world before).shared
+
+-- What is promised of these events.
+pub record Promises (es : List Event) : Type 0 where
+  -- A migration is committed whole or not at all, as the translation of the znodes that it read.
+  pub committed : CommittedWhole es
+  -- Each migrated znode is as it is rendered at the recorded offset or at a later one.
+  pub agrees : Agreeing es
+  -- All are as they are rendered at the recorded one where no later write stands.
+  pub recorded : StayingAsRecorded es
+  -- After each turn that comes to rest in dual write, they are as they are rendered at the log's end.
+  pub in_step : StaysInStep es
+  -- After the migration is finalised, no controller and no rollback changes the tree or the log.
+  pub finalised : FinalisedForGood es
