@@ -24,12 +24,12 @@ use Rattle.kz_spec_machine.specs.Failures.{is_tree_failure, is_log_failure, is_f
 use Rattle.kz_driver.specs.Disks.{Disks, Payloads}
 use Rattle.kz_driver.specs.Steps.{made_request, outcome_of}
 use Rattle.kz_turns.specs.Disks.{StepRequestDisks, TurnDisks}
-use Rattle.kz_world.specs.declared.faults.EventFault.{EventFault}
-use Rattle.kz_world.specs.declared.faults.EventFault.TheVariants as event_fault
-use Rattle.kz_world.specs.Stores.{AsksNothing, ReadsLog, ChangesTree, ChangesLog}
-use Rattle.kz_world.specs.Disks.{TurnEventDisks, DriverStepDisks, UnlessRefused, TakesBack, ResultDisks, EventDisks}
-use Rattle.kz_world.specs.Refusals.{records_refusal, end_refusal}
-use Rattle.kz_world.specs.Faults.{after_exit}
+use Rattle.kz_world_parts.specs.declared.faults.EventFault.{EventFault}
+use Rattle.kz_world_parts.specs.declared.faults.EventFault.TheVariants as event_fault
+use Rattle.kz_world_parts.specs.Stores.{AsksNothing, ReadsLog, ChangesTree, ChangesLog}
+use Rattle.kz_world_parts.specs.Disks.{TurnEventDisks, DriverStepDisks, UnlessRefused, TakesBack, ResultDisks, EventDisks}
+use Rattle.kz_world_parts.specs.Refusals.{records_refusal, end_refusal}
+use Rattle.kz_world_parts.specs.Faults.{after_exit}
 use Rattle.kz_exit.specs.declared.faults.ExitFault.{ExitFault}
 use Rattle.kz_exit.specs.declared.faults.ExitFault.TheVariants as exit
 use Rattle.kz_exit.specs.Disks.{LogDisk, TreeDisk, MakesOps}

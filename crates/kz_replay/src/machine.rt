@@ -6,7 +6,7 @@ ghost use Rattle.kz_spec_machine.specs.Sound.{Sound, IsLawful};
 ghost use Rattle.kz_spec_machine.specs.Failures.{is_failure, IsLeft};
 ghost use Rattle.kz_spec_runs.specs.Output.{recorded_offset};
 ghost use Rattle.kz_replay.specs.Failures.{FailsByNoDisk};
-ghost use Rattle.kz_world.specs.Worlds.{plain_world};
+ghost use Rattle.kz_world_parts.specs.Worlds.{plain_world};
 
 use kz_log::{MemoryLog, MetaLog};
 use kz_session::MemoryTree;

@@ -23,15 +23,15 @@ use Rattle.kz_laws_events.proofs.Turned.{turn_keeps, turn_own}
 use Rattle.kz_laws_events.proofs.Every.{event_sound}
 use Rattle.kz_driver.specs.Disks.{Disks, Payloads}
 use Rattle.kz_turns.specs.Stops.{AreUp, LeavesOneOf}
-use Rattle.kz_world.specs.declared.faults.EventFault.{EventFault}
-use Rattle.kz_world.specs.Disks.{ResultDisks, EventDisks}
-use Rattle.kz_world.specs.Faults.{answer_of_result, result_of_answer}
-use Rattle.kz_world.specs.Fences.{IsFencedDriver, IsOfFenced, TellsFence}
-use Rattle.kz_world.specs.Stops.{EventLeaves}
-use Rattle.kz_world.specs.Worlds.{IsOutcome}
-use Rattle.kz_world.proofs.Outcomes.{true_or_false}
+use Rattle.kz_world_parts.specs.declared.faults.EventFault.{EventFault}
+use Rattle.kz_world_parts.specs.Disks.{ResultDisks, EventDisks}
+use Rattle.kz_world_parts.specs.Faults.{answer_of_result, result_of_answer}
+use Rattle.kz_world_parts.specs.Fences.{IsFencedDriver, IsOfFenced, TellsFence}
+use Rattle.kz_world_parts.specs.Stops.{EventLeaves}
+use Rattle.kz_world_parts.specs.Worlds.{IsOutcome}
+use Rattle.kz_world_parts.proofs.Outcomes.{true_or_false}
 use Rattle.kz_laws_events.proofs.Exits.{reset_world_sound}
-use Rattle.kz_world.proofs.Told.{event_told}
+use Rattle.kz_world_parts.proofs.Told.{event_told}
 
 -- ---- what it answers
 

@@ -19,13 +19,13 @@ use Rattle.kz_turns.specs.Disks.{StepRequestDisks}
 use Rattle.kz_turns.specs.Pairs.{IsSoundPair}
 use Rattle.kz_turns.specs.Steps.{StepEnds, TurnEnds}
 use Rattle.kz_turns.specs.Stops.{AreUp, LeavesOneOf}
-use Rattle.kz_world.specs.declared.faults.EventFault.{EventFault}
-use Rattle.kz_world.specs.Disks.{DriverTurnDisks, TurnEventDisks, DriverStepDisks, ResultDisks}
-use Rattle.kz_world.specs.Stops.{FailureLeaves, EventLeaves}
-use Rattle.kz_world.specs.Turns.{IsStepped, IsTurned}
-use Rattle.kz_world.specs.Worlds.{AreDistinct, IsOutcome}
-use Rattle.kz_world.proofs.Listings.{one_place}
-use Rattle.kz_world.proofs.Outcomes.{true_or_false, done_is_outcome, unless_none}
+use Rattle.kz_world_parts.specs.declared.faults.EventFault.{EventFault}
+use Rattle.kz_world_parts.specs.Disks.{DriverTurnDisks, TurnEventDisks, DriverStepDisks, ResultDisks}
+use Rattle.kz_world_parts.specs.Stops.{FailureLeaves, EventLeaves}
+use Rattle.kz_world_parts.specs.Turns.{IsStepped, IsTurned}
+use Rattle.kz_world_parts.specs.Worlds.{AreDistinct, IsOutcome}
+use Rattle.kz_world_parts.proofs.Listings.{one_place}
+use Rattle.kz_world_parts.proofs.Outcomes.{true_or_false, done_is_outcome, unless_none}
 
 -- ---- the driver at a place
 

@@ -2,19 +2,15 @@
 ghost use Rattle.std.specs.Prelude.{◌≡◌, ◌<◌, length, IfOk, OnErr};
 ghost use Rattle.kz_types.specs.declared.machine.Event.TheVariants as event;
 ghost use Rattle.kz_driver.specs.Disks.{payloads_of};
-ghost use Rattle.kz_world.specs.Stores.{ReadsLog};
-ghost use Rattle.kz_world.specs.Disks.{disks_in, AppendsRecords, ResultDisks, UnlessRefused};
-ghost use Rattle.kz_world.specs.Stops.{EventLeaves};
-ghost use Rattle.kz_world.specs.Worlds.{world_of, world_of_parts, IsDone, AreKept};
+ghost use Rattle.kz_world_parts.specs.Stores.{ReadsLog};
+ghost use Rattle.kz_world_parts.specs.Disks.{disks_in, AppendsRecords, ResultDisks, UnlessRefused};
+ghost use Rattle.kz_world_parts.specs.Stops.{EventLeaves};
+ghost use Rattle.kz_world_parts.specs.Worlds.{world_of, world_of_parts, IsDone, AreKept};
 
-use crate::appending::append;
-use crate::faults::EventFault;
-use crate::parts::Parts;
-use crate::reading::read;
-use crate::refusals::{leader_refusal, records_refusal};
 use kz_log::MetaLog;
 use kz_tree::ZTree;
 use kz_types::{Answer, MetaRecord, NoMemory};
+use kz_world_parts::{EventFault, Parts, append, leader_refusal, read, records_refusal};
 use std::alloc::Global;
 
 /// Asks a controller to append these records. Refused, and where memory runs out or the log's store fails, it changes

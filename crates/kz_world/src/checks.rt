@@ -2,19 +2,17 @@
 ghost use Rattle.std.specs.Prelude.{◌≡◌, false, IfOk, OnErr};
 ghost use Rattle.kz_types.specs.declared.machine.Event.TheVariants as event;
 ghost use Rattle.kz_spec_machine.specs.Verdicts.{verdict};
-ghost use Rattle.kz_world.specs.Stores.{ReadsLog};
-ghost use Rattle.kz_world.specs.Disks.{disks_in};
-ghost use Rattle.kz_world.specs.Stops.{EventLeaves};
-ghost use Rattle.kz_world.specs.Worlds.{world_of, world_of_parts, IsDone, AreKept};
+ghost use Rattle.kz_world_parts.specs.Stores.{ReadsLog};
+ghost use Rattle.kz_world_parts.specs.Disks.{disks_in};
+ghost use Rattle.kz_world_parts.specs.Stops.{EventLeaves};
+ghost use Rattle.kz_world_parts.specs.Worlds.{world_of, world_of_parts, IsDone, AreKept};
 
-use crate::faults::EventFault;
-use crate::parts::Parts;
-use crate::reading::read;
 use kz_dump::verdict;
 use kz_log::MetaLog;
 use kz_tree::{Tree, ZTree};
 use kz_types::{Answer, NoMemory, Verdict};
 use kz_work::read_whole;
+use kz_world_parts::{EventFault, Parts, read};
 use std::alloc::Global;
 
 // How the tree and a log that isn't down agree.

@@ -7,12 +7,10 @@ ghost use Rattle.kz_spec_values.specs.Control.{control_path, epoch_path, shown_e
 ghost use Rattle.kz_spec_machine.specs.Machine.{is_reserved, is_held, is_held_path, is_held_tree, first_told, client_refusal};
 ghost use Rattle.kz_spec_machine.specs.Failures.{is_failure};
 ghost use Rattle.kz_driver.specs.Disks.{payloads_of};
-ghost use Rattle.kz_world.specs.Disks.{disks_in, ResultDisks};
-ghost use Rattle.kz_world.specs.Stops.{EventLeaves};
-ghost use Rattle.kz_world.specs.Worlds.{world_of, world_of_parts, IsDone, AreKept};
+ghost use Rattle.kz_world_parts.specs.Disks.{disks_in, ResultDisks};
+ghost use Rattle.kz_world_parts.specs.Stops.{EventLeaves};
+ghost use Rattle.kz_world_parts.specs.Worlds.{world_of, world_of_parts, IsDone, AreKept};
 
-use crate::faults::{EventFault, after_tree_fault};
-use crate::parts::Parts;
 use kz_log::MetaLog;
 use kz_paths::{
     CONTROL_TEXT, is_base, is_below_control, is_controller_path, is_epoch_path, is_migrated,
@@ -22,6 +20,7 @@ use kz_requests::path_of_op;
 use kz_state::read_control;
 use kz_tree::{Tree, ZTree};
 use kz_types::{Answer, Duplicate, NoMemory, Op, ZPath};
+use kz_world_parts::{EventFault, Parts, after_tree_fault};
 use std::alloc::Global;
 
 // Whether a KRaft controller's body is given to `/controller`.

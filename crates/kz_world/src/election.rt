@@ -4,18 +4,14 @@ ghost use Rattle.kz_types.specs.declared.machine.Event.TheVariants as event;
 ghost use Rattle.kz_spec_stores.specs.Log.{elect};
 ghost use Rattle.kz_spec_machine.specs.Machine.{election_records, running_refusal};
 ghost use Rattle.kz_driver.specs.Disks.{payloads_of};
-ghost use Rattle.kz_world.specs.Disks.{disks_in, ElectsController, ResultDisks};
-ghost use Rattle.kz_world.specs.Stops.{EventLeaves};
-ghost use Rattle.kz_world.specs.Worlds.{world_of, world_of_parts, records_on_election, IsDone, AreKept};
+ghost use Rattle.kz_world_parts.specs.Disks.{disks_in, ElectsController, ResultDisks};
+ghost use Rattle.kz_world_parts.specs.Stops.{EventLeaves};
+ghost use Rattle.kz_world_parts.specs.Worlds.{world_of, world_of_parts, records_on_election, IsDone, AreKept};
 
-use crate::drivers::elect_driver;
-use crate::faults::{EventFault, after_log_fault};
-use crate::parts::Parts;
-use crate::reading::read;
-use crate::refusals::running_refusal;
 use kz_log::{MetaLog, View};
 use kz_tree::ZTree;
 use kz_types::{Answer, MetaRecord, NO_MIGRATION, NoMemory, PRE_MIGRATION};
+use kz_world_parts::{EventFault, Parts, after_log_fault, elect_driver, read, running_refusal};
 use std::alloc::Global;
 
 // Adds a record where it is wanted.

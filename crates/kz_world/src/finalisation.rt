@@ -5,21 +5,16 @@ ghost use Rattle.kz_spec_stores.specs.Log.{end_of, image_of};
 ghost use Rattle.kz_spec_machine.specs.Failures.{is_failure};
 ghost use Rattle.kz_spec_machine.specs.Machine.{driver_of, dual_write_refusal, rest_refusal};
 ghost use Rattle.kz_driver.specs.Disks.{payloads_of};
-ghost use Rattle.kz_world.specs.Disks.{disks_in, ResultDisks};
-ghost use Rattle.kz_world.specs.Refusals.{end_refusal};
-ghost use Rattle.kz_world.specs.Stops.{EventLeaves};
-ghost use Rattle.kz_world.specs.Worlds.{world_of, world_of_parts, IsDone, AreKept};
+ghost use Rattle.kz_world_parts.specs.Disks.{disks_in, ResultDisks};
+ghost use Rattle.kz_world_parts.specs.Refusals.{end_refusal};
+ghost use Rattle.kz_world_parts.specs.Stops.{EventLeaves};
+ghost use Rattle.kz_world_parts.specs.Worlds.{world_of, world_of_parts, IsDone, AreKept};
 
-use crate::appending::append;
-use crate::drivers::place_of;
-use crate::faults::EventFault;
-use crate::parts::Parts;
-use crate::reading::read;
-use crate::refusals::leader_refusal;
 use kz_exit::{ExitFault, may_finalise};
 use kz_log::MetaLog;
 use kz_tree::ZTree;
 use kz_types::{Answer, DriverState, MIGRATION, MetaRecord, NoMemory, POST_MIGRATION};
+use kz_world_parts::{EventFault, Parts, append, leader_refusal, place_of, read};
 
 // The controller's driver is in another state than dual write.
 fn dual_write_refusal<T: ZTree, L: MetaLog>(parts: &Parts<T, L>, id: i32) -> Option<Answer>

@@ -3,18 +3,14 @@ ghost use Rattle.std.specs.Prelude.{◌≡◌, ◌∷◌, [], IfOk, OnErr};
 ghost use Rattle.kz_types.specs.declared.machine.Event.TheVariants as event;
 ghost use Rattle.kz_spec_machine.specs.Machine.{registration};
 ghost use Rattle.kz_driver.specs.Disks.{payloads_of};
-ghost use Rattle.kz_world.specs.Disks.{disks_in, ResultDisks};
-ghost use Rattle.kz_world.specs.Stops.{EventLeaves};
-ghost use Rattle.kz_world.specs.Worlds.{world_of, world_of_parts, IsDone, AreKept};
+ghost use Rattle.kz_world_parts.specs.Disks.{disks_in, ResultDisks};
+ghost use Rattle.kz_world_parts.specs.Stops.{EventLeaves};
+ghost use Rattle.kz_world_parts.specs.Worlds.{world_of, world_of_parts, IsDone, AreKept};
 
-use crate::appending::append;
-use crate::faults::EventFault;
-use crate::parts::Parts;
-use crate::reading::read;
-use crate::refusals::leader_refusal;
 use kz_log::MetaLog;
 use kz_tree::ZTree;
 use kz_types::{Answer, Id, MetaRecord, RegisterBrokerRecord, Sequence};
+use kz_world_parts::{EventFault, Parts, append, leader_refusal, read};
 use std::alloc::Global;
 
 // The record that registers a broker.

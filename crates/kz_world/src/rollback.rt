@@ -3,18 +3,16 @@ ghost use Rattle.std.specs.Prelude.{◌≡◌, IfOk, IfErr};
 ghost use Rattle.kz_types.specs.declared.machine.Event.TheVariants as event;
 ghost use Rattle.kz_spec_machine.specs.Failures.{IsLeft};
 ghost use Rattle.kz_driver.specs.Disks.{payloads_of};
-ghost use Rattle.kz_world.specs.Disks.{disks_in, ResultDisks};
-ghost use Rattle.kz_world.specs.Faults.{answer_of_fault};
-ghost use Rattle.kz_world.specs.Stops.{EventLeaves};
-ghost use Rattle.kz_world.specs.Worlds.{world_of, world_of_parts, IsDone, AreKept};
+ghost use Rattle.kz_world_parts.specs.Disks.{disks_in, ResultDisks};
+ghost use Rattle.kz_world_parts.specs.Faults.{answer_of_fault};
+ghost use Rattle.kz_world_parts.specs.Stops.{EventLeaves};
+ghost use Rattle.kz_world_parts.specs.Worlds.{world_of, world_of_parts, IsDone, AreKept};
 
-use crate::drivers::least_running;
-use crate::faults::{EventFault, after_exit};
-use crate::parts::Parts;
 use kz_exit::rollback;
 use kz_log::{MetaLog, View};
 use kz_tree::ZTree;
 use kz_types::Answer;
+use kz_world_parts::{EventFault, Parts, after_exit, least_running};
 use std::alloc::Global;
 
 /// Takes the migration back. Refused, it changes nothing. The log is reset first, and the world's view begins anew, as the log

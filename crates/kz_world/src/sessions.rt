@@ -2,15 +2,14 @@
 ghost use Rattle.std.specs.Prelude.{◌≡◌, ◌≤ℤ◌, pos, IfOk, OnErr};
 ghost use Rattle.kz_types.specs.declared.machine.Event.TheVariants as event;
 ghost use Rattle.kz_driver.specs.Disks.{payloads_of};
-ghost use Rattle.kz_world.specs.Disks.{disks_in, ResultDisks};
-ghost use Rattle.kz_world.specs.Stops.{EventLeaves};
-ghost use Rattle.kz_world.specs.Worlds.{world_of, world_of_parts, IsDone, AreKept};
+ghost use Rattle.kz_world_parts.specs.Disks.{disks_in, ResultDisks};
+ghost use Rattle.kz_world_parts.specs.Stops.{EventLeaves};
+ghost use Rattle.kz_world_parts.specs.Worlds.{world_of, world_of_parts, IsDone, AreKept};
 
-use crate::faults::{EventFault, after_session_fault};
-use crate::parts::Parts;
 use kz_log::MetaLog;
 use kz_session::ZSessions;
 use kz_types::Answer;
+use kz_world_parts::{EventFault, Parts, after_session_fault};
 
 /// A session begins. Refused, and where memory runs out or the store fails, the world is as it was.
 #[tactic(auto, unfolding(kz_spec_machine::specs::Machine::next))]

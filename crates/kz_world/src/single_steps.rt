@@ -9,21 +9,18 @@ ghost use Rattle.kz_driver.specs.Disks.{payloads_of};
 ghost use Rattle.kz_turns.specs.Disks.{StepRequestDisks};
 ghost use Rattle.kz_turns.specs.Pairs.{IsSoundPair};
 ghost use Rattle.kz_turns.specs.Stops.{AreUp, LeavesOneOf};
-ghost use Rattle.kz_world.specs.Disks.{disks_in, ResultDisks};
-ghost use Rattle.kz_world.specs.Stops.{EventLeaves};
-ghost use Rattle.kz_world.specs.Turns.{IsStepped};
-ghost use Rattle.kz_world.specs.Worlds.{world_of, world_of_parts, AreKept, IsOutcome};
+ghost use Rattle.kz_world_parts.specs.Disks.{disks_in, ResultDisks};
+ghost use Rattle.kz_world_parts.specs.Stops.{EventLeaves};
+ghost use Rattle.kz_world_parts.specs.Turns.{IsStepped};
+ghost use Rattle.kz_world_parts.specs.Worlds.{world_of, world_of_parts, AreKept, IsOutcome};
 
-use crate::drivers::place_of;
-use crate::faults::EventFault;
-use crate::parts::Parts;
-use crate::refusals::running_refusal;
 use crate::turns::peers;
 use kz_driver::Peers;
 use kz_log::MetaLog;
 use kz_tree::ZTree;
 use kz_turns::step;
 use kz_types::{Answer, Plan, Reply};
+use kz_world_parts::{EventFault, Parts, place_of, running_refusal};
 use std::alloc::Global;
 
 // A step of the driver at this place, whose request fares by this plan.

@@ -6,23 +6,19 @@ ghost use Rattle.kz_spec_machine.specs.Machine.{running_ids, turn_pairs, work};
 ghost use Rattle.kz_spec_machine.specs.Sound.{IsTime, Sound};
 ghost use Rattle.kz_driver.specs.Disks.{payloads_of};
 ghost use Rattle.kz_turns.specs.Pairs.{IsSoundPair};
-ghost use Rattle.kz_world.specs.Stores.{ReadsLog};
-ghost use Rattle.kz_world.specs.Disks.{disks_in, DriverTurnDisks, ResultDisks};
-ghost use Rattle.kz_world.specs.Stops.{FailureLeaves, EventLeaves};
-ghost use Rattle.kz_world.specs.Turns.{IsTurned};
-ghost use Rattle.kz_world.specs.Worlds.{world_of, world_of_parts, AreKept, IsOutcome};
+ghost use Rattle.kz_world_parts.specs.Stores.{ReadsLog};
+ghost use Rattle.kz_world_parts.specs.Disks.{disks_in, DriverTurnDisks, ResultDisks};
+ghost use Rattle.kz_world_parts.specs.Stops.{FailureLeaves, EventLeaves};
+ghost use Rattle.kz_world_parts.specs.Turns.{IsTurned};
+ghost use Rattle.kz_world_parts.specs.Worlds.{world_of, world_of_parts, AreKept, IsOutcome};
 
-use crate::drivers::{place_of, running_ids};
-use crate::faults::EventFault;
-use crate::parts::Parts;
-use crate::reading::read;
-use crate::refusals::running_refusal;
 use kz_driver::Peers;
 use kz_log::MetaLog;
 use kz_tree::ZTree;
 use kz_turns::turn;
 use kz_types::{Answer, Duplicate, NoMemory, Sequence};
 use kz_work::work;
+use kz_world_parts::{EventFault, Parts, place_of, read, running_ids, running_refusal};
 use std::alloc::Global;
 
 /// The controllers that a driver is told of.

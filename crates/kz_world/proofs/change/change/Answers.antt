@@ -9,14 +9,14 @@ use Rattle.kz_spec_stores.specs.Image.{Image}
 use Rattle.kz_spec_stores.specs.Log.{Log, image_of}
 use Rattle.kz_spec_machine.specs.Failures.{is_failure}
 use Rattle.kz_spec_machine.specs.Machine.{World, leader_refusal, next, event_pairs}
-use Rattle.kz_world.specs.declared.faults.EventFault.TheVariants as event_fault
-use Rattle.kz_world.specs.Disks.{disks_in}
-use Rattle.kz_world.specs.Refusals.{records_refusal}
-use Rattle.kz_world.specs.Stops.{append_pairs}
-use Rattle.kz_world.specs.Worlds.{world_of_parts, world_of, world_after_append}
-use Rattle.kz_world.proofs.Outcomes.{told_by, change_refused, change_appends, change_pairs}
-use Rattle.kz_world.proofs.Stops.{read_failure, still_failure, later_leaves}
-use Rattle.kz_world.proofs.Views.{read_keeps}
+use Rattle.kz_world_parts.specs.declared.faults.EventFault.TheVariants as event_fault
+use Rattle.kz_world_parts.specs.Disks.{disks_in}
+use Rattle.kz_world_parts.specs.Refusals.{records_refusal}
+use Rattle.kz_world_parts.specs.Stops.{append_pairs}
+use Rattle.kz_world_parts.specs.Worlds.{world_of_parts, world_of, world_after_append}
+use Rattle.kz_world_parts.proofs.Outcomes.{told_by, change_refused, change_appends, change_pairs}
+use Rattle.kz_world_parts.proofs.Stops.{read_failure, still_failure, later_leaves}
+use Rattle.kz_world_parts.proofs.Views.{read_keeps}
 use Rattle.kz_world.proofs.change.change.Goals as goal
 
 -- what is asked of the records, with the epoch and the metadata that are told

@@ -4,11 +4,11 @@ use Rattle.kz_spec_stores.specs.Log.{Log}
 use Rattle.kz_spec_stores.specs.Requests.{Disk}
 use Rattle.kz_spec_machine.specs.Machine.{World, event_pairs}
 use Rattle.kz_driver.specs.Disks.{Disks, disks_of}
-use Rattle.kz_world.specs.declared.faults.EventFault.TheVariants as event_fault
-use Rattle.kz_world.specs.Disks.{disks_in}
-use Rattle.kz_world.specs.Worlds.{world_of_parts, world_of}
-use Rattle.kz_world.proofs.Stops.{read_failure, still_failure}
-use Rattle.kz_world.proofs.Views.{read_keeps}
+use Rattle.kz_world_parts.specs.declared.faults.EventFault.TheVariants as event_fault
+use Rattle.kz_world_parts.specs.Disks.{disks_in}
+use Rattle.kz_world_parts.specs.Worlds.{world_of_parts, world_of}
+use Rattle.kz_world_parts.proofs.Stops.{read_failure, still_failure}
+use Rattle.kz_world_parts.proofs.Views.{read_keeps}
 use Rattle.kz_world.proofs.checks.compare.Goals as goal
 
 pub returns-in-Err-clause-stop : goal.returns-in-Err-clause-stop

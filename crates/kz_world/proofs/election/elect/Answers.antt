@@ -8,13 +8,13 @@ use Rattle.kz_spec_stores.specs.Log.{Log, IsLog, begun_of, image_of}
 use Rattle.kz_spec_stores.specs.Image.{Image}
 use Rattle.kz_spec_machine.specs.Machine.{election_records, running_refusal, event_pairs}
 use Rattle.kz_driver.specs.Disks.{Disks, payloads_of}
-use Rattle.kz_world.specs.declared.faults.EventFault.TheVariants as event_fault
-use Rattle.kz_world.specs.Disks.{disks_in, ElectsController}
-use Rattle.kz_world.specs.Worlds.{world_of_parts, world_of, records_on_election}
+use Rattle.kz_world_parts.specs.declared.faults.EventFault.TheVariants as event_fault
+use Rattle.kz_world_parts.specs.Disks.{disks_in, ElectsController}
+use Rattle.kz_world_parts.specs.Worlds.{world_of_parts, world_of, records_on_election}
 use Rattle.kz_log.proofs.Views.{open_is_begun}
-use Rattle.kz_world.proofs.Outcomes.{unless_none}
-use Rattle.kz_world.proofs.Stops.{read_failure, still_failure, event_later}
-use Rattle.kz_world.proofs.Views.{read_keeps}
+use Rattle.kz_world_parts.proofs.Outcomes.{unless_none}
+use Rattle.kz_world_parts.proofs.Stops.{read_failure, still_failure, event_later}
+use Rattle.kz_world_parts.proofs.Views.{read_keeps}
 use Rattle.kz_world.proofs.election.elect.Goals as goal
 
 -- what is known of the log says what an election writes

@@ -13,15 +13,15 @@ use Rattle.kz_log.specs.declared.store.Elected.{Elected}
 use Rattle.kz_spec_machine.specs.Driver.{Driver}
 use Rattle.kz_spec_machine.specs.Machine.{World, event_pairs}
 use Rattle.kz_driver.specs.Disks.{disks_of}
-use Rattle.kz_world.specs.declared.faults.EventFault.{EventFault}
-use Rattle.kz_world.specs.Stores.{IsLogChange}
-use Rattle.kz_world.specs.Stops.{EventLeaves}
-use Rattle.kz_world.specs.Worlds.{world_of, elected_drivers, IsDone, IsKept}
+use Rattle.kz_world_parts.specs.declared.faults.EventFault.{EventFault}
+use Rattle.kz_world_parts.specs.Stores.{IsLogChange}
+use Rattle.kz_world_parts.specs.Stops.{EventLeaves}
+use Rattle.kz_world_parts.specs.Worlds.{world_of, elected_drivers, IsDone, IsKept}
 use Rattle.kz_log.proofs.Views.{elect_leaves_views}
-use Rattle.kz_world.proofs.Outcomes.{elected_done, election_refused, election_pair}
-use Rattle.kz_world.proofs.Stops.{log_fault_leaves}
-use Rattle.kz_world.proofs.Told.{changed, log_disk}
-use Rattle.kz_world.proofs.Views.{kept_still, kept_elected}
+use Rattle.kz_world_parts.proofs.Outcomes.{elected_done, election_refused, election_pair}
+use Rattle.kz_world_parts.proofs.Stops.{log_fault_leaves}
+use Rattle.kz_world_parts.proofs.Told.{changed, log_disk}
+use Rattle.kz_world_parts.proofs.Views.{kept_still, kept_elected}
 use Rattle.kz_world.proofs.election.elect_running.Goals as goal
 
 pub returns-in-Ok-clause-ok : goal.returns-in-Ok-clause-ok

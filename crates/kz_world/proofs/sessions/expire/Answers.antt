@@ -7,11 +7,11 @@ use Rattle.kz_spec_stores.specs.Tree.{Tree, end_session}
 use Rattle.kz_session.specs.Sessions.{answer_of_session_fault, IsRefusal}
 use Rattle.kz_spec_machine.specs.Machine.{World, event_pairs}
 use Rattle.kz_driver.specs.Disks.{disks_of}
-use Rattle.kz_world.specs.declared.faults.EventFault.{EventFault}
-use Rattle.kz_world.specs.Stops.{EventLeaves}
-use Rattle.kz_world.specs.Worlds.{world_of}
-use Rattle.kz_world.proofs.Outcomes.{end_pair}
-use Rattle.kz_world.proofs.Stops.{session_fault_leaves}
+use Rattle.kz_world_parts.specs.declared.faults.EventFault.{EventFault}
+use Rattle.kz_world_parts.specs.Stops.{EventLeaves}
+use Rattle.kz_world_parts.specs.Worlds.{world_of}
+use Rattle.kz_world_parts.proofs.Outcomes.{end_pair}
+use Rattle.kz_world_parts.proofs.Stops.{session_fault_leaves}
 use Rattle.kz_world.proofs.sessions.expire.Goals as goal
 
 pub returns-in-Err-clause-stop : goal.returns-in-Err-clause-stop

@@ -10,11 +10,11 @@ use Rattle.kz_turns.specs.Disks.{StepRequestDisks}
 use Rattle.kz_turns.specs.Pairs.{IsSoundPair}
 use Rattle.kz_turns.specs.Steps.{StepEnds}
 use Rattle.kz_turns.specs.Stops.{AreUp, LeavesOneOf}
-use Rattle.kz_world.specs.Disks.{disks_in}
-use Rattle.kz_world.specs.Worlds.{world_of_parts, world_of}
-use Rattle.kz_world.proofs.Listings.{get_here}
+use Rattle.kz_world_parts.specs.Disks.{disks_in}
+use Rattle.kz_world_parts.specs.Worlds.{world_of_parts, world_of}
+use Rattle.kz_world_parts.proofs.Listings.{get_here}
 use Rattle.kz_world.proofs.Runs.{step_told}
-use Rattle.kz_world.proofs.Views.{view_at, kept_turned}
+use Rattle.kz_world_parts.proofs.Views.{view_at, kept_turned}
 use Rattle.kz_world.proofs.single_steps.step_at.Goals as goal
 
 pub step-requires : goal.step-requires

@@ -8,12 +8,12 @@ use Rattle.kz_driver.specs.Disks.{payloads_of}
 use Rattle.kz_turns.specs.Disks.{StepRequestDisks}
 use Rattle.kz_turns.specs.Pairs.{IsSoundPair}
 use Rattle.kz_turns.specs.Stops.{AreUp, LeavesOneOf}
-use Rattle.kz_world.specs.declared.faults.EventFault.TheVariants as event_fault
-use Rattle.kz_world.specs.Disks.{disks_in}
-use Rattle.kz_world.specs.Turns.{IsStepped}
-use Rattle.kz_world.specs.Worlds.{world_of_parts, world_of}
+use Rattle.kz_world_parts.specs.declared.faults.EventFault.TheVariants as event_fault
+use Rattle.kz_world_parts.specs.Disks.{disks_in}
+use Rattle.kz_world_parts.specs.Turns.{IsStepped}
+use Rattle.kz_world_parts.specs.Worlds.{world_of_parts, world_of}
 use Rattle.kz_world.proofs.Runs.{step_outcome, step_disks, step_stop, step_refused, step_of_none}
-use Rattle.kz_world.proofs.Stops.{still_failure}
+use Rattle.kz_world_parts.proofs.Stops.{still_failure}
 use Rattle.kz_world.proofs.single_steps.step_of.Goals as goal
 
 pub returns-in-Some-clause-ok : goal.returns-in-Some-clause-ok

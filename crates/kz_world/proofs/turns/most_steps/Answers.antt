@@ -4,7 +4,7 @@ use Rattle.std.proofs.lemmas.Option.{get_or_from_slice_get}
 use Rattle.kz_spec_stores.specs.Tree.{Tree}
 use Rattle.kz_spec_machine.specs.Machine.{World, work}
 use Rattle.kz_driver.specs.Drivers.{shared_of}
-use Rattle.kz_world.specs.Worlds.{world_of}
+use Rattle.kz_world_parts.specs.Worlds.{world_of}
 use Rattle.kz_world.proofs.turns.most_steps.Goals as goal
 
 pub returns-in-Ok-work-clause-most : goal.returns-in-Ok-work-clause-most

@@ -3,11 +3,11 @@ use Rattle.std.specs.Prelude.{slice_get}
 use Rattle.std.proofs.lemmas.Int.{to_z-of_z}
 use Rattle.kz_spec_machine.specs.Machine.{World, running_ids, turn_pairs, work}
 use Rattle.kz_turns.specs.Pairs.{IsSoundPair}
-use Rattle.kz_world.specs.declared.faults.EventFault.TheVariants as event_fault
-use Rattle.kz_world.specs.Disks.{disks_in}
-use Rattle.kz_world.specs.Worlds.{world_of_parts, world_of}
-use Rattle.kz_world.proofs.Stops.{still_failure, read_failure, later_leaves}
-use Rattle.kz_world.proofs.Views.{read_keeps}
+use Rattle.kz_world_parts.specs.declared.faults.EventFault.TheVariants as event_fault
+use Rattle.kz_world_parts.specs.Disks.{disks_in}
+use Rattle.kz_world_parts.specs.Worlds.{world_of_parts, world_of}
+use Rattle.kz_world_parts.proofs.Stops.{still_failure, read_failure, later_leaves}
+use Rattle.kz_world_parts.proofs.Views.{read_keeps}
 use Rattle.kz_world.proofs.turns.prepared_turn.Goals as goal
 
 pub returns-in_default-clause-stop : goal.returns-in_default-clause-stop

@@ -13,14 +13,14 @@ use Rattle.kz_turns.specs.Disks.{TurnDisks}
 use Rattle.kz_turns.specs.Pairs.{IsSoundPair}
 use Rattle.kz_turns.specs.Steps.{TurnEnds}
 use Rattle.kz_turns.specs.Stops.{AreUp, LeavesOneOf}
-use Rattle.kz_world.specs.declared.faults.EventFault.TheVariants as event_fault
-use Rattle.kz_world.specs.Disks.{disks_in}
-use Rattle.kz_world.specs.Turns.{IsTurned}
-use Rattle.kz_world.specs.Worlds.{world_of_parts, world_of}
-use Rattle.kz_world.proofs.Listings.{get_here}
+use Rattle.kz_world_parts.specs.declared.faults.EventFault.TheVariants as event_fault
+use Rattle.kz_world_parts.specs.Disks.{disks_in}
+use Rattle.kz_world_parts.specs.Turns.{IsTurned}
+use Rattle.kz_world_parts.specs.Worlds.{world_of_parts, world_of}
+use Rattle.kz_world_parts.proofs.Listings.{get_here}
 use Rattle.kz_world.proofs.Runs.{turn_told}
-use Rattle.kz_world.proofs.Stops.{still_failure}
-use Rattle.kz_world.proofs.Views.{view_at, kept_turned}
+use Rattle.kz_world_parts.proofs.Stops.{still_failure}
+use Rattle.kz_world_parts.proofs.Views.{view_at, kept_turned}
 use Rattle.kz_world.proofs.turns.turn_at.Goals as goal
 
 pub turn-requires-clause-view : goal.turn-requires-clause-view

@@ -4,10 +4,10 @@ use Rattle.std.proofs.lemmas.Int.{to_z-of_z}
 use Rattle.kz_spec_machine.specs.Machine.{running_refusal, running_ids, driver_of, turn_pairs, work}
 use Rattle.kz_driver.specs.Disks.{payloads_of}
 use Rattle.kz_turns.specs.Pairs.{IsSoundPair}
-use Rattle.kz_world.specs.Disks.{disks_in, DriverTurnDisks}
-use Rattle.kz_world.specs.Stops.{FailureLeaves}
-use Rattle.kz_world.specs.Turns.{IsTurned}
-use Rattle.kz_world.specs.Worlds.{world_of_parts, world_of}
+use Rattle.kz_world_parts.specs.Disks.{disks_in, DriverTurnDisks}
+use Rattle.kz_world_parts.specs.Stops.{FailureLeaves}
+use Rattle.kz_world_parts.specs.Turns.{IsTurned}
+use Rattle.kz_world_parts.specs.Worlds.{world_of_parts, world_of}
 use Rattle.kz_world.proofs.Runs.{turn_outcome, turn_disks, turn_stop, turn_refused, turn_of_none}
 use Rattle.kz_world.proofs.turns.turn_of.Goals as goal
 

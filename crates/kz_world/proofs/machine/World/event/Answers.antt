@@ -4,9 +4,9 @@ use Rattle.kz_spec_machine.specs.Machine.{next, pair_of, event_pairs}
 use Rattle.kz_spec_machine.specs.Sound.{Sound}
 use Rattle.kz_driver.specs.Disks.{payloads_of}
 use Rattle.kz_turns.specs.Stops.{AreUp, LeavesOneOf}
-use Rattle.kz_world.specs.Disks.{disks_in, EventDisks}
-use Rattle.kz_world.specs.Fences.{IsOfFenced, TellsFence}
-use Rattle.kz_world.specs.Worlds.{world_of_parts, plain_world, world_of}
+use Rattle.kz_world_parts.specs.Disks.{disks_in, EventDisks}
+use Rattle.kz_world_parts.specs.Fences.{IsOfFenced, TellsFence}
+use Rattle.kz_world_parts.specs.Worlds.{world_of_parts, plain_world, world_of}
 use Rattle.kz_world.proofs.Events.{event_done, event_failed, event_disks, event_stop, sound_after, fenced_after}
 use Rattle.kz_world.proofs.machine.World.event.Goals as goal
 

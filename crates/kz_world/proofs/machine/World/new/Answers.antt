@@ -2,7 +2,7 @@ use Rattle.std.proofs.Common.{List, sym, ap, subst}
 use Rattle.kz_spec_stores.specs.Log.{IsViewOf}
 use Rattle.kz_spec_machine.specs.Driver.{Driver}
 use Rattle.kz_spec_machine.specs.Machine.{running_ids}
-use Rattle.kz_world.specs.Worlds.{AreDistinct, AreViews}
+use Rattle.kz_world_parts.specs.Worlds.{AreDistinct, AreViews}
 use Rattle.kz_log.proofs.Views.{new_is_view}
 use Rattle.kz_world.proofs.machine.World.new.Goals as goal
 
