@@ -43,7 +43,7 @@ unread payload log_fault.NoMemory old new h = h
 unread payload log_fault.Down old new h = h
 unread payload (log_fault.Full length) old new h = absurd h
 
-pub checked_log : {A : Type 0} (payload : ℕ) (f : ExitFault) (old new : Disk) → CheckDisk {A = A} (Err f) old new → LogDisk {A = A} payload (Err f) old new
+pub checked_log : (payload : ℕ) (f : ExitFault) (old new : Disk) → CheckDisk (Err f) old new → LogDisk payload (Err f) old new
 checked_log payload Finalised old new h = h
 checked_log payload (Unclosed path) old new h = h
 checked_log payload (Behind recorded end) old new h = h
@@ -51,7 +51,7 @@ checked_log payload (Log f) old new h = unread payload f old new h
 checked_log payload (Tree f) old new h = absurd h
 checked_log payload NoMemory old new h = inl h
 
-pub checked_tree : {A : Type 0} (t : TreeValue) (payload_bytes : TreeValue → TreeChange → ℕ) (ops : List Op) (said : Option Answer) (f : ExitFault) (disk : Disk) → IsCheckFault said f → TreeDisk {A = A} t payload_bytes ops (Err f) disk disk
+pub checked_tree : (t : TreeValue) (payload_bytes : TreeValue → TreeChange → ℕ) (ops : List Op) (said : Option Answer) (f : ExitFault) (disk : Disk) → IsCheckFault said f → TreeDisk t payload_bytes ops (Err f) disk disk
 checked_tree t payload_bytes ops said Finalised disk h = refl
 checked_tree t payload_bytes ops said (Unclosed path) disk h = refl
 checked_tree t payload_bytes ops said (Behind recorded end) disk h = refl
@@ -69,7 +69,7 @@ kept_left t l new (Log f) none h same = (subst (λ said. IsLogFault said f) (sym
 kept_left t l new (Tree f) none h same = absurd h
 kept_left t l new NoMemory none h same = (refl, inl same)
 
-pub kept_log : {A : Type 0} (payload : ℕ) (f : ExitFault) (old new : Disk) → IsResetFault f → ResetDisk {A = A} payload (Err f) old new → LogDisk {A = A} payload (Err f) old new
+pub kept_log : (payload : ℕ) (f : ExitFault) (old new : Disk) → IsResetFault f → ResetDisk payload (Err f) old new → LogDisk payload (Err f) old new
 kept_log payload Finalised old new is h = absurd is
 kept_log payload (Unclosed path) old new is h = absurd is
 kept_log payload (Behind recorded end) old new is h = absurd is
@@ -77,7 +77,7 @@ kept_log payload (Log f) old new is h = h
 kept_log payload (Tree f) old new is h = absurd is
 kept_log payload NoMemory old new is h = inl h
 
-pub kept_tree : {A : Type 0} (t : TreeValue) (payload_bytes : TreeValue → TreeChange → ℕ) (ops : List Op) (f : ExitFault) (disk : Disk) → IsResetFault f → TreeDisk {A = A} t payload_bytes ops (Err f) disk disk
+pub kept_tree : (t : TreeValue) (payload_bytes : TreeValue → TreeChange → ℕ) (ops : List Op) (f : ExitFault) (disk : Disk) → IsResetFault f → TreeDisk t payload_bytes ops (Err f) disk disk
 kept_tree t payload_bytes ops Finalised disk h = refl
 kept_tree t payload_bytes ops (Unclosed path) disk h = refl
 kept_tree t payload_bytes ops (Behind recorded end) disk h = refl
@@ -87,7 +87,7 @@ kept_tree t payload_bytes ops NoMemory disk h = refl
 
 -- ---- the tree is given back, or it isn't
 
-pub sent_back : {A : Type 0} (t new_tree : TreeValue) (l new : LogValue) (r : Result A ExitFault) → exit_refusal t l ≡ None → new ≡ reset l → OnOk r (tree_after_ops t (exit_ops t) ≡ Ok new_tree) → OnOk r (IsTakenBack t l new_tree new)
+pub sent_back : (t new_tree : TreeValue) (l new : LogValue) (r : Result (Unit {0}) ExitFault) → exit_refusal t l ≡ None → new ≡ reset l → OnOk r (tree_after_ops t (exit_ops t) ≡ Ok new_tree) → OnOk r (IsTakenBack t l new_tree new)
 sent_back t new_tree l new (Ok told) none is h = record { taken = none; log = is; tree = h }
 sent_back t new_tree l new (Err f) none is h = tt
 
@@ -99,11 +99,11 @@ unsent_left t new_tree l new (Log f) none is h same = absurd h
 unsent_left t new_tree l new (Tree f) none is h same = (none, h, same, is)
 unsent_left t new_tree l new NoMemory none is h same = (same, inr is)
 
-pub sent_left : {A : Type 0} (t new_tree : TreeValue) (l new : LogValue) (r : Result A ExitFault) → exit_refusal t l ≡ None → new ≡ reset l → IfErr r (IsMultiFault (tree_after_ops t (exit_ops t))) → OnErr r (new_tree ≡ t) → IfErr r (IsLeft t l new_tree new)
+pub sent_left : (t new_tree : TreeValue) (l new : LogValue) (r : Result (Unit {0}) ExitFault) → exit_refusal t l ≡ None → new ≡ reset l → IfErr r (IsMultiFault (tree_after_ops t (exit_ops t))) → OnErr r (new_tree ≡ t) → IfErr r (IsLeft t l new_tree new)
 sent_left t new_tree l new (Ok told) none is h same = tt
 sent_left t new_tree l new (Err f) none is h same = unsent_left t new_tree l new f none is h same
 
-unsent_log : {A : Type 0} (made : Result TreeValue TreeFault) (payload : ℕ) (f : ExitFault) (old new : Disk) → IsMultiFault made f → ResetsDisk payload Done old new → LogDisk {A = A} payload (Err f) old new
+unsent_log : (made : Result TreeValue TreeFault) (payload : ℕ) (f : ExitFault) (old new : Disk) → IsMultiFault made f → ResetsDisk payload Done old new → LogDisk payload (Err f) old new
 unsent_log made payload Finalised old new h disk = absurd h
 unsent_log made payload (Unclosed path) old new h disk = absurd h
 unsent_log made payload (Behind recorded end) old new h disk = absurd h
@@ -111,6 +111,6 @@ unsent_log made payload (Log f) old new h disk = absurd h
 unsent_log made payload (Tree f) old new h disk = disk
 unsent_log made payload NoMemory old new h disk = inr disk
 
-pub sent_log : {A : Type 0} (made : Result TreeValue TreeFault) (payload : ℕ) (r : Result A ExitFault) (old new : Disk) → IfErr r (IsMultiFault made) → ResetsDisk payload Done old new → LogDisk payload r old new
+pub sent_log : (made : Result TreeValue TreeFault) (payload : ℕ) (r : Result (Unit {0}) ExitFault) (old new : Disk) → IfErr r (IsMultiFault made) → ResetsDisk payload Done old new → LogDisk payload r old new
 sent_log made payload (Ok told) old new h disk = disk
 sent_log made payload (Err f) old new h disk = unsent_log made payload f old new h disk

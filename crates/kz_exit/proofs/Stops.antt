@@ -56,8 +56,8 @@ unread log_fault.NoMemory old new up is h = is
 unread log_fault.Down old new up is h = let down = sym up ∙ h.0 in absurd (cc)
 unread (log_fault.Full length) old new up is h = is
 
-pub checked_stop : {A : Type 0} (t : TreeValue) (l : LogValue) (said : Option Answer) (f : ExitFault) (tree_disk old new : Disk) (tree_left : Option TreeValue → Type 0) (log_left : Option LogValue → Type 0)
-    → IsCheckFault said f → CheckDisk {A = A} (Err f) old new → RollbackLeaves {A = A} t l (Err f) tree_disk old tree_left log_left
+pub checked_stop : (t : TreeValue) (l : LogValue) (said : Option Answer) (f : ExitFault) (tree_disk old new : Disk) (tree_left : Option TreeValue → Type 0) (log_left : Option LogValue → Type 0)
+    → IsCheckFault said f → CheckDisk (Err f) old new → RollbackLeaves t l (Err f) tree_disk old tree_left log_left
 checked_stop t l said Finalised tree_disk old new tree_left log_left is h = λ tree_up log_up failed. absurd failed
 checked_stop t l said (Unclosed path) tree_disk old new tree_left log_left is h = λ tree_up log_up failed. absurd failed
 checked_stop t l said (Behind recorded end) tree_disk old new tree_left log_left is h = λ tree_up log_up failed. absurd failed
@@ -76,9 +76,9 @@ log_between log_fault.NoMemory l payload old new left up is h stop settled = abs
 log_between log_fault.Down l payload old new left up is h stop settled = absurd (let down = sym up ∙ h.0 in cc)
 log_between (log_fault.Full length) l payload old new left up is h stop settled = λ found in_log. inl (settled (ap (λ (d : Disk). d.down) h.3 ∙ up) found in_log)
 
-pub kept_stop : {A : Type 0} (t : TreeValue) (l : LogValue) (payload : ℕ) (f : ExitFault) (tree_disk old new : Disk) (tree_left : Option TreeValue → Type 0) (log_left : Option LogValue → Type 0)
-    → IsResetFault f → ResetDisk {A = A} payload (Err f) old new → (IsErrOf {T = A} (Err f) (Log log_fault.Failed) → Between l (made_by_reset l) log_left)
-    → (tree_disk.down ≡ false → Only t tree_left) → (new.down ≡ false → Only l log_left) → RollbackLeaves {A = A} t l (Err f) tree_disk old tree_left log_left
+pub kept_stop : (t : TreeValue) (l : LogValue) (payload : ℕ) (f : ExitFault) (tree_disk old new : Disk) (tree_left : Option TreeValue → Type 0) (log_left : Option LogValue → Type 0)
+    → IsResetFault f → ResetDisk payload (Err f) old new → (IsErrOf {T = Unit {0}} (Err f) (Log log_fault.Failed) → Between l (made_by_reset l) log_left)
+    → (tree_disk.down ≡ false → Only t tree_left) → (new.down ≡ false → Only l log_left) → RollbackLeaves t l (Err f) tree_disk old tree_left log_left
 kept_stop t l payload Finalised tree_disk old new tree_left log_left is h stop tree_settled log_settled = absurd is
 kept_stop t l payload (Unclosed path) tree_disk old new tree_left log_left is h stop tree_settled log_settled = absurd is
 kept_stop t l payload (Behind recorded end) tree_disk old new tree_left log_left is h stop tree_settled log_settled = absurd is
@@ -104,9 +104,9 @@ tree_between : (t : TreeValue) (made : Result TreeValue TreeFault) (f : TreeFaul
 tree_between t made f new left (inl device) stop settled = stop device
 tree_between t made f new left (inr up) stop settled = λ found in_tree. inl (settled up found in_tree)
 
-unsent_stop : {A : Type 0} (t : TreeValue) (l new_log : LogValue) (payload_bytes : TreeValue → TreeChange → ℕ) (f : ExitFault) (old new log_disk later : Disk) (tree_left : Option TreeValue → Type 0) (log_left : Option LogValue → Type 0)
-    → IsMultiFault (tree_after_ops t (exit_ops t)) f → TreeDisk {A = A} t payload_bytes (exit_ops t) (Err f) old new → (IsErrOf {T = A} (Err f) (Tree tree_fault.Device) → Between t (tree_after_ops t (exit_ops t)) tree_left)
-    → (new.down ≡ false → Only t tree_left) → new_log ≡ reset l → later.down ≡ false → (later.down ≡ false → Only new_log log_left) → RollbackLeaves {A = A} t l (Err f) old log_disk tree_left log_left
+unsent_stop : (t : TreeValue) (l new_log : LogValue) (payload_bytes : TreeValue → TreeChange → ℕ) (f : ExitFault) (old new log_disk later : Disk) (tree_left : Option TreeValue → Type 0) (log_left : Option LogValue → Type 0)
+    → IsMultiFault (tree_after_ops t (exit_ops t)) f → TreeDisk t payload_bytes (exit_ops t) (Err f) old new → (IsErrOf {T = Unit {0}} (Err f) (Tree tree_fault.Device) → Between t (tree_after_ops t (exit_ops t)) tree_left)
+    → (new.down ≡ false → Only t tree_left) → new_log ≡ reset l → later.down ≡ false → (later.down ≡ false → Only new_log log_left) → RollbackLeaves t l (Err f) old log_disk tree_left log_left
 unsent_stop t l new_log payload_bytes Finalised old new log_disk later tree_left log_left is h stop tree_settled reset_log log_up log_settled = absurd is
 unsent_stop t l new_log payload_bytes (Unclosed path) old new log_disk later tree_left log_left is h stop tree_settled reset_log log_up log_settled = absurd is
 unsent_stop t l new_log payload_bytes (Behind recorded end) old new log_disk later tree_left log_left is h stop tree_settled reset_log log_up log_settled = absurd is
@@ -117,7 +117,7 @@ unsent_stop t l new_log payload_bytes (Tree f) old new log_disk later tree_left 
     (log_settled log_up fl in_log ∙ ap (λ x. Some x) reset_log)
 unsent_stop t l new_log payload_bytes NoMemory old new log_disk later tree_left log_left is h stop tree_settled reset_log log_up log_settled = λ tree_up log_was_up failed. absurd failed
 
-pub sent_stop : {A : Type 0} (t new_tree : TreeValue) (l new_log : LogValue) (payload_bytes : TreeValue → TreeChange → ℕ) (r : Result A ExitFault) (old new log_disk later : Disk) (tree_left : Option TreeValue → Type 0) (log_left : Option LogValue → Type 0)
+pub sent_stop : (t new_tree : TreeValue) (l new_log : LogValue) (payload_bytes : TreeValue → TreeChange → ℕ) (r : Result (Unit {0}) ExitFault) (old new log_disk later : Disk) (tree_left : Option TreeValue → Type 0) (log_left : Option LogValue → Type 0)
     → IfErr r (IsMultiFault (tree_after_ops t (exit_ops t))) → TreeDisk t payload_bytes (exit_ops t) r old new → (IsErrOf r (Tree tree_fault.Device) → Between t (tree_after_ops t (exit_ops t)) tree_left)
     → OnErr r (new_tree ≡ t) → (new.down ≡ false → Only new_tree tree_left) → new_log ≡ reset l → later.down ≡ false → (later.down ≡ false → Only new_log log_left) → RollbackLeaves t l r old log_disk tree_left log_left
 sent_stop t new_tree l new_log payload_bytes (Ok told) old new log_disk later tree_left log_left is h stop same tree_settled reset_log log_up log_settled = λ tree_up log_was_up failed. absurd failed

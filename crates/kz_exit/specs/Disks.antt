@@ -14,7 +14,7 @@ abbrev pub ResetsDisk : ℕ → StoreAnswer → Disk → Disk → Type 0
 ResetsDisk payload answer old new = ChangesDisk ⊤ payload answer old new
 
 -- What a rollback does to the log's disk, by its result. A store that is down answers its read as it would answer its reset.
-abbrev pub LogDisk : {A : Type 0} → ℕ → Result A ExitFault → Disk → Disk → Type 0
+abbrev pub LogDisk : ℕ → Result (Unit {0}) ExitFault → Disk → Disk → Type 0
 LogDisk payload (Ok told) old new = ResetsDisk payload Done old new
 LogDisk payload (Err Finalised) old new = ReadsDisk Done old new
 LogDisk payload (Err (Unclosed path)) old new = ReadsDisk Done old new
@@ -31,7 +31,7 @@ MakesOps t payload_bytes [] answer old new = (answer ≡ Done) × (new ≡ old)
 MakesOps t payload_bytes (o ∷ os) answer old new = ChangesDisk (IsTaken (multi t (o ∷ os))) (payload_bytes t (Multi (o ∷ os))) answer old new
 
 -- What a rollback that sends these operations does to the tree's disk, by its result.
-abbrev pub TreeDisk : {A : Type 0} → TreeValue → (TreeValue → TreeChange → ℕ) → List Op → Result A ExitFault → Disk → Disk → Type 0
+abbrev pub TreeDisk : TreeValue → (TreeValue → TreeChange → ℕ) → List Op → Result (Unit {0}) ExitFault → Disk → Disk → Type 0
 TreeDisk t payload_bytes ops (Ok told) old new = MakesOps t payload_bytes ops Done old new
 TreeDisk t payload_bytes ops (Err (Tree f)) old new = MakesOps t payload_bytes ops (answer_of_tree_fault f) old new
 TreeDisk t payload_bytes ops (Err Finalised) old new = new ≡ old

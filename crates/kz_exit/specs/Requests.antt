@@ -1,5 +1,5 @@
 -- What each request of a rollback answers, and what it does to its store's disk.
-use Rattle.std.specs.Prelude.{◌≡◌, ⊤, ℕ, ℤ, not, Option, Some, None, Result, Ok, Err, if◌then◌else◌}
+use Rattle.std.specs.Prelude.{◌≡◌, ⊤, ℕ, not, Option, Some, None, Result, Ok, Err, if◌then◌else◌}
 use Rattle.std.specs.Ordering.{int_eq}
 use Rattle.kz_types.specs.declared.codes.TheConstants.{POST_MIGRATION}
 use Rattle.kz_types.specs.declared.machine.Answer.{Answer}
@@ -8,6 +8,7 @@ use Rattle.kz_types.specs.declared.fault.TreeFault.{TreeFault}
 use Rattle.kz_types.specs.declared.fault.LogFault.{LogFault}
 use Rattle.kz_types.specs.declared.fault.LogFault.TheVariants as log_fault
 use Rattle.kz_spec_stores.specs.Image.{is_migrated_state}
+use Rattle.kz_spec_stores.specs.Log.{View}
 use Rattle.kz_spec_stores.specs.Tree.{Tree as TreeValue}
 use Rattle.kz_spec_stores.specs.Requests.{Disk, Done, answer_of_log_fault, ReadsDisk}
 use Rattle.kz_spec_machine.specs.Machine.{first_of, unless, rest_refusal}
@@ -35,18 +36,27 @@ IsReadFault (Log f) = IsReadLogFault f
 IsReadFault (Tree f) = ⊥
 IsReadFault NoMemory = ⊤
 
-abbrev pub ReadDisk : {A : Type 0} → Result A ExitFault → Disk → Disk → Type 0
+abbrev pub ReadDisk : Result View ExitFault → Disk → Disk → Type 0
 ReadDisk (Ok told) old new = ReadsDisk Done old new
 ReadDisk (Err (Log f)) old new = ReadsDisk (answer_of_log_fault f) old new
 ReadDisk (Err fault) old new = new ≡ old
 
 -- ---- what refuses a rollback
 
--- why a log isn't taken back whose migration is in this state, and whose last offset is `end`
-abbrev pub refusal_at : TreeValue → ℤ → ℤ → Option Answer
-refusal_at t state end = first_of (unless (not (int_eq state POST_MIGRATION)) answer.Finalised) (if is_migrated_state state then rest_refusal t end else None)
+-- why a log isn't taken back of which this is known at its end
+abbrev pub refusal_of : TreeValue → View → Option Answer
+refusal_of t v = first_of (unless (not (int_eq v.image.state POST_MIGRATION)) answer.Finalised) (if is_migrated_state v.image.state then rest_refusal t v.position else None)
 
--- The rollback is refused, and the fault is exactly the refusal; or the log's store was down before; or memory ran out.
+-- The rollback is refused, and the fault is exactly the refusal; or memory ran out. No other fault comes.
+abbrev pub IsViewFault : Option Answer → ExitFault → Type 0
+IsViewFault said Finalised = said ≡ Some answer.Finalised
+IsViewFault said (Unclosed path) = said ≡ Some (answer.Unclosed path)
+IsViewFault said (Behind recorded end) = said ≡ Some (answer.Behind recorded end)
+IsViewFault said (Log f) = ⊥
+IsViewFault said (Tree f) = ⊥
+IsViewFault said NoMemory = ⊤
+
+-- the same, or the log's store was down before
 abbrev pub IsCheckFault : Option Answer → ExitFault → Type 0
 IsCheckFault said Finalised = said ≡ Some answer.Finalised
 IsCheckFault said (Unclosed path) = said ≡ Some (answer.Unclosed path)
@@ -56,7 +66,7 @@ IsCheckFault said (Tree f) = ⊥
 IsCheckFault said NoMemory = ⊤
 
 -- the log is read, whether the rollback is refused or not
-abbrev pub CheckDisk : {A : Type 0} → Result A ExitFault → Disk → Disk → Type 0
+abbrev pub CheckDisk : Result (Unit {0}) ExitFault → Disk → Disk → Type 0
 CheckDisk (Ok told) old new = ReadsDisk Done old new
 CheckDisk (Err Finalised) old new = ReadsDisk Done old new
 CheckDisk (Err (Unclosed path)) old new = ReadsDisk Done old new
@@ -75,7 +85,7 @@ IsResetFault (Log f) = IsLogFault None f
 IsResetFault (Tree f) = ⊥
 IsResetFault NoMemory = ⊤
 
-abbrev pub ResetDisk : {A : Type 0} → ℕ → Result A ExitFault → Disk → Disk → Type 0
+abbrev pub ResetDisk : ℕ → Result (Unit {0}) ExitFault → Disk → Disk → Type 0
 ResetDisk payload (Ok told) old new = ResetsDisk payload Done old new
 ResetDisk payload (Err (Log f)) old new = ResetsDisk payload (answer_of_log_fault f) old new
 ResetDisk payload (Err fault) old new = new ≡ old

@@ -9,7 +9,7 @@ use Rattle.kz_exit.specs.declared.faults.ExitFault.{ExitFault}
 use Rattle.kz_exit.specs.declared.faults.ExitFault.TheVariants.{Finalised, Unclosed, Behind, Log, Tree, NoMemory}
 
 -- the rollback failed at a store
-abbrev pub IsFailed : {A : Type 0} → Result A ExitFault → Type 0
+abbrev pub IsFailed : Result (Unit {0}) ExitFault → Type 0
 IsFailed (Ok told) = ⊥
 IsFailed (Err (Log f)) = ⊤
 IsFailed (Err (Tree f)) = ⊤
@@ -35,6 +35,6 @@ abbrev pub LeavesOneOf : List Pair → (Option TreeValue → Type 0) → (Option
 LeavesOneOf pairs tree_left log_left = (t : Option TreeValue) (l : Option LogValue) → tree_left t → log_left l → (pair : Pair) × Contains pairs pair × (t ≡ Some pair.tree) × (l ≡ Some pair.log)
 
 -- What a stop leaves where neither store was down before a rollback that failed at one of them.
-abbrev pub RollbackLeaves : {A : Type 0} → TreeValue → LogValue → Result A ExitFault → Disk → Disk → (Option TreeValue → Type 0) → (Option LogValue → Type 0) → Type 0
+abbrev pub RollbackLeaves : TreeValue → LogValue → Result (Unit {0}) ExitFault → Disk → Disk → (Option TreeValue → Type 0) → (Option LogValue → Type 0) → Type 0
 RollbackLeaves t l result tree_disk log_disk tree_left log_left =
     tree_disk.down ≡ false → log_disk.down ≡ false → IsFailed result → LeavesOneOf (rollback_pairs t l) tree_left log_left

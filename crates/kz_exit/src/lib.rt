@@ -11,5 +11,5 @@ pub use faults::ExitFault;
 pub use rest::may_finalise;
 pub use taking_back::rollback;
 
-
-
+#[cfg(test)]
+mod tests;

@@ -1,14 +1,12 @@
 //! The requests of a rollback.
-ghost use Rattle.std.specs.Prelude.{◌≡◌, ◌∷◌, [], ℕ, length, ◌<◌, None, Ok, OnOk, OnErr, IfOk, IfErr, IsErrOf};
-ghost use Rattle.kz_types.specs.declared.fault.LogFault.TheVariants as log_fault;
-ghost use Rattle.kz_types.specs.declared.fault.TreeFault.TheVariants as tree_fault;
+ghost use Rattle.std.specs.Prelude.{◌≡◌, None, Ok, OnOk, OnErr, IfOk, IfErr, IsErrOf};
 ghost use Rattle.kz_spec_stores.specs.Log as logs;
-ghost use Rattle.kz_spec_stores.specs.Log.{image_of};
+ghost use Rattle.kz_spec_stores.specs.Log.{new_view, read_view};
 ghost use Rattle.kz_spec_stores.specs.Requests.{Between, Reset};
 ghost use Rattle.kz_spec_machine.specs.Machine.{exit_refusal, tree_after_ops};
 ghost use Rattle.kz_log.specs.Requests.{made_by_reset};
 ghost use Rattle.kz_exit.specs.Disks.{TreeDisk};
-ghost use Rattle.kz_exit.specs.Requests.{IsCheckFault, IsReadFault, IsResetFault, IsMultiFault, CheckDisk, ReadDisk, ResetDisk, refusal_at};
+ghost use Rattle.kz_exit.specs.Requests.{IsCheckFault, IsReadFault, IsResetFault, IsMultiFault, IsViewFault, CheckDisk, ReadDisk, ResetDisk, refusal_of};
 
 use crate::faults::ExitFault;
 use crate::rest::may_finalise;
@@ -18,9 +16,8 @@ use kz_types::{LogFault, MIGRATION, Op, POST_MIGRATION, TreeFault};
 use std::alloc::Global;
 
 // All of the log is read.
-#[tactic(auto, using(kz_log::proofs::Views::new_is_view))]
 fn read<L: MetaLog>(alloc: Global, log: &mut L) -> Result<View, ExitFault>
-    ensures image { IfOk result (λ view. view.image ≡ image_of (L.log log.old)) }
+    ensures view { IfOk result (λ view. view ≡ read_view (L.log log.old) new_view) }
     ensures err { IfErr result IsReadFault }
     ensures same { L.log log.new ≡ L.log log.old }
     ensures disk { ReadDisk result (L.disk log.old) (L.disk log.new) }
@@ -34,18 +31,22 @@ fn read<L: MetaLog>(alloc: Global, log: &mut L) -> Result<View, ExitFault>
     }
 }
 
-// Nothing refuses the rollback of a log whose migration is in this state, and whose last offset is `end`.
-fn check_state(tree: &Tree, state: i8, end: i64) -> Result<(), ExitFault>
-    ensures ok { OnOk result (refusal_at tree.now state end ≡ None) }
-    ensures err { IfErr result (IsCheckFault (refusal_at tree.now state end)) }
+// Nothing refuses the rollback of a log of which this is known at its end.
+#[tactic(auto, using(crate::proofs::Refusals::rest_viewed))]
+fn check_view(tree: &Tree, view: &View) -> Result<(), ExitFault>
+    ensures ok { OnOk result (refusal_of tree.now view.now ≡ None) }
+    ensures err { IfErr result (IsViewFault (refusal_of tree.now view.now)) }
 {
-    if state == POST_MIGRATION {
+    if view.image().state() == POST_MIGRATION {
         return Err(ExitFault::Finalised);
     }
-    if state < MIGRATION {
+    if view.image().state() < MIGRATION {
         return Ok(());
     }
-    may_finalise(tree, end)
+    match may_finalise(tree, view.position()) {
+        Ok(()) => Ok(()),
+        Err(fault) => Err(fault),
+    }
 }
 
 /// Nothing refuses the rollback: the migration isn't finalised, and where it is committed, ZooKeeper has all of the metadata.
@@ -57,7 +58,7 @@ pub fn check<L: MetaLog>(alloc: Global, tree: &Tree, log: &mut L) -> Result<(), 
     ensures disk { CheckDisk result (L.disk log.old) (L.disk log.new) }
 {
     match read(alloc, log) {
-        Ok(view) => check_state(tree, view.image().state(), log.end()),
+        Ok(view) => check_view(tree, &view),
         Err(fault) => Err(fault),
     }
 }
@@ -68,7 +69,7 @@ pub fn reset<L: MetaLog>(log: &mut L) -> Result<(), ExitFault>
     ensures err { IfErr result IsResetFault }
     ensures same { OnErr result (L.log log.new ≡ L.log log.old) }
     ensures disk { ResetDisk (L.payload_bytes (L.log log.old) Reset) result (L.disk log.old) (L.disk log.new) }
-    ensures stop { IsErrOf result (ExitFault.Log log_fault.Failed) → Between (L.log log.old) (made_by_reset (L.log log.old)) (L.left log.new) }
+    ensures stop { IsErrOf result (ExitFault.Log LogFault.Failed) → Between (L.log log.old) (made_by_reset (L.log log.old)) (L.left log.new) }
 {
     match log.reset() {
         Ok(()) => Ok(()),
@@ -87,7 +88,7 @@ pub fn send<T: ZTree>(tree: &mut T, ops: &[Op]) -> Result<(), ExitFault>
     ensures err { IfErr result (IsMultiFault (tree_after_ops (T.tree tree.old) ops.now)) }
     ensures same { OnErr result (T.tree tree.new ≡ T.tree tree.old) }
     ensures disk { TreeDisk (T.tree tree.old) T.payload_bytes ops.now result (T.disk tree.old) (T.disk tree.new) }
-    ensures stop { IsErrOf result (ExitFault.Tree tree_fault.Device) → Between (T.tree tree.old) (tree_after_ops (T.tree tree.old) ops.now) (T.left tree.new) }
+    ensures stop { IsErrOf result (ExitFault.Tree TreeFault.Device) → Between (T.tree tree.old) (tree_after_ops (T.tree tree.old) ops.now) (T.left tree.new) }
 {
     if ops.is_empty() {
         return Ok(());

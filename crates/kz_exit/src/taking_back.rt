@@ -1,7 +1,7 @@
 //! Taking a migration back.
-ghost use Rattle.std.specs.Prelude.{OnOk, IfErr};
+ghost use Rattle.std.specs.Prelude.{◌≡◌, None, OnOk, IfErr};
 ghost use Rattle.kz_spec_stores.specs.Requests.{Reset};
-ghost use Rattle.kz_spec_machine.specs.Machine.{exit_ops};
+ghost use Rattle.kz_spec_machine.specs.Machine.{exit_ops, exit_refusal};
 ghost use Rattle.kz_exit.specs.Disks.{LogDisk, TreeDisk};
 ghost use Rattle.kz_exit.specs.Rollbacks.{IsLeft, IsTakenBack};
 ghost use Rattle.kz_exit.specs.Stops.{RollbackLeaves};
@@ -11,8 +11,43 @@ use crate::operations::exit_ops;
 use crate::requests::{check, reset, send};
 use kz_log::MetaLog;
 use kz_tree::ZTree;
-use kz_types::NoMemory;
+use kz_types::{NoMemory, Op};
 use std::alloc::Global;
+
+// Resets the log, and then gives the tree back to ZooKeeper by these operations.
+fn make<T: ZTree, L: MetaLog>(tree: &mut T, log: &mut L, ops: &[Op]) -> Result<(), ExitFault>
+    requires taken { exit_refusal (T.tree tree.old) (L.log log.old) ≡ None }
+    requires ops { ops.now ≡ exit_ops (T.tree tree.old) }
+    ensures ok { OnOk result (IsTakenBack (T.tree tree.old) (L.log log.old) (T.tree tree.new) (L.log log.new)) }
+    ensures err { IfErr result (IsLeft (T.tree tree.old) (L.log log.old) (T.tree tree.new) (L.log log.new)) }
+    ensures log_disk { LogDisk (L.payload_bytes (L.log log.old) Reset) result (L.disk log.old) (L.disk log.new) }
+    ensures tree_disk { TreeDisk (T.tree tree.old) T.payload_bytes (exit_ops (T.tree tree.old)) result (T.disk tree.old) (T.disk tree.new) }
+    ensures stop { RollbackLeaves (T.tree tree.old) (L.log log.old) result (T.disk tree.old) (L.disk log.old) (T.left tree.new) (L.left log.new) }
+{
+    match reset(log) {
+        Ok(()) => send(tree, ops),
+        Err(fault) => Err(fault),
+    }
+}
+
+// Resets the log and gives the tree back. The memory for the operations is taken first.
+fn take_back<T: ZTree, L: MetaLog>(
+    alloc: Global,
+    tree: &mut T,
+    log: &mut L,
+) -> Result<(), ExitFault>
+    requires { exit_refusal (T.tree tree.old) (L.log log.old) ≡ None }
+    ensures ok { OnOk result (IsTakenBack (T.tree tree.old) (L.log log.old) (T.tree tree.new) (L.log log.new)) }
+    ensures err { IfErr result (IsLeft (T.tree tree.old) (L.log log.old) (T.tree tree.new) (L.log log.new)) }
+    ensures log_disk { LogDisk (L.payload_bytes (L.log log.old) Reset) result (L.disk log.old) (L.disk log.new) }
+    ensures tree_disk { TreeDisk (T.tree tree.old) T.payload_bytes (exit_ops (T.tree tree.old)) result (T.disk tree.old) (T.disk tree.new) }
+    ensures stop { RollbackLeaves (T.tree tree.old) (L.log log.old) result (T.disk tree.old) (L.disk log.old) (T.left tree.new) (L.left log.new) }
+{
+    match exit_ops(alloc, tree.tree()) {
+        Ok(ops) => make(tree, log, &ops),
+        Err(NoMemory) => Err(ExitFault::NoMemory),
+    }
+}
 
 /// Takes a migration back, so that ZooKeeper has the cluster again. It is called while no controller runs.
 ///
@@ -35,16 +70,7 @@ pub fn rollback<T: ZTree, L: MetaLog>(
     ensures stop { RollbackLeaves (T.tree tree.old) (L.log log.old) result (T.disk tree.old) (L.disk log.old) (T.left tree.new) (L.left log.new) }
 {
     match check(alloc, tree.tree(), log) {
-        Ok(()) => {}
-        Err(fault) => return Err(fault),
+        Ok(()) => take_back(alloc, tree, log),
+        Err(fault) => Err(fault),
     }
-    let ops = match exit_ops(alloc, tree.tree()) {
-        Ok(ops) => ops,
-        Err(NoMemory) => return Err(ExitFault::NoMemory),
-    };
-    match reset(log) {
-        Ok(()) => {}
-        Err(fault) => return Err(fault),
-    }
-    send(tree, &ops)
 }
