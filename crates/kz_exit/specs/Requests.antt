@@ -10,7 +10,7 @@ use Rattle.kz_types.specs.declared.fault.LogFault.TheVariants as log_fault
 use Rattle.kz_spec_stores.specs.Image.{is_migrated_state}
 use Rattle.kz_spec_stores.specs.Log.{View}
 use Rattle.kz_spec_stores.specs.Tree.{Tree as TreeValue}
-use Rattle.kz_spec_stores.specs.Requests.{Disk, Done, answer_of_log_fault, ReadsDisk}
+use Rattle.kz_spec_stores.specs.Requests.{Disk, Done, answer_of_tree_fault, answer_of_log_fault, ChangesDisk, ReadsDisk}
 use Rattle.kz_spec_machine.specs.Machine.{first_of, unless, rest_refusal}
 use Rattle.kz_exit.specs.declared.faults.ExitFault.{ExitFault}
 use Rattle.kz_exit.specs.declared.faults.ExitFault.TheVariants.{Finalised, Unclosed, Behind, Log, Tree, NoMemory}
@@ -99,3 +99,8 @@ IsMultiFault made (Behind recorded end) = ⊥
 IsMultiFault made (Log f) = ⊥
 IsMultiFault made (Tree f) = IsTreeFault made f
 IsMultiFault made NoMemory = ⊤
+
+abbrev pub MultiDisk : Type 0 → ℕ → Result (Unit {0}) ExitFault → Disk → Disk → Type 0
+MultiDisk taken payload (Ok told) old new = ChangesDisk taken payload Done old new
+MultiDisk taken payload (Err (Tree f)) old new = ChangesDisk taken payload (answer_of_tree_fault f) old new
+MultiDisk taken payload (Err fault) old new = new ≡ old

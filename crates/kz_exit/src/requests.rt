@@ -2,11 +2,12 @@
 ghost use Rattle.std.specs.Prelude.{◌≡◌, None, Ok, OnOk, OnErr, IfOk, IfErr, IsErrOf};
 ghost use Rattle.kz_spec_stores.specs.Log as logs;
 ghost use Rattle.kz_spec_stores.specs.Log.{new_view, read_view};
-ghost use Rattle.kz_spec_stores.specs.Requests.{Between, Reset};
+ghost use Rattle.kz_spec_stores.specs.Requests.{Between, IsTaken, Multi, Reset};
+ghost use Rattle.kz_spec_stores.specs.Tree.{multi};
 ghost use Rattle.kz_spec_machine.specs.Machine.{exit_refusal, tree_after_ops};
 ghost use Rattle.kz_log.specs.Requests.{made_by_reset};
 ghost use Rattle.kz_exit.specs.Disks.{TreeDisk};
-ghost use Rattle.kz_exit.specs.Requests.{IsCheckFault, IsReadFault, IsResetFault, IsMultiFault, IsViewFault, CheckDisk, ReadDisk, ResetDisk, refusal_of};
+ghost use Rattle.kz_exit.specs.Requests.{IsCheckFault, IsReadFault, IsResetFault, IsMultiFault, IsViewFault, CheckDisk, MultiDisk, ReadDisk, ResetDisk, refusal_of};
 
 use crate::faults::ExitFault;
 use crate::rest::may_finalise;
@@ -82,17 +83,14 @@ pub fn reset<L: MetaLog>(log: &mut L) -> Result<(), ExitFault>
     }
 }
 
-/// Sends these operations in one multi, where there are some. At `Err` the tree is as it was.
-pub fn send<T: ZTree>(tree: &mut T, ops: &[Op]) -> Result<(), ExitFault>
-    ensures ok { OnOk result (tree_after_ops (T.tree tree.old) ops.now ≡ Ok (T.tree tree.new)) }
-    ensures err { IfErr result (IsMultiFault (tree_after_ops (T.tree tree.old) ops.now)) }
+// Sends these operations in one multi.
+fn ask<T: ZTree>(tree: &mut T, ops: &[Op]) -> Result<(), ExitFault>
+    ensures ok { OnOk result (multi (T.tree tree.old) ops.now ≡ Ok (T.tree tree.new)) }
+    ensures err { IfErr result (IsMultiFault (multi (T.tree tree.old) ops.now)) }
     ensures same { OnErr result (T.tree tree.new ≡ T.tree tree.old) }
-    ensures disk { TreeDisk (T.tree tree.old) T.payload_bytes ops.now result (T.disk tree.old) (T.disk tree.new) }
-    ensures stop { IsErrOf result (ExitFault.Tree TreeFault.Device) → Between (T.tree tree.old) (tree_after_ops (T.tree tree.old) ops.now) (T.left tree.new) }
+    ensures disk { MultiDisk (IsTaken (multi (T.tree tree.old) ops.now)) (T.payload_bytes (T.tree tree.old) (Multi ops.now)) result (T.disk tree.old) (T.disk tree.new) }
+    ensures stop { IsErrOf result (ExitFault.Tree TreeFault.Device) → Between (T.tree tree.old) (multi (T.tree tree.old) ops.now) (T.left tree.new) }
 {
-    if ops.is_empty() {
-        return Ok(());
-    }
     match tree.multi(ops) {
         Ok(_) => Ok(()),
         Err(TreeFault::NoMemory) => Err(ExitFault::NoMemory),
@@ -105,5 +103,20 @@ pub fn send<T: ZTree>(tree: &mut T, ops: &[Op]) -> Result<(), ExitFault>
         Err(TreeFault::Device) => Err(ExitFault::Tree(TreeFault::Device)),
         Err(TreeFault::Down) => Err(ExitFault::Tree(TreeFault::Down)),
         Err(TreeFault::Full { length }) => Err(ExitFault::Tree(TreeFault::Full { length })),
+    }
+}
+
+/// Sends these operations in one multi, where there are some. At `Err` the tree is as it was.
+pub fn send<T: ZTree>(tree: &mut T, ops: &[Op]) -> Result<(), ExitFault>
+    ensures ok { OnOk result (tree_after_ops (T.tree tree.old) ops.now ≡ Ok (T.tree tree.new)) }
+    ensures err { IfErr result (IsMultiFault (tree_after_ops (T.tree tree.old) ops.now)) }
+    ensures same { OnErr result (T.tree tree.new ≡ T.tree tree.old) }
+    ensures disk { TreeDisk (T.tree tree.old) T.payload_bytes ops.now result (T.disk tree.old) (T.disk tree.new) }
+    ensures stop { IsErrOf result (ExitFault.Tree TreeFault.Device) → Between (T.tree tree.old) (tree_after_ops (T.tree tree.old) ops.now) (T.left tree.new) }
+{
+    if ops.is_empty() {
+        Ok(())
+    } else {
+        ask(tree, ops)
     }
 }
