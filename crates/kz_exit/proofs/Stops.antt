@@ -36,10 +36,13 @@ among a b l t made is = subst (λ (m : Result TreeValue TreeFault). Contains (a 
 whole : (t new : TreeValue) (l : LogValue) (ft : Option TreeValue) (fl : Option LogValue) → tree_after_ops t (exit_ops t) ≡ Ok new → ft ≡ Some new → fl ≡ Some (reset l) → Found (rollback_pairs t l) ft fl
 whole t new l ft fl made tree log = (record { tree = new; log = reset l }, among (record { tree = t; log = l }) (record { tree = t; log = reset l }) (reset l) new (tree_after_ops t (exit_ops t)) made, tree, log)
 
+made_reset : (l new : LogValue) → made_by_reset l ≡ Ok new → reset l ≡ new
+made_reset l new h = let made : Ok {E = LogFault} (reset l) ≡ Ok new = h in cc
+
 -- the tree is as it was, and the log may be reset
 log_found : (t : TreeValue) (l : LogValue) (ft : Option TreeValue) (fl : Option LogValue) → ft ≡ Some t → (fl ≡ Some l) ⊎ ((new : LogValue) × (made_by_reset l ≡ Ok new) × (fl ≡ Some new)) → Found (rollback_pairs t l) ft fl
 log_found t l ft fl tree (inl log) = before t l ft fl tree log
-log_found t l ft fl tree (inr log) = half t l ft fl tree (let is : reset l ≡ log.0 = (let made = log.1 in cc) in log.2 ∙ ap (λ x. Some x) (sym is))
+log_found t l ft fl tree (inr log) = half t l ft fl tree (log.2 ∙ ap (λ x. Some x) (sym (made_reset l log.0 log.1)))
 
 -- the log is reset, and the tree may be given back
 tree_found : (t : TreeValue) (l : LogValue) (ft : Option TreeValue) (fl : Option LogValue) → (ft ≡ Some t) ⊎ ((new : TreeValue) × (tree_after_ops t (exit_ops t) ≡ Ok new) × (ft ≡ Some new)) → fl ≡ Some (reset l) → Found (rollback_pairs t l) ft fl
