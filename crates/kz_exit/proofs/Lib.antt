@@ -1,0 +1,4 @@
+pub mod Refusals
+pub mod Rollbacks
+pub mod Sending
+pub mod Stops

@@ -1,0 +1,5 @@
+pub mod Disks
+pub mod Faults
+pub mod Requests
+pub mod Rollbacks
+pub mod Stops
