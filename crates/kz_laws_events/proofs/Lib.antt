@@ -4,6 +4,7 @@ pub mod Changed
 pub mod Elected
 pub mod Elections
 pub mod Turned
+pub mod Fenced
 pub mod Unheld
 pub mod Exits
 pub mod Every

@@ -7,12 +7,16 @@ use Rattle.kz_types.specs.declared.plan.Plan.{Plan}
 use Rattle.kz_types.specs.declared.record.MetaRecord.{MetaRecord}
 use Rattle.kz_spec_machine.specs.Driver.{Shared, Driver}
 use Rattle.kz_spec_machine.specs.Machine.{World, empty_world, turn, rollback_refusal, reset_world, next, after_events}
-use Rattle.kz_spec_machine.specs.Sound.{IsTime, IsSharedSound, IsSoundDriver, Sound, IsLawfulOp, IsLawful}
+use Rattle.kz_spec_machine.specs.Sound.{IsTime, IsSharedSound, IsSoundDriver, IsBelowShown, shown_in, Sound, IsLawfulOp, IsLawful}
 use Rattle.kz_laws_steps.specs.Steps.{StepKeeps}
 
 -- A turn keeps what is shared sound, and all that is true of its driver and of each other one.
 abbrev pub TurnsKeep : Type 0
 TurnsKeep = (n : ℕ) (s : Shared) (running : List ℤ) (now : ℤ) (d : Driver) → IsTime now → IsSharedSound s → IsSoundDriver s d → StepKeeps s d (turn n s running now d).shared (turn n s running now d).driver
+
+-- No turn of a driver whose epoch is below the shown one changes what is shared.
+abbrev pub FencedTurnsLeave : Type 0
+FencedTurnsLeave = (n : ℕ) (s : Shared) (running : List ℤ) (now : ℤ) (d : Driver) → IsTime now → IsSharedSound s → IsSoundDriver s d → IsBelowShown (shown_in s.tree) d.epoch → (turn n s running now d).shared ≡ s
 
 -- A step keeps a world sound, under every plan.
 abbrev pub StepsKeepSound : Type 0

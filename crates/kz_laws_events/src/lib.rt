@@ -3,7 +3,7 @@
 //! A law is the contract of a function that does nothing.
 #![tactic(auto)]
 
-ghost use Rattle.kz_laws_events.specs.Events.{TurnsKeep, StepsKeepSound, ElectionsKeepSound, ChangesKeepSound, RegistrationsKeepSound, ClientsKeepSound, FinalisationsKeepSound, RollbacksKeepSound, EventsKeepSound, EmptyIsSound, RunsKeepSound};
+ghost use Rattle.kz_laws_events.specs.Events.{TurnsKeep, FencedTurnsLeave, StepsKeepSound, ElectionsKeepSound, ChangesKeepSound, RegistrationsKeepSound, ClientsKeepSound, FinalisationsKeepSound, RollbacksKeepSound, EventsKeepSound, EmptyIsSound, RunsKeepSound};
 
 /// A world stays sound with every event: with steps under every plan, turns, elections, changes and registrations, with multis and
 /// sessions of clients, with finalisations and rollbacks, and with controllers that are declared, start and stop.
@@ -17,6 +17,11 @@ pub fn events_keep_sound()
     ensures finalisation { FinalisationsKeepSound }
     ensures rollback { RollbacksKeepSound }
     ensures all { EventsKeepSound }
+{}
+
+/// No turn of a controller that another one has taken over from changes the tree or the log.
+pub fn fenced_turns_leave()
+    ensures { FencedTurnsLeave }
 {}
 
 /// The empty world is sound, and so is every world of a run from a sound one.

@@ -20,6 +20,7 @@ use Rattle.kz_laws_fence.proofs.Drivers.{fenced_driver}
 use Rattle.kz_laws_fence.proofs.Replies.{fenced_reply, leader_alone}
 use Rattle.kz_laws_steps.proofs.Worlds.{stepped}
 use Rattle.kz_laws_events.proofs.Turned.{turn_keeps, turn_own}
+use Rattle.kz_laws_events.proofs.Fenced.{fenced_turn, fenced_cut_off}
 use Rattle.kz_laws_events.proofs.Every.{event_sound}
 use Rattle.kz_driver.specs.Disks.{Disks, Payloads}
 use Rattle.kz_turns.specs.Stops.{AreUp, LeavesOneOf}
@@ -159,15 +160,42 @@ fenced_step : (w : World) (id now : ℤ) (p : Plan) → Sound w → IsFencedDriv
 unfolding next
 fenced_step w id now p sound fenced = step_leaves w now id p (running_refusal w id) (driver_of id w.drivers) refl sound fenced
 
-fenced_event : (w : World) (e : Event) (a : Answer) (new : World) → (is_failure a ≡ false → next w e ≡ (new, a)) → (is_failure a ≡ true → IsLeft w e a new) → Sound w → IsOfFenced w e → new.shared ≡ w.shared
-fenced_event w (event.Step id now p) a new done failed sound fenced = alone_by (is_failure a) w (event.Step id now p) a new refl done failed refl (λ replies left. left) (fenced_step w id now p sound fenced)
-fenced_event w (event.Change id records now) a new done failed sound fenced =
+turned_leaves : (w : World) (now : ℤ) (id : ℤ) (refusal : Option Answer) (m : Option Driver) → driver_of id w.drivers ≡ m → IsTime now → Sound w → IsFencedDriver w.shared m → (unless_refused w refusal (turn_result w now m)).0.shared ≡ w.shared
+turned_leaves w now id (Some a) m found time sound fenced = refl
+turned_leaves w now id None None found time sound fenced = absurd fenced
+turned_leaves w now id None (Some d) found time sound fenced = (fenced_turn (work w.shared d) w.shared (running_ids w.drivers) now d time sound.kept (sound.each id d found) fenced).0
+
+turn_event : (w : World) (id now : ℤ) → IsTime now → Sound w → IsFencedDriver w.shared (driver_of id w.drivers) → (next w (event.Turn id now)).0.shared ≡ w.shared
+unfolding next
+turn_event w id now time sound fenced = turned_leaves w now id (running_refusal w id) (driver_of id w.drivers) refl time sound fenced
+
+-- a turn that a failure cut off
+cut_off_leaves : (w : World) (id now : ℤ) (replies : List Reply) (new : World) → IsTime now → Sound w → IsFencedDriver w.shared (driver_of id w.drivers) → CutOffTurn w id now replies new → new.shared ≡ w.shared
+cut_off_leaves w id now replies new time sound fenced left =
+    fenced_cut_off (work w.shared left.before) w.shared (running_ids w.drivers) now left.before replies new.shared left.after time sound.kept
+    (sound.each id left.before left.runs.1) (subst (IsFencedDriver w.shared) left.runs.1 fenced) left.cut_off
+
+turn_left : (w : World) (id now : ℤ) (a : Answer) (new : World) → IsTime now → Sound w → IsFencedDriver w.shared (driver_of id w.drivers) → IsLeft w (event.Turn id now) a new → new.shared ≡ w.shared
+turn_left w id now (answer.Turn replies) new time sound fenced left = cut_off_leaves w id now replies new time sound fenced left
+turn_left w id now (answer.Step r) new time sound fenced left = absurd left
+turn_left w id now (answer.TreeFailed f) new time sound fenced left = ap (λ (x : World). x.shared) left
+turn_left w id now answer.NoMemory new time sound fenced left = ap (λ (x : World). x.shared) left
+turn_left w id now a new time sound fenced left = ap (λ (x : World). x.shared) left
+
+turn_by : (b : Bool) (w : World) (id now : ℤ) (a : Answer) (new : World) → is_failure a ≡ b → (is_failure a ≡ false → next w (event.Turn id now) ≡ (new, a)) → (is_failure a ≡ true → IsLeft w (event.Turn id now) a new) → IsTime now → Sound w → IsFencedDriver w.shared (driver_of id w.drivers) → new.shared ≡ w.shared
+turn_by true w id now a new is done failed time sound fenced = turn_left w id now a new time sound fenced (failed is)
+turn_by false w id now a new is done failed time sound fenced = sym (ap (λ (x : World × Answer). x.0.shared) (done is)) ∙ turn_event w id now time sound fenced
+
+fenced_event : (w : World) (e : Event) (a : Answer) (new : World) → IsLawful e → (is_failure a ≡ false → next w e ≡ (new, a)) → (is_failure a ≡ true → IsLeft w e a new) → Sound w → IsOfFenced w e → new.shared ≡ w.shared
+fenced_event w (event.Turn id now) a new lawful done failed sound fenced = turn_by (is_failure a) w id now a new refl done failed lawful.1 sound fenced
+fenced_event w (event.Step id now p) a new lawful done failed sound fenced = alone_by (is_failure a) w (event.Step id now p) a new refl done failed refl (λ replies left. left) (fenced_step w id now p sound fenced)
+fenced_event w (event.Change id records now) a new lawful done failed sound fenced =
     alone_by (is_failure a) w (event.Change id records now) a new refl done failed refl (λ replies left. left) (ap (λ (x : World). x.shared) (leader_alone w id now records (pos 0) true fenced).0)
-fenced_event w (event.Register id broker migrating now) a new done failed sound fenced =
+fenced_event w (event.Register id broker migrating now) a new lawful done failed sound fenced =
     alone_by (is_failure a) w (event.Register id broker migrating now) a new refl done failed refl (λ replies left. left) (ap (λ (x : World). x.shared) (leader_alone w id now [] broker migrating fenced).1)
-fenced_event w (event.Finalise id now) a new done failed sound fenced =
+fenced_event w (event.Finalise id now) a new lawful done failed sound fenced =
     alone_by (is_failure a) w (event.Finalise id now) a new refl done failed refl (λ replies left. left) (ap (λ (x : World). x.shared) (leader_alone w id now [] (pos 0) true fenced).2)
-fenced_event w e a new done failed sound fenced = absurd fenced
+fenced_event w e a new lawful done failed sound fenced = absurd fenced
 
 -- ---- a step by whose reply its driver learns of it
 
@@ -237,6 +265,6 @@ telling_event w e (answer.Step t) new done fence = told_fence w e new t fence (d
 telling_event w e a new done fence = absurd fence
 
 -- an event of a controller that another one has taken over from leaves the tree and the log
-pub fenced_after : (w : World) (e : Event) (a : Answer) (new : World) → (is_failure a ≡ false → next w e ≡ (new, a)) → (is_failure a ≡ true → IsLeft w e a new) → Sound w → IsOfFenced w e ⊎ TellsFence a → new.shared ≡ w.shared
-fenced_after w e a new done failed sound (inl fenced) = fenced_event w e a new done failed sound fenced
-fenced_after w e a new done failed sound (inr fence) = telling_event w e a new done fence
+pub fenced_after : (w : World) (e : Event) (a : Answer) (new : World) → IsLawful e → (is_failure a ≡ false → next w e ≡ (new, a)) → (is_failure a ≡ true → IsLeft w e a new) → Sound w → IsOfFenced w e ⊎ TellsFence a → new.shared ≡ w.shared
+fenced_after w e a new lawful done failed sound (inl fenced) = fenced_event w e a new lawful done failed sound fenced
+fenced_after w e a new lawful done failed sound (inr fence) = telling_event w e a new done fence

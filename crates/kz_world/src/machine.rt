@@ -149,7 +149,7 @@ impl<T: ZSessions, L: MetaLog> World<T, L> {
     /// after a failure finds the tree and the log from before the event, or those after one of its requests.
     ///
     /// What follows is about a world that is sound, as every world of a run from the empty one is. An event keeps it
-    /// sound. A step of a controller that another one has taken over from leaves the tree and the log.
+    /// sound. A step or a turn of a controller that another one has taken over from leaves the tree and the log.
     pub fn event(&mut self, event: &Event) -> Answer
         requires { IsLawful event.now }
         ensures next { Sound (plain_world T.tree L.log self.old) → is_failure result ≡ false → next (plain_world T.tree L.log self.old) event.now ≡ (plain_world T.tree L.log self.new, result) }

@@ -14,9 +14,10 @@ abbrev pub IsFencedDriver : Shared → Option Driver → Type 0
 IsFencedDriver s None = ⊥
 IsFencedDriver s (Some d) = IsBelowShown (shown_in s.tree) d.epoch
 
--- A step of a fenced driver, or a change, a registration or a finalisation by a controller that doesn't lead the log.
+-- A step or a turn of a fenced driver, or a change, a registration or a finalisation by a controller that doesn't lead the log.
 abbrev pub IsOfFenced : World → Event → Type 0
 IsOfFenced w (event.Step id now p) = IsFencedDriver w.shared (driver_of id w.drivers)
+IsOfFenced w (event.Turn id now) = IsFencedDriver w.shared (driver_of id w.drivers)
 IsOfFenced w (event.Change id records now) = leader_refusal w id ≢ None
 IsOfFenced w (event.Register id broker migrating now) = leader_refusal w id ≢ None
 IsOfFenced w (event.Finalise id now) = leader_refusal w id ≢ None

@@ -99,7 +99,7 @@ returns-clause-fenced g c =
     let old = disks (world_of_parts p) in
     let later = disks (world_of_parts q) in
     subst (λ v. Sound (plain v) → IsOfFenced (plain v) e ⊎ TellsFence told → new.shared ≡ (plain v).shared) c.self.view_is (λ sound.
-    fenced_after w e told new (event_done w new e payloads c.happen.result told old later told_is (c.happen.ensures.ok sound) (c.happen.ensures.disks sound))
+    fenced_after w e told new c.requires (event_done w new e payloads c.happen.result told old later told_is (c.happen.ensures.ok sound) (c.happen.ensures.disks sound))
     (event_failed w new e c.happen.result told told_is (c.happen.ensures.ok sound) c.happen.ensures.err) sound)
 
 pub returns-clause-stop : goal.returns-clause-stop
