@@ -1,5 +1,5 @@
 -- A controller that another one has taken over from: no turn of it changes the tree or the log, also one that a failure cut off.
-use Rattle.std.proofs.Common.{◌≡◌, ◌⊎◌, inl, inr, ℕ, zero, suc, ℤ, pos, ◌≤ℤ◌, ◌<ℤ◌, Bool, true, false, List, [], ◌∷◌, Option, Some, None, refl, sym, subst, ◌∙◌}
+use Rattle.std.proofs.Common.{arith, ints, ◌≡◌, ◌⊎◌, inl, inr, ℕ, zero, suc, ℤ, pos, ◌≤ℤ◌, ◌<ℤ◌, Bool, true, false, List, [], ◌∷◌, Option, Some, None, refl, sym, subst, ◌∙◌}
 use Rattle.kz_types.specs.declared.machine.Reply.{Reply}
 use Rattle.kz_types.specs.declared.plan.Plan.TheVariants as plan
 use Rattle.kz_spec_machine.specs.Driver.{Shared, Driver, StepResult, epoch_or_zero, step}
