@@ -189,10 +189,26 @@ fn a_tree_that_is_behind_is_not_given_back(rt: HostRuntime) {
     made(&rt, log.append(1, 0, &items));
     drop(items);
     let fault = refused(&rt, alloc, &mut tree, &mut log);
-    assert!(rt; matches!(fault, ExitFault::Behind { recorded: 1, end: 2 }));
+    assert!(rt;
+        matches!(
+            fault,
+            ExitFault::Behind {
+                recorded: 1,
+                end: 2
+            }
+        )
+    );
     drop(fault);
     let told = may_finalise(tree.tree(), 0);
-    assert!(rt; matches!(told, Err(ExitFault::Behind { recorded: 1, end: 0 })));
+    assert!(rt;
+        matches!(
+            told,
+            Err(ExitFault::Behind {
+                recorded: 1,
+                end: 0
+            })
+        )
+    );
     drop(told);
     drop(tree);
     drop(log);
