@@ -1,5 +1,5 @@
 -- The end of a migration: it is finalised, or taken back.
-use Rattle.std.proofs.Common.{◌≡◌, ◌≤◌, int_lt, ℕ, ℤ, pos, negsuc, Bool, true, false, not, List, [], ◌∷◌, ◌++◌, length, Option, Some, None, is_some, option_map, Result, Ok, Err, if◌then◌else◌, All, refl, sym, ap, ◌∙◌, subst, arith, rules}
+use Rattle.std.proofs.Common.{◌≡◌, ◌≤◌, int_lt, ℕ, ℤ, negsuc, Bool, true, false, not, List, [], ◌∷◌, length, Option, Some, None, is_some, option_map, Result, Ok, Err, if◌then◌else◌, All, refl, sym, ap, ◌∙◌, subst, arith, rules}
 use Rattle.std.proofs.lemmas.Int.{ints}
 use Rattle.std.proofs.lemmas.List.Elements.{All-nil, All-cons, All-append}
 use Rattle.kz_types.specs.declared.codes.TheConstants.{POST_MIGRATION}
@@ -12,28 +12,27 @@ use Rattle.kz_types.specs.declared.record.MetaRecord.TheVariants as meta
 use Rattle.kz_types.specs.declared.log.Entry.{Entry}
 use Rattle.kz_types.specs.declared.tree.Op.{Op}
 use Rattle.kz_types.specs.declared.tree.Op.TheVariants as op
-use Rattle.kz_types.specs.Paths.{is_migrated}
 use Rattle.kz_spec_values.specs.Control.{control_path, migration_path}
-use Rattle.kz_spec_stores.specs.Settlement.{is_marker, counting_records}
+use Rattle.kz_spec_stores.specs.Settlement.{is_marker}
 use Rattle.kz_spec_stores.specs.InOrder.{IsInOrder}
-use Rattle.kz_spec_stores.specs.Image.{Image, empty_image, all_applied, effect, image_with, is_migrated_state}
-use Rattle.kz_spec_stores.specs.Tree.{Tree, row_at, multi, area}
-use Rattle.kz_spec_stores.specs.Log.{Log, end_of, empty_log, entries, image_at, image_of, is_migrated_log, reset, with_batch, full_log}
+use Rattle.kz_spec_stores.specs.Image.{Image, empty_image, all_applied, is_migrated_state}
+use Rattle.kz_spec_stores.specs.Tree.{Tree, row_at}
+use Rattle.kz_spec_stores.specs.Log.{Log, end_of, image_at, image_of, is_migrated_log, reset, with_batch, full_log}
 use Rattle.kz_spec_znodes.specs.Rendering.{excess}
 use Rattle.kz_spec_machine.specs.Driver.{Shared, Driver, least, less_of}
 use Rattle.kz_spec_machine.specs.Machine.{World, first_of, unless, full, running_ids, leader_refusal, finalise_refusal, is_finalised_log, dual_write_refusal, driver_of, rest_refusal, rollback_refusal, final_records, changed_world, is_held_tree, deleted_if, exit_ops, tree_after_ops, reset_world, given_back, unless_refused, next}
-use Rattle.kz_spec_machine.specs.Sound.{IsEpoch, TreeShape, LogShape, IsBeforeMigration, Unmigrated, IsSharedSound, Sound}
+use Rattle.kz_spec_machine.specs.Sound.{TreeShape, LogShape, IsBeforeMigration, Unmigrated, IsSharedSound, Sound}
 use Rattle.kz_laws_limits.proofs.Keeps.{others_keep}
 use Rattle.kz_laws_trees.specs.TreeLaws.{KeepsShape}
 use Rattle.kz_laws_trees.proofs.Ends.{end_is_batch_end}
 use Rattle.kz_laws_trees.proofs.Migration.{next_entries, NoneEnds, state_applied}
-use Rattle.kz_laws_trees.proofs.Multi.{Ran, multi_ran, shape_kept, outside_left}
+use Rattle.kz_laws_trees.proofs.Multi.{multi_ran, shape_kept}
 use Rattle.kz_laws_logs.proofs.Counted.{unmarked_applied}
 use Rattle.kz_laws_logs.proofs.Pending.{NoneMarks}
 use Rattle.kz_laws_steps.proofs.Tests.{true_or_false}
 use Rattle.kz_laws_events.proofs.Refusals.{first_none, six_none, unless_none, over_none, decided_by, led, led_epoch}
 use Rattle.kz_laws_events.proofs.Grown.{migrated_settled}
-use Rattle.kz_laws_events.proofs.Changed.{IsLeaderBatch, more_of, changed, shared_more}
+use Rattle.kz_laws_events.proofs.Changed.{IsLeaderBatch, changed, shared_more}
 
 -- ---- a migration that is finalised
 

@@ -1,8 +1,9 @@
 -- A controller that another one has taken over from: no turn of it changes the tree or the log, also one that a failure cut off.
-use Rattle.std.proofs.Common.{arith, ints, ◌≡◌, ◌⊎◌, inl, inr, ℕ, zero, suc, ℤ, pos, ◌≤ℤ◌, ◌<ℤ◌, Bool, true, false, List, [], ◌∷◌, Option, Some, None, refl, sym, subst, ◌∙◌}
+use Rattle.std.proofs.Common.{arith, ◌≡◌, ◌⊎◌, inl, inr, ℕ, zero, suc, ℤ, pos, ◌≤ℤ◌, List, [], ◌∷◌, Option, Some, None, refl, sym, subst, ◌∙◌}
+use Rattle.std.proofs.lemmas.Int.{ints}
 use Rattle.kz_types.specs.declared.machine.Reply.{Reply}
 use Rattle.kz_types.specs.declared.plan.Plan.TheVariants as plan
-use Rattle.kz_spec_machine.specs.Driver.{Shared, Driver, StepResult, epoch_or_zero, step}
+use Rattle.kz_spec_machine.specs.Driver.{Shared, Driver, epoch_or_zero, step}
 use Rattle.kz_spec_machine.specs.Machine.{turn}
 use Rattle.kz_spec_machine.specs.Failures.{IsCutOff}
 use Rattle.kz_spec_machine.specs.Sound.{IsTime, IsSharedSound, IsSoundDriver, Epochs, IsBelowShown, shown_in}

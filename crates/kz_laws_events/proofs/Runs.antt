@@ -1,11 +1,9 @@
 -- Runs of events.
-use Rattle.std.proofs.Common.{◌≡◌, ℤ, pos, ◌≤ℤ◌, false, List, [], ◌∷◌, All, refl, arith, rules}
+use Rattle.std.proofs.Common.{◌≡◌, ℤ, pos, ◌≤ℤ◌, false, List, [], ◌∷◌, All, refl, arith}
 use Rattle.std.proofs.lemmas.Int.{ints}
 use Rattle.std.proofs.lemmas.List.Elements.{All-nil, All-head, All-tail}
 use Rattle.kz_types.specs.declared.log.Entry.{Entry}
 use Rattle.kz_types.specs.declared.machine.Event.{Event}
-use Rattle.kz_spec_stores.specs.InOrder.{IsInOrder}
-use Rattle.kz_spec_stores.specs.Image.{empty_image}
 use Rattle.kz_spec_stores.specs.Tree.{empty_tree}
 use Rattle.kz_spec_stores.specs.Log.{empty_log, image_at, is_migrated_log}
 use Rattle.kz_spec_machine.specs.Machine.{World, empty_world, next, after_events}
