@@ -1,0 +1,38 @@
+-- Turns in a world.
+use Rattle.std.proofs.Common.{◌≡◌, ℕ, ℤ, ◌≤◌, List, Some, None, All}
+use Rattle.kz_types.specs.declared.machine.Event.{Event}
+use Rattle.kz_spec_machine.specs.Driver.{Shared, Driver}
+use Rattle.kz_spec_machine.specs.Machine.{World, empty_world, running_ids, driver_of, running_refusal, turn, work, after_events}
+use Rattle.kz_spec_machine.specs.Sound.{IsTime, Each, Sound, Based, IsLawful}
+use Rattle.kz_laws_commits.specs.Commits.{Copies}
+use Rattle.kz_laws_events.proofs.Runs.{empty_sound, run_sound}
+use Rattle.kz_laws_commits.proofs.Events.{run_copies}
+use Rattle.kz_laws_bounds.specs.Bounds.{EndsByItself}
+use Rattle.kz_laws_bounds.specs.Events.{LeavesBases, TurnEnds}
+use Rattle.kz_laws_bounds.proofs.Turns.{turn_same}
+use Rattle.kz_laws_bounds.proofs.Steps.{ends_by_itself}
+use Rattle.kz_laws_bounds.proofs.Start.{left_at_work}
+use Rattle.kz_laws_bounds.proofs.BasedEvents.{empty_based, run_based}
+
+-- a turn of a driver of the world
+turn_over : (w : World) (id now : ℤ) (d : Driver) → IsTime now → Sound w → Based w → Copies w.shared d → driver_of id w.drivers ≡ Some d → EndsByItself (turn (work w.shared d) w.shared (running_ids w.drivers) now d).replies
+turn_over w id now d time sound based copies found =
+    let fine = sound.each id d found in
+    ends_by_itself (work w.shared d) w.shared (running_ids w.drivers) now d time sound.kept fine copies (record { claimed = based.claimed id d found; looked = based.looked id d found }) (left_at_work w.shared d sound.kept fine copies)
+
+pub turn_ends : (w : World) (id now : ℤ) (d : Driver) → IsTime now → Sound w → Based w → Copies w.shared d → running_refusal w id ≡ None → driver_of id w.drivers ≡ Some d
+    → EndsByItself (turn (work w.shared d) w.shared (running_ids w.drivers) now d).replies
+turn_ends w id now d time sound based copies runs found = turn_over w id now d time sound based copies found
+
+pub more_are_none : (w : World) (id now : ℤ) (d : Driver) (n : ℕ) → IsTime now → Sound w → Based w → Copies w.shared d → running_refusal w id ≡ None → driver_of id w.drivers ≡ Some d
+    → work w.shared d ≤ n → turn n w.shared (running_ids w.drivers) now d ≡ turn (work w.shared d) w.shared (running_ids w.drivers) now d
+more_are_none w id now d n time sound based copies runs found more = turn_same (work w.shared d) n w.shared (running_ids w.drivers) now d more (turn_over w id now d time sound based copies found)
+
+-- ---- runs
+
+none_copies : Each (Copies empty_world.shared) empty_world.drivers
+none_copies id d found = absurd (cc)
+
+pub run_turn_ends : (es : List Event) (id now : ℤ) (d : Driver) → All IsLawful es → All LeavesBases es → IsTime now → driver_of id (after_events empty_world es).drivers ≡ Some d → TurnEnds (after_events empty_world es) now d
+run_turn_ends es id now d lawful leaves time found =
+    turn_over (after_events empty_world es) id now d time (run_sound es empty_world lawful empty_sound) (run_based es empty_world lawful leaves empty_sound empty_based) (run_copies es empty_world lawful empty_sound none_copies id d found) found
