@@ -26,7 +26,7 @@ use Rattle.kz_spec_values.specs.Control.{control_path, epoch_path, migration_pat
 use Rattle.kz_spec_stores.specs.Tree.{Tree, path_of_row, row_at, path_of_op, after_op, multi, begin_session, end_session, is_owner, is_owned, loses_child, after_loss, without_owned}
 use Rattle.kz_spec_stores.specs.Log.{Log}
 use Rattle.kz_spec_machine.specs.Driver.{Shared, Driver, new_driver, elected_driver}
-use Rattle.kz_spec_machine.specs.Machine.{World, driver_of, quorum_refusal, declared_world, start_refusal, started_world, stop_refusal, stopped_world, next_epoch, election_refusal, elected_world, election_answer, change_refusal, changed_world, registration, register_refusal, with_tree, moved_world, client_refusal, client_world, next, empty_world, after_events}
+use Rattle.kz_spec_machine.specs.Machine.{World, driver_of, quorum_refusal, declared_world, start_refusal, started_world, stop_refusal, stopped_world, next_epoch, election_refusal, elected_world, election_answer, change_refusal, changed_world, registration, register_refusal, final_records, finalise_refusal, exit_ops, tree_after_ops, reset_world, given_back, rollback_refusal, with_tree, moved_world, client_refusal, client_world, next, empty_world, after_events}
 use Rattle.kz_spec_machine.specs.Sound.{Lasts, is_lasting, claim_version, TreeShape, SeesPresent, Looks, AtStage, IsSoundDriver, Each, Sound, Based, IsLawful}
 use Rattle.kz_laws_trees.proofs.Rows.{Same, same, other, compare, created_found, set_found}
 use Rattle.kz_laws_trees.proofs.Runs.{ran}
@@ -36,6 +36,7 @@ use Rattle.kz_laws_trees.proofs.Sessions.{begun, begin_leaves, ended, end_leaves
 use Rattle.kz_laws_trees.proofs.Versions.{client_keeps_version}
 use Rattle.kz_laws_steps.proofs.Worlds.{decided, left_was_there}
 use Rattle.kz_laws_steps.proofs.Events.{each_more, unless_taken}
+use Rattle.kz_laws_events.proofs.Exits.{may_roll_back}
 use Rattle.kz_laws_events.proofs.Every.{event_sound}
 use Rattle.kz_laws_bounds.specs.Bounds.{IsBasedDriver}
 use Rattle.kz_laws_bounds.specs.Events.{DeletesNoBase, LeavesBases}
@@ -105,6 +106,23 @@ register_based : (w : World) (id broker now : ℤ) (migrating : Bool) → EachBa
 unfolding next
 register_based w id broker now migrating based = decided EachBased w (register_refusal w id (registration broker migrating)) (changed_world w (registration broker migrating) now) _ based
     (λ j f found. same_tree w.shared (changed_world w (registration broker migrating) now).shared f refl (based j f found))
+
+finalise_based : (w : World) (id now : ℤ) → EachBased w → EachBased (next w (event.Finalise id now)).0
+unfolding next
+finalise_based w id now based = decided EachBased w (finalise_refusal w id) (changed_world w final_records now) _ based (λ j f found. same_tree w.shared (changed_world w final_records now).shared f refl (based j f found))
+
+-- a rollback is of a world without drivers
+none_based : (w : World) → w.drivers ≡ [] → EachBased w
+none_based w none j f found = absurd (let nobody : driver_of j [] ≡ Some f = subst (λ (ds : List Driver). driver_of j ds ≡ Some f) none found in cc)
+
+given_back_based : (w : World) (r : Result Tree TreeFault) → w.drivers ≡ [] → EachBased (given_back (reset_world w) r).0
+given_back_based w (Ok t) none = none_based (with_tree (reset_world w) t) none
+given_back_based w (Err f) none = none_based (reset_world w) none
+
+rollback_based : (w : World) → EachBased w → EachBased (next w event.Rollback).0
+unfolding next
+rollback_based w based = unless_taken EachBased w (rollback_refusal w) (given_back (reset_world w) (tree_after_ops w.shared.tree (exit_ops w.shared.tree))) based
+    (λ none. given_back_based w (tree_after_ops w.shared.tree (exit_ops w.shared.tree)) (may_roll_back w none).alone)
 
 check_based : (w : World) → EachBased w → EachBased (next w event.Check).0
 unfolding next
@@ -242,6 +260,8 @@ each_event w (event.Step id now p) lawful leaves sound based = stepped_based w i
 each_event w (event.Turn id now) lawful leaves sound based = turned_based w id now lawful.1 sound based
 each_event w (event.Change id records now) lawful leaves sound based = change_based w id now records based
 each_event w (event.Register id broker migrating now) lawful leaves sound based = register_based w id broker now migrating based
+each_event w (event.Finalise id now) lawful leaves sound based = finalise_based w id now based
+each_event w event.Rollback lawful leaves sound based = rollback_based w based
 each_event w event.Check lawful leaves sound based = check_based w based
 each_event w (event.ZkOpen session) lawful leaves sound based = open_based w session sound based
 each_event w (event.ZkExpire session) lawful leaves sound based = expire_based w session sound based

@@ -22,7 +22,8 @@ use Rattle.kz_laws_trees.proofs.Growth.{Appended, append_appends}
 use Rattle.kz_laws_appends.proofs.Leading.{IsLeading, first_epoch, leading}
 use Rattle.kz_laws_appends.proofs.Filling.{IsBegun, begun_log, IsAppended, appended_log}
 use Rattle.kz_laws_appends.proofs.Committed.{IsReady, ready}
-use Rattle.kz_laws_commits.specs.Commits.{Copies, CopiesAtStage, IsTranslation}
+use Rattle.kz_spec_runs.specs.Promises.{IsTranslation}
+use Rattle.kz_laws_commits.specs.Commits.{Copies, CopiesAtStage}
 use Rattle.kz_laws_commits.proofs.Own.{commit_translates}
 use Rattle.kz_laws_bounds.proofs.Chunks.{WritesIn}
 use Rattle.kz_laws_bounds.proofs.Amounts.{Znodes}

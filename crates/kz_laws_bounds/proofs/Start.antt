@@ -63,7 +63,7 @@ steps_at s d left = steps_of (count_of_area s / 256) (records_of s / 1000) (coun
 -- ---- pages and records
 
 rows_within : (s : Shared) → length (migrated_rows s.tree) < 256 * suc (count_of_area s / 256)
-rows_within s = above (length (migrated_rows s.tree)) (count_of_area s) (count_of_area s / 256) (length-map rendered_row (migrated_rows s.tree)) (lt-mul-div-succ (count_of_area s) {b = 256} (omega arith))
+rows_within s = above (length (migrated_rows s.tree)) (count_of_area s) (count_of_area s / 256) (length-map (migrated_rows s.tree) rendered_row) (lt-mul-div-succ (count_of_area s) {b = 256} (omega arith))
   where
     above : (n a q : ℕ) → a ≡ n → a < 256 * (q + 1) → n < 256 * suc q
     above n a q is low = omega (arith, is, low)
