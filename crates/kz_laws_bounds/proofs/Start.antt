@@ -124,18 +124,27 @@ starts_at_work s d left before low = record {
     by : (q : ℕ) → suc q + before ≤ q + 6
     by q = omega (arith, low)
 
-scans_at_work : (s : Shared) (d : Driver) (left : Amount) (rows : List Row) → ScansMigration s.tree s.log d rows (steps_at s d left)
-scans_at_work s d left rows = record {
-  pages = suc (count_of_area s / 256);
-  left = less (behind s.tree (last_path rows)) (length (migrated_rows s.tree)) (256 * suc (count_of_area s / 256)) (some_behind s.tree (last_path rows)) (rows_within s);
-  least = by (count_of_area s / 256) (records_of s / 1000) ((count_of_area s + length (final_of s d) + 2 * left.count) / 64) ((2 * (bytes_of_area s + size_of (final_of s d) + 2 * left.bytes)) / 1048576);
-  current = λ c. ahead_at_work s d left (suc (count_of_area s / 256)) (six (count_of_area s / 256));
-}
+-- what is left to be read is read in so many pages
+page_within : (s : Shared) (rows : List Row) → behind s.tree (last_path rows) < 256 * suc (count_of_area s / 256)
+page_within s rows = less (behind s.tree (last_path rows)) (length (migrated_rows s.tree)) (256 * suc (count_of_area s / 256)) (some_behind s.tree (last_path rows)) (rows_within s)
   where
     less : (x y z : ℕ) → x ≤ y → y < z → x < z
     less x y z one other = omega (arith, one, other)
+
+pages_at_work : (s : Shared) (d : Driver) (left : Amount) → suc (count_of_area s / 256) + 1 ≤ steps_at s d left
+pages_at_work s d left = by (count_of_area s / 256) (records_of s / 1000) ((count_of_area s + length (final_of s d) + 2 * left.count) / 64) ((2 * (bytes_of_area s + size_of (final_of s d) + 2 * left.bytes)) / 1048576)
+  where
     by : (q r c w : ℕ) → suc q + 1 ≤ 20 + 2 * q + r + c + w
     by q r c w = omega arith
+
+scans_at_work : (s : Shared) (d : Driver) (left : Amount) (rows : List Row) → ScansMigration s.tree s.log d rows (steps_at s d left)
+scans_at_work s d left rows = record {
+  pages = suc (count_of_area s / 256);
+  left = page_within s rows;
+  least = pages_at_work s d left;
+  current = λ c. ahead_at_work s d left (suc (count_of_area s / 256)) (six (count_of_area s / 256));
+}
+  where
     six : (q : ℕ) → suc q ≤ q + 6
     six q = omega arith
 
@@ -320,11 +329,10 @@ least_of k n low high = omega (arith, low, high)
 scan_at_work : (s : Shared) (d : Driver) (target : Recorded) (rows : List Row) → IsSharedSound s → IsSoundDriver s d → d.stage ≡ stage.ScanForResync target rows → ScansResync s.tree s.log d target rows (steps_at s d (amount_at s.log target))
 scan_at_work s d target rows kept fine at =
     let held : AtStage s.tree s.log d (stage.ScanForResync target rows) = subst (AtStage s.tree s.log d) at fine.stage in
-    let m = scans_at_work s d (amount_at s.log target) rows in
     record {
       pages = suc (count_of_area s / 256);
-      left = m.left;
-      least = m.least;
+      left = page_within s rows;
+      least = pages_at_work s d (amount_at s.log target);
       current = λ c. to_target s d target (suc (count_of_area s / 256) + 1) (two (count_of_area s / 256)) held.0.migrated (held.2 c).0.end;
     }
   where
