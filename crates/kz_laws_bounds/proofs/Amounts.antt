@@ -1,5 +1,5 @@
 -- How many operations lead from one rendering to another, and their bytes.
-use Rattle.std.proofs.Common.{◌≡◌, ℕ, ◌+◌, ◌*◌, ◌≤◌, Bool, true, false, if◌then◌else◌, List, [], ◌∷◌, ◌++◌, length, map, Option, Some, None, Ordering, Less, Equal, Greater, is_eq, refl, sym, ap, ◌∙◌, subst, arith, length-append}
+use Rattle.std.proofs.Common.{◌≡◌, ℕ, ◌+◌, ◌≤◌, Bool, true, false, if◌then◌else◌, List, [], ◌∷◌, ◌++◌, length, map, Option, Some, None, Ordering, Less, Equal, Greater, is_eq, sym, subst, arith, length-append}
 use Rattle.std.proofs.lemmas.List.{map-append}
 use Rattle.std.specs.Prelude.{sum}
 use Rattle.std.specs.Ordering.{match_ordering}
@@ -192,6 +192,7 @@ edits_few (e ∷ es) xs =
   where
     counts : (n x l all : ℕ) → n ≤ 1 + x → all ≡ 1 + l → n + l ≤ x + all
     counts n x l all low is = omega (arith, low, is)
+
     weighs : (n x o b all : ℕ) → n ≤ o + x → all ≡ o + b → n + b ≤ x + all
     weighs n x o b all low is = omega (arith, low, is)
 

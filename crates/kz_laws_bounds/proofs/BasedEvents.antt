@@ -1,17 +1,14 @@
 -- What a based world says of each driver, after an event.
-use Rattle.std.proofs.Common.{◌≡◌, ◌≢◌, ◌⊎◌, inl, inr, ℕ, ℤ, pos, ◌+ℤ◌, ◌≤ℤ◌, Bool, true, false, not, ◌&&◌, ◌||◌, cond, if◌then◌else◌, List, [], ◌∷◌, ◌++◌, map, filter, length, Option, Some, None, option_map, is_some, All, Ordering, Less, Equal, Greater, is_eq, refl, sym, ap, ◌∙◌, subst, arith}
+use Rattle.std.proofs.Common.{◌≡◌, ℕ, ℤ, pos, ◌+ℤ◌, ◌≤ℤ◌, Bool, true, false, not, ◌&&◌, ◌||◌, cond, if◌then◌else◌, List, [], ◌∷◌, map, filter, Option, Some, None, option_map, is_some, All, Ordering, Less, Equal, Greater, is_eq, refl, sym, ap, ◌∙◌, subst, arith}
 use Rattle.std.specs.Prelude.{Result, Ok, Err}
 use Rattle.std.specs.Str.{bytes_eq}
 use Rattle.std.specs.Ordering.{int_eq}
-use Rattle.std.specs.List.{find}
 use Rattle.std.proofs.lemmas.Int.{ints}
-use Rattle.std.proofs.lemmas.List.Elements.{All-head, All-tail, All-from_recursion}
+use Rattle.std.proofs.lemmas.List.Elements.{All-head, All-tail}
 use Rattle.kz_types.specs.declared.tree.Row.{Row}
 use Rattle.kz_types.specs.declared.tree.Op.{Op}
 use Rattle.kz_types.specs.declared.tree.Op.TheVariants.{Create, Set, Delete, Check}
 use Rattle.kz_types.specs.declared.driver.ClaimSeen.{ClaimSeen}
-use Rattle.kz_types.specs.declared.driver.Stage.{Stage}
-use Rattle.kz_types.specs.declared.driver.Stage.TheVariants as stage
 use Rattle.kz_types.specs.declared.fault.TreeFault.{TreeFault}
 use Rattle.kz_types.specs.declared.move_fault.MoveFault.{MoveFault}
 use Rattle.kz_types.specs.declared.machine.Event.{Event}
@@ -21,14 +18,12 @@ use Rattle.kz_types.specs.declared.record.MetaRecord.{MetaRecord}
 use Rattle.kz_types.specs.Paths.{base_paths, is_among, is_migrated}
 use Rattle.kz_ordered.specs.Order.{bytes_cmp}
 use Rattle.kz_ordered.proofs.Order.{bytes_order}
-use Rattle.kz_ordered.proofs.Lookup.{key_of_found}
 use Rattle.kz_spec_values.specs.Control.{control_path, epoch_path, migration_path, shown_epoch}
-use Rattle.kz_spec_stores.specs.Tree.{Tree, path_of_row, row_at, path_of_op, after_op, multi, begin_session, end_session, is_owner, is_owned, loses_child, after_loss, without_owned}
-use Rattle.kz_spec_stores.specs.Log.{Log}
+use Rattle.kz_spec_stores.specs.Tree.{Tree, row_at, after_op, multi, begin_session, end_session, is_owner, is_owned, loses_child, after_loss}
 use Rattle.kz_spec_machine.specs.Driver.{Shared, Driver, new_driver, elected_driver}
 use Rattle.kz_spec_machine.specs.Machine.{World, driver_of, quorum_refusal, declared_world, start_refusal, started_world, stop_refusal, stopped_world, next_epoch, election_refusal, elected_world, election_answer, change_refusal, changed_world, registration, register_refusal, final_records, finalise_refusal, exit_ops, tree_after_ops, reset_world, given_back, rollback_refusal, with_tree, moved_world, client_refusal, client_world, next, empty_world, after_events}
-use Rattle.kz_spec_machine.specs.Sound.{Lasts, is_lasting, claim_version, TreeShape, SeesPresent, Looks, AtStage, IsSoundDriver, Each, Sound, Based, IsLawful}
-use Rattle.kz_laws_trees.proofs.Rows.{Same, same, other, compare, created_found, set_found}
+use Rattle.kz_spec_machine.specs.Sound.{Lasts, is_lasting, claim_version, SeesPresent, Looks, AtStage, IsSoundDriver, Sound, Based, IsLawful}
+use Rattle.kz_laws_trees.proofs.Rows.{same, other, compare, created_found, set_found}
 use Rattle.kz_laws_trees.proofs.Runs.{ran}
 use Rattle.kz_laws_trees.proofs.Multi.{multi_ran}
 use Rattle.kz_laws_trees.proofs.Parents.{Is, there_kept, found_some}

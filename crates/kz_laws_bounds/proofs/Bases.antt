@@ -1,15 +1,14 @@
 -- Which operations leave base znodes standing.
-use Rattle.std.proofs.Common.{◌≡◌, ◌≢◌, ℕ, zero, suc, ℤ, pos, ◌+ℤ◌, Bool, true, false, List, [], ◌∷◌, ◌++◌, length, map, Option, Some, None, option_map, is_some, All, refl, sym, ap, ◌∙◌, subst, arith}
+use Rattle.std.proofs.Common.{◌≡◌, ◌≢◌, ℕ, suc, ℤ, pos, ◌+ℤ◌, Bool, true, false, List, [], ◌∷◌, ◌++◌, length, map, Option, None, is_some, All, refl, sym, ap, ◌∙◌, subst, arith}
 use Rattle.std.specs.Prelude.{Ok, ⊤}
 use Rattle.std.specs.Str.{bytes_eq}
 use Rattle.std.proofs.lemmas.List.Elements.{All-nil, All-cons, All-head, All-tail, All-from_recursion}
 use Rattle.kz_types.specs.declared.tree.Row.{Row}
-use Rattle.kz_types.specs.declared.tree.Op.{Op}
-use Rattle.kz_types.specs.declared.tree.Op.TheVariants.{Create, Set, Delete, Check}
+use Rattle.kz_types.specs.declared.tree.Op.TheVariants.{Create}
 use Rattle.kz_types.specs.declared.driver.ClaimSeen.{ClaimSeen}
 use Rattle.kz_types.specs.declared.machine.Recorded.{Recorded}
 use Rattle.kz_types.specs.Paths.{base_paths, is_among, is_migrated}
-use Rattle.kz_spec_values.specs.Control.{control_path, epoch_path, migration_path, written_control, written_recorded}
+use Rattle.kz_spec_values.specs.Control.{migration_path, written_control, written_recorded}
 use Rattle.kz_spec_stores.specs.Tree.{Tree, row_at, look, after_op, multi, area}
 use Rattle.kz_spec_stores.specs.Image.{Image}
 use Rattle.kz_spec_znodes.specs.Rendering.{render}
@@ -18,7 +17,7 @@ use Rattle.kz_spec_machine.specs.Driver.{Driver, epoch_or_zero, views_migrated, 
 use Rattle.kz_spec_machine.specs.Sound.{HasBases, StillStands, SeenStand}
 use Rattle.kz_laws_trees.proofs.Rows.{created_found}
 use Rattle.kz_laws_trees.proofs.Runs.{ran, ran_append, Avoids, avoids_append, ran_keeps}
-use Rattle.kz_laws_trees.proofs.Multi.{Ran, multi_ran, differ, chunk_avoids}
+use Rattle.kz_laws_trees.proofs.Multi.{multi_ran, differ, chunk_avoids}
 use Rattle.kz_laws_trees.proofs.Parents.{Is, some_alike, there_kept}
 use Rattle.kz_laws_trees.proofs.Ready.{among_all, base_outside}
 use Rattle.kz_laws_bounds.proofs.Looked.{Spared, spared, spared_alike}
@@ -29,7 +28,8 @@ use Rattle.kz_laws_bounds.proofs.Looked.{Spared, spared, spared_alike}
 bases_spared : All Spared base_paths
 unfolding base_paths
 bases_spared = All-from_recursion Spared base_paths (
-  spared _ refl refl refl, (spared _ refl refl refl, (spared _ refl refl refl, (spared _ refl refl refl, (spared _ refl refl refl, tt)))),
+  spared _ refl refl refl,
+  (spared _ refl refl refl, (spared _ refl refl refl, (spared _ refl refl refl, (spared _ refl refl refl, tt)))),
 )
 
 bases_among : All (λ (p : List ℕ). is_among base_paths p ≡ true) base_paths

@@ -1,5 +1,5 @@
 -- Steps of a driver that appends the migration.
-use Rattle.std.proofs.Common.{◌≡◌, ◌≢◌, ◌⊎◌, inl, inr, ℕ, zero, suc, ◌+◌, ◌*◌, ◌-◌, ◌≤◌, ◌<◌, ℤ, Bool, true, false, List, [], ◌∷◌, ◌++◌, length, map, take, drop, Option, Some, None, refl, sym, ap, ◌∙◌, subst, arith, length-drop}
+use Rattle.std.proofs.Common.{◌≡◌, ◌≢◌, inl, inr, ℕ, zero, suc, ◌+◌, ◌*◌, ◌-◌, ◌≤◌, ℤ, Bool, true, false, List, [], ◌∷◌, ◌++◌, length, take, drop, Some, None, refl, sym, ap, ◌∙◌, subst, arith, length-drop}
 use Rattle.std.specs.Prelude.{Result, Ok, Err}
 use Rattle.kz_types.specs.declared.limits.TheConstants.{MAX_APPEND_RECORDS}
 use Rattle.kz_types.specs.declared.tree.Row.{Row}
@@ -7,14 +7,12 @@ use Rattle.kz_types.specs.declared.driver.Stage.{Stage}
 use Rattle.kz_types.specs.declared.driver.Stage.TheVariants as stage
 use Rattle.kz_types.specs.declared.fault.LogFault.{LogFault}
 use Rattle.kz_types.specs.declared.fault.LogFault.TheVariants as log_fault
-use Rattle.kz_types.specs.declared.machine.Reply.{Reply}
 use Rattle.kz_types.specs.declared.record.MetaRecord.{MetaRecord}
 use Rattle.kz_spec_stores.specs.Tree.{migrated_rows, area}
 use Rattle.kz_spec_stores.specs.Image.{empty_image, all_applied}
 use Rattle.kz_spec_stores.specs.Log.{Log, append, image_of, is_migrated_log}
 use Rattle.kz_spec_znodes.specs.Rendering.{render}
 use Rattle.kz_spec_znodes.specs.Translation.{Unreadable, translate}
-use Rattle.kz_spec_znodes.specs.Difference.{diff}
 use Rattle.kz_spec_machine.specs.Driver.{Shared, Driver, at_stage, epoch_or_zero, begin_record, commit_records, begin_request, next_records, with_log, shared_after, after_append, after_records, after_translation}
 use Rattle.kz_spec_machine.specs.Machine.{final_znodes}
 use Rattle.kz_spec_machine.specs.Sound.{IsSharedSound, IsCurrent, AtStage, IsSoundDriver}
@@ -25,7 +23,6 @@ use Rattle.kz_laws_appends.proofs.Committed.{IsReady, ready}
 use Rattle.kz_spec_runs.specs.Promises.{IsTranslation}
 use Rattle.kz_laws_commits.specs.Commits.{Copies, CopiesAtStage}
 use Rattle.kz_laws_commits.proofs.Own.{commit_translates}
-use Rattle.kz_laws_bounds.proofs.Chunks.{WritesIn}
 use Rattle.kz_laws_bounds.proofs.Amounts.{Znodes}
 use Rattle.kz_laws_bounds.proofs.Left.{Reaches, Ahead, ahead_least, Appends, Left, Goes}
 use Rattle.kz_laws_bounds.proofs.Shorter.{commit_no_more}
@@ -116,6 +113,7 @@ less_to_append s d r rs all n (suc appends) f is = record {
   where
     fewer : (k l x : ℕ) → x ≡ suc appends → k ≡ l - 1000 → l ≤ 1000 * x → k ≤ 1000 * appends
     fewer k l x is left low = omega (arith, is, left, low)
+
     by : (x y z : ℕ) → x ≡ suc appends → x + y + z + 5 ≤ suc n → appends + y + z + 5 ≤ n
     by x y z is enough = omega (arith, is, enough)
 
@@ -166,8 +164,10 @@ committed_left s now d new n kept fine copies at made left =
   where
     by_some : (x y z : ℕ) → x + y + z + 5 ≤ suc n → 1 ≤ n
     by_some x y z enough = omega (arith, enough)
+
     by_least : (x y z : ℕ) → x + y + z + 5 ≤ suc n → y + 2 ≤ n
     by_least x y z enough = omega (arith, enough)
+
     by : (x y z : ℕ) → x + y + z + 5 ≤ suc n → y + z + 4 ≤ n
     by x y z enough = omega (arith, enough)
 

@@ -1,7 +1,6 @@
 -- In how many writes a list of operations is written.
 use Rattle.std.proofs.Common.{◌≡◌, ◌⊎◌, inl, inr, ℕ, zero, suc, ◌+◌, ◌-◌, ◌*◌, ◌/◌, ◌≤◌, ◌<◌, nat_le, Bool, true, false, if◌then◌else◌, List, [], ◌∷◌, ◌++◌, length, map, take, drop, refl, sym, ap, ◌∙◌, subst, arith, length-take, length-drop}
 use Rattle.std.specs.Prelude.{sum, min}
-use Rattle.std.specs.List.{sum_by}
 use Rattle.std.proofs.Math.Nat.{mul-div-le, le-div_iff_mul-le}
 use Rattle.std.proofs.lemmas.Bool.Decides.{nat_tests}
 use Rattle.std.proofs.lemmas.List.{take-append-drop}
@@ -161,8 +160,10 @@ counted_more ops e rest full = record {
   where
     more : (all k l c : ℕ) → all ≡ k + l → k ≡ 64 → 64 * c ≤ l → 64 * suc c ≤ all
     more all k l c sum is low = omega (arith, sum, is, low)
+
     same : (all k l f g w : ℕ) → all ≡ k + l → f ≤ k → 1048576 * w + g ≤ 2 * l → 1048576 * w + f ≤ 2 * all
     same all k l f g w sum low rest = omega (arith, sum, low, rest)
+
     next : (a b : ℕ) → suc (a + b) ≡ suc a + b
     next a b = omega arith
 
@@ -177,8 +178,10 @@ weighed_more ops e rest full = record {
   where
     more : (all k l c : ℕ) → all ≡ k + l → 64 * c ≤ l → 64 * c ≤ all
     more all k l c sum low = omega (arith, sum, low)
+
     over : (all k l f g w : ℕ) → all ≡ k + l → f ≤ k → 1048576 < k + g → 1048576 * w + g ≤ 2 * l → 1048576 * suc w + f ≤ 2 * all
     over all k l f g w sum low big rest = omega (arith, sum, low, big, rest)
+
     next : (a b : ℕ) → suc (a + b) ≡ a + suc b
     next a b = omega arith
 
@@ -232,10 +235,13 @@ written_within ops count bytes few light =
   where
     itself : (n : ℕ) → n ≤ n
     itself n = omega arith
+
     low : (x n m : ℕ) → 64 * x ≤ n → n ≤ m → 64 * x ≤ m
     low x n m one other = omega (arith, one, other)
+
     high : (x f n m : ℕ) → 1048576 * x + f ≤ 2 * n → n ≤ m → 1048576 * x ≤ 2 * m
     high x f n m one other = omega (arith, one, other)
+
     sums : (a b x y : ℕ) → a ≤ x → b ≤ y → suc (a + b) ≤ suc (x + y)
     sums a b x y one other = omega (arith, one, other)
 

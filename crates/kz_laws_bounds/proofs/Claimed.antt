@@ -1,5 +1,5 @@
 -- Steps of a driver that claims.
-use Rattle.std.proofs.Common.{◌≡◌, ◌≢◌, ◌⊎◌, inl, inr, ℕ, zero, suc, ◌+◌, ◌*◌, ◌≤◌, ◌<◌, ℤ, pos, ◌+ℤ◌, Bool, true, false, if◌then◌else◌, List, [], ◌∷◌, ◌++◌, length, map, filter, Option, Some, None, refl, sym, ap, ◌∙◌, subst, arith}
+use Rattle.std.proofs.Common.{◌≡◌, ◌⊎◌, inl, inr, ℕ, suc, ◌+◌, ◌*◌, ◌≤◌, ◌<◌, ℤ, pos, ◌+ℤ◌, Bool, true, false, if◌then◌else◌, List, [], ◌∷◌, ◌++◌, filter, Option, Some, None, refl, sym, ap, ◌∙◌, subst, arith}
 use Rattle.std.specs.Prelude.{Result, Ok, Err, ⊤}
 use Rattle.kz_types.specs.declared.tree.Row.{Row}
 use Rattle.kz_types.specs.declared.tree.Op.{Op}
@@ -8,16 +8,14 @@ use Rattle.kz_types.specs.declared.driver.Stage.{Stage}
 use Rattle.kz_types.specs.declared.driver.Stage.TheVariants as stage
 use Rattle.kz_types.specs.declared.fault.TreeFault.{TreeFault}
 use Rattle.kz_types.specs.declared.fault.TreeFault.TheVariants as tree_fault
-use Rattle.kz_types.specs.declared.machine.Reply.{Reply}
 use Rattle.kz_types.specs.Paths.{base_paths, is_migrated, roots}
 use Rattle.kz_ordered.specs.Order.{bytes_cmp}
 use Rattle.kz_ordered.specs.Ordered.{Rises}
 use Rattle.kz_spec_values.specs.Control.{control_path, epoch_path, migration_path, written_control, written_recorded}
-use Rattle.kz_spec_stores.specs.Tree.{Tree, path_of_row, path_of_op, parent_of, after_op, multi, migrated_rows, area, rendered_row}
+use Rattle.kz_spec_stores.specs.Tree.{Tree, path_of_row, parent_of, after_op, multi, migrated_rows, area}
 use Rattle.kz_spec_stores.specs.Log.{Log, image_of, is_migrated_log}
 use Rattle.kz_spec_znodes.specs.Rendering.{render}
 use Rattle.kz_spec_znodes.specs.Translation.{translate}
-use Rattle.kz_spec_znodes.specs.Difference.{diff}
 use Rattle.kz_spec_machine.specs.Driver.{Shared, Driver, epoch_or_zero, views_migrated, seen_in, epoch_op, control_ops, record_before_offsets, migration_ops, base_op, base_ops, claimed_version, claim_ops, with_tree, after_claim}
 use Rattle.kz_spec_machine.specs.Machine.{final_znodes}
 use Rattle.kz_spec_machine.specs.Sound.{IsSharedSound, TreeShape, IsSoundDriver}
@@ -93,8 +91,7 @@ claim_beside : (seen : ClaimSeen) (d : Driver) (now : ℤ) → AllBeside (claim_
 claim_beside seen d now =
     let body = written_control d.id (epoch_or_zero d.epoch) now in
     let recorded = written_recorded (record_before_offsets d) in
-    let recording = migration_ops (views_migrated d) seen.migration recorded in
-    (
+    let recording = migration_ops (views_migrated d) seen.migration recorded in (
       epoch_beside seen.epoch,
       beside_append (control_ops seen.control body) (recording ++ base_ops seen.bases base_paths) (control_beside seen.control body)
           (beside_append recording (base_ops seen.bases base_paths) (migration_beside (views_migrated d) seen.migration recorded) (base_beside seen.bases base_paths bases_aside)),
@@ -133,6 +130,7 @@ claimed_resync s d seen new n migrated starts =
   where
     by_least : (f x y z : ℕ) → (f + 0) + x + y + z + 6 ≤ n → y + 2 ≤ n
     by_least f x y z enough = omega (arith, enough)
+
     by : (f x y z : ℕ) → (f + 0) + x + y + z + 6 ≤ n → y + z + 4 ≤ n
     by f x y z enough = omega (arith, enough)
 
@@ -151,6 +149,7 @@ claimed_scan s d seen new n starts =
   where
     by : (f : ℕ) → (f + 0) + 6 ≤ n → f + 1 ≤ n
     by f enough = omega (arith, enough)
+
     same : (f : ℕ) → n + f ≤ n + (f + 0)
     same f = omega arith
 

@@ -154,7 +154,6 @@ module _ (E : ℤ) (high : E ≤ℤ MAX_EPOCH) where
       ∙ ap (λ (b : Bool). first_broken ((is_misnamed r, BadName) ∷ (lacks j r, Absent) ∷ (b, Exists) ∷ (is_misvalued i r, BadValue) ∷ [])) (same_repeats i j r raised)
       ∙ ap (λ (b : Bool). first_broken ((is_misnamed r, BadName) ∷ (lacks j r, Absent) ∷ (repeats j r, Exists) ∷ (b, BadValue) ∷ [])) (same_values i j r raised)
 
-
   with_topics : (i j : Image) (topics others : List TopicEntry) → AllRelated TopicRaised topics others → ImageRaised i j → ImageRaised (record i { topics = topics }) (record j { topics = others })
   with_topics i j topics others each raised = record { each = each; configs = raised.configs; entities = raised.entities; credentials = raised.credentials; entries = raised.entries; next = raised.next }
 
@@ -249,7 +248,6 @@ module _ (E : ℤ) (high : E ≤ℤ MAX_EPOCH) where
       let own : UpTo e = All-head UpTo e es epochs in
       all_raised es (image_with e.epoch e.item i) (image_with E e.item j) (All-tail (λ (x : Entry). IsTranslated x.item) e es translated) (All-tail UpTo e es epochs)
       (one_raised e.epoch e.item i j own.least own.most (All-head (λ (x : Entry). IsTranslated x.item) e es translated) raised)
-
 
   same_at_most : (n m : ℕ) → n ≡ m → n ≤ m
   same_at_most n m is = omega (arith, is)

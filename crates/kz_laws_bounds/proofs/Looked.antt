@@ -1,5 +1,5 @@
 -- The claim of a driver that has just looked is refused with no code.
-use Rattle.std.proofs.Common.{◌≡◌, ◌≢◌, ℕ, zero, suc, ◌+◌, ℤ, pos, negsuc, ◌+ℤ◌, Bool, true, false, not, ◌||◌, if◌then◌else◌, List, [], ◌∷◌, ◌++◌, length, map, Option, Some, None, option_map, is_some, All, refl, sym, ap, ◌∙◌, subst}
+use Rattle.std.proofs.Common.{◌≡◌, ◌≢◌, ℕ, ◌+◌, ℤ, pos, negsuc, ◌+ℤ◌, Bool, true, false, not, ◌||◌, List, [], ◌∷◌, ◌++◌, length, Option, Some, None, option_map, is_some, All, refl, sym, ap, ◌∙◌, subst}
 use Rattle.std.specs.Prelude.{Result, Ok, Err, ⊤, nat_lt, int_le, codes}
 use Rattle.std.specs.Str.{bytes_eq}
 use Rattle.std.specs.Ordering.{int_eq}
@@ -10,7 +10,7 @@ use Rattle.std.proofs.lemmas.Slice.Eq.{bytes_eq-Decides}
 use Rattle.kz_types.specs.declared.limits.TheConstants.{MAX_BODY_BYTES, MAX_LONG, MAX_VERSION}
 use Rattle.kz_types.specs.declared.tree.Row.{Row}
 use Rattle.kz_types.specs.declared.tree.Op.{Op}
-use Rattle.kz_types.specs.declared.tree.Op.TheVariants.{Create, Set, Delete}
+use Rattle.kz_types.specs.declared.tree.Op.TheVariants.{Create, Delete}
 use Rattle.kz_types.specs.declared.driver.ClaimSeen.{ClaimSeen}
 use Rattle.kz_types.specs.declared.fault.TreeFault.{TreeFault}
 use Rattle.kz_types.specs.declared.fault.TreeFault.TheVariants as fault
@@ -18,11 +18,11 @@ use Rattle.kz_types.specs.Paths.{base_paths, control_paths, is_below, is_among}
 use Rattle.kz_ordered.specs.Order.{bytes_cmp}
 use Rattle.kz_ordered.specs.Ordered.{Rises}
 use Rattle.kz_spec_values.specs.Control.{control_path, epoch_path, migration_path, written_epoch, written_control, written_recorded}
-use Rattle.kz_spec_stores.specs.Tree.{path_of_op, Tree, path_of_row, row_at, look, parent_of, is_root, has_parent, has_children, is_ephemeral, fits_version, Refusal, code, limit, first_refusal, set_refusal, delete_refusal, op_refusal, after_op, rows_unless_refused, after_ops, with_zxid, multi}
+use Rattle.kz_spec_stores.specs.Tree.{path_of_op, Tree, path_of_row, row_at, parent_of, is_root, has_parent, has_children, is_ephemeral, fits_version, Refusal, code, limit, first_refusal, set_refusal, delete_refusal, op_refusal, after_op, rows_unless_refused, after_ops, with_zxid, multi}
 use Rattle.kz_spec_machine.specs.Driver.{Driver, epoch_or_zero, views_migrated, seen_in, epoch_number, epoch_op, control_ops, record_before_offsets, migration_ops, base_op, base_ops, claim_ops}
 use Rattle.kz_spec_machine.specs.Sound.{Lasts, IsNotRoot, IsUnreserved, TreeShape}
 use Rattle.kz_laws_trees.specs.TreeLaws.{KeepsShape}
-use Rattle.kz_laws_trees.proofs.Rows.{still, others_kept, op_rises, created_found, deleted_found}
+use Rattle.kz_laws_trees.proofs.Rows.{still, others_kept, created_found, deleted_found}
 use Rattle.kz_laws_trees.proofs.Runs.{ran, Passes, Avoids, ran_keeps, ran_rises}
 use Rattle.kz_laws_trees.proofs.Each.{all_ran}
 use Rattle.kz_laws_trees.proofs.Parents.{Is, some_alike, there_kept}
@@ -171,8 +171,7 @@ same_version (Some x) r is = (x, refl, versions (still x) (still r) (cc))
 control_taken : (sessions : List ℤ) (zxid : ℤ) (m : Option Row) (body : List ℕ) (rows : List Row) → Sturdy rows → option_map still (row_at control_path rows) ≡ option_map still m → AllTaken sessions zxid (control_ops m body) rows
 control_taken sessions zxid None body rows s alike = (create_at_root sessions control_path body rows refl s (some_alike (row_at control_path rows) None alike), λ pass. tt)
 control_taken sessions zxid (Some r) body rows s alike =
-    let found = same_version (row_at control_path rows) r alike in
-    (
+    let found = same_version (row_at control_path rows) r alike in (
       subst (λ (m : Option Row). Taken (delete_refusal control_path r.version rows m)) (sym found.1) (delete_seen control_path r.version rows found.0 found.2 (no_children rows s)),
       λ pass. (
         create_at_root sessions control_path body (after_op zxid (Delete control_path r.version) rows) refl
@@ -329,12 +328,11 @@ all_taken t d now shape =
     let rest_shaped : All KeepsShape (controls ++ (recording ++ bases)) = All-tail KeepsShape (epoch_op seen.epoch) (controls ++ (recording ++ bases)) all in
     let first : List Row = after_op zxid (epoch_op seen.epoch) t.rows in
     let second : List Row = ran zxid controls first in
-    let third : List Row = ran zxid recording second in
-    (
+    let third : List Row = ran zxid recording second in (
       epoch_taken t (row_at epoch_path t.rows) shape refl,
       λ pass.
           let s1 : Sturdy first = sturdy_ran t.sessions zxid (epoch_op seen.epoch ∷ []) t.rows (pass, tt)
-              (All-cons KeepsShape (epoch_op seen.epoch) [] (All-head KeepsShape (epoch_op seen.epoch) (controls ++ (recording ++ bases)) all) (All-nil KeepsShape)) (tree_sturdy t shape) in
+          (All-cons KeepsShape (epoch_op seen.epoch) [] (All-head KeepsShape (epoch_op seen.epoch) (controls ++ (recording ++ bases)) all) (All-nil KeepsShape)) (tree_sturdy t shape) in
           taken_append t.sessions zxid controls (recording ++ bases) first
           (control_taken t.sessions zxid seen.control body first s1 (others_kept zxid (epoch_op seen.epoch) control_path t.rows (not_of_epoch control_path seen.epoch (differ control_path epoch_path refl))))
           (λ passes.

@@ -1,9 +1,8 @@
 -- What a step or a turn of a driver leaves of what a based world says of each other one.
-use Rattle.std.proofs.Common.{◌≡◌, ◌≢◌, ◌⊎◌, inl, inr, ℕ, zero, suc, ℤ, pos, ◌+ℤ◌, ◌≤ℤ◌, Bool, true, false, if◌then◌else◌, List, [], ◌∷◌, ◌++◌, Option, Some, None, option_map, is_some, refl, sym, ap, ◌∙◌, subst, arith}
+use Rattle.std.proofs.Common.{◌≡◌, ℕ, zero, suc, ℤ, ◌≤ℤ◌, Bool, true, false, if◌then◌else◌, List, [], ◌∷◌, Option, Some, None, option_map, refl, sym, ◌∙◌, subst, arith}
 use Rattle.std.specs.Prelude.{Result, Ok, Err, ◌<ℤ◌}
 use Rattle.std.proofs.lemmas.Int.{ints}
 use Rattle.kz_types.specs.declared.tree.Row.{Row}
-use Rattle.kz_types.specs.declared.tree.Op.{Op}
 use Rattle.kz_types.specs.declared.driver.ClaimSeen.{ClaimSeen}
 use Rattle.kz_types.specs.declared.driver.Stage.{Stage}
 use Rattle.kz_types.specs.declared.driver.Stage.TheVariants as stage
@@ -12,11 +11,10 @@ use Rattle.kz_types.specs.declared.machine.Event.TheVariants as event
 use Rattle.kz_types.specs.declared.machine.Recorded.{Recorded}
 use Rattle.kz_types.specs.declared.plan.Plan.{Plan}
 use Rattle.kz_types.specs.declared.plan.Plan.TheVariants as plan
-use Rattle.kz_types.specs.Paths.{base_paths}
 use Rattle.kz_spec_stores.specs.Tree.{Tree, multi}
 use Rattle.kz_spec_stores.specs.Log.{append, image_at}
 use Rattle.kz_spec_znodes.specs.Translation.{translate}
-use Rattle.kz_spec_machine.specs.Driver.{Shared, Driver, epoch_or_zero, claimed_version, claim_ops, remaining_at, write_ops, next_records, write_request, request_at, with_tree, with_log, shared_after, reaches_store, planned_step, step}
+use Rattle.kz_spec_machine.specs.Driver.{Shared, Driver, epoch_or_zero, claimed_version, claim_ops, remaining_at, write_ops, next_records, write_request, request_at, with_tree, shared_after, reaches_store, planned_step, step}
 use Rattle.kz_spec_machine.specs.Machine.{World, running_ids, driver_of, with_driver, running_refusal, step_result, ends, TurnResult, with_reply, turn, work, turn_result, next}
 use Rattle.kz_spec_machine.specs.Sound.{IsTime, IsSharedSound, claim_version, SeesPresent, Looks, AtStage, IsSoundDriver, Each, Sound}
 use Rattle.kz_laws_drivers.specs.Effects.{IsClaimed}

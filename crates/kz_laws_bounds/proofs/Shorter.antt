@@ -1,6 +1,6 @@
 -- The metadata of a commit has no more znodes than the translation at its epoch, and no more bytes.
-use Rattle.std.proofs.Common.{◌≡◌, ℕ, ◌+◌, ◌≤◌, ℤ, pos, ◌+ℤ◌, ◌≤ℤ◌, Bool, true, false, not, ◌&&◌, cond, List, [], ◌∷◌, ◌++◌, length, map, Option, Some, None, All, refl, sym, ap, ◌∙◌, subst, arith, append-nil}
-use Rattle.std.specs.Prelude.{Result, Ok, sum}
+use Rattle.std.proofs.Common.{◌≡◌, ℕ, ◌+◌, ◌≤◌, ℤ, pos, ◌+ℤ◌, ◌≤ℤ◌, Bool, true, false, not, ◌&&◌, cond, List, [], ◌∷◌, ◌++◌, length, map, All, refl, sym, ap, ◌∙◌, subst, arith, append-nil}
+use Rattle.std.specs.Prelude.{Result, Ok}
 use Rattle.std.proofs.lemmas.Int.{ints}
 use Rattle.std.proofs.lemmas.List.Elements.{All-nil, All-cons, All-append, All-tail}
 use Rattle.kz_types.specs.declared.codes.TheConstants.{MIGRATION}
@@ -14,8 +14,8 @@ use Rattle.kz_types.specs.declared.record.MetaRecord.TheVariants as meta
 use Rattle.kz_types.specs.declared.tree.Rendered.{Rendered}
 use Rattle.kz_spec_stores.specs.Tree.{migrated_rows}
 use Rattle.kz_spec_stores.specs.Settlement.{is_begin}
-use Rattle.kz_spec_stores.specs.Image.{Image, empty_image, all_applied, image_with, effect}
-use Rattle.kz_spec_stores.specs.Log.{Log, EpochsNeverFall, append, end_of, entries_of_batch, entries_at_offsets, entries, all_entries_applied, image_of, with_batch}
+use Rattle.kz_spec_stores.specs.Image.{Image, empty_image, all_applied, image_with}
+use Rattle.kz_spec_stores.specs.Log.{Log, EpochsNeverFall, append, end_of, entries_of_batch, entries_at_offsets, entries, all_entries_applied, image_of}
 use Rattle.kz_spec_znodes.specs.Rendering.{render}
 use Rattle.kz_spec_znodes.specs.Translation.{Unreadable, translate}
 use Rattle.kz_spec_machine.specs.Driver.{Shared, Driver, epoch_or_zero, commit_records}

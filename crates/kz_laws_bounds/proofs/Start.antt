@@ -1,28 +1,25 @@
 -- The number of steps that a turn may have suffices.
-use Rattle.std.proofs.Common.{◌≡◌, ◌≢◌, ◌⊎◌, inl, inr, ℕ, zero, suc, ◌+◌, ◌*◌, ◌/◌, ◌≤◌, ◌<◌, ℤ, Bool, true, false, ◌||◌, if◌then◌else◌, List, [], ◌∷◌, ◌++◌, length, map, Option, Some, None, option_map, refl, sym, ap, ◌∙◌, subst, arith, length-append}
+use Rattle.std.proofs.Common.{◌≡◌, inr, ℕ, suc, ◌+◌, ◌*◌, ◌/◌, ◌≤◌, ◌<◌, ℤ, Bool, true, false, ◌||◌, if◌then◌else◌, List, [], ◌∷◌, ◌++◌, length, Some, refl, sym, ap, ◌∙◌, subst, arith, length-append}
 use Rattle.std.proofs.lemmas.List.{length-map}
-use Rattle.std.specs.Prelude.{Result, Ok, Err, sum}
+use Rattle.std.specs.Prelude.{Result, Ok}
 use Rattle.std.specs.Ordering.{int_eq}
 use Rattle.std.specs.List.{list_any}
 use Rattle.std.proofs.Math.Nat.{lt-mul-div-succ}
 use Rattle.std.proofs.lemmas.Bool.Decides.{Decides-int_eq}
 use Rattle.kz_types.specs.declared.tree.Row.{Row}
 use Rattle.kz_types.specs.declared.tree.Op.{Op}
-use Rattle.kz_types.specs.declared.tree.Rendered.{Rendered}
 use Rattle.kz_types.specs.declared.driver.Stage.{Stage}
 use Rattle.kz_types.specs.declared.driver.Stage.TheVariants as stage
 use Rattle.kz_types.specs.declared.machine.Recorded.{Recorded}
 use Rattle.kz_types.specs.declared.record.MetaRecord.{MetaRecord}
-use Rattle.kz_ordered.specs.Order.{bytes_cmp}
-use Rattle.kz_ordered.specs.Ordered.{Rises}
-use Rattle.kz_spec_stores.specs.Tree.{Tree, migrated_rows, area, rendered_row, path_of_rendered}
-use Rattle.kz_spec_stores.specs.Log.{Log, batch_ends, end_of, image_at, image_of, is_migrated_log}
+use Rattle.kz_spec_stores.specs.Tree.{migrated_rows, area, rendered_row}
+use Rattle.kz_spec_stores.specs.Log.{Log, batch_ends, image_at, image_of, is_migrated_log}
 use Rattle.kz_spec_znodes.specs.Rendering.{render}
 use Rattle.kz_spec_znodes.specs.Translation.{Unreadable, translate}
 use Rattle.kz_spec_znodes.specs.Difference.{diff}
 use Rattle.kz_spec_machine.specs.Driver.{Shared, Driver, epoch_or_zero, is_one_of, remaining_at, last_path}
 use Rattle.kz_spec_machine.specs.Machine.{Amount, amount_of_znodes, amount_of_ops, no_amount, translated_count, final_znodes, amount_at, remaining_amount, most_steps, work}
-use Rattle.kz_spec_machine.specs.Sound.{TreeShape, IsBatchEnd, IsSharedSound, IsCurrent, IsAtRest, Writes, AtStage, IsSoundDriver}
+use Rattle.kz_spec_machine.specs.Sound.{IsBatchEnd, IsSharedSound, IsCurrent, IsAtRest, AtStage, IsSoundDriver}
 use Rattle.kz_laws_trees.proofs.Area.{area_rises}
 use Rattle.kz_laws_trees.proofs.Render.{render_rises}
 use Rattle.kz_laws_commits.specs.Commits.{Copies, CopiesAtStage}
@@ -111,6 +108,7 @@ ahead_at_work s d left before low =
   where
     itself : (k : ℕ) → k ≤ k
     itself k = omega arith
+
     by : (q r c w x y counts weights : ℕ) → before ≤ q + 6 → c + x ≤ counts → w + y ≤ weights → before + suc r + suc q + suc (c + w) + 6 ≤ 20 + 2 * q + r + counts + weights
     by q r c w x y counts weights low one other = omega (arith, low, one, other)
 
@@ -183,8 +181,7 @@ appends_at_work s d left rest fine copies at c leads all is =
 writes_at_work : (s : Shared) (d : Driver) (left : Amount) → is_migrated_log s.log ≡ true
     → (pages writes : ℕ) × (length (migrated_rows s.tree) < 256 * pages) × WritesIn writes (diff (area s.tree) (render (image_of s.log))) × (pages + writes + 6 ≤ steps_at s d left)
 writes_at_work s d left migrated =
-    let a : Ahead (migrated_rows s.tree) s.log (epoch_or_zero d.epoch) 0 (steps_at s d left) = ahead_at_work s d left 0 (omega arith) in
-    (
+    let a : Ahead (migrated_rows s.tree) s.log (epoch_or_zero d.epoch) 0 (steps_at s d left) = ahead_at_work s d left 0 (omega arith) in (
       a.pages,
       a.writes,
       a.read,
@@ -202,14 +199,14 @@ resyncs_at_work s d left migrated =
   where
     least : (x y n : ℕ) → x + y + 6 ≤ n → x + 2 ≤ n
     least x y n enough = omega (arith, enough)
+
     by : (x y n : ℕ) → x + y + 6 ≤ n → x + y + 4 ≤ n
     by x y n enough = omega (arith, enough)
 
 rests_at_work : (s : Shared) (d : Driver) (left : Amount) (before : ℕ) → before ≤ 3 → IsSharedSound s → is_migrated_log s.log ≡ true → IsAtRest s.tree d.view d.recorded → RestsAfter s.log d.recorded before (steps_at s d left)
 rests_at_work s d left before low kept migrated rests =
     let w = writes_at_work s d left migrated in
-    let offset : ℤ = d.view.position in
-    (
+    let offset : ℤ = d.view.position in (
       offset,
       rests.view,
       inr (
@@ -291,8 +288,10 @@ to_operations s d target ops before low kept migrated same =
   where
     at_most_itself : (k : ℕ) → k ≤ k
     at_most_itself k = omega arith
+
     more : (x y z : ℕ) → x ≤ y → x + z ≤ y + z
     more x y z low = omega (arith, low)
+
     sums : (x y z : ℕ) → y + (x + y + z) ≤ x + z + 2 * y
     sums x y z = omega arith
 

@@ -1,5 +1,5 @@
 -- Each step ends the turn, or leaves one step less.
-use Rattle.std.proofs.Common.{◌≡◌, ◌≢◌, ◌⊎◌, inl, inr, ℕ, zero, suc, ◌≤◌, ℤ, Bool, true, false, List, Option, Some, None, refl, sym, ap, ◌∙◌, subst, arith}
+use Rattle.std.proofs.Common.{◌≡◌, ◌⊎◌, inl, inr, ℕ, zero, suc, ℤ, Bool, true, false, List, refl, arith}
 use Rattle.kz_types.specs.declared.driver.Stage.{Stage}
 use Rattle.kz_types.specs.declared.driver.Stage.TheVariants as stage
 use Rattle.kz_types.specs.declared.tree.Row.{Row}
@@ -7,8 +7,8 @@ use Rattle.kz_spec_stores.specs.Tree.{broker_ids, rendered_row}
 use Rattle.kz_spec_znodes.specs.Rendering.{render}
 use Rattle.kz_spec_znodes.specs.Difference.{diff}
 use Rattle.kz_spec_machine.specs.Driver.{Shared, Driver, epoch_or_zero, request_at, shared_after, missing_broker, after_answer, StepResult, step}
-use Rattle.kz_spec_machine.specs.Machine.{ends, TurnResult, turn}
-use Rattle.kz_spec_machine.specs.Sound.{IsTime, IsSharedSound, HasBases, BasesAtStage, IsSoundDriver}
+use Rattle.kz_spec_machine.specs.Machine.{ends, turn}
+use Rattle.kz_spec_machine.specs.Sound.{IsTime, IsSharedSound, IsSoundDriver}
 use Rattle.kz_laws_steps.specs.Steps.{StepKeeps}
 use Rattle.kz_laws_events.proofs.Turned.{one_step}
 use Rattle.kz_laws_commits.specs.Commits.{Copies, StepCopies}

@@ -1,10 +1,9 @@
 -- Turns of steps that leave one step less each.
-use Rattle.std.proofs.Common.{◌≡◌, ◌⊎◌, inl, inr, ℕ, zero, suc, ◌≤◌, ℤ, Bool, true, false, if◌then◌else◌, List, [], ◌∷◌, Option, Some, None, option_map, refl, sym, ap, ◌∙◌, subst, arith}
+use Rattle.std.proofs.Common.{◌≡◌, ◌⊎◌, ℕ, zero, suc, ◌≤◌, ℤ, Bool, true, false, if◌then◌else◌, List, [], ◌∷◌, Some, refl, sym, ap, subst, arith}
 use Rattle.kz_types.specs.declared.machine.Reply.{Reply}
 use Rattle.kz_types.specs.declared.plan.Plan.TheVariants as plan
 use Rattle.kz_spec_machine.specs.Driver.{Shared, Driver, epoch_or_zero, Request, nothing, read_log, list_brokers, look_up, read_page, write, add, request_at, shared_after, after_answer, is_of_log, reaches, reaches_store, hearing, hears_answer, driver_after, StepResult, planned_step, step}
 use Rattle.kz_spec_machine.specs.Machine.{ends, TurnResult, with_reply, turn}
-use Rattle.kz_spec_runs.specs.InStep.{last_reply}
 use Rattle.kz_laws_steps.proofs.Tests.{true_or_false}
 use Rattle.kz_laws_bounds.specs.Bounds.{EndsByItself}
 use Rattle.kz_laws_bounds.proofs.Left.{Left, Goes}

@@ -1,5 +1,5 @@
 -- Steps of a driver that waits, looks, or reads the migrated area, and those that read the log.
-use Rattle.std.proofs.Common.{◌≡◌, ◌≢◌, ◌⊎◌, inl, inr, ℕ, zero, suc, ◌+◌, ◌*◌, ◌≤◌, ◌<◌, nat_lt, ℤ, Bool, true, false, not, ◌&&◌, ◌||◌, if◌then◌else◌, List, [], ◌∷◌, ◌++◌, length, Option, Some, None, option_map, refl, sym, ap, ◌∙◌, subst, arith}
+use Rattle.std.proofs.Common.{◌≡◌, inl, inr, ℕ, zero, suc, ◌+◌, ◌*◌, ◌≤◌, ◌<◌, nat_lt, ℤ, Bool, true, false, not, ◌&&◌, ◌||◌, if◌then◌else◌, List, [], ◌++◌, length, Option, Some, None, option_map, refl, sym, ap, ◌∙◌, subst, arith}
 use Rattle.std.specs.Prelude.{Result, Ok, Err}
 use Rattle.std.specs.Ordering.{int_eq}
 use Rattle.std.proofs.lemmas.Bool.Decides.{Decides-int_eq}
@@ -18,16 +18,15 @@ use Rattle.kz_types.specs.declared.machine.Reply.TheVariants as reply
 use Rattle.kz_spec_values.specs.Control.{epoch_path, migration_path, read_epoch}
 use Rattle.kz_spec_stores.specs.Tree.{Tree, area, migrated_rows, migration_record, scan}
 use Rattle.kz_spec_stores.specs.Log.{Log, end_of, image_at, image_of, is_migrated_log}
-use Rattle.kz_spec_stores.specs.Image.{Image}
 use Rattle.kz_spec_znodes.specs.Rendering.{render}
 use Rattle.kz_spec_znodes.specs.Difference.{diff}
 use Rattle.kz_spec_machine.specs.Driver.{Shared, Driver, epoch_or_zero, views_migrated, at_stage, resigned_driver, seen_in, shown_by, unless_fenced, unless_full_epoch, unless_bad_epoch, unless_full_record, after_look, last_path, target_of, missing_controller, driver_at_log_end, unless_finalised, wait_or_move, after_quorum, after_brokers, after_page, after_log, is_recorded_at, after_rest, remaining_at}
-use Rattle.kz_spec_machine.specs.Sound.{IsSharedSound, IsCurrent, RecordAgrees, IsAtRest, IsAfterMigration, AtStage, IsSoundDriver}
+use Rattle.kz_spec_machine.specs.Sound.{IsSharedSound, IsCurrent, RecordAgrees, IsAtRest, AtStage, IsSoundDriver}
 use Rattle.kz_laws_steps.proofs.Targets.{closed_offset}
 use Rattle.kz_laws_steps.proofs.Tests.{true_or_false}
 use Rattle.kz_laws_bounds.proofs.Chunks.{WritesIn}
 use Rattle.kz_laws_bounds.proofs.Pages.{behind, all_behind, page_on}
-use Rattle.kz_laws_bounds.proofs.Left.{Ahead, nearer, ahead_least, Starts, starts_nearer, starts_least, ScansMigration, Afterwards, afterwards_nearer, afterwards_least, Resyncs, WritesUpTo, ScansResync, RestsAfter, LeftAt, Left, Goes}
+use Rattle.kz_laws_bounds.proofs.Left.{Ahead, nearer, Starts, starts_nearer, starts_least, ScansMigration, Afterwards, afterwards_nearer, Resyncs, WritesUpTo, ScansResync, RestsAfter, Left, Goes}
 
 -- ---- choices
 

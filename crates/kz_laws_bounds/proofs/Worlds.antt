@@ -1,7 +1,7 @@
 -- Turns in a world.
 use Rattle.std.proofs.Common.{◌≡◌, ℕ, ℤ, ◌≤◌, List, Some, None, All}
 use Rattle.kz_types.specs.declared.machine.Event.{Event}
-use Rattle.kz_spec_machine.specs.Driver.{Shared, Driver}
+use Rattle.kz_spec_machine.specs.Driver.{Driver}
 use Rattle.kz_spec_machine.specs.Machine.{World, empty_world, running_ids, driver_of, running_refusal, turn, work, after_events}
 use Rattle.kz_spec_machine.specs.Sound.{IsTime, Each, Sound, Based, IsLawful}
 use Rattle.kz_laws_commits.specs.Commits.{Copies}

@@ -1,5 +1,5 @@
 -- Steps of a driver that writes.
-use Rattle.std.proofs.Common.{◌≡◌, ◌≢◌, ◌⊎◌, inl, inr, ℕ, zero, suc, ◌+◌, ◌≤◌, ℤ, pos, Bool, true, false, if◌then◌else◌, List, [], ◌∷◌, ◌++◌, length, Option, Some, None, option_map, refl, sym, ap, ◌∙◌, subst, arith}
+use Rattle.std.proofs.Common.{◌≡◌, ◌≢◌, ◌⊎◌, inl, inr, ℕ, zero, suc, ◌+◌, ◌≤◌, ℤ, pos, Bool, true, false, if◌then◌else◌, List, ◌∷◌, ◌++◌, length, Option, Some, None, option_map, refl, sym, ap, ◌∙◌, subst, arith}
 use Rattle.std.specs.Prelude.{Result, Ok, Err, ◌≤ℤ◌}
 use Rattle.std.specs.Ordering.{int_eq}
 use Rattle.std.proofs.lemmas.Bool.Decides.{Decides-int_eq}
@@ -17,9 +17,9 @@ use Rattle.kz_types.specs.declared.machine.Reply.{Reply}
 use Rattle.kz_types.specs.declared.machine.Reply.TheVariants as reply
 use Rattle.kz_spec_values.specs.Control.{epoch_path}
 use Rattle.kz_spec_stores.specs.Tree.{Tree, row_at, check_refusal, multi}
-use Rattle.kz_spec_stores.specs.Log.{Log, end_of, image_at}
+use Rattle.kz_spec_stores.specs.Log.{Log, image_at}
 use Rattle.kz_spec_znodes.specs.Difference.{chunk, after_chunk}
-use Rattle.kz_spec_machine.specs.Driver.{Shared, Driver, at_stage, begins_again, resigned_driver, epoch_or_zero, remaining_at, is_last_write, record_ops, write_ops, write, write_request, request_at, with_tree, shared_after, written_driver, is_claim_refused, after_write, writes}
+use Rattle.kz_spec_machine.specs.Driver.{Shared, Driver, at_stage, begins_again, resigned_driver, epoch_or_zero, remaining_at, is_last_write, record_ops, write_ops, write, write_request, request_at, with_tree, shared_after, is_claim_refused, after_write, writes}
 use Rattle.kz_spec_machine.specs.Sound.{IsSharedSound, IsCurrent, AtStage, Claims, HasBases, claim_version, shown_in, IsSoundDriver}
 use Rattle.kz_laws_fence.proofs.Drivers.{multi_refused, check_refused}
 use Rattle.kz_laws_steps.proofs.Tests.{true_or_false}
@@ -27,7 +27,7 @@ use Rattle.kz_laws_trees.proofs.Multi.{remaining_after_write}
 use Rattle.kz_laws_writes.specs.Writes.{IsWriting, MayWrite}
 use Rattle.kz_laws_writes.proofs.Writing.{writes_taken}
 use Rattle.kz_laws_bounds.proofs.Chunks.{WritesIn}
-use Rattle.kz_laws_bounds.proofs.Left.{Afterwards, afterwards_nearer, afterwards_least, WritesUpTo, RestsAfter, LeftAt, Left, Goes}
+use Rattle.kz_laws_bounds.proofs.Left.{Afterwards, afterwards_nearer, afterwards_least, WritesUpTo, LeftAt, Left, Goes}
 
 -- ---- a write under a claim that isn't current
 
