@@ -1,28 +1,32 @@
 -- What a based world says of each driver, after an event.
-use Rattle.std.proofs.Common.{◌≡◌, ℕ, ℤ, pos, ◌+ℤ◌, ◌≤ℤ◌, Bool, true, false, not, ◌&&◌, ◌||◌, cond, if◌then◌else◌, List, [], ◌∷◌, map, filter, Option, Some, None, option_map, is_some, All, Ordering, Less, Equal, Greater, is_eq, refl, sym, ap, ◌∙◌, subst, arith}
+use Rattle.std.proofs.Common.{◌≡◌, inl, inr, ℕ, ℤ, pos, ◌+ℤ◌, ◌≤ℤ◌, Bool, true, false, not, ◌&&◌, ◌||◌, cond, if◌then◌else◌, List, [], ◌∷◌, map, filter, Option, Some, None, option_map, is_some, All, Ordering, Less, Equal, Greater, is_eq, refl, sym, ap, ◌∙◌, subst, arith}
 use Rattle.std.specs.Prelude.{Result, Ok, Err}
 use Rattle.std.specs.Str.{bytes_eq}
 use Rattle.std.specs.Ordering.{int_eq}
+use Rattle.std.specs.List.{find}
 use Rattle.std.proofs.lemmas.Int.{ints}
-use Rattle.std.proofs.lemmas.List.Elements.{All-head, All-tail}
+use Rattle.std.proofs.lemmas.List.Elements.{All-nil, All-cons, All-head, All-tail}
 use Rattle.kz_types.specs.declared.tree.Row.{Row}
 use Rattle.kz_types.specs.declared.tree.Op.{Op}
 use Rattle.kz_types.specs.declared.tree.Op.TheVariants.{Create, Set, Delete, Check}
 use Rattle.kz_types.specs.declared.driver.ClaimSeen.{ClaimSeen}
+use Rattle.kz_types.specs.declared.driver.Stage.{Stage}
+use Rattle.kz_types.specs.declared.driver.Stage.TheVariants as stage
 use Rattle.kz_types.specs.declared.fault.TreeFault.{TreeFault}
 use Rattle.kz_types.specs.declared.move_fault.MoveFault.{MoveFault}
 use Rattle.kz_types.specs.declared.machine.Event.{Event}
 use Rattle.kz_types.specs.declared.machine.Event.TheVariants as event
+use Rattle.kz_types.specs.declared.machine.Answer.{Answer}
 use Rattle.kz_types.specs.declared.machine.Answer.TheVariants as answer
 use Rattle.kz_types.specs.declared.record.MetaRecord.{MetaRecord}
 use Rattle.kz_types.specs.Paths.{base_paths, is_among, is_migrated}
 use Rattle.kz_ordered.specs.Order.{bytes_cmp}
 use Rattle.kz_ordered.proofs.Order.{bytes_order}
 use Rattle.kz_spec_values.specs.Control.{control_path, epoch_path, migration_path, shown_epoch}
-use Rattle.kz_spec_stores.specs.Tree.{Tree, row_at, after_op, multi, begin_session, end_session, is_owner, is_owned, loses_child, after_loss}
+use Rattle.kz_spec_stores.specs.Tree.{Tree, path_of_op, row_at, after_op, multi, begin_session, end_session, is_owner, is_owned, loses_child, after_loss}
 use Rattle.kz_spec_machine.specs.Driver.{Shared, Driver, new_driver, elected_driver}
-use Rattle.kz_spec_machine.specs.Machine.{World, driver_of, quorum_refusal, declared_world, start_refusal, started_world, stop_refusal, stopped_world, next_epoch, election_refusal, elected_world, election_answer, change_refusal, changed_world, registration, register_refusal, final_records, finalise_refusal, exit_ops, tree_after_ops, reset_world, given_back, rollback_refusal, with_tree, moved_world, client_refusal, client_world, next, empty_world, after_events}
-use Rattle.kz_spec_machine.specs.Sound.{Lasts, is_lasting, claim_version, SeesPresent, Looks, AtStage, IsSoundDriver, Sound, Based, IsLawful}
+use Rattle.kz_spec_machine.specs.Machine.{World, driver_of, quorum_refusal, declared_world, start_refusal, started_world, stop_refusal, stopped_world, next_epoch, election_refusal, elected_world, election_answer, change_refusal, changed_world, registration, register_refusal, final_records, finalise_refusal, exit_ops, tree_after_ops, reset_world, given_back, rollback_refusal, with_tree, moved_world, is_reserved, is_held, is_held_tree, first_told, client_refusal, client_world, next, empty_world, after_events}
+use Rattle.kz_spec_machine.specs.Sound.{Lasts, is_lasting, claim_version, shown_in, SeesPresent, Looks, AtStage, IsSoundDriver, Each, Sound, BasesAtStage, Based, IsLawful}
 use Rattle.kz_laws_trees.proofs.Rows.{same, other, compare, created_found, set_found}
 use Rattle.kz_laws_trees.proofs.Runs.{ran}
 use Rattle.kz_laws_trees.proofs.Multi.{multi_ran}
@@ -32,9 +36,11 @@ use Rattle.kz_laws_trees.proofs.Versions.{client_keeps_version}
 use Rattle.kz_laws_steps.proofs.Worlds.{decided, left_was_there}
 use Rattle.kz_laws_steps.proofs.Events.{each_more, unless_taken}
 use Rattle.kz_laws_events.proofs.Exits.{may_roll_back}
+use Rattle.kz_laws_events.proofs.Refusals.{first_none}
+use Rattle.kz_laws_events.proofs.Unheld.{none_claimed}
 use Rattle.kz_laws_events.proofs.Every.{event_sound}
 use Rattle.kz_laws_bounds.specs.Bounds.{IsBasedDriver}
-use Rattle.kz_laws_bounds.specs.Events.{DeletesNoBase, LeavesBases}
+use Rattle.kz_laws_bounds.specs.Events.{DeletesNoBase, RestsOnNoLook, LeavesBases, AllLeaveBases}
 use Rattle.kz_laws_bounds.proofs.Based.{OnTree, on_tree, based_on, Stays, stays_based}
 use Rattle.kz_laws_bounds.proofs.Others.{EachBased, version_of_seen, stepped_based, turned_based}
 
@@ -231,22 +237,84 @@ sees_before t new ops epoch seen None is made none looks present = by seen.epoch
     by None at = ap (option_map (λ (r : Row). r.version)) at ∙ sym is
     by (Some r) at = absurd (let low = looks.low r at in cc (low.1, is))
 
-client_by : (w : World) (ops : List Op) (r : Result Tree TreeFault) → multi w.shared.tree ops ≡ r → client_refusal w.shared.tree ops ≡ None → All DeletesNoBase ops → Sound w → EachBased w → EachBased (client_world w r).0
-client_by w ops (Ok new) is none bases sound based =
+-- a multi that deletes no base znode
+client_keeps : (w : World) (ops : List Op) (new : Tree) → multi w.shared.tree ops ≡ Ok new → client_refusal w.shared.tree ops ≡ None → All DeletesNoBase ops → Sound w → EachBased w → EachBased (with_tree w new)
+client_keeps w ops new is none bases sound based =
     let t : Tree = w.shared.tree in
     moved_tree w new sound (λ f fine. record {
       there = λ p among there. ap (λ (rows : List Row). is_some (row_at p rows)) (multi_ran t new ops is).rows ∙ ops_keep (t.zxid +ℤ pos 1) ops p t.rows among bases there;
       sees = λ seen stands present. sees_before t new ops f.epoch seen (claim_version t) refl is none (subst (AtStage t w.shared.log f) stands fine.stage) present;
     }) based
-client_by w ops (Err f) is none bases sound based = based
 
-client_based : (w : World) (ops : List Op) → All DeletesNoBase ops → Sound w → EachBased w → EachBased (next w (event.Zk ops)).0
+-- no client deletes one while a KRaft controller holds the tree
+unmapped : {A B : Type 0} (f : A → B) (m : Option A) → option_map f m ≡ None → m ≡ None
+unmapped f None is = refl
+unmapped f (Some x) is = absurd (cc)
+
+not_first : (b : Bool) (o : Op) (m : Option Op) → cond b (Some o) m ≡ None → (b ≡ false) × (m ≡ None)
+not_first true o m is = absurd (cc)
+not_first false o m is = (refl, is)
+
+second_of_four : (a b c d : Bool) → (a || b || c || d) ≡ false → b ≡ false
+second_of_four true b c d is = absurd (cc)
+second_of_four false true c d is = absurd (cc)
+second_of_four false false c d is = refl
+
+not_held : (o : Op) → is_held o ≡ false → DeletesNoBase o
+not_held (Create path body owner) is = tt
+not_held (Set path body version) is = tt
+not_held (Delete path version) is = second_of_four (is_migrated path) (is_among base_paths path) (bytes_eq path control_path) (bytes_eq path epoch_path) is
+not_held (Check path version) is = tt
+
+none_deleted : (ops : List Op) → find is_held ops ≡ None → All DeletesNoBase ops
+none_deleted [] none = All-nil DeletesNoBase
+none_deleted (o ∷ os) none = let both = not_first (is_held o) o (find is_held os) none in All-cons DeletesNoBase o os (not_held o both.0) (none_deleted os both.1)
+
+held_deletes_none : (t : Tree) (ops : List Op) → is_held_tree t ≡ true → client_refusal t ops ≡ None → All DeletesNoBase ops
+held_deletes_none t ops held none =
+    let told : Option Answer = option_map (λ path. answer.KraftHolds path) (first_told is_held ops) in
+    let both = first_none (option_map (λ path. answer.Reserved path) (first_told is_reserved ops)) (if is_held_tree t then told else None) none in
+    none_deleted ops (unmapped path_of_op (find is_held ops) (unmapped (λ path. answer.KraftHolds path) (first_told is_held ops) (sym (ap (λ (b : Bool). if b then told else None) held) ∙ both.1)))
+
+-- Where none does, no driver has a claim. A driver that looked sees what is there where it saw what was there.
+unheld_looked : (w : World) (ops : List Op) (new : Tree) (f : Driver) (x : Stage) → f.stage ≡ x → multi w.shared.tree ops ≡ Ok new → client_refusal w.shared.tree ops ≡ None → IsSoundDriver w.shared f → RestsOnNoLook w.shared.tree x → BasesAtStage new x
+unheld_looked w ops new f (stage.ClaimLeadership seen) at is none fine rests = λ present.
+    absurd (rests (sees_before w.shared.tree new ops f.epoch seen (claim_version w.shared.tree) refl is none (subst (AtStage w.shared.tree w.shared.log f) at fine.stage) present))
+unheld_looked w ops new f stage.Uninitialized at is none fine rests = tt
+unheld_looked w ops new f stage.Inactive at is none fine rests = tt
+unheld_looked w ops new f stage.WaitForControllerQuorum at is none fine rests = tt
+unheld_looked w ops new f stage.WaitForBrokers at is none fine rests = tt
+unheld_looked w ops new f stage.ListBrokers at is none fine rests = tt
+unheld_looked w ops new f stage.ReadControlZnodes at is none fine rests = tt
+unheld_looked w ops new f (stage.ScanForMigration rows) at is none fine rests = tt
+unheld_looked w ops new f (stage.BeginMigration rows) at is none fine rests = tt
+unheld_looked w ops new f (stage.AppendRecords records) at is none fine rests = tt
+unheld_looked w ops new f stage.ReadLogForResync at is none fine rests = tt
+unheld_looked w ops new f (stage.ScanForResync target rows) at is none fine rests = tt
+unheld_looked w ops new f (stage.WriteResync target os) at is none fine rests = tt
+unheld_looked w ops new f stage.KraftControllerToBrokerComm at is none fine rests = tt
+unheld_looked w ops new f stage.DualWrite at is none fine rests = tt
+unheld_looked w ops new f (stage.WriteDelta target os) at is none fine rests = tt
+
+client_unlooked : (w : World) (ops : List Op) (new : Tree) (b : Bool) → is_held_tree w.shared.tree ≡ b → multi w.shared.tree ops ≡ Ok new → client_refusal w.shared.tree ops ≡ None → Each (λ (d : Driver). RestsOnNoLook w.shared.tree d.stage) w.drivers → Sound w → EachBased w → EachBased (with_tree w new)
+client_unlooked w ops new true held is none rests sound based = client_keeps w ops new is none (held_deletes_none w.shared.tree ops held none) sound based
+client_unlooked w ops new false held is none rests sound based = λ j f found. record {
+  claimed = λ some. absurd (some (none_claimed w.shared.log.epoch (claim_version w.shared.tree) (shown_in w.shared.tree) f.epoch f.claim (sound.each j f found).claims held));
+  looked = unheld_looked w ops new f f.stage refl is none (sound.each j f found) (rests j f found);
+}
+
+client_by : (w : World) (ops : List Op) (r : Result Tree TreeFault) → multi w.shared.tree ops ≡ r → client_refusal w.shared.tree ops ≡ None → LeavesBases w (event.Zk ops) → Sound w → EachBased w → EachBased (client_world w r).0
+client_by w ops (Ok new) is none (inl bases) sound based = client_keeps w ops new is none bases sound based
+client_by w ops (Ok new) is none (inr rests) sound based = client_unlooked w ops new (is_held_tree w.shared.tree) refl is none rests sound based
+client_by w ops (Err f) is none leaves sound based = based
+
+client_based : (w : World) (ops : List Op) → LeavesBases w (event.Zk ops) → Sound w → EachBased w → EachBased (next w (event.Zk ops)).0
 unfolding next
-client_based w ops bases sound based = unless_taken EachBased w (client_refusal w.shared.tree ops) (client_world w (multi w.shared.tree ops)) based (λ none. client_by w ops (multi w.shared.tree ops) refl none bases sound based)
+client_based w ops leaves sound based = unless_taken EachBased w (client_refusal w.shared.tree ops) (client_world w (multi w.shared.tree ops)) based (λ none. client_by w ops (multi w.shared.tree ops) refl none leaves sound based)
 
 -- ---- every event
 
-each_event : (w : World) (e : Event) → IsLawful e → LeavesBases e → Sound w → EachBased w → EachBased (next w e).0
+each_event : (w : World) (e : Event) → IsLawful e → LeavesBases w e → Sound w → EachBased w → EachBased (next w e).0
 each_event w (event.Quorum ids) lawful leaves sound based = quorum_based w ids based
 each_event w (event.Start id) lawful leaves sound based = start_based w id based
 each_event w (event.Stop controller) lawful leaves sound based = stop_based w controller based
@@ -268,15 +336,15 @@ each_based w based j f found = record { claimed = based.claimed j f found; looke
 all_based : (w : World) → EachBased w → Based w
 all_based w each = record { claimed = λ j f found. (each j f found).claimed; looked = λ j f found. (each j f found).looked }
 
-pub event_based : (w : World) (e : Event) → IsLawful e → LeavesBases e → Sound w → Based w → Based (next w e).0
+pub event_based : (w : World) (e : Event) → IsLawful e → LeavesBases w e → Sound w → Based w → Based (next w e).0
 event_based w e lawful leaves sound based = all_based (next w e).0 (each_event w e lawful leaves sound (each_based w based))
 
 pub empty_based : Based empty_world
 empty_based = record { claimed = λ j f found. absurd (cc); looked = λ j f found. absurd (cc) }
 
-pub run_based : (es : List Event) (w : World) → All IsLawful es → All LeavesBases es → Sound w → Based w → Based (after_events w es)
+pub run_based : (es : List Event) (w : World) → All IsLawful es → AllLeaveBases w es → Sound w → Based w → Based (after_events w es)
 unfolding after_events
 run_based [] w lawful leaves sound based = based
 run_based (e ∷ es) w lawful leaves sound based =
     let own = All-head IsLawful e es lawful in
-    run_based es (next w e).0 (All-tail IsLawful e es lawful) (All-tail LeavesBases e es leaves) (event_sound w e own sound) (event_based w e own (All-head LeavesBases e es leaves) sound based)
+    run_based es (next w e).0 (All-tail IsLawful e es lawful) leaves.1 (event_sound w e own sound) (event_based w e own leaves.0 sound based)
