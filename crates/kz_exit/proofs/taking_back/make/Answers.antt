@@ -1,11 +1,8 @@
-use Rattle.std.proofs.Common.{◌≡◌, List, Option, None, Result, Ok, OnOk, IfErr, IsErrOf, sym, ap, subst, ◌∙◌}
+use Rattle.std.proofs.Common.{◌≡◌, List, Ok, OnOk, IfErr, ap, subst, ◌∙◌}
 use Rattle.kz_types.specs.declared.tree.Op.{Op}
-use Rattle.kz_types.specs.declared.fault.TreeFault.TheVariants as tree_fault
-use Rattle.kz_spec_stores.specs.Tree.{Tree as TreeValue}
 use Rattle.kz_spec_stores.specs.Log.{Log as LogValue}
 use Rattle.kz_spec_stores.specs.Requests.{Disk, Reset, Only, Between}
 use Rattle.kz_spec_machine.specs.Machine.{exit_ops, tree_after_ops}
-use Rattle.kz_exit.specs.declared.faults.ExitFault.TheVariants.{Tree}
 use Rattle.kz_exit.specs.Disks.{TreeDisk}
 use Rattle.kz_exit.specs.Requests.{IsMultiFault}
 use Rattle.kz_exit.proofs.Rollbacks.{kept_left, kept_log, kept_tree, sent_back, sent_left, sent_log}
