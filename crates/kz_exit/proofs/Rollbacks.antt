@@ -1,5 +1,5 @@
 -- What each part of a rollback that ends it leaves of the tree and the log, and of their disks.
-use Rattle.std.proofs.Common.{◌≡◌, ◌⊎◌, inl, inr, ℕ, false, List, Option, Some, None, Result, Ok, Err, OnOk, OnErr, IfErr, refl, sym, ap, ◌∙◌, subst}
+use Rattle.std.proofs.Common.{◌≡◌, inl, inr, ℕ, List, Option, None, Result, Ok, Err, OnOk, OnErr, IfErr, refl, sym, subst}
 use Rattle.kz_types.specs.declared.machine.Answer.{Answer}
 use Rattle.kz_types.specs.declared.tree.Op.{Op}
 use Rattle.kz_types.specs.declared.fault.TreeFault.{TreeFault}
@@ -12,7 +12,7 @@ use Rattle.kz_spec_machine.specs.Machine.{exit_refusal, exit_ops, tree_after_ops
 use Rattle.kz_exit.specs.declared.faults.ExitFault.{ExitFault}
 use Rattle.kz_exit.specs.declared.faults.ExitFault.TheVariants.{Finalised, Unclosed, Behind, Log, Tree, NoMemory}
 use Rattle.kz_exit.specs.Disks.{ResetsDisk, LogDisk, TreeDisk}
-use Rattle.kz_exit.specs.Faults.{IsLogFault, IsTreeFault}
+use Rattle.kz_exit.specs.Faults.{IsLogFault}
 use Rattle.kz_exit.specs.Requests.{IsReadLogFault, IsCheckFault, CheckDisk, IsResetFault, ResetDisk, IsMultiFault}
 use Rattle.kz_exit.specs.Rollbacks.{IsTakenBack, IsLeft}
 

@@ -1,5 +1,6 @@
 -- Operations are sent in one multi, where there are some.
-use Rattle.std.proofs.Common.{◌≡◌, ◌==◌, ℕ, true, false, List, [], ◌∷◌, length, Result, Ok, Err, refl}
+use Rattle.std.proofs.Common.{◌≡◌, ◌==◌, ℕ, suc, true, false, List, [], ◌∷◌, length, Result, Ok, Err, refl, arith}
+use Rattle.std.proofs.lemmas.Bool.{eqb-true}
 use Rattle.kz_types.specs.declared.tree.Op.{Op}
 use Rattle.kz_spec_stores.specs.Tree.{Tree as TreeValue, multi}
 use Rattle.kz_spec_stores.specs.Requests.{Disk, TreeChange, Multi, Done, IsTaken}
@@ -9,13 +10,16 @@ use Rattle.kz_exit.specs.declared.faults.ExitFault.TheVariants.{Finalised, Unclo
 use Rattle.kz_exit.specs.Disks.{MakesOps, TreeDisk}
 use Rattle.kz_exit.specs.Requests.{MultiDisk}
 
+some_not_none : (o : Op) (os : List Op) → (length (o ∷ os) == 0) ≡ true → ⊥
+some_not_none o os h = let none : suc (length os) ≡ 0 = eqb-true (suc (length os)) 0 h in omega (arith, none)
+
 pub none_sent : (t : TreeValue) (ops : List Op) → (length ops == 0) ≡ true → tree_after_ops t ops ≡ Ok t
 none_sent t [] h = refl
-none_sent t (o ∷ os) h = absurd (cc)
+none_sent t (o ∷ os) h = absurd (some_not_none o os h)
 
 pub none_made : (t : TreeValue) (payload_bytes : TreeValue → TreeChange → ℕ) (ops : List Op) (disk : Disk) → (length ops == 0) ≡ true → MakesOps t payload_bytes ops Done disk disk
 none_made t payload_bytes [] disk h = (refl, refl)
-none_made t payload_bytes (o ∷ os) disk h = absurd (cc)
+none_made t payload_bytes (o ∷ os) disk h = absurd (some_not_none o os h)
 
 pub some_sent : (t : TreeValue) (ops : List Op) → (length ops == 0) ≡ false → tree_after_ops t ops ≡ multi t ops
 some_sent t [] h = absurd (cc)

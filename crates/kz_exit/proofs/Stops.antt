@@ -8,15 +8,15 @@ use Rattle.kz_types.specs.declared.fault.LogFault.{LogFault}
 use Rattle.kz_types.specs.declared.fault.LogFault.TheVariants as log_fault
 use Rattle.kz_spec_stores.specs.Tree.{Tree as TreeValue}
 use Rattle.kz_spec_stores.specs.Log.{Log as LogValue, reset}
-use Rattle.kz_spec_stores.specs.Requests.{Disk, TreeChange, StoreAnswer, Failed, Done, answer_of_tree_fault, answer_of_log_fault, ReadsDisk, Only, Between}
+use Rattle.kz_spec_stores.specs.Requests.{Disk, TreeChange, Done, answer_of_tree_fault, answer_of_log_fault, ReadsDisk, Only, Between}
 use Rattle.kz_log.specs.Requests.{made_by_reset}
 use Rattle.kz_spec_machine.specs.Machine.{Pair, exit_ops, tree_after_ops}
 use Rattle.kz_exit.specs.declared.faults.ExitFault.{ExitFault}
 use Rattle.kz_exit.specs.declared.faults.ExitFault.TheVariants.{Finalised, Unclosed, Behind, Log, Tree, NoMemory}
 use Rattle.kz_exit.specs.Disks.{ResetsDisk, MakesOps, TreeDisk}
-use Rattle.kz_exit.specs.Faults.{IsLogFault, IsTreeFault}
+use Rattle.kz_exit.specs.Faults.{IsLogFault}
 use Rattle.kz_exit.specs.Requests.{IsReadLogFault, IsCheckFault, CheckDisk, IsResetFault, ResetDisk, IsMultiFault}
-use Rattle.kz_exit.specs.Stops.{IsFailed, pairs_made, rollback_pairs, LeavesOneOf, RollbackLeaves}
+use Rattle.kz_exit.specs.Stops.{pairs_made, rollback_pairs, RollbackLeaves}
 
 -- ---- the moments of a rollback
 
@@ -37,7 +37,7 @@ whole : (t new : TreeValue) (l : LogValue) (ft : Option TreeValue) (fl : Option 
 whole t new l ft fl made tree log = (record { tree = new; log = reset l }, among (record { tree = t; log = l }) (record { tree = t; log = reset l }) (reset l) new (tree_after_ops t (exit_ops t)) made, tree, log)
 
 made_reset : (l new : LogValue) → made_by_reset l ≡ Ok new → reset l ≡ new
-made_reset l new h = let made : Ok {E = LogFault} (reset l) ≡ Ok new = h in cc
+made_reset l new h = cc
 
 -- the tree is as it was, and the log may be reset
 log_found : (t : TreeValue) (l : LogValue) (ft : Option TreeValue) (fl : Option LogValue) → ft ≡ Some t → (fl ≡ Some l) ⊎ ((new : LogValue) × (made_by_reset l ≡ Ok new) × (fl ≡ Some new)) → Found (rollback_pairs t l) ft fl
@@ -119,6 +119,10 @@ unsent_stop t l new_log payload_bytes (Tree f) old new log_disk later tree_left 
     (tree_between t (tree_after_ops t (exit_ops t)) f new tree_left (made_up t payload_bytes (exit_ops t) f old new tree_up h) (λ same. stop (ap (λ g. Err (Tree g)) same)) tree_settled ft in_tree)
     (log_settled log_up fl in_log ∙ ap (λ x. Some x) reset_log)
 unsent_stop t l new_log payload_bytes NoMemory old new log_disk later tree_left log_left is h stop tree_settled reset_log log_up log_settled = λ tree_up log_was_up failed. absurd failed
+
+-- a store that was reset is up
+pub reset_up : (payload : ℕ) (old new : Disk) → ResetsDisk payload Done old new → new.down ≡ false
+reset_up payload old new h = ap (λ (d : Disk). d.down) h.2 ∙ h.0
 
 pub sent_stop : (t new_tree : TreeValue) (l new_log : LogValue) (payload_bytes : TreeValue → TreeChange → ℕ) (r : Result (Unit {0}) ExitFault) (old new log_disk later : Disk) (tree_left : Option TreeValue → Type 0) (log_left : Option LogValue → Type 0)
     → IfErr r (IsMultiFault (tree_after_ops t (exit_ops t))) → TreeDisk t payload_bytes (exit_ops t) r old new → (IsErrOf r (Tree tree_fault.Device) → Between t (tree_after_ops t (exit_ops t)) tree_left)

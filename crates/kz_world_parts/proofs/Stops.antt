@@ -1,5 +1,5 @@
 -- What a stop leaves where an event failed.
-use Rattle.std.proofs.Common.{◌≡◌, ◌⊎◌, inl, inr, ℕ, false, List, [], ◌∷◌, Contains, Option, Some, Result, Ok, Err, IfOk, OnErr, IsErrOf, refl, sym, ap, ◌∙◌, subst, arith}
+use Rattle.std.proofs.Common.{◌≡◌, ◌⊎◌, inl, inr, ℕ, false, List, [], ◌∷◌, Contains, Option, Some, Result, Ok, Err, IfOk, OnErr, IsErrOf, refl, sym, ap, ◌∙◌, subst}
 use Rattle.std.proofs.lemmas.List.Elements.{Contains-append_right}
 use Rattle.kz_types.specs.declared.fault.TreeFault.{TreeFault}
 use Rattle.kz_types.specs.declared.fault.TreeFault.TheVariants as tree_fault
@@ -20,7 +20,6 @@ use Rattle.kz_spec_machine.specs.Driver.{Shared}
 use Rattle.kz_spec_machine.specs.Machine.{World, Pair, pair_of, event_pairs}
 use Rattle.kz_spec_machine.specs.Failures.{is_failure}
 use Rattle.kz_driver.specs.Disks.{Disks}
-use Rattle.kz_turns.specs.Stops.{AreUp, LeavesOneOf}
 use Rattle.kz_turns.proofs.Stops.{first_of_all, Settled, leaves_present}
 use Rattle.kz_world_parts.specs.declared.faults.EventFault.{EventFault}
 use Rattle.kz_world_parts.specs.declared.faults.EventFault.TheVariants as event_fault

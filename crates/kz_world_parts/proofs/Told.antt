@@ -1,6 +1,6 @@
 -- A fault that is told is one: of a disk that failed or was down, of a full file, or of memory.
-use Rattle.std.proofs.Common.{◌≡◌, ℕ, ℤ, Bool, true, false, Option, Some, None, Result, Ok, Err, refl, sym, cond, subst}
-use Rattle.std.specs.Prelude.{IfOk, option_map}
+use Rattle.std.proofs.Common.{◌≡◌, ℕ, ℤ, Bool, true, false, Option, Some, None, Result, Ok, Err, refl, sym, ap, cond, subst}
+use Rattle.std.specs.Prelude.{IfOk, option_map, ⊤}
 use Rattle.kz_types.specs.declared.fault.TreeFault.{TreeFault}
 use Rattle.kz_types.specs.declared.fault.TreeFault.TheVariants as tree_fault
 use Rattle.kz_types.specs.declared.fault.LogFault.{LogFault}
@@ -93,12 +93,12 @@ step_told p w now (Some d) payloads f old new h = nothing_told Answer f old new 
 log_changed_told : {B E : Type 0} (made : Result B E) (payload : ℕ) (f : EventFault) (old new : Disks) → ChangesLog {A = Answer} made payload (Err f) old new → IsTold f
 log_changed_told made payload f old new h = log_change_told made payload f old.log new.log h.0
 
-tree_by_failure : (b : Bool) (f : TreeFault) (g : EventFault) → is_tree_failure f ≡ b → (if b then Err (event_fault.Tree f) else Ok (answer.TreeFailed f)) ≡ Err g → IsTold g
-tree_by_failure true f g fails is = subst IsTold (let one : event_fault.Tree f ≡ g = cc in one) (record { answer = ap (λ (b : Bool). if b then Err (event_fault.Tree f) else Ok (answer.TreeFailed f)) fails; failure = fails })
+tree_by_failure : (b : Bool) (f : TreeFault) (g : EventFault) → is_tree_failure f ≡ b → cond b (Err (event_fault.Tree f)) (Ok (answer.TreeFailed f)) ≡ Err g → IsTold g
+tree_by_failure true f g fails is = subst IsTold (let one : event_fault.Tree f ≡ g = cc in one) (record { answer = ap (λ (b : Bool). cond b (Err (event_fault.Tree f)) (Ok (answer.TreeFailed f))) fails; failure = fails })
 tree_by_failure false f g fails is = absurd (cc)
 
-log_by_failure : (b : Bool) (f : LogFault) (g : EventFault) → is_log_failure f ≡ b → (if b then Err (event_fault.Log f) else Ok (answer.LogFailed f)) ≡ Err g → IsTold g
-log_by_failure true f g fails is = subst IsTold (let one : event_fault.Log f ≡ g = cc in one) (record { answer = ap (λ (b : Bool). if b then Err (event_fault.Log f) else Ok (answer.LogFailed f)) fails; failure = fails })
+log_by_failure : (b : Bool) (f : LogFault) (g : EventFault) → is_log_failure f ≡ b → cond b (Err (event_fault.Log f)) (Ok (answer.LogFailed f)) ≡ Err g → IsTold g
+log_by_failure true f g fails is = subst IsTold (let one : event_fault.Log f ≡ g = cc in one) (record { answer = ap (λ (b : Bool). cond b (Err (event_fault.Log f)) (Ok (answer.LogFailed f))) fails; failure = fails })
 log_by_failure false f g fails is = absurd (cc)
 
 -- the fault of a rollback

@@ -1,4 +1,4 @@
-use Rattle.std.proofs.Common.{◌≡◌, Option, None, Result, OnOk, IfErr, subst}
+use Rattle.std.proofs.Common.{◌≡◌, None, OnOk, IfErr, subst}
 use Rattle.kz_spec_stores.specs.Log.{View}
 use Rattle.kz_spec_machine.specs.Machine.{exit_refusal}
 use Rattle.kz_exit.specs.Requests.{IsViewFault, refusal_of}

@@ -1,4 +1,4 @@
-use Rattle.std.proofs.Common.{◌≡◌, List, Option, Result, Ok, OnOk, IfErr, sym, ◌∙◌, subst}
+use Rattle.std.proofs.Common.{◌≡◌, Result, Ok, OnOk, IfErr, sym, ◌∙◌, subst}
 use Rattle.kz_types.specs.declared.fault.TreeFault.{TreeFault}
 use Rattle.kz_spec_stores.specs.Tree.{Tree as TreeValue}
 use Rattle.kz_spec_stores.specs.Requests.{Between}

@@ -1,15 +1,12 @@
-use Rattle.std.proofs.Common.{◌≡◌, List, Option, None, Result, Ok, OnOk, IfErr, IsErrOf, sym, ap, subst, ◌∙◌}
+use Rattle.std.proofs.Common.{◌≡◌, List, Ok, OnOk, IfErr, subst}
 use Rattle.kz_types.specs.declared.tree.Op.{Op}
-use Rattle.kz_types.specs.declared.fault.TreeFault.TheVariants as tree_fault
-use Rattle.kz_spec_stores.specs.Tree.{Tree as TreeValue}
 use Rattle.kz_spec_stores.specs.Log.{Log as LogValue}
-use Rattle.kz_spec_stores.specs.Requests.{Disk, Reset, Only, Between}
+use Rattle.kz_spec_stores.specs.Requests.{Reset, Only, Between}
 use Rattle.kz_spec_machine.specs.Machine.{exit_ops, tree_after_ops}
-use Rattle.kz_exit.specs.declared.faults.ExitFault.TheVariants.{Tree}
 use Rattle.kz_exit.specs.Disks.{TreeDisk}
 use Rattle.kz_exit.specs.Requests.{IsMultiFault}
 use Rattle.kz_exit.proofs.Rollbacks.{kept_left, kept_log, kept_tree, sent_back, sent_left, sent_log}
-use Rattle.kz_exit.proofs.Stops.{kept_stop, sent_stop}
+use Rattle.kz_exit.proofs.Stops.{kept_stop, reset_up, sent_stop}
 use Rattle.kz_exit.proofs.taking_back.make.Goals as goal
 
 -- the log isn't reset
@@ -72,4 +69,4 @@ returns-in-Ok-clause-stop g c =
     (subst (λ (ops : List Op). TreeDisk t g.T.ZTree.payload_bytes ops c.send.result old later) c.requires.ops c.send.ensures.disk)
     (λ failed. subst (λ (ops : List Op). Between t (tree_after_ops t ops) tree_left) c.requires.ops (c.send.ensures.stop failed))
     c.send.ensures.same (g.met.T.ZTree.settled c.send.new.tree) c.in-Ok.ensures.ok
-    (ap (λ (d : Disk). d.down) c.in-Ok.ensures.disk.2 ∙ c.in-Ok.ensures.disk.0) (g.met.L.MetaLog.settled c.reset.new.log)
+    (reset_up (g.L.MetaLog.payload_bytes (g.L.MetaLog.log c.args.log.now) Reset) log_old log_new c.in-Ok.ensures.disk) (g.met.L.MetaLog.settled c.reset.new.log)

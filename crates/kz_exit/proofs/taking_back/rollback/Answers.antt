@@ -1,4 +1,4 @@
-use Rattle.std.proofs.Common.{◌≡◌, Option, None, Result, OnOk, IfErr, sym, subst}
+use Rattle.std.proofs.Common.{◌≡◌, None, OnOk, IfErr, sym, subst}
 use Rattle.kz_spec_stores.specs.Tree.{Tree as TreeValue}
 use Rattle.kz_spec_stores.specs.Log.{Log as LogValue}
 use Rattle.kz_spec_stores.specs.Requests.{Disk, Reset}
