@@ -1,5 +1,5 @@
 -- What an event answers, leaves and keeps.
-use Rattle.std.proofs.Common.{◌≡◌, ◌⊎◌, inl, inr, ℕ, zero, suc, Bool, true, false, if◌then◌else◌, ℤ, pos, List, [], ◌∷◌, Option, Some, None, Result, Ok, Err, IfOk, OnErr, refl, sym, ap, ◌∙◌, subst}
+use Rattle.std.proofs.Common.{◌≡◌, ◌⊎◌, inl, inr, ℕ, zero, suc, Bool, true, false, if◌then◌else◌, ℤ, pos, List, [], ◌∷◌, Option, Some, None, Result, Ok, Err, IfOk, IfErr, refl, sym, ap, ◌∙◌, subst}
 use Rattle.kz_types.specs.declared.fault.TreeFault.{TreeFault}
 use Rattle.kz_types.specs.declared.move_fault.MoveFault.{MoveFault}
 use Rattle.kz_types.specs.declared.machine.Answer.{Answer}
@@ -26,7 +26,7 @@ use Rattle.kz_driver.specs.Disks.{Disks, Payloads}
 use Rattle.kz_turns.specs.Stops.{AreUp, LeavesOneOf}
 use Rattle.kz_world_parts.specs.declared.faults.EventFault.{EventFault}
 use Rattle.kz_world_parts.specs.Disks.{ResultDisks, EventDisks}
-use Rattle.kz_world_parts.specs.Faults.{answer_of_result, result_of_answer}
+use Rattle.kz_world_parts.specs.Faults.{answer_of_fault, answer_of_result, result_of_answer}
 use Rattle.kz_world_parts.specs.Fences.{IsFencedDriver, IsOfFenced, TellsFence}
 use Rattle.kz_world_parts.specs.Stops.{EventLeaves}
 use Rattle.kz_world_parts.specs.Worlds.{IsOutcome}

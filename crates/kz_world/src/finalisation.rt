@@ -3,7 +3,7 @@ ghost use Rattle.std.specs.Prelude.{◌≡◌, false, IfOk, IfSome, OnErr};
 ghost use Rattle.kz_types.specs.declared.machine.Event.TheVariants as event;
 ghost use Rattle.kz_spec_stores.specs.Log.{end_of, image_of};
 ghost use Rattle.kz_spec_machine.specs.Failures.{is_failure};
-ghost use Rattle.kz_spec_machine.specs.Machine.{driver_of, dual_write_refusal, rest_refusal};
+ghost use Rattle.kz_spec_machine.specs.Machine.{driver_of, dual_write_refusal, is_dual_write, rest_refusal, unless};
 ghost use Rattle.kz_driver.specs.Disks.{payloads_of};
 ghost use Rattle.kz_world_parts.specs.Disks.{disks_in, ResultDisks};
 ghost use Rattle.kz_world_parts.specs.Refusals.{end_refusal};
@@ -16,16 +16,24 @@ use kz_tree::ZTree;
 use kz_types::{Answer, DriverState, MIGRATION, MetaRecord, NoMemory, POST_MIGRATION};
 use kz_world_parts::{EventFault, Parts, append, leader_refusal, place_of, read};
 
+// A driver in this state isn't in dual write.
+fn state_refusal(state: DriverState) -> Option<Answer>
+    ensures refusal { result ≡ unless (is_dual_write state) (Answer.NotDualWrite state) }
+    ensures no_failure { IfSome result (λ answer. is_failure answer ≡ false) }
+{
+    match state {
+        DriverState::DualWrite => None,
+        _ => Some(Answer::NotDualWrite { state }),
+    }
+}
+
 // The controller's driver is in another state than dual write.
 fn dual_write_refusal<T: ZTree, L: MetaLog>(parts: &Parts<T, L>, id: i32) -> Option<Answer>
     ensures refusal { result ≡ dual_write_refusal (driver_of id parts.now.drivers.items) }
     ensures no_failure { IfSome result (λ answer. is_failure answer ≡ false) }
 {
     match place_of(&parts.drivers, id) {
-        Some(at) => match parts.drivers[at].state() {
-            DriverState::DualWrite => None,
-            state => Some(Answer::NotDualWrite { state }),
-        },
+        Some(at) => state_refusal(parts.drivers[at].state()),
         None => None,
     }
 }
@@ -91,7 +99,9 @@ pub fn finalise<T: ZTree, L: MetaLog>(
     match end_refusal(parts, id) {
         Ok(None) => append(
             parts,
-            &[MetaRecord::ZkMigrationState(POST_MIGRATION)],
+            &[MetaRecord::ZkMigrationState {
+                state: POST_MIGRATION,
+            }],
             now,
         ),
         Ok(Some(refusal)) => Ok(refusal),

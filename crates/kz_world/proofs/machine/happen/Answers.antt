@@ -1,11 +1,13 @@
-use Rattle.std.proofs.Common.{rules, refl, sym, ap, ◌∙◌, w32, w64, to_z, of_z, List}
+use Rattle.std.proofs.Common.{rules, refl, sym, ap, ◌∙◌, subst, w32, w64, to_z, of_z, List}
 use Rattle.std.proofs.lemmas.Int.{to_z-of_z}
 use mir.Val.{SFits}
+use Rattle.kz_types.specs.declared.machine.Event.{Event}
 use Rattle.kz_types.specs.declared.machine.Event.TheVariants as event
 use Rattle.kz_types.specs.declared.record.MetaRecord.{MetaRecord}
 use Rattle.kz_types.specs.declared.tree.Op.{Op}
 use Rattle.kz_spec_machine.specs.Machine.{event_pairs}
-use Rattle.kz_world_parts.specs.Disks.{disks_in}
+use Rattle.kz_driver.specs.Disks.{payloads_of}
+use Rattle.kz_world_parts.specs.Disks.{disks_in, ResultDisks}
 use Rattle.kz_world_parts.specs.Worlds.{world_of_parts, world_of}
 use Rattle.kz_world_parts.proofs.Stops.{still_failure, event_later}
 use Rattle.kz_world.proofs.machine.happen.Goals as goal
@@ -88,6 +90,29 @@ returns-in-Register-clause-stop g c = λ sound.
     event_later w w (event.Register (to_z w32 (of_z w32 c.in-Register.controller)) (to_z w32 (of_z w32 c.in-Register.broker)) c.in-Register.migrating (to_z w64 (of_z w64 c.in-Register.now))) c.args.event.now c.register.result disks disks (g.T.ZTree.left q.tree.inner) (g.L.MetaLog.left q.log.inner) refl refl
     (ap (λ x. event.Register x (to_z w32 (of_z w32 c.in-Register.broker)) c.in-Register.migrating (to_z w64 (of_z w64 c.in-Register.now))) (to_z-of_z w32 c.in-Register.controller controller_fits) ∙ ap (λ x. event.Register c.in-Register.controller x c.in-Register.migrating (to_z w64 (of_z w64 c.in-Register.now))) (to_z-of_z w32 c.in-Register.broker broker_fits) ∙ ap (λ x. event.Register c.in-Register.controller c.in-Register.broker c.in-Register.migrating x) (to_z-of_z w64 c.in-Register.now now_fits) ∙ sym c.in-Register.is)
     c.register.ensures.stop
+
+pub returns-in-Finalise-clause-disks : goal.returns-in-Finalise-clause-disks
+returns-in-Finalise-clause-disks g c = λ sound.
+    let w = world_of g.T.ZTree.tree g.L.MetaLog.log c.args.parts.now in
+    let disks = disks_in g.T.ZTree.disk g.L.MetaLog.disk in
+    let payloads = payloads_of g.T.ZTree.payload_bytes g.L.MetaLog.payload_bytes in
+    let controller_fits : SFits w32 c.in-Finalise.controller = search rules in
+    let now_fits : SFits w64 c.in-Finalise.now = search rules in
+    subst (λ (e : Event). ResultDisks w e payloads c.finalise.result (disks (world_of_parts c.args.parts.now)) (disks (world_of_parts c.finalise.new.parts)))
+    (ap (λ x. event.Finalise x (to_z w64 (of_z w64 c.in-Finalise.now))) (to_z-of_z w32 c.in-Finalise.controller controller_fits) ∙ ap (λ x. event.Finalise c.in-Finalise.controller x) (to_z-of_z w64 c.in-Finalise.now now_fits) ∙ sym c.in-Finalise.is)
+    c.finalise.ensures.disks
+
+pub returns-in-Finalise-clause-stop : goal.returns-in-Finalise-clause-stop
+returns-in-Finalise-clause-stop g c = λ sound.
+    let p = c.args.parts.now in
+    let q = c.finalise.new.parts in
+    let w = world_of g.T.ZTree.tree g.L.MetaLog.log p in
+    let disks = disks_in g.T.ZTree.disk g.L.MetaLog.disk (world_of_parts p) in
+    let controller_fits : SFits w32 c.in-Finalise.controller = search rules in
+    let now_fits : SFits w64 c.in-Finalise.now = search rules in
+    event_later w w (event.Finalise (to_z w32 (of_z w32 c.in-Finalise.controller)) (to_z w64 (of_z w64 c.in-Finalise.now))) c.args.event.now c.finalise.result disks disks (g.T.ZTree.left q.tree.inner) (g.L.MetaLog.left q.log.inner) refl refl
+    (ap (λ x. event.Finalise x (to_z w64 (of_z w64 c.in-Finalise.now))) (to_z-of_z w32 c.in-Finalise.controller controller_fits) ∙ ap (λ x. event.Finalise c.in-Finalise.controller x) (to_z-of_z w64 c.in-Finalise.now now_fits) ∙ sym c.in-Finalise.is)
+    c.finalise.ensures.stop
 
 pub returns-in-Check-clause-stop : goal.returns-in-Check-clause-stop
 returns-in-Check-clause-stop g c = λ sound.

@@ -17,7 +17,7 @@ returns-clause-next g c =
     let disks = disks_in g.T.ZTree.disk g.L.MetaLog.disk in
     let payloads = payloads_of g.T.ZTree.payload_bytes g.L.MetaLog.payload_bytes in
     let p = c.self.inside.parts in
-    let q = c.happen.new.parts in
+    let q = c.let_happen.new.parts in
     let w = world p in
     let new = world q in
     let e = c.args.event.now in
@@ -26,7 +26,7 @@ returns-clause-next g c =
     let old = disks (world_of_parts p) in
     let later = disks (world_of_parts q) in
     subst (λ v. Sound (plain v) → is_failure told ≡ false → next (plain v) e ≡ (new, told)) c.self.view_is (λ sound.
-    event_done w new e payloads c.happen.result told old later told_is (c.happen.ensures.ok sound) (c.happen.ensures.disks sound))
+    event_done w new e payloads c.let_happen.result told old later told_is (c.let_happen.ensures.ok sound) (c.let_happen.ensures.disks sound))
 
 pub returns-clause-failed : goal.returns-clause-failed
 returns-clause-failed g c =
@@ -35,7 +35,7 @@ returns-clause-failed g c =
     let disks = disks_in g.T.ZTree.disk g.L.MetaLog.disk in
     let payloads = payloads_of g.T.ZTree.payload_bytes g.L.MetaLog.payload_bytes in
     let p = c.self.inside.parts in
-    let q = c.happen.new.parts in
+    let q = c.let_happen.new.parts in
     let w = world p in
     let new = world q in
     let e = c.args.event.now in
@@ -44,7 +44,7 @@ returns-clause-failed g c =
     let old = disks (world_of_parts p) in
     let later = disks (world_of_parts q) in
     subst (λ v. Sound (plain v) → is_failure told ≡ true → IsLeft (plain v) e told new) c.self.view_is (λ sound.
-    event_failed w new e c.happen.result told told_is (c.happen.ensures.ok sound) c.happen.ensures.err)
+    event_failed w new e c.let_happen.result told told_is (c.let_happen.ensures.ok sound) c.let_happen.ensures.err)
 
 pub returns-clause-sound : goal.returns-clause-sound
 returns-clause-sound g c =
@@ -53,7 +53,7 @@ returns-clause-sound g c =
     let disks = disks_in g.T.ZTree.disk g.L.MetaLog.disk in
     let payloads = payloads_of g.T.ZTree.payload_bytes g.L.MetaLog.payload_bytes in
     let p = c.self.inside.parts in
-    let q = c.happen.new.parts in
+    let q = c.let_happen.new.parts in
     let w = world p in
     let new = world q in
     let e = c.args.event.now in
@@ -62,8 +62,8 @@ returns-clause-sound g c =
     let old = disks (world_of_parts p) in
     let later = disks (world_of_parts q) in
     subst (λ v. Sound (plain v) → Sound new) c.self.view_is (λ sound.
-    sound_after w e told new c.requires (event_done w new e payloads c.happen.result told old later told_is (c.happen.ensures.ok sound) (c.happen.ensures.disks sound))
-    (event_failed w new e c.happen.result told told_is (c.happen.ensures.ok sound) c.happen.ensures.err) sound)
+    sound_after w e told new c.requires (event_done w new e payloads c.let_happen.result told old later told_is (c.let_happen.ensures.ok sound) (c.let_happen.ensures.disks sound))
+    (event_failed w new e c.let_happen.result told told_is (c.let_happen.ensures.ok sound) c.let_happen.ensures.err) sound)
 
 pub returns-clause-disks : goal.returns-clause-disks
 returns-clause-disks g c =
@@ -72,7 +72,7 @@ returns-clause-disks g c =
     let disks = disks_in g.T.ZTree.disk g.L.MetaLog.disk in
     let payloads = payloads_of g.T.ZTree.payload_bytes g.L.MetaLog.payload_bytes in
     let p = c.self.inside.parts in
-    let q = c.happen.new.parts in
+    let q = c.let_happen.new.parts in
     let w = world p in
     let new = world q in
     let e = c.args.event.now in
@@ -81,7 +81,7 @@ returns-clause-disks g c =
     let old = disks (world_of_parts p) in
     let later = disks (world_of_parts q) in
     subst (λ v. Sound (plain v) → EventDisks (plain v) e payloads told (disks v) later) c.self.view_is (λ sound.
-    event_disks w new e payloads c.happen.result told old later told_is (c.happen.ensures.ok sound) (c.happen.ensures.disks sound))
+    event_disks w new e payloads c.let_happen.result told old later told_is (c.let_happen.ensures.ok sound) (c.let_happen.ensures.disks sound))
 
 pub returns-clause-fenced : goal.returns-clause-fenced
 returns-clause-fenced g c =
@@ -90,7 +90,7 @@ returns-clause-fenced g c =
     let disks = disks_in g.T.ZTree.disk g.L.MetaLog.disk in
     let payloads = payloads_of g.T.ZTree.payload_bytes g.L.MetaLog.payload_bytes in
     let p = c.self.inside.parts in
-    let q = c.happen.new.parts in
+    let q = c.let_happen.new.parts in
     let w = world p in
     let new = world q in
     let e = c.args.event.now in
@@ -99,8 +99,8 @@ returns-clause-fenced g c =
     let old = disks (world_of_parts p) in
     let later = disks (world_of_parts q) in
     subst (λ v. Sound (plain v) → IsOfFenced (plain v) e ⊎ TellsFence told → new.shared ≡ (plain v).shared) c.self.view_is (λ sound.
-    fenced_after w e told new c.requires (event_done w new e payloads c.happen.result told old later told_is (c.happen.ensures.ok sound) (c.happen.ensures.disks sound))
-    (event_failed w new e c.happen.result told told_is (c.happen.ensures.ok sound) c.happen.ensures.err) sound)
+    fenced_after w e told new c.requires (event_done w new e payloads c.let_happen.result told old later told_is (c.let_happen.ensures.ok sound) (c.let_happen.ensures.disks sound))
+    (event_failed w new e c.let_happen.result told told_is (c.let_happen.ensures.ok sound) c.let_happen.ensures.err) sound)
 
 pub returns-clause-stop : goal.returns-clause-stop
 returns-clause-stop g c =
@@ -109,7 +109,7 @@ returns-clause-stop g c =
     let disks = disks_in g.T.ZTree.disk g.L.MetaLog.disk in
     let payloads = payloads_of g.T.ZTree.payload_bytes g.L.MetaLog.payload_bytes in
     let p = c.self.inside.parts in
-    let q = c.happen.new.parts in
+    let q = c.let_happen.new.parts in
     let w = world p in
     let new = world q in
     let e = c.args.event.now in
@@ -118,4 +118,4 @@ returns-clause-stop g c =
     let old = disks (world_of_parts p) in
     let later = disks (world_of_parts q) in
     subst (λ v. Sound (plain v) → AreUp (disks v) → is_failure told ≡ true → LeavesOneOf (pair_of (plain v).shared ∷ event_pairs (plain v) e) (g.T.ZTree.left q.tree.inner) (g.L.MetaLog.left q.log.inner)) c.self.view_is (λ sound.
-    event_stop w e c.happen.result told old (g.T.ZTree.left q.tree.inner) (g.L.MetaLog.left q.log.inner) told_is (c.happen.ensures.stop sound))
+    event_stop w e c.let_happen.result told old (g.T.ZTree.left q.tree.inner) (g.L.MetaLog.left q.log.inner) told_is (c.let_happen.ensures.stop sound))
