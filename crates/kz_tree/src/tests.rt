@@ -298,7 +298,7 @@ fn filled(rt: &impl Abort, alloc: Global) -> Tree {
 #[test]
 fn the_migrated_area_is_read(rt: HostRuntime) {
     let tree = filled(&rt, rt.alloc());
-    assert!(rt; tree.rows().len() == 10);
+    assert!(rt; tree.count() == 10);
     assert!(rt; made(&rt, tree.broker_ids()).as_slice() == [2, 10].as_slice());
     assert!(rt; tree.area_len() == 3);
     let area = made(&rt, tree.area());
