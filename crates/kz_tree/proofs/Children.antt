@@ -1,10 +1,11 @@
 -- Where the children of a path stand among paths that rise.
-use Rattle.std.proofs.Common.{◌≡◌, ◌≢◌, ℕ, Bool, true, false, ◌||◌, List, [], ◌∷◌, ◌++◌, Some, None, Less, nat_cmp, refl, sym, ap, ◌∙◌, eq_of_eqb}
+use Rattle.std.proofs.Common.{◌≡◌, ◌≢◌, ℕ, Bool, true, false, ◌||◌, List, [], ◌∷◌, ◌++◌, Some, None, Less, nat_cmp, refl, sym, ap, ◌∙◌, eqb-true}
 use Rattle.std.specs.Bool.{nat_eq}
 use Rattle.std.specs.List.{list_any, filter}
 use Rattle.std.specs.Str.{bytes_eq}
 use Rattle.std.specs.Ordering.{match_ordering}
 use Rattle.kz_types.specs.declared.tree.Row.{Row}
+use Rattle.kz_types.specs.PathRule.{is_path, has_path_form}
 use Rattle.kz_types.proofs.NumberLemmas.{bytes_eq-true, bytes_eq-same}
 use Rattle.kz_ordered.specs.Order.{bytes_cmp}
 use Rattle.kz_ordered.specs.Ordered.{RisesAbove}
@@ -29,7 +30,7 @@ Parted path = (name : List ℕ) × (path ≡ parent_of path ++ 47 ∷ name)
 
 parted_by : (b : ℕ) (bs : List ℕ) (c : Bool) → any_slash bs ≡ c → any_slash (b ∷ bs) ≡ true → (any_slash bs ≡ true → Parted bs) → Parted (b ∷ bs)
 parted_by b bs true e h rest = let r = rest e in (r.0, rw e (ap (λ l. b ∷ l) r.1))
-parted_by b bs false e h rest = (bs, rw e (ap (λ x. x ∷ bs) (eq_of_eqb b 47 (left_holds (nat_eq b 47) (any_slash bs) h e))))
+parted_by b bs false e h rest = (bs, rw e (ap (λ x. x ∷ bs) (eqb-true b 47 (left_holds (nat_eq b 47) (any_slash bs) h e))))
 
 parted : (path : List ℕ) → any_slash path ≡ true → Parted path
 parted [] h = absurd (cc)
@@ -56,6 +57,14 @@ child_from (p ∷ ps) name h = child_from ps name (sym (same_first p (ps ++ 47 �
 child_before : (path name : List ℕ) → bytes_cmp (path ++ 47 ∷ name) (path ++ 48 ∷ []) ≡ Less
 child_before [] name = refl
 child_before (p ∷ ps) name = same_first p (ps ++ 47 ∷ name) (ps ++ 48 ∷ []) ∙ child_before ps name
+
+-- a path is not empty
+no_path : is_path [] ≡ false
+unfolding is_path has_path_form
+no_path = refl
+
+pub not_empty : (path : List ℕ) → is_path path ≡ true → path ≢ []
+not_empty path h e = let none = sym (ap is_path e ∙ no_path) ∙ h in cc
 
 module _ (path : List ℕ) (ne : path ≢ []) where
   no_child_by : (r : Row) (b : Bool) → bytes_eq (parent_of r.path) path ≡ b → ((name : List ℕ) → r.path ≡ path ++ 47 ∷ name → ⊥) → b ≡ false

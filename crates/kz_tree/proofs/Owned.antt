@@ -1,5 +1,5 @@
 -- The znodes that end with a session, and their parents.
-use Rattle.std.proofs.Common.{◌≡◌, ℕ, ℤ, Bool, true, false, not, ◌||◌, ◌&&◌, List, [], ◌∷◌, ◌++◌, map, Bor, cond, refl, sym, ap, ◌∙◌, append-nil, append-assoc, subst, Some}
+use Rattle.std.proofs.Common.{◌≡◌, ℕ, ℤ, Bool, true, false, not, ◌||◌, ◌&&◌, List, [], ◌∷◌, ◌++◌, map, Bor, cond, refl, sym, ap, ◌∙◌, append-nil, append_assoc, subst, Some}
 use Rattle.std.specs.List.{filter, list_any}
 use Rattle.std.specs.Str.{bytes_eq}
 use Rattle.std.proofs.lemmas.List.{map-append}
@@ -67,10 +67,10 @@ grown : (zxid session : ℤ) (rows done rest : List Row) (r : Row) → left_of z
 grown zxid session rows done rest r =
     ap (λ l. map (after_loss zxid session rows) l ++ rest) (filter-append (λ (x : Row). not (is_owned session x)) done (r ∷ []))
     ∙ ap (λ l. l ++ rest) (map-append (after_loss zxid session rows) (filter (λ (x : Row). not (is_owned session x)) done) (filter (λ (x : Row). not (is_owned session x)) (r ∷ [])))
-    ∙ append-assoc (left_of zxid session rows done) (left_of zxid session rows (r ∷ [])) rest
+    ∙ append_assoc (left_of zxid session rows done) (left_of zxid session rows (r ∷ [])) rest
 
 next_joined : (rows done rest : List Row) (r : Row) → rows ≡ done ++ r ∷ rest → rows ≡ (done ++ r ∷ []) ++ rest
-next_joined rows done rest r e = e ∙ sym (append-assoc done (r ∷ []) rest)
+next_joined rows done rest r e = e ∙ sym (append_assoc done (r ∷ []) rest)
 
 -- a znode that goes
 pub left_out : (zxid session : ℤ) (rows rest made next : List Row) (r : Row) → IsLeft zxid session rows (r ∷ rest) made → is_owned session r ≡ true → next ≡ without_row r.path made → IsLeft zxid session rows rest next

@@ -116,12 +116,7 @@ fn is_among(paths: &[&[u8]], path: &[u8]) -> bool
 }
 
 /// The znodes without those that end with a session; their parents show it. Only what changes is copied.
-pub fn without_owned(
-    alloc: Global,
-    rows: &Rows,
-    session: i64,
-    zxid: i64,
-) -> Result<Rows, NoMemory>
+pub fn without_owned(alloc: Global, rows: &Rows, session: i64, zxid: i64) -> Result<Rows, NoMemory>
     ensures value { IfOk result (λ made. made ≡ without_owned zxid session rows.now) }
     ensures rise { IfOk result (λ made. AreRows made) }
 {

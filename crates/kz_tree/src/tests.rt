@@ -310,6 +310,20 @@ fn the_migrated_area_is_read(rt: HostRuntime) {
     drop(tree);
 }
 
+// A path that only begins alike is no child, although it stands before the children.
+#[test]
+fn siblings_are_no_children(rt: HostRuntime) {
+    let alloc = rt.alloc();
+    let mut tree = filled(&rt, alloc);
+    assert!(rt; answers(&rt, alloc, &mut tree, &[Ask::Delete("/config/brokers", 0)], Told::Done(2)));
+    assert!(rt; answers(&rt, alloc, &mut tree, &[Ask::Delete("/config", 0)], Told::Refused(0, -111)));
+    assert!(rt; tree.count() == 9);
+    assert!(rt; tree.area_len() == 2);
+    let mut rows = tree.rows();
+    assert!(rt; rows.next().is_some());
+    drop(tree);
+}
+
 // Whether a page has so many znodes, and the first has this path.
 fn is_page(page: Vec<Row>, count: usize, path: &str) -> bool {
     let is_first = match page.first() {

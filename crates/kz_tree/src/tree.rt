@@ -17,7 +17,8 @@ use crate::rows::Rows;
 use crate::sessions::{is_live, with_session, without_owned, without_session};
 use kz_blocks::Items;
 use kz_types::{
-    Duplicate, Limit, MAX_LONG, MoveFault, NoMemory, Op, Recorded, Rendered, Row, TreeFault, ZPath, copy_all,
+    Duplicate, Limit, MAX_LONG, MoveFault, NoMemory, Op, Recorded, Rendered, Row, TreeFault, ZPath,
+    copy_all,
 };
 use std::alloc::Global;
 use std::marker::Model;
@@ -260,6 +261,7 @@ impl Tree {
     }
 
     /// How many znodes the migrated area has.
+    #[tactic(auto, using(crate::proofs::Areas::area_count))]
     pub fn area_len(&self) -> usize
         ensures { result ≡ length (tree.area self.now) }
     {
