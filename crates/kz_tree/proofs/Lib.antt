@@ -1,5 +1,5 @@
 pub mod Areas
-pub mod Children
+pub mod ChildPaths
 pub mod Counts
 pub mod Kept
 pub mod LastSlash
