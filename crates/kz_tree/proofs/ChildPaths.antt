@@ -1,8 +1,8 @@
 -- Where the children of a path stand among paths that rise.
-use Rattle.std.proofs.Common.{◌≡◌, ◌≢◌, ℕ, Bool, true, false, ◌||◌, List, [], ◌∷◌, ◌++◌, Some, None, Less, nat_cmp, refl, sym, ap, ◌∙◌, eqb-true}
+use Rattle.std.proofs.Common.{◌≡◌, ◌≢◌, ℕ, Bool, true, false, ◌||◌, ◌&&◌, List, [], ◌∷◌, ◌++◌, Option, Some, None, is_some, option_map, Less, refl, sym, ap, ◌∙◌, eqb-true}
 use Rattle.std.specs.Bool.{nat_eq}
 use Rattle.std.specs.List.{list_any, filter}
-use Rattle.std.specs.Str.{bytes_eq}
+use Rattle.std.specs.Str.{bytes_eq, is_utf8}
 use Rattle.std.specs.Ordering.{match_ordering}
 use Rattle.kz_types.specs.declared.tree.Row.{Row}
 use Rattle.kz_types.specs.PathRule.{is_path, has_path_form}
@@ -20,8 +20,18 @@ any_slash bs = list_any (λ x. nat_eq x 47) bs
 
 left_holds : (a b : Bool) → (a || b) ≡ true → b ≡ false → a ≡ true
 left_holds true b h e = refl
-left_holds false true h e = e
+left_holds false true h e = sym e
 left_holds false false h e = h
+
+-- ---- what a look-up tells
+
+pub some_there : {A B : Type 0} (f : A → B) (o : Option A) (x : Option B) → is_some o ≡ true → option_map f o ≡ x → x ≢ None
+some_there f None x h e none = absurd (cc)
+some_there f (Some a) x h e none = let is = e ∙ none in absurd (cc)
+
+pub none_there : {A B : Type 0} (f : A → B) (o : Option A) (x : Option B) → is_some o ≡ false → option_map f o ≡ x → x ≡ None
+none_there f None x h e = sym e
+none_there f (Some a) x h e = absurd (cc)
 
 -- ---- a path with a slash is its parent's path, a slash, and a name
 
@@ -59,9 +69,13 @@ child_before [] name = refl
 child_before (p ∷ ps) name = same_first p (ps ++ 47 ∷ name) (ps ++ 48 ∷ []) ∙ child_before ps name
 
 -- a path is not empty
+never : (a : Bool) → (((a && false) && true) && true) ≡ false
+never true = refl
+never false = refl
+
 no_path : is_path [] ≡ false
 unfolding is_path has_path_form
-no_path = refl
+no_path = never (is_utf8 [])
 
 pub not_empty : (path : List ℕ) → is_path path ≡ true → path ≢ []
 not_empty path h e = let none = sym (ap is_path e ∙ no_path) ∙ h in cc

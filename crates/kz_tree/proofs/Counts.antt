@@ -1,15 +1,15 @@
 -- How many znodes there are after a change.
-use Rattle.std.proofs.Common.{◌≡◌, ◌≢◌, ℕ, ◌+◌, ◌≤◌, Bool, true, false, cond, not, List, [], ◌∷◌, length, Option, Some, None, Ordering, refl, sym, ap, ◌∙◌, arith}
+use Rattle.std.proofs.Common.{◌≡◌, ◌≢◌, ℕ, ◌+◌, ◌≤◌, Bool, true, false, cond, not, List, [], ◌∷◌, length, Option, Some, None, Result, Ok, Err, OnOk, OnErr, Ordering, refl, sym, ap, ◌∙◌, arith}
 use Rattle.std.specs.List.{sum_by, count_by}
 use Rattle.std.proofs.lemmas.List.Sums.{sum_by-cons, count_by-le-length}
 use Rattle.kz_types.specs.Paths.{is_migrated}
 use Rattle.kz_types.specs.declared.tree.Row.{Row}
-use Rattle.kz_ordered.specs.Order.{TotalOrder, bytes_cmp}
+use Rattle.kz_ordered.specs.Order.{TotalOrder}
 use Rattle.kz_ordered.specs.Ordered.{find, put, without, Rises}
 use Rattle.kz_ordered.proofs.Order.{below, equal, above, place, cmp_equal, cmp_greater, less_differs, less_differs_back, bytes_order}
 use Rattle.kz_ordered.proofs.Lookup.{some_is_none, same_some, find_here, find_skip, find_below_first, rest_rises, key_of_found, without_here, without_skip, Rises-put, Rises-without}
 use Rattle.kz_spec_stores.specs.Tree.{path_of_row, row_at, put_row, without_row, count_beside}
-use Rattle.kz_tree.specs.Kept.{AreRows, AreCounted}
+use Rattle.kz_tree.specs.Kept.{AreCounted}
 
 module _ {A K : Type 0} {cmp : K → K → Ordering} (o : TotalOrder cmp) (key : A → K) (w : A → ℕ) where
   pub sum_by-put_new : (x : A) (ys : List A) → find cmp key (key x) ys ≡ None → sum_by w (put cmp key x ys) ≡ w x + sum_by w ys
@@ -44,6 +44,11 @@ module _ {A K : Type 0} {cmp : K → K → Ordering} (o : TotalOrder cmp) (key :
     | equal h ↦ ap (λ l. w y + sum_by w l) (without_here o key k z zs h) ∙ ap (λ x. w x + sum_by w zs) (sym (same_some z y (sym (find_here o key k z zs h) ∙ e))) ∙ sym (sum_by-cons w z zs)
     | above h ↦ skipped k z zs y (less_differs_back o k (key z) h) (sum_by-without k zs y (sym (find_skip o key k z zs (less_differs_back o k (key z) h)) ∙ e))
   ]
+
+-- what follows from either outcome
+pub at_either : {T E : Type 0} (r : Result T E) (P Q G : Type 0) → OnOk r P → OnErr r Q → (P → G) → (Q → G) → G
+at_either (Ok x) P Q G ok err then or = then ok
+at_either (Err e) P Q G ok err then or = or err
 
 -- ---- the znodes
 

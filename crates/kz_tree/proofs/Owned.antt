@@ -1,5 +1,5 @@
 -- The znodes that end with a session, and their parents.
-use Rattle.std.proofs.Common.{◌≡◌, ℕ, ℤ, Bool, true, false, not, ◌||◌, ◌&&◌, List, [], ◌∷◌, ◌++◌, map, Bor, cond, refl, sym, ap, ◌∙◌, append-nil, append_assoc, subst, Some}
+use Rattle.std.proofs.Common.{◌≡◌, ℕ, ℤ, Bool, true, false, not, ◌||◌, ◌&&◌, List, [], ◌∷◌, ◌++◌, map, Bor, refl, sym, ap, ◌∙◌, append-nil, append_assoc, subst, Some}
 use Rattle.std.specs.List.{filter, list_any}
 use Rattle.std.specs.Str.{bytes_eq}
 use Rattle.std.proofs.lemmas.List.{map-append}
@@ -7,7 +7,6 @@ use Rattle.std.proofs.lemmas.List.Elements.{filter-append}
 use Rattle.std.proofs.lemmas.List.Folds.{list_any-append}
 use Rattle.kz_types.specs.declared.tree.Row.{Row}
 use Rattle.kz_types.proofs.NumberLemmas.{bytes_eq-true}
-use Rattle.kz_ordered.specs.Order.{bytes_cmp}
 use Rattle.kz_ordered.proofs.Order.{bytes_order}
 use Rattle.kz_ordered.proofs.Append.{without_at_split, put_at_split, find_at_split, below_split}
 use Rattle.kz_ordered.proofs.Lookup.{Rises-put, Rises-without}
@@ -73,8 +72,9 @@ next_joined : (rows done rest : List Row) (r : Row) → rows ≡ done ++ r ∷ r
 next_joined rows done rest r e = e ∙ sym (append_assoc done (r ∷ []) rest)
 
 -- a znode that goes
-pub left_out : (zxid session : ℤ) (rows rest made next : List Row) (r : Row) → IsLeft zxid session rows (r ∷ rest) made → is_owned session r ≡ true → next ≡ without_row r.path made → IsLeft zxid session rows rest next
-left_out zxid session rows rest made next r h owned e =
+pub left_out : (zxid session : ℤ) (rows left rest made next : List Row) (r : Row) → IsLeft zxid session rows left made → left ≡ r ∷ rest → is_owned session r ≡ true → next ≡ without_row r.path made → IsLeft zxid session rows rest next
+left_out zxid session rows left rest made next r was steps owned e =
+    let h = subst (λ (l : List Row). IsLeft zxid session rows l made) steps was in
     let front = left_of zxid session rows h.done in
     let under = below_split bytes_order path_of_row front r rest (subst AreRows h.same h.rise) in
     record {
@@ -85,9 +85,10 @@ left_out zxid session rows rest made next r h owned e =
     }
 
 -- one whose parent's znode loses a child
-pub left_touched : (zxid session : ℤ) (rows rest made next : List Row) (r : Row) → IsLeft zxid session rows (r ∷ rest) made → is_owned session r ≡ false → loses_child session rows r.path ≡ true
+pub left_touched : (zxid session : ℤ) (rows left rest made next : List Row) (r : Row) → IsLeft zxid session rows left made → left ≡ r ∷ rest → is_owned session r ≡ false → loses_child session rows r.path ≡ true
     → next ≡ with_child_change zxid (row_at r.path made) made → IsLeft zxid session rows rest next
-left_touched zxid session rows rest made next r h kept loses e =
+left_touched zxid session rows left rest made next r was steps kept loses e =
+    let h = subst (λ (l : List Row). IsLeft zxid session rows l made) steps was in
     let front = left_of zxid session rows h.done in
     let under = below_split bytes_order path_of_row front r rest (subst AreRows h.same h.rise) in
     let found = ap (row_at r.path) h.same ∙ find_at_split bytes_order path_of_row r.path front r rest under refl in
@@ -102,13 +103,15 @@ left_touched zxid session rows rest made next r h kept loses e =
     }
 
 -- and one that stays as it is
-pub left_same : (zxid session : ℤ) (rows rest made : List Row) (r : Row) → IsLeft zxid session rows (r ∷ rest) made → is_owned session r ≡ false → loses_child session rows r.path ≡ false → IsLeft zxid session rows rest made
-left_same zxid session rows rest made r h kept loses = record {
-  done = h.done ++ r ∷ [];
-  joined = next_joined rows h.done rest r h.joined;
-  same = h.same ∙ sym (grown zxid session rows h.done rest r ∙ rw (kept, loses) refl);
-  rise = h.rise;
-}
+pub left_same : (zxid session : ℤ) (rows left rest made : List Row) (r : Row) → IsLeft zxid session rows left made → left ≡ r ∷ rest → is_owned session r ≡ false → loses_child session rows r.path ≡ false → IsLeft zxid session rows rest made
+left_same zxid session rows left rest made r was steps kept loses =
+    let h = subst (λ (l : List Row). IsLeft zxid session rows l made) steps was in
+    record {
+      done = h.done ++ r ∷ [];
+      joined = next_joined rows h.done rest r h.joined;
+      same = h.same ∙ sym (grown zxid session rows h.done rest r ∙ rw (kept, loses) refl);
+      rise = h.rise;
+    }
 
 pub all_left : (zxid session : ℤ) (rows made : List Row) → IsLeft zxid session rows [] made → made ≡ without_owned zxid session rows
 all_left zxid session rows made h = h.same ∙ append-nil (left_of zxid session rows h.done) ∙ ap (left_of zxid session rows) (sym (h.joined ∙ append-nil h.done))

@@ -315,8 +315,24 @@ fn the_migrated_area_is_read(rt: HostRuntime) {
 fn siblings_are_no_children(rt: HostRuntime) {
     let alloc = rt.alloc();
     let mut tree = filled(&rt, alloc);
-    assert!(rt; answers(&rt, alloc, &mut tree, &[Ask::Delete("/config/brokers", 0)], Told::Done(2)));
-    assert!(rt; answers(&rt, alloc, &mut tree, &[Ask::Delete("/config", 0)], Told::Refused(0, -111)));
+    assert!(rt;
+        answers(
+            &rt,
+            alloc,
+            &mut tree,
+            &[Ask::Delete("/config/brokers", 0)],
+            Told::Done(2)
+        )
+    );
+    assert!(rt;
+        answers(
+            &rt,
+            alloc,
+            &mut tree,
+            &[Ask::Delete("/config", 0)],
+            Told::Refused(0, -111)
+        )
+    );
     assert!(rt; tree.count() == 9);
     assert!(rt; tree.area_len() == 2);
     let mut rows = tree.rows();

@@ -261,7 +261,6 @@ impl Tree {
     }
 
     /// How many znodes the migrated area has.
-    #[tactic(auto, using(crate::proofs::Areas::area_count))]
     pub fn area_len(&self) -> usize
         ensures { result ≡ length (tree.area self.now) }
     {
