@@ -1,5 +1,5 @@
 -- The znodes that end with a session, and their parents.
-use Rattle.std.proofs.Common.{◌≡◌, ℕ, ℤ, Bool, true, false, not, ◌||◌, ◌&&◌, List, [], ◌∷◌, ◌++◌, map, Bor, refl, sym, ap, ◌∙◌, append-nil, append_assoc, subst, Some}
+use Rattle.std.proofs.Common.{◌≡◌, ℕ, ℤ, Bool, true, false, not, ◌||◌, ◌&&◌, List, [], ◌∷◌, ◌++◌, map, Bor, refl, sym, ap, ◌∙◌, append_assoc, subst, Some}
 use Rattle.std.specs.List.{filter, list_any}
 use Rattle.std.specs.Str.{bytes_eq}
 use Rattle.std.proofs.lemmas.List.{map-append}
@@ -10,7 +10,7 @@ use Rattle.kz_types.proofs.NumberLemmas.{bytes_eq-true}
 use Rattle.kz_ordered.proofs.Order.{bytes_order}
 use Rattle.kz_ordered.proofs.Append.{without_at_split, put_at_split, find_at_split, below_split}
 use Rattle.kz_ordered.proofs.Lookup.{Rises-put, Rises-without}
-use Rattle.kz_spec_stores.specs.Tree.{path_of_row, row_at, without_row, with_child_change, is_owned, loses_child, after_loss, without_owned, parent_of}
+use Rattle.kz_spec_stores.specs.Tree.{path_of_row, row_at, without_row, with_child_change, is_owned, loses_child, after_loss, parent_of}
 use Rattle.kz_tree.specs.Kept.{AreRows}
 
 -- ---- parents
@@ -58,9 +58,6 @@ pub record IsLeft (zxid session : ℤ) (rows rest made : List Row) : Type 0 wher
   pub joined : rows ≡ done ++ rest
   pub same : made ≡ left_of zxid session rows done ++ rest
   pub rise : AreRows made
-
-pub left_first : (zxid session : ℤ) (rows made : List Row) → AreRows rows → made ≡ rows → IsLeft zxid session rows rows made
-left_first zxid session rows made h e = record { done = []; joined = refl; same = e; rise = subst AreRows (sym e) h }
 
 grown : (zxid session : ℤ) (rows done rest : List Row) (r : Row) → left_of zxid session rows (done ++ r ∷ []) ++ rest ≡ left_of zxid session rows done ++ (left_of zxid session rows (r ∷ []) ++ rest)
 grown zxid session rows done rest r =
@@ -112,6 +109,3 @@ left_same zxid session rows left rest made r was steps kept loses =
       same = h.same ∙ sym (grown zxid session rows h.done rest r ∙ rw (kept, loses) refl);
       rise = h.rise;
     }
-
-pub all_left : (zxid session : ℤ) (rows made : List Row) → IsLeft zxid session rows [] made → made ≡ without_owned zxid session rows
-all_left zxid session rows made h = h.same ∙ append-nil (left_of zxid session rows h.done) ∙ ap (left_of zxid session rows) (sym (h.joined ∙ append-nil h.done))
