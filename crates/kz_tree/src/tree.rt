@@ -45,6 +45,18 @@ impl Model for Tree {
     ghost invariant = { λ t. IsKept t.zxid t.sessions.items t.rows };
 }
 
+impl Duplicate for Tree {
+    // The znodes are shared, not copied.
+    fn copy(&self, alloc: Global) -> Result<Self, NoMemory> {
+        Ok(Tree {
+            alloc,
+            zxid: self.zxid,
+            sessions: copy_all(alloc, &self.sessions)?,
+            rows: self.rows.copy(alloc)?,
+        })
+    }
+}
+
 impl Tree {
     /// The tree without a znode and without a session. It keeps this allocator.
     pub fn new(alloc: Global) -> Tree
