@@ -3,7 +3,6 @@ use Rattle.std.proofs.Common.{◌≡◌, ◌⊎◌, inl, inr, ℕ, zero, suc, Bo
 use Rattle.std.specs.Prelude.{int_lt, option_map, ⊤}
 use Rattle.kz_types.specs.declared.fault.TreeFault.{TreeFault}
 use Rattle.kz_types.specs.declared.fault.TreeFault.TheVariants as tree_fault
-use Rattle.kz_types.specs.declared.fault.LogFault.{LogFault}
 use Rattle.kz_types.specs.declared.fault.LogFault.TheVariants as log_fault
 use Rattle.kz_types.specs.declared.machine.Answer.{Answer}
 use Rattle.kz_types.specs.declared.machine.Answer.TheVariants as answer
@@ -16,7 +15,7 @@ use Rattle.kz_spec_stores.specs.Log.{Log, View, IsViewOf, reset}
 use Rattle.kz_spec_stores.specs.Requests.{Disk, TreeChange, Done}
 use Rattle.kz_spec_machine.specs.Driver.{Driver, least, less_of}
 use Rattle.kz_spec_machine.specs.Machine.{World, next, running_ids, first_of, unless_refused, Pair, pair_of, pairs_unless, event_pairs, tree_pairs, exit_refusal, rollback_refusal, exit_ops, tree_after_ops, reset_world, given_back, exit_pairs, is_rollback}
-use Rattle.kz_spec_machine.specs.Failures.{is_tree_failure, is_log_failure, IsLeft}
+use Rattle.kz_spec_machine.specs.Failures.{IsLeft}
 use Rattle.kz_driver.specs.Disks.{Disks}
 use Rattle.kz_turns.specs.Stops.{AreUp, LeavesOneOf}
 use Rattle.kz_turns.proofs.Stops.{Settled}

@@ -32,9 +32,5 @@ pub fn roll_back<T: ZTree, L: MetaLog>(
         return Ok(Answer::Running { id });
     }
     parts.view = View::new(alloc);
-    after_exit(rollback(
-        alloc,
-        parts.tree.inner_mut(),
-        parts.log.inner_mut(),
-    ))
+    after_exit(rollback(alloc, parts.tree.inner_mut(), parts.log.inner_mut()))
 }

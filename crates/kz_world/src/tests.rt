@@ -199,21 +199,26 @@ fn create(rt: &impl Abort, alloc: Global, path: &str, body: Sequence<u8>) -> Op
     }
 }
 
-// A log whose migration is committed at its end, offset 1.
-fn migrated(rt: &impl Abort, alloc: Global) -> MemoryLog {
+// A log that ends at offset 1, with the migration in this state.
+fn log_in(rt: &impl Abort, alloc: Global, state: i8) -> MemoryLog {
     let mut log = MemoryLog::new(alloc);
-    let items = [MetaRecord::NoOp, MetaRecord::ZkMigrationState { state: 2 }];
+    let items = [MetaRecord::NoOp, MetaRecord::ZkMigrationState { state }];
     made(rt, log.elect(5, &items));
     drop(items);
     log
 }
 
-// A world over a migrated log, which ends at offset 2, whose controller leads it.
-fn leading(rt: &impl Abort, alloc: Global) -> World<MemoryTree, MemoryLog> {
-    let mut world = declared_over(rt, alloc, migrated(rt, alloc));
+// A world over a log with the migration in this state, which ends at offset 2, and whose controller leads it.
+fn leading_in(rt: &impl Abort, alloc: Global, state: i8) -> World<MemoryTree, MemoryLog> {
+    let mut world = declared_over(rt, alloc, log_in(rt, alloc, state));
     drop(world.event(&START));
     drop(world.event(&ELECT));
     world
+}
+
+// Such a world whose migration is committed.
+fn leading(rt: &impl Abort, alloc: Global) -> World<MemoryTree, MemoryLog> {
+    leading_in(rt, alloc, 2)
 }
 
 #[test]
@@ -341,6 +346,60 @@ fn a_change_has_at_most_a_thousand_records(rt: HostRuntime) {
     let most = answer_to_change(&mut world, configs(&rt, alloc, 999));
     assert!(rt; matches!(most, Answer::Appended { offset: 1002 }));
     drop([over, most]);
+    drop(world);
+}
+
+const FINALISE: Event = Event::Finalise {
+    controller: 1,
+    now: 9,
+};
+
+#[test]
+fn a_driver_that_rests_is_not_finalised(rt: HostRuntime) {
+    let mut world = leading(&rt, rt.alloc());
+    let told = world.event(&FINALISE);
+    assert!(rt; matches!(told, Answer::NotDualWrite { .. }));
+    drop(told);
+    drop(world);
+}
+
+#[test]
+fn a_migration_that_is_not_committed_is_not_finalised(rt: HostRuntime) {
+    let mut world = started(&rt, rt.alloc());
+    let follower = world.event(&FINALISE);
+    assert!(rt; matches!(follower, Answer::NotLeader));
+    drop(world.event(&ELECT));
+    let told = world.event(&FINALISE);
+    assert!(rt; matches!(told, Answer::NotMigrated));
+    drop([follower, told]);
+    drop(world);
+}
+
+#[test]
+fn a_migration_that_is_over_stays_so(rt: HostRuntime) {
+    let mut world = leading_in(&rt, rt.alloc(), 3);
+    let told = world.event(&FINALISE);
+    assert!(rt; matches!(told, Answer::Finalised));
+    drop(world.event(&STOP));
+    let back = world.event(&Event::Rollback);
+    assert!(rt; matches!(back, Answer::Finalised));
+    assert!(rt; world.end() == 2);
+    drop([told, back]);
+    drop(world);
+}
+
+#[test]
+fn a_migration_is_taken_back_once_no_controller_runs(rt: HostRuntime) {
+    let mut world = started(&rt, rt.alloc());
+    drop(world.event(&ELECT));
+    let running = world.event(&Event::Rollback);
+    assert!(rt; matches!(running, Answer::Running { id: 1 }));
+    assert!(rt; world.end() == 1);
+    drop(world.event(&STOP));
+    let told = world.event(&Event::Rollback);
+    assert!(rt; matches!(told, Answer::RolledBack));
+    assert!(rt; world.end() == -1);
+    drop([running, told]);
     drop(world);
 }
 
