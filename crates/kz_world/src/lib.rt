@@ -1,6 +1,7 @@
 //! The machine that a script drives: the store of the tree, the log, and the controllers with their drivers.
 #![tactic(auto)]
 
+mod bound;
 mod change;
 mod checks;
 mod client;
@@ -13,6 +14,7 @@ mod sessions;
 mod single_steps;
 mod turns;
 
+pub use bound::WorkFault;
 pub use machine::World;
 
 #[cfg(test)]

@@ -1,8 +1,9 @@
 //! The machine.
-ghost use Rattle.std.specs.Prelude.{◌≡◌, ◌⊎◌, ◌∷◌, [], true, false, IfOk, IfErr, OnErr};
+ghost use Rattle.std.specs.Prelude.{◌≡◌, ◌⊎◌, ◌∷◌, [], true, false, Some, IfOk, IfErr, OnErr};
 ghost use Rattle.kz_spec_stores.specs.Tree.{migration_record};
 ghost use Rattle.kz_spec_stores.specs.Log.{end_of};
-ghost use Rattle.kz_spec_machine.specs.Machine.{next, pair_of, event_pairs, is_rollback};
+ghost use Rattle.kz_spec_machine.specs.Driver.{Driver as DriverValue};
+ghost use Rattle.kz_spec_machine.specs.Machine.{next, pair_of, driver_of, event_pairs, is_rollback, work};
 ghost use Rattle.kz_spec_machine.specs.Sound.{Sound, IsLawful};
 ghost use Rattle.kz_turns.specs.Stops.{AreUp, LeavesOneOf};
 ghost use Rattle.kz_world_parts.specs.Fences.{IsOfFenced, TellsFence};
@@ -12,7 +13,9 @@ ghost use Rattle.kz_world_parts.specs.Disks.{disks_in, ResultDisks, EventDisks};
 ghost use Rattle.kz_world_parts.specs.Faults.{answer_of_fault};
 ghost use Rattle.kz_world_parts.specs.Stops.{EventLeaves};
 ghost use Rattle.kz_world_parts.specs.Worlds.{WorldOver, world_of, plain_world, world_of_parts, AreKept, IsOutcome};
+ghost use Rattle.kz_world.specs.Bounds.{ReadsForBound};
 
+use crate::bound::{WorkFault, bound_at};
 use crate::change::change;
 use crate::checks::compare;
 use crate::client::ask;
@@ -27,7 +30,7 @@ use kz_log::{LogWire, MetaLog, View};
 use kz_session::ZSessions;
 use kz_tree::Wire;
 use kz_types::{Answer, Event, NoMemory, Recorded, Sequence};
-use kz_world_parts::{EventFault, Parts, answered, declare, start, stop};
+use kz_world_parts::{EventFault, Parts, answered, declare, place_of, start, stop};
 use std::alloc::Global;
 use std::marker::Model;
 
@@ -161,6 +164,23 @@ impl<T: ZSessions, L: MetaLog> World<T, L> {
             → LeavesOneOf (pair_of (plain_world T.tree L.log self.old).shared ∷ event_pairs (plain_world T.tree L.log self.old) event.now) (T.left self.new.tree) (L.left self.new.log) }
     {
         answered(let_happen(self.alloc, &mut self.parts, event))
+    }
+
+    /// The most steps of a turn of this controller, which has to run. A turn of a world whose base znodes no client deletes ends by
+    /// itself before. The log is read, and all metadata is rendered, or, before the migration, translated.
+    ///
+    /// `Log` tells that the log's disk failed in an earlier request. A bound of 2^64 and more is answered `NoMemory`: its znodes
+    /// would take more bytes than there are addresses.
+    pub fn work(&mut self, id: i32) -> Result<u64, WorkFault>
+        requires { (d : DriverValue) × (driver_of id self.old.drivers ≡ Some d) }
+        ensures ok { (d : DriverValue) → driver_of id self.old.drivers ≡ Some d → IfOk result (λ most. most ≡ work (plain_world T.tree L.log self.old).shared d) }
+        ensures same { plain_world T.tree L.log self.new ≡ plain_world T.tree L.log self.old }
+        ensures disks { ReadsForBound result (disks_in T.disk L.disk self.old) (disks_in T.disk L.disk self.new) }
+    {
+        match place_of(&self.parts.drivers, id) {
+            Some(at) => bound_at(self.alloc, &mut self.parts, at),
+            None => unreachable!(),
+        }
     }
 
     /// The last transaction of the tree, 0 before the first.

@@ -34,8 +34,8 @@ pub fn peers<T: ZTree, L: MetaLog>(alloc: Global, parts: &Parts<T, L>) -> Result
     })
 }
 
-// What a turn of the driver at this place starts from. The log is read.
-fn turn_start<T: ZTree, L: MetaLog>(
+/// What a turn of the driver at this place starts from. The log is read.
+pub fn turn_start<T: ZTree, L: MetaLog>(
     alloc: Global,
     parts: &mut Parts<T, L>,
     at: usize,
