@@ -1,6 +1,7 @@
 -- The migrated area and its pages rise where the znodes do.
-use Rattle.std.proofs.Common.{ℕ, zero, suc, List, [], ◌∷◌, map, take, Option, refl}
-use Rattle.std.specs.List.{filter}
+use Rattle.std.proofs.Common.{◌≡◌, ℕ, zero, suc, List, [], ◌∷◌, length, map, take, Option, refl, sym, ap, ◌∙◌}
+use Rattle.std.specs.List.{filter, count_by}
+use Rattle.std.proofs.lemmas.List.Sums.{length-filter}
 use Rattle.kz_types.specs.declared.tree.Row.{Row}
 use Rattle.kz_types.specs.Paths.{is_migrated}
 use Rattle.kz_ordered.specs.Order.{bytes_cmp}
@@ -28,3 +29,12 @@ first_rise (suc n) (r ∷ rs) h = first_above n r.path rs h
 
 pub page_rises : (rows : List Row) (after : Option (List ℕ)) (n : ℕ) → AreRows rows → AreRows (take n (filter (is_after after) (filter (λ (row : Row). is_migrated row.path) rows)))
 page_rises rows after n h = first_rise n _ (Rises-filter bytes_order path_of_row (is_after after) _ (migrated_rise rows h))
+
+-- ---- how many znodes the migrated area has
+
+as_many : (rows : List Row) → length (map rendered_row rows) ≡ length rows
+as_many [] = refl
+as_many (r ∷ rs) = ap suc (as_many rs)
+
+pub area_count : (rows : List Row) → count_by (λ (row : Row). is_migrated row.path) rows ≡ length (map rendered_row (filter (λ (row : Row). is_migrated row.path) rows))
+area_count rows = sym (as_many (filter (λ (row : Row). is_migrated row.path) rows) ∙ length-filter (λ (row : Row). is_migrated row.path) rows)

@@ -6,11 +6,11 @@ use Rattle.std.proofs.lemmas.List.{take_more, drop_all, drop-append-le}
 use Rattle.std.proofs.lemmas.List.Folds.{list_any-append}
 use Rattle.kz_spec_stores.specs.Tree.{parent_of, name_of}
 
-or_true : (a : Bool) → (a || true) ≡ true
+pub or_true : (a : Bool) → (a || true) ≡ true
 or_true true = refl
 or_true false = refl
 
-or_false : (a : Bool) → (a || false) ≡ a
+pub or_false : (a : Bool) → (a || false) ≡ a
 or_false true = refl
 or_false false = refl
 
@@ -21,7 +21,7 @@ any_other : (xs : List ℕ) (b : ℕ) → b ≢ 47 → list_any (λ x. nat_eq x 
 any_other xs b h =
     list_any-append (λ x. nat_eq x 47) xs (b ∷ []) ∙ ap (λ c. list_any (λ x. nat_eq x 47) xs || (c || false)) (ne_eqb b 47 h) ∙ or_false (list_any (λ x. nat_eq x 47) xs)
 
-parent_slash : (xs : List ℕ) → parent_of (xs ++ 47 ∷ []) ≡ xs
+pub parent_slash : (xs : List ℕ) → parent_of (xs ++ 47 ∷ []) ≡ xs
 parent_slash [] = refl
 parent_slash (x ∷ xs) = rw (any_slash xs) (ap (λ l. x ∷ l) (parent_slash xs))
 

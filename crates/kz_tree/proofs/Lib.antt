@@ -1,11 +1,11 @@
 pub mod Areas
-pub mod Ids
+pub mod ChildPaths
+pub mod Counts
 pub mod Kept
 pub mod LastSlash
 pub mod Looks
 pub mod Moves
 pub mod Multis
-pub mod Nexts
 pub mod Owned
 pub mod Pages
 pub mod Steps

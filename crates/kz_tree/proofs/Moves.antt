@@ -1,31 +1,15 @@
 -- The begin and the end of a session.
-use Rattle.std.proofs.Common.{◌≡◌, ℤ, pos, Bool, true, false, cond, not, List, Ok, Err, refl, arith, SFits, w64, of_z}
+use Rattle.std.proofs.Common.{◌≡◌, ℤ, pos, true, false, List, Ok, Err, refl, arith, SFits, w64, of_z}
 use Rattle.std.specs.Prelude.{◌+ℤ◌, ◌<ℤ◌, ◌≤ℤ◌, int_le}
 use Rattle.std.specs.Ordering.{int_cmp}
-use Rattle.std.specs.List.{filter}
 use Rattle.std.proofs.lemmas.Int.{ints}
 use Rattle.kz_types.specs.declared.limits.TheConstants.{MAX_LONG}
 use Rattle.kz_types.specs.declared.limits.Limit.TheVariants as limits
 use Rattle.kz_types.specs.Limits.{number_of_limit}
 use Rattle.kz_types.specs.declared.tree.Row.{Row}
 use Rattle.kz_types.specs.declared.move_fault.MoveFault.TheVariants.{Known, Unknown, Limit}
-use Rattle.kz_ordered.specs.Order.{bytes_cmp}
 use Rattle.kz_ordered.specs.Ordered.{put, without}
-use Rattle.kz_ordered.proofs.Order.{bytes_order}
-use Rattle.kz_ordered.proofs.Maps.{Rises-map, Rises-filter}
-use Rattle.kz_spec_stores.specs.Tree.{Tree, is_live, begin_session, end_session, is_owned, loses_child, after_loss, without_owned, path_of_row}
-use Rattle.kz_tree.specs.Kept.{AreRows}
-
--- ---- the znodes that stay
-
-same_path : (b : Bool) (zxid : ℤ) (r : Row) → path_of_row (cond b (record r { pzxid = zxid }) r) ≡ path_of_row r
-same_path true zxid r = refl
-same_path false zxid r = refl
-
-pub rises_without_owned : (zxid session : ℤ) (rows : List Row) → AreRows rows → AreRows (without_owned zxid session rows)
-rises_without_owned zxid session rows h =
-    Rises-map bytes_cmp path_of_row path_of_row (after_loss zxid session rows) (λ r. same_path (loses_child session rows r.path) zxid r) (filter (λ (r : Row). not (is_owned session r)) rows)
-    (Rises-filter bytes_order path_of_row (λ (r : Row). not (is_owned session r)) rows h)
+use Rattle.kz_spec_stores.specs.Tree.{Tree, is_live, begin_session, end_session, without_owned}
 
 -- ---- a transaction of sessions
 

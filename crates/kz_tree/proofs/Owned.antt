@@ -1,111 +1,111 @@
 -- The znodes that end with a session, and their parents.
-use Rattle.std.proofs.Common.{◌≡◌, ℕ, ◌+◌, ◌<◌, ◌≤◌, ℤ, Bool, true, false, not, ◌||◌, ◌&&◌, List, [], ◌∷◌, ◌++◌, length, get_or, take, map, Bor, cond, refl, sym, ap, ◌∙◌, append-nil}
+use Rattle.std.proofs.Common.{◌≡◌, ℕ, ℤ, Bool, true, false, not, ◌||◌, ◌&&◌, List, [], ◌∷◌, ◌++◌, map, Bor, refl, sym, ap, ◌∙◌, append_assoc, subst, Some}
 use Rattle.std.specs.List.{filter, list_any}
 use Rattle.std.specs.Str.{bytes_eq}
-use Rattle.std.proofs.lemmas.List.{take_more, take_all, map-append}
+use Rattle.std.proofs.lemmas.List.{map-append}
 use Rattle.std.proofs.lemmas.List.Elements.{filter-append}
 use Rattle.std.proofs.lemmas.List.Folds.{list_any-append}
 use Rattle.kz_types.specs.declared.tree.Row.{Row}
 use Rattle.kz_types.proofs.NumberLemmas.{bytes_eq-true}
-use Rattle.kz_spec_stores.specs.Tree.{is_owned, loses_child, after_loss, without_owned, parent_of}
+use Rattle.kz_ordered.proofs.Order.{bytes_order}
+use Rattle.kz_ordered.proofs.Append.{without_at_split, put_at_split, find_at_split, below_split}
+use Rattle.kz_ordered.proofs.Lookup.{Rises-put, Rises-without}
+use Rattle.kz_spec_stores.specs.Tree.{path_of_row, row_at, without_row, with_child_change, is_owned, loses_child, after_loss, parent_of}
+use Rattle.kz_tree.specs.Kept.{AreRows}
 
-or_false : (a b : Bool) → b ≡ false → (a || b) ≡ a
-or_false true b e = refl
-or_false false b e = e
+-- ---- parents
 
-or_same : (a b c d : Bool) → a ≡ c → b ≡ d → (a || b) ≡ (c || d)
-or_same a b c d e f = rw (e, f) refl
+abbrev pub among : List (Bor (List ℕ)) → List ℕ → Bool
+among parents path = list_any (λ (p : Bor (List ℕ)). bytes_eq p.now path) parents
 
-and_left : (a b : Bool) → a ≡ false → (a && b) ≡ false
-and_left a b e = rw e refl
+moved : (a b c : Bool) → ((a || (b || false)) || c) ≡ (a || (b || c))
+moved true b c = refl
+moved false true c = refl
+moved false false c = refl
 
-and_true : (a b : Bool) → a ≡ true → (a && b) ≡ b
-and_true a b e = rw e refl
+pub parent_more : (session : ℤ) (parents next : List (Bor (List ℕ))) (p : Bor (List ℕ)) (r : Row) (rest : List Row) (path : List ℕ) → is_owned session r ≡ true → p.now ≡ parent_of r.path → next ≡ parents ++ p ∷ []
+    → (among next path || loses_child session rest path) ≡ (among parents path || loses_child session (r ∷ rest) path)
+parent_more session parents next p r rest path owned is e =
+    ap (λ l. among l path || loses_child session rest path) e ∙ ap (λ b. b || loses_child session rest path) (list_any-append (λ (q : Bor (List ℕ)). bytes_eq q.now path) parents (p ∷ []))
+    ∙ moved (among parents path) (bytes_eq p.now path) (loses_child session rest path)
+    ∙ ap (λ x. among parents path || (bytes_eq x path || loses_child session rest path)) is
+    ∙ ap (λ b. among parents path || ((b && bytes_eq (parent_of r.path) path) || loses_child session rest path)) (sym owned)
 
-one : (b : Bool) → (b || false) ≡ b
-one true = refl
-one false = refl
+pub parent_none : (session : ℤ) (parents : List (Bor (List ℕ))) (r : Row) (rest : List Row) (path : List ℕ) → is_owned session r ≡ false
+    → (among parents path || loses_child session rest path) ≡ (among parents path || loses_child session (r ∷ rest) path)
+parent_none session parents r rest path owned = ap (λ b. among parents path || ((b && bytes_eq (parent_of r.path) path) || loses_child session rest path)) (sym owned)
 
--- whether a child of the path is among the first rows and ends with the session, row after row
-loses_more : (session : ℤ) (rows : List Row) (i : ℕ) (r : Row) (path : List ℕ) → i < length rows → r ≡ get_or rows i r
-    → loses_child session (take (i + 1) rows) path ≡ (loses_child session (take i rows) path || (is_owned session r && bytes_eq (parent_of r.path) path))
-loses_more session rows i r path within is =
-    ap (λ l. loses_child session l path) (take_more rows i r within ∙ ap (λ x. take i rows ++ x ∷ []) (sym is))
-    ∙ list_any-append (λ (x : Row). is_owned session x && bytes_eq (parent_of x.path) path) (take i rows) (r ∷ [])
-    ∙ ap (λ b. loses_child session (take i rows) path || b) (one (is_owned session r && bytes_eq (parent_of r.path) path))
-
--- the parents of those of the first rows that end with the session
-pub record AreParents (session : ℤ) (rows : List Row) (i : ℕ) (parents : List (Bor (List ℕ))) : Type 0 where
-  pub same : (path : List ℕ) → list_any (λ (p : Bor (List ℕ)). bytes_eq p.now path) parents ≡ loses_child session (take i rows) path
-
-pub parent_more : (session : ℤ) (rows : List Row) (i : ℕ) (r : Row) (parents next : List (Bor (List ℕ))) (p : Bor (List ℕ)) → AreParents session rows i parents → i < length rows → r ≡ get_or rows i r
-    → is_owned session r ≡ true → p.now ≡ parent_of r.path → next ≡ parents ++ p ∷ [] → AreParents session rows (i + 1) next
-parent_more session rows i r parents next p h within is owned parent e = record {
-  same = λ path.
-      ap (list_any (λ (q : Bor (List ℕ)). bytes_eq q.now path)) e ∙ list_any-append (λ (q : Bor (List ℕ)). bytes_eq q.now path) parents (p ∷ [])
-      ∙ or_same _ _ _ _ (h.same path) (one (bytes_eq p.now path) ∙ ap (λ x. bytes_eq x path) parent ∙ sym (and_true (is_owned session r) (bytes_eq (parent_of r.path) path) owned))
-      ∙ sym (loses_more session rows i r path within is);
-}
-
-pub parent_none : (session : ℤ) (rows : List Row) (i : ℕ) (r : Row) (parents : List (Bor (List ℕ))) → AreParents session rows i parents → i < length rows → r ≡ get_or rows i r
-    → is_owned session r ≡ false → AreParents session rows (i + 1) parents
-parent_none session rows i r parents h within is owned = record {
-  same = λ path.
-      h.same path ∙ sym (or_false _ _ (and_left (is_owned session r) (bytes_eq (parent_of r.path) path) owned)) ∙ sym (loses_more session rows i r path within is);
-}
+absorbed : (a b c : Bool) → (b ≡ true → a ≡ true) → (a || c) ≡ (a || (b || c))
+absorbed true b c h = refl
+absorbed false true c h = absurd (let t = h refl in cc)
+absorbed false false c h = refl
 
 -- a parent that is there already adds none
-absorbed : (session : ℤ) (rows : List Row) (parent path : List ℕ) (owned b : Bool) → bytes_eq parent path ≡ b → loses_child session rows parent ≡ true
-    → (loses_child session rows path || (owned && bytes_eq parent path)) ≡ loses_child session rows path
-absorbed session rows parent path true true e there = let lost : loses_child session rows path ≡ true = ap (loses_child session rows) (sym (bytes_eq-true parent path e)) ∙ there in rw lost refl
-absorbed session rows parent path true false e there = or_false (loses_child session rows path) (bytes_eq parent path) e
-absorbed session rows parent path false b e there = or_false (loses_child session rows path) false refl
-
-pub parent_again : (session : ℤ) (rows : List Row) (i : ℕ) (r : Row) (parents : List (Bor (List ℕ))) (parent : List ℕ) → AreParents session rows i parents → i < length rows → r ≡ get_or rows i r
-    → parent ≡ parent_of r.path → list_any (λ (q : Bor (List ℕ)). bytes_eq q.now parent) parents ≡ true → AreParents session rows (i + 1) parents
-parent_again session rows i r parents parent h within is e there = record {
-  same = λ path.
-      h.same path
-      ∙ sym (absorbed session (take i rows) (parent_of r.path) path (is_owned session r) (bytes_eq (parent_of r.path) path) refl (ap (loses_child session (take i rows)) (sym e) ∙ sym (h.same parent) ∙ there))
-      ∙ sym (loses_more session rows i r path within is);
-}
-
-pub all_parents : (session : ℤ) (rows : List Row) (i : ℕ) (parents : List (Bor (List ℕ))) → AreParents session rows i parents → length rows ≤ i
-    → (path : List ℕ) → list_any (λ (p : Bor (List ℕ)). bytes_eq p.now path) parents ≡ loses_child session rows path
-all_parents session rows i parents h end path = h.same path ∙ ap (λ l. loses_child session l path) (take_all i rows end)
+pub parent_again : (session : ℤ) (parents : List (Bor (List ℕ))) (r : Row) (rest : List Row) (path : List ℕ) → is_owned session r ≡ true → among parents (parent_of r.path) ≡ true
+    → (among parents path || loses_child session rest path) ≡ (among parents path || loses_child session (r ∷ rest) path)
+parent_again session parents r rest path owned there =
+    absorbed (among parents path) (bytes_eq (parent_of r.path) path) (loses_child session rest path) (λ same. subst (λ p. among parents p ≡ true) (bytes_eq-true (parent_of r.path) path same) there)
+    ∙ ap (λ b. among parents path || ((b && bytes_eq (parent_of r.path) path) || loses_child session rest path)) (sym owned)
 
 -- ---- the znodes that stay
 
--- what the first rows leave
-pub record IsLeft (zxid session : ℤ) (rows : List Row) (i : ℕ) (made : List Row) : Type 0 where
-  pub same : made ≡ map (after_loss zxid session rows) (filter (λ (r : Row). not (is_owned session r)) (take i rows))
+abbrev pub left_of : ℤ → ℤ → List Row → List Row → List Row
+left_of zxid session rows done = map (after_loss zxid session rows) (filter (λ (r : Row). not (is_owned session r)) done)
 
-stays : (zxid session : ℤ) (rows : List Row) (i : ℕ) (r : Row) → i < length rows → r ≡ get_or rows i r
-    → map (after_loss zxid session rows) (filter (λ (x : Row). not (is_owned session x)) (take (i + 1) rows))
-    ≡ map (after_loss zxid session rows) (filter (λ (x : Row). not (is_owned session x)) (take i rows)) ++ map (after_loss zxid session rows) (filter (λ (x : Row). not (is_owned session x)) (r ∷ []))
-stays zxid session rows i r within is =
-    ap (λ l. map (after_loss zxid session rows) (filter (λ (x : Row). not (is_owned session x)) l)) (take_more rows i r within ∙ ap (λ x. take i rows ++ x ∷ []) (sym is))
-    ∙ ap (map (after_loss zxid session rows)) (filter-append (λ (x : Row). not (is_owned session x)) (take i rows) (r ∷ []))
-    ∙ map-append (after_loss zxid session rows) (filter (λ (x : Row). not (is_owned session x)) (take i rows)) (filter (λ (x : Row). not (is_owned session x)) (r ∷ []))
+-- the znodes once those before the rest were looked at
+pub record IsLeft (zxid session : ℤ) (rows rest made : List Row) : Type 0 where
+  pub done : List Row
+  pub joined : rows ≡ done ++ rest
+  pub same : made ≡ left_of zxid session rows done ++ rest
+  pub rise : AreRows made
 
-pub left_more : (zxid session : ℤ) (rows : List Row) (i : ℕ) (r x : Row) (made next : List Row) (loses : Bool) → IsLeft zxid session rows i made → i < length rows → r ≡ get_or rows i r
-    → is_owned session r ≡ false → loses ≡ loses_child session rows r.path → x ≡ cond loses (record r { pzxid = zxid }) r → next ≡ made ++ x ∷ [] → IsLeft zxid session rows (i + 1) next
-left_more zxid session rows i r x made next loses h within is owned e f g = record {
-  same =
-      g ∙ ap (λ l. l ++ x ∷ []) h.same
-      ∙ ap (λ y. map (after_loss zxid session rows) (filter (λ (z : Row). not (is_owned session z)) (take i rows)) ++ y ∷ []) (f ∙ ap (λ b. cond b (record r { pzxid = zxid }) r) e)
-      ∙ ap (λ l. map (after_loss zxid session rows) (filter (λ (z : Row). not (is_owned session z)) (take i rows)) ++ l) (rw owned refl)
-      ∙ sym (stays zxid session rows i r within is);
-}
+grown : (zxid session : ℤ) (rows done rest : List Row) (r : Row) → left_of zxid session rows (done ++ r ∷ []) ++ rest ≡ left_of zxid session rows done ++ (left_of zxid session rows (r ∷ []) ++ rest)
+grown zxid session rows done rest r =
+    ap (λ l. map (after_loss zxid session rows) l ++ rest) (filter-append (λ (x : Row). not (is_owned session x)) done (r ∷ []))
+    ∙ ap (λ l. l ++ rest) (map-append (after_loss zxid session rows) (filter (λ (x : Row). not (is_owned session x)) done) (filter (λ (x : Row). not (is_owned session x)) (r ∷ [])))
+    ∙ append_assoc (left_of zxid session rows done) (left_of zxid session rows (r ∷ [])) rest
 
-pub left_out : (zxid session : ℤ) (rows : List Row) (i : ℕ) (r : Row) (made : List Row) → IsLeft zxid session rows i made → i < length rows → r ≡ get_or rows i r
-    → is_owned session r ≡ true → IsLeft zxid session rows (i + 1) made
-left_out zxid session rows i r made h within is owned = record {
-  same =
-      h.same ∙ sym (append-nil (map (after_loss zxid session rows) (filter (λ (z : Row). not (is_owned session z)) (take i rows))))
-      ∙ ap (λ l. map (after_loss zxid session rows) (filter (λ (z : Row). not (is_owned session z)) (take i rows)) ++ l) (rw owned refl)
-      ∙ sym (stays zxid session rows i r within is);
-}
+next_joined : (rows done rest : List Row) (r : Row) → rows ≡ done ++ r ∷ rest → rows ≡ (done ++ r ∷ []) ++ rest
+next_joined rows done rest r e = e ∙ sym (append_assoc done (r ∷ []) rest)
 
-pub all_left : (zxid session : ℤ) (rows : List Row) (i : ℕ) (made : List Row) → IsLeft zxid session rows i made → length rows ≤ i → made ≡ without_owned zxid session rows
-all_left zxid session rows i made h end = h.same ∙ ap (λ l. map (after_loss zxid session rows) (filter (λ (x : Row). not (is_owned session x)) l)) (take_all i rows end)
+-- a znode that goes
+pub left_out : (zxid session : ℤ) (rows left rest made next : List Row) (r : Row) → IsLeft zxid session rows left made → left ≡ r ∷ rest → is_owned session r ≡ true → next ≡ without_row r.path made → IsLeft zxid session rows rest next
+left_out zxid session rows left rest made next r was steps owned e =
+    let h = subst (λ (l : List Row). IsLeft zxid session rows l made) steps was in
+    let front = left_of zxid session rows h.done in
+    let under = below_split bytes_order path_of_row front r rest (subst AreRows h.same h.rise) in
+    record {
+      done = h.done ++ r ∷ [];
+      joined = next_joined rows h.done rest r h.joined;
+      same = e ∙ ap (without_row r.path) h.same ∙ without_at_split bytes_order path_of_row r.path front r rest under refl ∙ sym (grown zxid session rows h.done rest r ∙ rw owned refl);
+      rise = subst AreRows (sym e) (Rises-without bytes_order path_of_row r.path made h.rise);
+    }
+
+-- one whose parent's znode loses a child
+pub left_touched : (zxid session : ℤ) (rows left rest made next : List Row) (r : Row) → IsLeft zxid session rows left made → left ≡ r ∷ rest → is_owned session r ≡ false → loses_child session rows r.path ≡ true
+    → next ≡ with_child_change zxid (row_at r.path made) made → IsLeft zxid session rows rest next
+left_touched zxid session rows left rest made next r was steps kept loses e =
+    let h = subst (λ (l : List Row). IsLeft zxid session rows l made) steps was in
+    let front = left_of zxid session rows h.done in
+    let under = below_split bytes_order path_of_row front r rest (subst AreRows h.same h.rise) in
+    let found = ap (row_at r.path) h.same ∙ find_at_split bytes_order path_of_row r.path front r rest under refl in
+    let put = e ∙ ap (λ o. with_child_change zxid o made) found in
+    record {
+      done = h.done ++ r ∷ [];
+      joined = next_joined rows h.done rest r h.joined;
+      same =
+          put ∙ ap (with_child_change zxid (Some r)) h.same ∙ put_at_split bytes_order path_of_row (record r { pzxid = zxid }) front r rest under refl
+          ∙ sym (grown zxid session rows h.done rest r ∙ rw (kept, loses) refl);
+      rise = subst AreRows (sym put) (Rises-put bytes_order path_of_row (record r { pzxid = zxid }) made h.rise);
+    }
+
+-- and one that stays as it is
+pub left_same : (zxid session : ℤ) (rows left rest made : List Row) (r : Row) → IsLeft zxid session rows left made → left ≡ r ∷ rest → is_owned session r ≡ false → loses_child session rows r.path ≡ false → IsLeft zxid session rows rest made
+left_same zxid session rows left rest made r was steps kept loses =
+    let h = subst (λ (l : List Row). IsLeft zxid session rows l made) steps was in
+    record {
+      done = h.done ++ r ∷ [];
+      joined = next_joined rows h.done rest r h.joined;
+      same = h.same ∙ sym (grown zxid session rows h.done rest r ∙ rw (kept, loses) refl);
+      rise = h.rise;
+    }

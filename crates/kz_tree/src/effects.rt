@@ -1,27 +1,16 @@
 //! What operations make of znodes.
 ghost use Rattle.std.specs.Prelude.{◌≡◌, ◌<ℤ◌, IfOk, OnOk, IfErr, Ok, Some, None, []};
 ghost use Rattle.kz_types.specs.declared.limits.TheConstants.{MAX_VERSION};
-ghost use Rattle.kz_spec_stores.specs.Tree.{row_at, with_child_change, set_row, created_row, after_set, after_op, after_ops, op_refusal, rows_unless_refused};
+ghost use Rattle.kz_spec_stores.specs.Tree.{set_row, created_row, after_op, after_ops, op_refusal, rows_unless_refused};
 ghost use Rattle.kz_tree.specs.Kept.{AreRows};
 ghost use Rattle.kz_tree.specs.Refusals.{IsMultiFaultOf, meaning};
 
 use crate::faults::MultiFault;
 use crate::names::parent_of;
 use crate::refusals::{Refusal, op_refusal};
-use crate::rows::{put_row, row_at, spot_of, take_out};
+use crate::rows::Rows;
 use kz_types::{Duplicate, NoMemory, Op, Row, Sequence, ZPath};
 use std::alloc::Global;
-
-// A znode got or lost a child.
-fn touch(rows: &mut Vec<Row>, path: &[u8], zxid: i64)
-    requires { AreRows rows.old.items }
-    ensures value { rows.new.items ≡ with_child_change zxid (row_at path.now rows.old.items) rows.old.items }
-    ensures kept { AreRows rows.new.items }
-{
-    if let Ok(at) = spot_of(rows, path) {
-        rows[at].pzxid = zxid;
-    }
-}
 
 fn created_row(
     alloc: Global,
@@ -62,31 +51,29 @@ fn set_row(alloc: Global, row: &Row, body: &Sequence<u8>, zxid: i64) -> Result<R
 fn apply(
     alloc: Global,
     sessions: &[i64],
-    rows: &mut Vec<Row>,
+    rows: &mut Rows,
     op: &Op,
     zxid: i64,
 ) -> Result<(), NoMemory>
-    requires rows { AreRows rows.old.items }
-    requires accepted { op_refusal sessions.now op.now rows.old.items ≡ None }
-    ensures { OnOk result (rows.new.items ≡ after_op zxid op.now rows.old.items) }
+    requires { op_refusal sessions.now op.now rows.old ≡ None }
+    ensures { OnOk result (rows.new ≡ after_op zxid op.now rows.old) }
 {
     match op {
         Op::Create { path, body, owner } => {
             let row = created_row(alloc, path, body, *owner, zxid)?;
-            touch(rows, parent_of(path.bytes()), zxid);
-            put_row(rows, row)
+            rows.touch(alloc, parent_of(path.bytes()), zxid)?;
+            rows.put(row)
         }
         Op::Set { path, body, .. } => {
-            let Some(row) = row_at(rows, path.bytes()) else {
+            let Some(row) = rows.find(path.bytes()) else {
                 return Ok(());
             };
             let row = set_row(alloc, row, body, zxid)?;
-            put_row(rows, row)
+            rows.put(row)
         }
         Op::Delete { path, .. } => {
-            touch(rows, parent_of(path.bytes()), zxid);
-            take_out(rows, path.bytes());
-            Ok(())
+            rows.touch(alloc, parent_of(path.bytes()), zxid)?;
+            rows.take_out(path.bytes())
         }
         Op::Check { .. } => Ok(()),
     }
@@ -107,15 +94,18 @@ pub fn after_ops(
     sessions: &[i64],
     zxid: i64,
     ops: &[Op],
-    mut rows: Vec<Row>,
-) -> Result<Vec<Row>, MultiFault>
-    requires { AreRows rows.items }
-    ensures ok { IfOk result (λ made. after_ops sessions.now zxid 0 ops.now rows.items ≡ Ok made.items) }
-    ensures rise { IfOk result (λ made. AreRows made.items) }
-    ensures err { IfErr result (IsMultiFaultOf (after_ops sessions.now zxid 0 ops.now rows.items)) }
+    mut rows: Rows,
+) -> Result<Rows, MultiFault>
+    requires { AreRows rows }
+    ensures ok { IfOk result (λ made. after_ops sessions.now zxid 0 ops.now rows ≡ Ok made) }
+    ensures rise { IfOk result (λ made. AreRows made) }
+    ensures err { IfErr result (IsMultiFaultOf (after_ops sessions.now zxid 0 ops.now rows)) }
 {
     for (index, op) in ops.iter().enumerate() {
-        if let Some(refusal) = op_refusal(sessions, op, &rows) {
+        let Ok(refusal) = op_refusal(alloc, sessions, op, &rows) else {
+            return Err(MultiFault::NoMemory);
+        };
+        if let Some(refusal) = refusal {
             return Err(fault_of(index, refusal));
         }
         let Ok(()) = apply(alloc, sessions, &mut rows, op, zxid) else {

@@ -1,6 +1,7 @@
 //! A tree of znodes, after ZooKeeper.
 #![tactic(auto)]
 
+mod children;
 mod effects;
 mod faults;
 mod migrated;
@@ -15,6 +16,7 @@ mod tree;
 mod wire;
 
 pub use faults::{ClosedFault, MultiFault};
+pub use kz_blocks::Items;
 pub use kz_types::{MoveFault, Op, Plan, Recorded, Rendered, Row, TreeFault};
 pub use migrated::is_migrated;
 pub use prepared::Prepared;

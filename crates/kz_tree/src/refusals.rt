@@ -1,17 +1,18 @@
 //! Why an operation is refused.
-ghost use Rattle.std.specs.Prelude.{◌≡◌, option_map, nat_le, length};
+ghost use Rattle.std.specs.Prelude.{◌≡◌, ◌≢◌, [], option_map, nat_le, IfOk};
 ghost use Rattle.kz_types.specs.declared.limits.TheConstants.{MAX_ZNODES};
-ghost use Rattle.kz_spec_stores.specs.Tree.{may_own, is_root, has_parent, has_children, is_ephemeral, fits_version, count_beside, limit_beside, create_refusal, set_refusal, delete_refusal, check_refusal, op_refusal};
-ghost use Rattle.kz_tree.specs.Kept.{AreRows};
+ghost use Rattle.kz_spec_stores.specs.Tree.{may_own, row_at, is_root, has_parent, is_ephemeral, fits_version, count_beside, limit_beside, create_refusal, set_refusal, delete_refusal, check_refusal, op_refusal};
 ghost use Rattle.kz_tree.specs.Refusals.{meaning};
 
+use crate::children::has_children;
 use crate::migrated::is_migrated;
 use crate::names::parent_of;
-use crate::rows::row_at;
+use crate::rows::Rows;
 use kz_types::{
     BAD_VERSION, Limit, MAX_BODY_BYTES, MAX_VERSION, MAX_ZNODES, NO_CHILDREN_FOR_EPHEMERALS,
-    NO_NODE, NODE_EXISTS, NOT_EMPTY, Op, Row, SESSION_EXPIRED,
+    NO_NODE, NODE_EXISTS, NOT_EMPTY, NoMemory, Op, Row, SESSION_EXPIRED,
 };
+use std::alloc::Global;
 
 /// Why an operation is refused: ZooKeeper's code, or the number of a limit.
 #[derive(Clone, Copy, Debug, PartialEq, Eq)]
@@ -35,23 +36,11 @@ fn is_root(path: &[u8]) -> bool
     path.is_empty()
 }
 
-fn has_parent(path: &[u8], rows: &[Row]) -> bool
-    requires { AreRows rows.now }
+fn has_parent(path: &[u8], rows: &Rows) -> bool
     ensures { result ≡ has_parent path.now rows.now }
 {
     let parent = parent_of(path);
-    is_root(parent) || row_at(rows, parent).is_some()
-}
-
-fn has_children(path: &[u8], rows: &[Row]) -> bool
-    ensures { result ≡ has_children path.now rows.now }
-{
-    for row in rows {
-        if parent_of(row.path.bytes()) == path {
-            return true;
-        }
-    }
-    false
+    is_root(parent) || rows.find(parent).is_some()
 }
 
 fn is_ephemeral(row: Option<&Row>) -> bool
@@ -69,24 +58,11 @@ fn fits_version(version: i32, row: &Row) -> bool
     version == -1 || version == row.version
 }
 
-fn count_beside(path: &[u8], rows: &[Row]) -> usize
-    ensures { result ≡ count_beside path.now rows.now }
-{
-    let migrated = is_migrated(path);
-    let mut count = 0;
-    for row in rows {
-        if is_migrated(row.path.bytes()) == migrated {
-            count += 1;
-        }
-    }
-    count
-}
-
 // Whether there are as many znodes beside a path as there may be.
-fn is_full_beside(path: &[u8], rows: &[Row]) -> bool
+fn is_full_beside(path: &[u8], rows: &Rows) -> bool
     ensures { result ≡ nat_le MAX_ZNODES (count_beside path.now rows.now) }
 {
-    rows.len() >= MAX_ZNODES && count_beside(path, rows) >= MAX_ZNODES
+    rows.count_beside(path) >= MAX_ZNODES
 }
 
 fn limit_beside(path: &[u8]) -> u8
@@ -104,9 +80,8 @@ fn create_refusal(
     path: &[u8],
     body: &[u8],
     owner: Option<i64>,
-    rows: &[Row],
+    rows: &Rows,
 ) -> Option<Refusal>
-    requires { AreRows rows.now }
     ensures { option_map meaning result ≡ create_refusal sessions.now path.now body.now owner rows.now }
 {
     if !may_own(owner, sessions) {
@@ -115,10 +90,10 @@ fn create_refusal(
     if !has_parent(path, rows) {
         return Some(Refusal::Code(NO_NODE));
     }
-    if row_at(rows, path).is_some() {
+    if rows.find(path).is_some() {
         return Some(Refusal::Code(NODE_EXISTS));
     }
-    if is_ephemeral(row_at(rows, parent_of(path))) {
+    if is_ephemeral(rows.find(parent_of(path))) {
         return Some(Refusal::Code(NO_CHILDREN_FOR_EPHEMERALS));
     }
     if body.len() > MAX_BODY_BYTES {
@@ -148,19 +123,25 @@ fn set_refusal(body: &[u8], version: i32, row: Option<&Row>) -> Option<Refusal>
     None
 }
 
-fn delete_refusal(path: &[u8], version: i32, rows: &[Row], row: Option<&Row>) -> Option<Refusal>
-    ensures { option_map meaning result ≡ delete_refusal path.now version rows.now (option_map (λ r. r.now) row.entry) }
+fn delete_refusal(
+    alloc: Global,
+    path: &[u8],
+    version: i32,
+    rows: &Rows,
+) -> Result<Option<Refusal>, NoMemory>
+    requires { path.now ≢ [] }
+    ensures { IfOk result (λ refusal. option_map meaning refusal ≡ delete_refusal path.now version rows.now (row_at path.now rows.now)) }
 {
-    let Some(row) = row else {
-        return Some(Refusal::Code(NO_NODE));
+    let Some(row) = rows.find(path) else {
+        return Ok(Some(Refusal::Code(NO_NODE)));
     };
     if !fits_version(version, row) {
-        return Some(Refusal::Code(BAD_VERSION));
+        return Ok(Some(Refusal::Code(BAD_VERSION)));
     }
-    if has_children(path, rows) {
-        return Some(Refusal::Code(NOT_EMPTY));
+    if has_children(alloc, path, rows)? {
+        return Ok(Some(Refusal::Code(NOT_EMPTY)));
     }
-    None
+    Ok(None)
 }
 
 fn check_refusal(version: i32, row: Option<&Row>) -> Option<Refusal>
@@ -176,29 +157,28 @@ fn check_refusal(version: i32, row: Option<&Row>) -> Option<Refusal>
 }
 
 /// Why an operation is refused on these znodes, where it is.
-pub fn op_refusal(sessions: &[i64], op: &Op, rows: &[Row]) -> Option<Refusal>
-    requires { AreRows rows.now }
-    ensures { option_map meaning result ≡ op_refusal sessions.now op.now rows.now }
+pub fn op_refusal(
+    alloc: Global,
+    sessions: &[i64],
+    op: &Op,
+    rows: &Rows,
+) -> Result<Option<Refusal>, NoMemory>
+    ensures { IfOk result (λ refusal. option_map meaning refusal ≡ op_refusal sessions.now op.now rows.now) }
 {
     match op {
-        Op::Create { path, body, owner } => create_refusal(
+        Op::Create { path, body, owner } => Ok(create_refusal(
             sessions,
             path.bytes(),
             body.as_slice(),
             *owner,
             rows,
-        ),
+        )),
         Op::Set {
             path,
             body,
             version,
-        } => set_refusal(body.as_slice(), *version, row_at(rows, path.bytes())),
-        Op::Delete { path, version } => delete_refusal(
-            path.bytes(),
-            *version,
-            rows,
-            row_at(rows, path.bytes()),
-        ),
-        Op::Check { path, version } => check_refusal(*version, row_at(rows, path.bytes())),
+        } => Ok(set_refusal(body.as_slice(), *version, rows.find(path.bytes()))),
+        Op::Delete { path, version } => delete_refusal(alloc, path.bytes(), *version, rows),
+        Op::Check { path, version } => Ok(check_refusal(*version, rows.find(path.bytes()))),
     }
 }

@@ -1,5 +1,5 @@
 //! What the begin and the end of a session make of a tree.
-ghost use Rattle.std.specs.Prelude.{◌≡◌, true, ℕ, List, IfOk, OnOk, if◌then◌else◌};
+ghost use Rattle.std.specs.Prelude.{◌≡◌, true, ℕ, List, IfOk, OnOk};
 ghost use Rattle.std.specs.Ordering.{int_cmp};
 ghost use Rattle.std.specs.List.{list_any};
 ghost use Rattle.std.specs.Str.{bytes_eq};
@@ -8,6 +8,7 @@ ghost use Rattle.kz_spec_stores.specs.Tree.{is_live, is_owned, loses_child, with
 ghost use Rattle.kz_tree.specs.Kept.{AreRows, AreSessions};
 
 use crate::names::parent_of;
+use crate::rows::Rows;
 use kz_types::{Duplicate, NoMemory, Row, copy_all};
 use std::alloc::Global;
 
@@ -86,13 +87,13 @@ fn is_last(paths: &[&[u8]], path: &[u8]) -> bool
 // The parents of the znodes that end with a session.
 fn parents_of_owned<'a>(
     alloc: Global,
-    rows: &'a [Row],
+    rows: &'a Rows,
     session: i64,
 ) -> Result<Vec<&'a [u8]>, NoMemory>
     ensures { IfOk result (λ parents. (path : List ℕ) → list_any (λ other. bytes_eq other.now path) parents.items ≡ loses_child session rows.entry.now path) }
 {
     let mut parents = Vec::new(alloc);
-    for row in rows {
+    for row in rows.items() {
         if is_owned(session, row) {
             let parent = parent_of(row.path.bytes());
             if !is_last(&parents, parent) {
@@ -114,34 +115,18 @@ fn is_among(paths: &[&[u8]], path: &[u8]) -> bool
     false
 }
 
-// A znode that stays, where it loses children or not.
-fn after_loss(alloc: Global, row: &Row, loses: bool, zxid: i64) -> Result<Row, NoMemory>
-    ensures { IfOk result (λ made. made ≡ (if loses then record row.now { pzxid = zxid } else row.now)) }
-{
-    let mut made = row.copy(alloc)?;
-    if loses {
-        made.pzxid = zxid;
-    }
-    Ok(made)
-}
-
-/// The znodes without those that end with a session; their parents show it.
-pub fn without_owned(
-    alloc: Global,
-    rows: &[Row],
-    session: i64,
-    zxid: i64,
-) -> Result<Vec<Row>, NoMemory>
-    requires { AreRows rows.now }
-    ensures value { IfOk result (λ made. made.items ≡ without_owned zxid session rows.now) }
-    ensures rise { IfOk result (λ made. AreRows made.items) }
+/// The znodes without those that end with a session; their parents show it. Only what changes is copied.
+pub fn without_owned(alloc: Global, rows: &Rows, session: i64, zxid: i64) -> Result<Rows, NoMemory>
+    ensures value { IfOk result (λ made. made ≡ without_owned zxid session rows.now) }
+    ensures rise { IfOk result (λ made. AreRows made) }
 {
     let parents = parents_of_owned(alloc, rows, session)?;
-    let mut made = Vec::new(alloc);
-    for row in rows {
-        if !is_owned(session, row) {
-            let loses = is_among(&parents, row.path.bytes());
-            made.push(after_loss(alloc, row, loses, zxid)?)?;
+    let mut made = rows.copy(alloc)?;
+    for row in rows.items() {
+        if is_owned(session, row) {
+            made.take_out(row.path.bytes())?;
+        } else if is_among(&parents, row.path.bytes()) {
+            made.touch(alloc, row.path.bytes(), zxid)?;
         }
     }
     Ok(made)

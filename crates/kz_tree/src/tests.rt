@@ -298,7 +298,7 @@ fn filled(rt: &impl Abort, alloc: Global) -> Tree {
 #[test]
 fn the_migrated_area_is_read(rt: HostRuntime) {
     let tree = filled(&rt, rt.alloc());
-    assert!(rt; tree.rows().len() == 10);
+    assert!(rt; tree.count() == 10);
     assert!(rt; made(&rt, tree.broker_ids()).as_slice() == [2, 10].as_slice());
     assert!(rt; tree.area_len() == 3);
     let area = made(&rt, tree.area());
@@ -307,6 +307,36 @@ fn the_migrated_area_is_read(rt: HostRuntime) {
     assert!(rt; rows.len() == 3);
     drop(area);
     drop(rows);
+    drop(tree);
+}
+
+// A path that only begins alike is no child, although it stands before the children.
+#[test]
+fn siblings_are_no_children(rt: HostRuntime) {
+    let alloc = rt.alloc();
+    let mut tree = filled(&rt, alloc);
+    assert!(rt;
+        answers(
+            &rt,
+            alloc,
+            &mut tree,
+            &[Ask::Delete("/config/brokers", 0)],
+            Told::Done(2)
+        )
+    );
+    assert!(rt;
+        answers(
+            &rt,
+            alloc,
+            &mut tree,
+            &[Ask::Delete("/config", 0)],
+            Told::Refused(0, -111)
+        )
+    );
+    assert!(rt; tree.count() == 9);
+    assert!(rt; tree.area_len() == 2);
+    let mut rows = tree.rows();
+    assert!(rt; rows.next().is_some());
     drop(tree);
 }
 

@@ -13,10 +13,12 @@ use crate::effects::after_ops;
 use crate::faults::{ClosedFault, MultiFault, tree_fault};
 use crate::prepared::Prepared;
 use crate::reads;
-use crate::rows::{next_row, row_at};
+use crate::rows::Rows;
 use crate::sessions::{is_live, with_session, without_owned, without_session};
+use kz_blocks::Items;
 use kz_types::{
-    Limit, MAX_LONG, MoveFault, NoMemory, Op, Recorded, Rendered, Row, TreeFault, ZPath, copy_all,
+    Duplicate, Limit, MAX_LONG, MoveFault, NoMemory, Op, Recorded, Rendered, Row, TreeFault, ZPath,
+    copy_all,
 };
 use std::alloc::Global;
 use std::marker::Model;
@@ -28,7 +30,7 @@ pub struct Tree {
     alloc: Global,
     zxid: i64,
     sessions: Vec<i64>,
-    rows: Vec<Row>,
+    rows: Rows,
 }
 
 impl Model for Tree {
@@ -38,9 +40,21 @@ impl Model for Tree {
 
     ghost Value = { Tree };
 
-    ghost view = { λ t. record { zxid = t.zxid; sessions = t.sessions.items; rows = t.rows.items } };
+    ghost view = { λ t. record { zxid = t.zxid; sessions = t.sessions.items; rows = t.rows } };
 
-    ghost invariant = { λ t. IsKept t.zxid t.sessions.items t.rows.items };
+    ghost invariant = { λ t. IsKept t.zxid t.sessions.items t.rows };
+}
+
+impl Duplicate for Tree {
+    // The znodes are shared, not copied.
+    fn copy(&self, alloc: Global) -> Result<Self, NoMemory> {
+        Ok(Tree {
+            alloc,
+            zxid: self.zxid,
+            sessions: copy_all(alloc, &self.sessions)?,
+            rows: self.rows.copy(alloc)?,
+        })
+    }
 }
 
 impl Tree {
@@ -52,7 +66,7 @@ impl Tree {
             alloc,
             zxid: 0,
             sessions: Vec::new(alloc),
-            rows: Vec::new(alloc),
+            rows: Rows::new(alloc),
         }
     }
 
@@ -77,7 +91,7 @@ impl Tree {
         ensures err { IfErr result (IsMultiFaultOf (tree.multi self.old ops.now)) }
         ensures same { self.new ≡ self.old }
     {
-        let Ok(rows) = copy_all(self.alloc, &self.rows) else {
+        let Ok(rows) = self.rows.copy(self.alloc) else {
             return Err(MultiFault::NoMemory);
         };
         let Ok(sessions) = copy_all(self.alloc, &self.sessions) else {
@@ -117,7 +131,7 @@ impl Tree {
         let Ok(sessions) = with_session(self.alloc, &self.sessions, session) else {
             return Err(MoveFault::NoMemory);
         };
-        let Ok(rows) = copy_all(self.alloc, &self.rows) else {
+        let Ok(rows) = self.rows.copy(self.alloc) else {
             return Err(MoveFault::NoMemory);
         };
         Ok(Prepared::new(self.next_zxid(), sessions, rows))
@@ -179,21 +193,21 @@ impl Tree {
     pub fn row(&self, path: &[u8]) -> Option<&Row>
         ensures { option_map (λ row. row.now) result ≡ tree.row_at path.now self.now.rows }
     {
-        row_at(&self.rows, path)
+        self.rows.find(path)
     }
 
     /// The first znode with a greater path than this one, or the first of all.
     pub fn next_row(&self, after: Option<&ZPath>) -> Option<&Row>
         ensures { option_map (λ row. row.now) result ≡ tree.next_row self.now (option_map (λ path. path.now) after.entry) }
     {
-        next_row(&self.rows, after)
+        self.rows.next_after(after)
     }
 
     /// The znodes but the root, by rising path.
-    pub fn rows(&self) -> &[Row]
-        ensures { result.now ≡ self.now.rows }
+    pub fn rows(&self) -> Items<'_, Row>
+        ensures { result ≡ self.now.rows }
     {
-        self.rows.as_slice()
+        self.rows.items()
     }
 
     /// The zxid of the last transaction, 0 before the first.
@@ -207,7 +221,7 @@ impl Tree {
     pub fn count(&self) -> usize
         ensures { result ≡ length self.now.rows }
     {
-        self.rows.len()
+        self.rows.count()
     }
 
     /// The live sessions, rising.
@@ -262,7 +276,7 @@ impl Tree {
     pub fn area_len(&self) -> usize
         ensures { result ≡ length (tree.area self.now) }
     {
-        reads::area_len(&self.rows)
+        self.rows.migrated_count()
     }
 
     /// What `/migration` records, where it is there and can be read.
@@ -302,8 +316,8 @@ impl Tree {
     {
         let mut sessions = Vec::new(alloc);
         sessions.push(session)?;
-        let mut rows = Vec::new(alloc);
-        rows.push(row)?;
+        let mut rows = Rows::new(alloc);
+        rows.put(row)?;
         Ok(Tree {
             alloc,
             zxid,

@@ -2,3 +2,4 @@ pub mod Pairs
 pub mod Disks
 pub mod Stops
 pub mod Steps
+pub mod Bounds

@@ -1,5 +1,5 @@
 //! The steps of a turn.
-ghost use Rattle.std.specs.Prelude.{◌≡◌, ◌++◌, ◌∷◌, [], true, List, ◌≤◌, length, IfOk, OnErr};
+ghost use Rattle.std.specs.Prelude.{◌≡◌, ◌++◌, ◌∷◌, [], true, List, ◌+◌, ◌^◌, ◌≤◌, ◌<◌, nat_lt, length, IfOk, OnErr};
 ghost use Rattle.std.specs.List.{list_any};
 ghost use Rattle.kz_types.specs.declared.machine.Reply.{Reply as ReplyValue};
 ghost use Rattle.kz_spec_stores.specs.Log.{IsViewOf};
@@ -11,12 +11,16 @@ ghost use Rattle.kz_turns.specs.Pairs.{IsSoundPair};
 ghost use Rattle.kz_turns.specs.Disks.{TurnDisks};
 ghost use Rattle.kz_turns.specs.Stops.{AreUp, LeavesOneOf};
 ghost use Rattle.kz_turns.specs.Steps.{TurnEnds};
+ghost use Rattle.kz_turns.specs.Bounds.{IsKnown};
+ghost use Rattle.kz_work.specs.Starts.{most_from};
 
 use crate::single_step::step;
 use kz_driver::{Driver, Peers};
+use kz_image::Image;
 use kz_log::{LogWire, MetaLog};
 use kz_tree::{Wire, ZTree};
 use kz_types::{NoMemory, Plan, Reply};
+use kz_work::TurnStart;
 use std::alloc::Global;
 
 // Whether a turn ends with this reply.
@@ -65,9 +69,39 @@ fn without_last(replies: Vec<Reply>) -> Vec<Reply>
     replies
 }
 
-/// At most so many steps of a driver, up to and with the first whose reply ends the turn. Where a step fails or is out of
-/// memory, its reply tells so after those of the steps before; where a disk failed in it, a stop leaves the tree and the log
-/// from before it, or those that it would have made. At `Err` there is no memory for a reply, and nothing has changed.
+// So many steps every turn may have.
+const LEAST_STEPS: u128 = 20;
+
+// Whether a turn may have a further step after so many. Its bound isn't computed before the last of the steps that every turn
+// may have, and once: it is kept in `most`. At `Err` there is no memory for it, and the turn may have a further step.
+fn may_step(
+    alloc: Global,
+    start: &TurnStart,
+    image: &Image,
+    done: u128,
+    most: &mut Option<u128>,
+) -> Result<bool, NoMemory>
+    requires { IsKnown (most_from start.now image.now) done most.old }
+    ensures may { IfOk result (λ may. may ≡ nat_lt done (most_from start.now image.now)) }
+    ensures known { IfOk result (λ may. may ≡ true → (done + 1 < 2 ^ 128) × IsKnown (most_from start.now image.now) (done + 1) most.new) }
+    ensures err { OnErr result (done < most_from start.now image.now) }
+{
+    if done < LEAST_STEPS - 1 {
+        return Ok(true);
+    }
+    let bound = match *most {
+        Some(bound) => bound,
+        None => start.most_steps(alloc, image)?,
+    };
+    *most = Some(bound);
+    Ok(done < bound)
+}
+
+/// At most as many steps of a driver as the bound allows that its start gives, with these metadata at the end of the log, up to
+/// and with the first whose reply ends the turn. The bound is computed by a turn of twenty steps and more alone. Where a step
+/// fails or is out of memory, its reply tells so after those of the steps before; where a disk failed in it, a stop leaves the
+/// tree and the log from before it, or those that it would have made. At `Err` there is no memory for a reply, and nothing has
+/// changed.
 pub fn turn<T: ZTree, L: MetaLog>(
     alloc: Global,
     tree: &mut Wire<T>,
@@ -75,12 +109,13 @@ pub fn turn<T: ZTree, L: MetaLog>(
     driver: &mut Driver,
     peers: &Peers,
     now: i64,
-    most: u128,
+    start: &TurnStart,
+    image: &Image,
 ) -> Result<Vec<Reply>, NoMemory>
     requires view { IsViewOf (L.log log.old.inner) driver.old.view }
     requires delivers { (tree.old.plan ≡ Plan.Deliver) × (log.old.plan ≡ Plan.Deliver) }
     ensures ends { IsSoundPair (shared_over T.tree L.log peers.now.declared tree.old log.old) now driver.old → IfOk result (λ replies.
-        TurnEnds most (shared_over T.tree L.log peers.now.declared tree.old log.old) peers.now.running now driver.old replies.items (shared_over T.tree L.log peers.now.declared tree.new log.new) driver.new) }
+        TurnEnds (most_from start.now image.now) (shared_over T.tree L.log peers.now.declared tree.old log.old) peers.now.running now driver.old replies.items (shared_over T.tree L.log peers.now.declared tree.new log.new) driver.new) }
     ensures views { KeepsViews (L.log log.old.inner) (L.log log.new.inner) driver.old.id driver.new }
     ensures delivers { (tree.new.plan ≡ Plan.Deliver) × (log.new.plan ≡ Plan.Deliver) }
     ensures disks { IsSoundPair (shared_over T.tree L.log peers.now.declared tree.old log.old) now driver.old → IfOk result (λ replies.
@@ -88,14 +123,22 @@ pub fn turn<T: ZTree, L: MetaLog>(
         (disks_of (T.disk tree.old.inner) (L.disk log.old.inner)) (disks_of (T.disk tree.new.inner) (L.disk log.new.inner))) }
     ensures stop { IsSoundPair (shared_over T.tree L.log peers.now.declared tree.old log.old) now driver.old → AreUp (disks_of (T.disk tree.old.inner) (L.disk log.old.inner)) → IfOk result (λ replies.
         list_any is_failed_step replies.items ≡ true
-        → LeavesOneOf (pair_of (shared_over T.tree L.log peers.now.declared tree.old log.old) ∷ turn_pairs most (shared_over T.tree L.log peers.now.declared tree.old log.old) peers.now.running now driver.old)
+        → LeavesOneOf (pair_of (shared_over T.tree L.log peers.now.declared tree.old log.old) ∷ turn_pairs (most_from start.now image.now) (shared_over T.tree L.log peers.now.declared tree.old log.old) peers.now.running now driver.old)
         (T.left tree.new.inner) (L.left log.new.inner)) }
     ensures err { OnErr result ((driver.new ≡ driver.old) × (tree.new ≡ tree.old) × (log.new ≡ log.old)) }
 {
     let mut replies = Vec::new(alloc);
     // the last place is kept for a step that is out of memory
     replies.push(Reply::NoMemory)?;
-    for _done in 0..most {
+    let mut most = None;
+    let mut done: u128 = 0;
+    'steps: loop {
+        let Ok(may) = may_step(alloc, start, image, done, &mut most) else {
+            return Ok(replies);
+        };
+        if !may {
+            return Ok(without_last(replies));
+        }
         let Ok(()) = replies.push(Reply::NoMemory) else {
             return Ok(replies);
         };
@@ -105,6 +148,6 @@ pub fn turn<T: ZTree, L: MetaLog>(
         if last {
             return Ok(without_last(replies));
         }
+        done += 1;
     }
-    Ok(without_last(replies))
 }

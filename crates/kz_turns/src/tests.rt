@@ -4,10 +4,12 @@ ghost use Rattle.kz_spec_stores.specs.Log.{IsViewOf};
 
 use super::{step, turn};
 use kz_driver::{Driver, Peers};
+use kz_image::Image;
 use kz_log::{LogWire, MemoryLog, MetaLog};
 use kz_session::MemoryTree;
-use kz_tree::Wire;
+use kz_tree::{Tree, Wire};
 use kz_types::{DriverState, Plan, Reply, Sequence};
+use kz_work::TurnStart;
 use std::alloc::Global;
 use std::process::Abort;
 
@@ -40,6 +42,16 @@ fn started(alloc: Global) -> (Wire<MemoryTree>, LogWire<MemoryLog>, Driver)
     )
 }
 
+// What a turn of this driver starts from, over an empty tree and an empty log.
+fn start_of(rt: &impl Abort, alloc: Global, driver: &Driver) -> TurnStart {
+    let tree = Tree::new(alloc);
+    let mut log = MemoryLog::new(alloc);
+    let start = made(rt, TurnStart::new(alloc, &tree, &mut log, driver));
+    drop(log);
+    drop(tree);
+    start
+}
+
 #[test]
 fn a_step_without_a_request_loses_none(rt: HostRuntime) {
     let alloc = rt.alloc();
@@ -66,9 +78,20 @@ fn a_turn_ends_where_there_is_nothing_to_do(rt: HostRuntime) {
     let alloc = rt.alloc();
     let (mut tree, mut log, mut driver) = started(alloc);
     let peers = no_peers(alloc);
+    let start = start_of(&rt, alloc, &driver);
+    let image = Image::new(alloc);
     let told = made(
         &rt,
-        turn(alloc, &mut tree, &mut log, &mut driver, &peers, 5, 3),
+        turn(
+            alloc,
+            &mut tree,
+            &mut log,
+            &mut driver,
+            &peers,
+            5,
+            &start,
+            &image,
+        ),
     );
     assert!(rt;
         matches!(
@@ -77,6 +100,8 @@ fn a_turn_ends_where_there_is_nothing_to_do(rt: HostRuntime) {
         )
     );
     drop(told);
+    drop(image);
+    drop(start);
     drop(peers);
     drop(driver);
     drop(log);

@@ -80,6 +80,7 @@ pub fn amount_of_area(tree: &Tree) -> Amount
     ensures { result ≡ amount_of_znodes (area tree.now) }
 {
     let mut amount = Amount::none();
+    let _count = tree.count();
     for row in tree.rows() {
         add_migrated(&mut amount, row);
     }

@@ -1,14 +1,15 @@
 //! How many steps a turn may have.
 ghost use Rattle.std.specs.Prelude.{◌≡◌, List, ℤ, false, IfOk, if◌then◌else◌};
-ghost use Rattle.kz_spec_stores.specs.Image.{empty_image, all_applied};
-ghost use Rattle.kz_spec_stores.specs.Log.{batch_ends, Log, image_of, is_migrated_log};
+ghost use Rattle.kz_spec_stores.specs.Image.{empty_image, all_applied, is_migrated_state};
+ghost use Rattle.kz_spec_stores.specs.Log.{batch_ends, image_of};
 ghost use Rattle.kz_spec_stores.specs.Tree.{migrated_rows};
 ghost use Rattle.kz_spec_znodes.specs.Rendering.{render};
 ghost use Rattle.kz_spec_znodes.specs.Translation.{translate};
 ghost use Rattle.kz_spec_machine.specs.Driver.{epoch_or_zero, is_one_of};
-ghost use Rattle.kz_spec_machine.specs.Machine.{amount_of_znodes as amount_of_all, translated_count, final_znodes, remaining_amount, work};
+ghost use Rattle.kz_spec_machine.specs.Machine.{amount_of_znodes as amount_of_all, translated_count, remaining_amount, work};
 ghost use Rattle.kz_driver.specs.Drivers.{shared_of};
 ghost use Rattle.kz_work.specs.Amounts.{amount_at_offset, remaining_by};
+ghost use Rattle.kz_work.specs.Starts.{final_znodes_of, most_from, start_of};
 
 use crate::amount::{Amount, amount_of_area, amount_of_ops, amount_of_znodes, most_steps};
 use crate::reading::read_whole;
@@ -18,8 +19,9 @@ use kz_log::{LogRows, MetaLog};
 use kz_reader::{ReadFault, translate};
 use kz_render::render;
 use kz_tree::Tree;
-use kz_types::{DriverState, MIGRATION, MetaRecord, NoMemory, Op};
+use kz_types::{DriverState, Duplicate, MIGRATION, MetaRecord, NoMemory, Op};
 use std::alloc::Global;
+use std::marker::Model;
 
 // The znodes that the metadata is rendered as.
 fn rendered_amount(alloc: Global, image: &Image) -> Result<Amount, NoMemory>
@@ -128,8 +130,8 @@ fn translated_amounts(
     image: &Image,
     epoch: i32,
 ) -> Result<(usize, Amount), NoMemory>
-    ensures { (l : Log) → image.now ≡ image_of l → IfOk result (λ made. (made.0 ≡ translated_count (translate (migrated_rows tree.now)))
-        × (made.1 ≡ amount_of_all (final_znodes false l epoch (translate (migrated_rows tree.now))))) }
+    ensures records { IfOk result (λ made. made.0 ≡ translated_count (translate (migrated_rows tree.now))) }
+    ensures znodes { IfOk result (λ made. made.1 ≡ amount_of_all (final_znodes_of false image.now epoch (translate (migrated_rows tree.now)))) }
 {
     match translate(alloc, &tree.migrated_rows()?) {
         Ok(records) => Ok((records.len(), records_amount(alloc, epoch, &records)?)),
@@ -138,20 +140,69 @@ fn translated_amounts(
     }
 }
 
-// How many records a turn may append, and the znodes that it ends with, where the metadata at the log's end is told.
+// How many records a turn may append, and the znodes that it ends with, where these are the metadata at the log's end.
 fn final_amounts(
     alloc: Global,
     tree: &Tree,
     image: &Image,
     epoch: i32,
 ) -> Result<(usize, Amount), NoMemory>
-    ensures { (l : Log) → image.now ≡ image_of l → IfOk result (λ made. (made.0 ≡ (if is_migrated_log l then 0 else translated_count (translate (migrated_rows tree.now))))
-        × (made.1 ≡ amount_of_all (final_znodes (is_migrated_log l) l epoch (translate (migrated_rows tree.now))))) }
+    ensures records { IfOk result (λ made. made.0 ≡ (if is_migrated_state image.now.state then 0 else translated_count (translate (migrated_rows tree.now)))) }
+    ensures znodes { IfOk result (λ made. made.1 ≡ amount_of_all (final_znodes_of (is_migrated_state image.now.state) image.now epoch (translate (migrated_rows tree.now)))) }
 {
     if image.state() >= MIGRATION {
         Ok((0, rendered_amount(alloc, image)?))
     } else {
         translated_amounts(alloc, tree, image, epoch)
+    }
+}
+
+/// What a turn starts from, as far as the bound on its steps needs it: the tree, the driver's epoch, and what may remain to be
+/// written. The bound itself renders or translates the whole cluster, so it is computed by the turn that comes near it.
+#[derive(Drop)]
+pub struct TurnStart {
+    tree: Tree,
+    epoch: i32,
+    remaining: Amount,
+}
+
+impl Model for TurnStart {
+    ghost use Rattle.kz_work.specs.Starts.{TurnStart as Start};
+
+    ghost Value = { Start };
+
+    ghost view = { λ s. record { tree = s.tree; epoch = s.epoch; remaining = s.remaining } };
+}
+
+impl TurnStart {
+    /// What a turn of a driver starts from, where the log isn't down. The tree's rows are shared, not copied. A resync that has no
+    /// operations yet reads the log, and renders its target; nothing else is rendered.
+    pub fn new<L: MetaLog>(
+        alloc: Global,
+        tree: &Tree,
+        log: &mut L,
+        driver: &Driver,
+    ) -> Result<TurnStart, NoMemory>
+        requires { (L.disk log.old).down ≡ false }
+        ensures ok { IfOk result (λ start. (ids : List ℤ) → start ≡ start_of (shared_of tree.now (L.log log.old) ids) driver.now) }
+        ensures same { L.log log.new ≡ L.log log.old }
+        ensures disk { L.disk log.new ≡ L.disk log.old }
+    {
+        let remaining = remaining_amount(alloc, log, driver)?;
+        Ok(TurnStart {
+            tree: tree.copy(alloc)?,
+            epoch: epoch_or_zero(driver.epoch()),
+            remaining,
+        })
+    }
+
+    /// The most steps of the turn, where these are the metadata at the end of the log before its first step.
+    pub fn most_steps(&self, alloc: Global, image: &Image) -> Result<u128, NoMemory>
+        ensures { IfOk result (λ most. most ≡ most_from self.now image.now) }
+    {
+        let znodes = amount_of_area(&self.tree);
+        let (records, rendered) = final_amounts(alloc, &self.tree, image, self.epoch)?;
+        Ok(most_steps(&znodes, records, &rendered, &self.remaining))
     }
 }
 
@@ -169,8 +220,9 @@ pub fn work<L: MetaLog>(
     ensures same { L.log log.new ≡ L.log log.old }
     ensures disk { L.disk log.new ≡ L.disk log.old }
 {
-    let znodes = amount_of_area(tree);
-    let (records, rendered) = final_amounts(alloc, tree, image, epoch_or_zero(driver.epoch()))?;
-    let remaining = remaining_amount(alloc, log, driver)?;
-    Ok(most_steps(&znodes, records, &rendered, &remaining))
+    let start = TurnStart::new(alloc, tree, log, driver)?;
+    match start.most_steps(alloc, image) {
+        Ok(most) => Ok(most),
+        Err(NoMemory) => Err(NoMemory),
+    }
 }

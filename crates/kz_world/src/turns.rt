@@ -1,11 +1,13 @@
 //! A turn.
-ghost use Rattle.std.specs.Prelude.{◌≡◌, ◌<◌, ◌∷◌, false, length, Some, IfOk, OnErr, slice_get};
+ghost use Rattle.std.specs.Prelude.{◌≡◌, ◌<◌, ◌∷◌, false, length, Some, IfOk, OnOk, OnErr, slice_get};
 ghost use Rattle.kz_types.specs.declared.machine.Event.TheVariants as event;
+ghost use Rattle.kz_spec_stores.specs.Log.{image_of};
 ghost use Rattle.kz_spec_machine.specs.Driver.{Driver as DriverValue};
 ghost use Rattle.kz_spec_machine.specs.Machine.{running_ids, turn_pairs, work};
 ghost use Rattle.kz_spec_machine.specs.Sound.{IsTime, Sound};
 ghost use Rattle.kz_driver.specs.Disks.{payloads_of};
 ghost use Rattle.kz_turns.specs.Pairs.{IsSoundPair};
+ghost use Rattle.kz_work.specs.Starts.{start_of};
 ghost use Rattle.kz_world_parts.specs.Stores.{ReadsLog};
 ghost use Rattle.kz_world_parts.specs.Disks.{disks_in, DriverTurnDisks, ResultDisks};
 ghost use Rattle.kz_world_parts.specs.Stops.{FailureLeaves, EventLeaves};
@@ -17,7 +19,7 @@ use kz_log::MetaLog;
 use kz_tree::ZTree;
 use kz_turns::turn;
 use kz_types::{Answer, Duplicate, NoMemory, Sequence};
-use kz_work::work;
+use kz_work::TurnStart;
 use kz_world_parts::{EventFault, Parts, place_of, read, running_ids, running_refusal};
 use std::alloc::Global;
 
@@ -32,15 +34,16 @@ pub fn peers<T: ZTree, L: MetaLog>(alloc: Global, parts: &Parts<T, L>) -> Result
     })
 }
 
-// The most steps of a turn of the driver at this place. The log is read.
-fn most_steps<T: ZTree, L: MetaLog>(
+// What a turn of the driver at this place starts from. The log is read.
+fn turn_start<T: ZTree, L: MetaLog>(
     alloc: Global,
     parts: &mut Parts<T, L>,
     at: usize,
-) -> Result<u128, EventFault>
+) -> Result<TurnStart, EventFault>
     requires within { at < length parts.old.drivers.items }
     requires kept { AreKept L.log parts.old }
-    ensures most { (d : DriverValue) → slice_get parts.old.drivers.items at ≡ Some d → IfOk result (λ most. most ≡ work (world_of T.tree L.log parts.old).shared d) }
+    ensures start { (d : DriverValue) → slice_get parts.old.drivers.items at ≡ Some d → IfOk result (λ start. start ≡ start_of (world_of T.tree L.log parts.old).shared d) }
+    ensures image { OnOk result (parts.new.view.image ≡ image_of (L.log parts.new.log.inner)) }
     ensures kept { AreKept L.log parts.new }
     ensures world { world_of T.tree L.log parts.new ≡ world_of T.tree L.log parts.old }
     ensures disks { ReadsLog result (disks_in T.disk L.disk (world_of_parts parts.old)) (disks_in T.disk L.disk (world_of_parts parts.new)) }
@@ -49,14 +52,13 @@ fn most_steps<T: ZTree, L: MetaLog>(
         Ok(()) => {}
         Err(fault) => return Err(fault),
     }
-    match work(
+    match TurnStart::new(
         alloc,
         parts.tree.inner().tree(),
-        parts.view.image(),
         parts.log.inner_mut(),
         &parts.drivers[at],
     ) {
-        Ok(most) => Ok(most),
+        Ok(start) => Ok(start),
         Err(NoMemory) => Err(EventFault::NoMemory),
     }
 }
@@ -67,14 +69,15 @@ fn turn_at<T: ZTree, L: MetaLog>(
     parts: &mut Parts<T, L>,
     at: usize,
     peers: &Peers,
-    most: u128,
+    start: &TurnStart,
     now: i64,
 ) -> Result<Answer, EventFault>
     requires within { at < length parts.old.drivers.items }
     requires kept { AreKept L.log parts.old }
     requires declared { peers.now.declared ≡ parts.old.declared }
     requires running { peers.now.running ≡ running_ids parts.old.drivers.items }
-    requires most { (d : DriverValue) → slice_get parts.old.drivers.items at ≡ Some d → most ≡ work (world_of T.tree L.log parts.old).shared d }
+    requires start { (d : DriverValue) → slice_get parts.old.drivers.items at ≡ Some d → start.now ≡ start_of (world_of T.tree L.log parts.old).shared d }
+    requires image { parts.old.view.image ≡ image_of (L.log parts.old.log.inner) }
     requires up { (L.disk parts.old.log.inner).down ≡ false }
     ensures ok { (d : DriverValue) → slice_get parts.old.drivers.items at ≡ Some d → IsSoundPair (world_of T.tree L.log parts.old).shared now d → IfOk result (IsTurned (world_of T.tree L.log parts.old) now d (world_of T.tree L.log parts.new)) }
     ensures kept { AreKept L.log parts.new }
@@ -91,14 +94,15 @@ fn turn_at<T: ZTree, L: MetaLog>(
         &mut parts.drivers[at],
         peers,
         now,
-        most,
+        start,
+        parts.view.image(),
     ) {
         Ok(replies) => Ok(Answer::Turn(Sequence::from_vec(replies))),
         Err(NoMemory) => Err(EventFault::NoMemory),
     }
 }
 
-// A turn of the driver at this place, of as many steps as it may have. At `Err` nothing has changed but the disks.
+// A turn of the driver at this place, of at most as many steps as it may have. At `Err` nothing has changed but the disks.
 fn prepared_turn<T: ZTree, L: MetaLog>(
     alloc: Global,
     parts: &mut Parts<T, L>,
@@ -118,11 +122,11 @@ fn prepared_turn<T: ZTree, L: MetaLog>(
     let Ok(peers) = peers(alloc, parts) else {
         return Err(EventFault::NoMemory);
     };
-    let most = match most_steps(alloc, parts, at) {
-        Ok(most) => most,
+    let start = match turn_start(alloc, parts, at) {
+        Ok(start) => start,
         Err(fault) => return Err(fault),
     };
-    turn_at(alloc, parts, at, &peers, most, now)
+    turn_at(alloc, parts, at, &peers, &start, now)
 }
 
 /// Lets a controller's driver make steps until it waits or rests. A refused turn changes nothing. A step that fails, or is out

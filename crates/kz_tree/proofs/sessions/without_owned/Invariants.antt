@@ -2,4 +2,4 @@ use Rattle.kz_tree.proofs.Owned.{IsLeft}
 use Rattle.kz_tree.proofs.sessions.without_owned.Given as goal
 
 abbrev pub invariant-loop-row : goal.invariant-loop-row
-invariant-loop-row l = IsLeft l.zxid l.session l.rows l.row-index l.made.items
+invariant-loop-row l = IsLeft l.zxid l.session l.fn.rows l.row-iterator l.made

@@ -1,4 +1,4 @@
-use Rattle.std.proofs.Common.{◌≡◌, ◌+◌, ◌≤◌, drop, length, map, sum}
+use Rattle.std.proofs.Common.{◌≡◌, ◌+◌, ◌≤◌, length, map, sum}
 use Rattle.kz_spec_machine.specs.Machine.{znode_size}
 use Rattle.kz_spec_stores.specs.Tree.{area}
 use Rattle.kz_work.specs.Amounts.{area_of_rows}
@@ -6,7 +6,7 @@ use Rattle.kz_work.proofs.amount.amount_of_area.Given as goal
 
 abbrev pub invariant-loop-row : goal.invariant-loop-row
 invariant-loop-row l = record {
-  within : l.amount.count ≤ l.row-index;
-  count : l.amount.count + length (area_of_rows (drop l.row-index l.tree.rows)) ≡ length (area l.tree);
-  bytes : l.amount.bytes + sum (map znode_size (area_of_rows (drop l.row-index l.tree.rows))) ≡ sum (map znode_size (area l.tree));
+  within : l.amount.count + length l.row-iterator ≤ length l.tree.rows;
+  count : l.amount.count + length (area_of_rows l.row-iterator) ≡ length (area l.tree);
+  bytes : l.amount.bytes + sum (map znode_size (area_of_rows l.row-iterator)) ≡ sum (map znode_size (area l.tree));
 }

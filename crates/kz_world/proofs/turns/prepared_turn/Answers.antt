@@ -1,10 +1,11 @@
 use Rattle.std.proofs.Common.{◌≡◌, Some, Err, refl, sym, ap, subst, ◌∙◌, w64, to_z, of_z}
-use Rattle.std.specs.Prelude.{slice_get}
+use Rattle.std.specs.Prelude.{slice_get, IfOk}
 use Rattle.std.proofs.lemmas.Int.{to_z-of_z}
 use Rattle.kz_spec_machine.specs.Machine.{World, running_ids, turn_pairs, work}
 use Rattle.kz_turns.specs.Pairs.{IsSoundPair}
 use Rattle.kz_world_parts.specs.declared.faults.EventFault.TheVariants as event_fault
 use Rattle.kz_world_parts.specs.Disks.{disks_in}
+use Rattle.kz_world_parts.specs.Turns.{IsTurned}
 use Rattle.kz_world_parts.specs.Worlds.{world_of_parts, world_of}
 use Rattle.kz_world_parts.proofs.Stops.{still_failure, read_failure, later_leaves}
 use Rattle.kz_world_parts.proofs.Views.{read_keeps}
@@ -21,28 +22,42 @@ returns-in_default-clause-stop g c = λ d at_is pair.
 pub returns-in-Err-clause-stop : goal.returns-in-Err-clause-stop
 returns-in-Err-clause-stop g c = λ d at_is pair.
     let p = c.args.parts.now in
-    let q = c.most_steps.new.parts in
+    let q = c.turn_start.new.parts in
     let world = world_of g.T.ZTree.tree g.L.MetaLog.log in
     let w = world p in
     let disks = disks_in g.T.ZTree.disk g.L.MetaLog.disk in
-    read_failure w (world q) (turn_pairs (work w.shared d) w.shared (running_ids w.drivers) c.args.now d) (Err c.in-Err.fault) (disks (world_of_parts p)) (disks (world_of_parts q)) (g.T.ZTree.left q.tree.inner) (g.L.MetaLog.left q.log.inner) tt c.most_steps.ensures.world c.in-Err.ensures.disks
+    read_failure w (world q) (turn_pairs (work w.shared d) w.shared (running_ids w.drivers) c.args.now d) (Err c.in-Err.fault) (disks (world_of_parts p)) (disks (world_of_parts q)) (g.T.ZTree.left q.tree.inner) (g.L.MetaLog.left q.log.inner) tt c.turn_start.ensures.world c.in-Err.ensures.disks
     (record { tree = g.met.T.ZTree.settled q.tree.inner; log = g.met.L.MetaLog.settled q.log.inner })
+
+pub returns-clause-ok : goal.returns-clause-ok
+returns-clause-ok g c = λ d at_is pair.
+    let world = world_of g.T.ZTree.tree g.L.MetaLog.log in
+    let w = world c.args.parts.now in
+    let m = world c.turn_start.new.parts in
+    let new = world c.turn_at.new.parts in
+    let now = c.args.now in
+    let n = to_z w64 (of_z w64 now) in
+    let now_is = to_z-of_z w64 now c.ranges.now in
+    let there : slice_get m.drivers c.args.at ≡ Some d = ap (λ (x : World). slice_get x.drivers c.args.at) c.turn_start.ensures.world ∙ at_is in
+    let mid_pair = subst (λ x. IsSoundPair m.shared x d) (sym now_is) (subst (λ (x : World). IsSoundPair x.shared now d) (sym c.turn_start.ensures.world) pair) in
+    subst (λ (x : World). IfOk c.turn_at.result (IsTurned x now d new)) c.turn_start.ensures.world
+    (subst (λ x. IfOk c.turn_at.result (IsTurned m x d new)) now_is (c.turn_at.ensures.ok d there mid_pair))
 
 pub returns-clause-stop : goal.returns-clause-stop
 returns-clause-stop g c = λ d at_is pair.
     let disks = disks_in g.T.ZTree.disk g.L.MetaLog.disk in
     let world = world_of g.T.ZTree.tree g.L.MetaLog.log in
     let p = c.args.parts.now in
-    let q = c.most_steps.new.parts in
+    let q = c.turn_start.new.parts in
     let r = c.turn_at.new.parts in
     let w = world p in
     let m = world q in
     let now = c.args.now in
     let n = to_z w64 (of_z w64 now) in
     let now_is = to_z-of_z w64 now c.ranges.now in
-    let there : slice_get q.drivers.items c.args.at ≡ Some d = ap (λ (x : World). slice_get x.drivers c.args.at) c.most_steps.ensures.world ∙ at_is in
-    let same = read_keeps (disks (world_of_parts p)) (disks (world_of_parts q)) c.in-Ok-most_steps.ensures.disks.0.1 c.in-Ok-most_steps.ensures.disks.1 in
-    let mid_pair = subst (λ x. IsSoundPair m.shared x d) (sym now_is) (subst (λ (x : World). IsSoundPair x.shared now d) (sym c.most_steps.ensures.world) pair) in
-    let pairs = ap (λ (x : World). turn_pairs (work x.shared d) x.shared (running_ids x.drivers) n d) c.most_steps.ensures.world ∙ ap (λ x. turn_pairs (work w.shared d) w.shared (running_ids w.drivers) x d) now_is in
+    let there : slice_get q.drivers.items c.args.at ≡ Some d = ap (λ (x : World). slice_get x.drivers c.args.at) c.turn_start.ensures.world ∙ at_is in
+    let same = read_keeps (disks (world_of_parts p)) (disks (world_of_parts q)) c.in-Ok-turn_start.ensures.disks.0.1 c.in-Ok-turn_start.ensures.disks.1 in
+    let mid_pair = subst (λ x. IsSoundPair m.shared x d) (sym now_is) (subst (λ (x : World). IsSoundPair x.shared now d) (sym c.turn_start.ensures.world) pair) in
+    let pairs = ap (λ (x : World). turn_pairs (work x.shared d) x.shared (running_ids x.drivers) n d) c.turn_start.ensures.world ∙ ap (λ x. turn_pairs (work w.shared d) w.shared (running_ids w.drivers) x d) now_is in
     later_leaves w m (turn_pairs (work m.shared d) m.shared (running_ids m.drivers) n d) (turn_pairs (work w.shared d) w.shared (running_ids w.drivers) now d) c.turn_at.result (disks (world_of_parts p)) (disks (world_of_parts q)) (g.T.ZTree.left r.tree.inner) (g.L.MetaLog.left r.log.inner)
-    c.most_steps.ensures.world same pairs (c.turn_at.ensures.stop d there mid_pair)
+    c.turn_start.ensures.world same pairs (c.turn_at.ensures.stop d there mid_pair)

@@ -4,6 +4,8 @@ use Rattle.std.proofs.lemmas.Int.{to_z-of_z}
 use Rattle.std.proofs.lemmas.Option.{get_or_from_slice_get}
 use Rattle.kz_types.specs.declared.machine.Reply.{Reply}
 use Rattle.kz_types.specs.declared.machine.Answer.TheVariants as answer
+use Rattle.kz_spec_stores.specs.Image.{Image}
+use Rattle.kz_spec_stores.specs.Log.{image_of}
 use Rattle.kz_spec_machine.specs.Driver.{Shared, Driver}
 use Rattle.kz_spec_machine.specs.Machine.{World, running_ids, pair_of, turn_pairs, work}
 use Rattle.kz_spec_machine.specs.Failures.{is_failed_step}
@@ -13,6 +15,8 @@ use Rattle.kz_turns.specs.Disks.{TurnDisks}
 use Rattle.kz_turns.specs.Pairs.{IsSoundPair}
 use Rattle.kz_turns.specs.Steps.{TurnEnds}
 use Rattle.kz_turns.specs.Stops.{AreUp, LeavesOneOf}
+use Rattle.kz_work.specs.Starts.{TurnStart, most_from, start_of}
+use Rattle.kz_work.proofs.Starts.{most_is_work}
 use Rattle.kz_world_parts.specs.declared.faults.EventFault.TheVariants as event_fault
 use Rattle.kz_world_parts.specs.Disks.{disks_in}
 use Rattle.kz_world_parts.specs.Turns.{IsTurned}
@@ -22,6 +26,9 @@ use Rattle.kz_world.proofs.Runs.{turn_told}
 use Rattle.kz_world_parts.proofs.Stops.{still_failure}
 use Rattle.kz_world_parts.proofs.Views.{view_at, kept_turned}
 use Rattle.kz_world.proofs.turns.turn_at.Goals as goal
+
+most_told : (s : Shared) (d : Driver) (start : TurnStart) (i : Image) → start ≡ start_of s d → i ≡ image_of s.log → most_from start i ≡ work s d
+most_told s d start i from is = ap (λ x. most_from x i) from ∙ ap (most_from (start_of s d)) is ∙ most_is_work s d
 
 pub turn-requires-clause-view : goal.turn-requires-clause-view
 turn-requires-clause-view g c =
@@ -52,7 +59,7 @@ returns-in-Ok-clause-ok g c = λ d at_is pair.
     let n = to_z w64 (of_z w64 now) in
     let replies = c.in-Ok.replies.items in
     let e = c.turn.new.driver in
-    let most = c.args.most in
+    let most = most_from c.args.start.now c.image.result.now in
     let running = c.args.peers.now.running in
     let first = c.index_mut.result.now in
     let first_is : first ≡ d = c.index_mut.ensures.value ∙ get_or_from_slice_get ds at d first at_is in
@@ -63,7 +70,7 @@ returns-in-Ok-clause-ok g c = λ d at_is pair.
     let by_now = subst (λ x. IsSoundPair (old p.declared) x d → TurnEnds most (old p.declared) running x d replies (new p.declared) e) (to_z-of_z w64 now c.ranges.now) by_driver in
     let after : World = record { shared = new p.declared; drivers = Rattle.std.proofs.Common.set ds at e } in
     subst (λ (rs : List Reply). IsTurned (world_of tree log p) now d after (answer.Turn rs)) (sym c.from_vec.ensures)
-    (turn_told (world_of tree log p) now d at most running (new p.declared) e replies c.requires.kept.distinct at_is (c.requires.most d at_is) c.requires.running (c.turn.ensures.views.same_id ∙ ap (λ (x : Driver). x.id) first_is) (by_now pair))
+    (turn_told (world_of tree log p) now d at most running (new p.declared) e replies c.requires.kept.distinct at_is (most_told (world_of tree log p).shared d c.args.start.now c.image.result.now (c.requires.start d at_is) (c.image.ensures ∙ c.requires.image)) c.requires.running (c.turn.ensures.views.same_id ∙ ap (λ (x : Driver). x.id) first_is) (by_now pair))
 
 pub returns-in-Ok-clause-disks : goal.returns-in-Ok-clause-disks
 returns-in-Ok-clause-disks g c = λ d at_is pair.
@@ -104,13 +111,15 @@ returns-in-Ok-clause-stop g c = λ d at_is pair up fails.
     let left = g.T.ZTree.left c.turn.new.tree.inner in
     let log_left = g.L.MetaLog.left c.turn.new.log.inner in
     let old : List ℤ → Shared = λ is. shared_of (tree p.tree.inner) (log p.log.inner) is in
+    let most = most_from c.args.start.now c.image.result.now in
     let Leaves : ℕ → List ℤ → List ℤ → ℤ → Driver → Type 0 = λ most is running x f.
     IsSoundPair (old is) x f → AreUp before → list_any is_failed_step replies ≡ true → LeavesOneOf (pair_of (old is) ∷ turn_pairs most (old is) running x f) left log_left in
-    let by_ids = subst (λ (is : List ℤ). Leaves c.args.most is c.args.peers.now.running n first) c.requires.declared c.in-Ok.ensures.stop in
-    let by_running = subst (λ (is : List ℤ). Leaves c.args.most p.declared is n first) c.requires.running by_ids in
-    let by_driver = subst (λ (x : Driver). Leaves c.args.most p.declared (running_ids ds) n x) first_is by_running in
-    let by_now = subst (λ x. Leaves c.args.most p.declared (running_ids ds) x d) (to_z-of_z w64 now c.ranges.now) by_driver in
-    subst (λ (most : ℕ). Leaves most p.declared (running_ids ds) now d) (c.requires.most d at_is) by_now pair up (ap (list_any is_failed_step) (sym c.from_vec.ensures) ∙ fails)
+    let by_ids = subst (λ (is : List ℤ). Leaves most is c.args.peers.now.running n first) c.requires.declared c.in-Ok.ensures.stop in
+    let by_running = subst (λ (is : List ℤ). Leaves most p.declared is n first) c.requires.running by_ids in
+    let by_driver = subst (λ (x : Driver). Leaves most p.declared (running_ids ds) n x) first_is by_running in
+    let by_now = subst (λ x. Leaves most p.declared (running_ids ds) x d) (to_z-of_z w64 now c.ranges.now) by_driver in
+    let is = most_told (world_of tree log p).shared d c.args.start.now c.image.result.now (c.requires.start d at_is) (c.image.ensures ∙ c.requires.image) in
+    subst (λ (bound : ℕ). Leaves bound p.declared (running_ids ds) now d) is by_now pair up (ap (list_any is_failed_step) (sym c.from_vec.ensures) ∙ fails)
 
 pub returns-in-Err-clause-stop : goal.returns-in-Err-clause-stop
 returns-in-Err-clause-stop g c = λ d at_is pair.

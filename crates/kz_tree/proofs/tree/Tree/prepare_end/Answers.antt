@@ -25,13 +25,13 @@ pub returns-clause-ok : goal.returns-clause-ok
 returns-clause-ok c =
     let sessions : c.deref.result.now ≡ c.args.self.now.sessions = c.deref.ensures.value ∙ ap (λ (t : Tree). t.sessions) c.self.view_is in
     let old_sessions : c.deref-2.result.now ≡ c.args.self.now.sessions = c.deref-2.ensures.value ∙ ap (λ (t : Tree). t.sessions) c.self.view_is in
-    let old_rows : c.deref-3.result.now ≡ c.args.self.now.rows = c.deref-3.ensures.value ∙ ap (λ (t : Tree). t.rows) c.self.view_is in
+    let old_rows : c.self.inside.rows ≡ c.args.self.now.rows = ap (λ (t : Tree). t.rows) c.self.view_is in
     let zxid : c.self.inside.zxid ≡ c.args.self.now.zxid = ap (λ (t : Tree). t.zxid) c.self.view_is in
     let fits : SFits w64 c.self.inside.zxid = search rules in
     let next_fits : SFits w64 c.next_zxid-zxid.result = search rules in
     let small : c.args.self.now.zxid <ℤ MAX_LONG = subst (λ (z : ℤ). z <ℤ MAX_LONG) zxid (below c.self.inside.zxid fits c.if-self-eq-MAX_LONG.false) in
     let next : to_z w64 (of_z w64 c.next_zxid-zxid.result) ≡ c.args.self.now.zxid +ℤ pos 1 = to_z-of_z next_fits ∙ c.next_zxid-zxid.ensures small in
-    end_made c.args.self.now c.new.result c.args.session (to_z w64 (of_z w64 c.next_zxid-zxid.result)) c.in-Ok.sessions.items c.in-Ok-without_owned.rows.items
+    end_made c.args.self.now c.new.result c.args.session (to_z w64 (of_z w64 c.next_zxid-zxid.result)) c.in-Ok.sessions.items c.in-Ok-without_owned.rows
     (sym (rw (to_z-of_z c.ranges.session, sessions) at c.is_live.ensures) ∙ c.if-not-is_live.false) small next (rw (to_z-of_z c.ranges.session, old_sessions) at c.in-Ok.ensures.value) (rw (to_z-of_z c.ranges.session, old_rows) at c.in-Ok-without_owned.ensures.value) c.new.ensures
 
 pub returns-clause-made : goal.returns-clause-made

@@ -7,5 +7,5 @@ use Rattle.kz_tree.proofs.tree.Tree.scan.Goals as goal
 pub returns-clause-rising : goal.returns-clause-rising
 returns-clause-rising c =
     IfOk-weaker c.scan.result _ (λ made. AreRows made.items)
-    (λ made is. subst AreRows (sym is) (page_rises c.deref.result.now (option_map (λ path. path.now) c.args.after) c.args.limit (subst AreRows (sym c.deref.ensures.value) c.self.invariant.paths_rise)))
+    (λ made is. subst AreRows (sym is) (page_rises c.self.inside.rows (option_map (λ path. path.now) c.args.after) c.args.limit c.self.invariant.paths_rise))
     c.scan.ensures
