@@ -97,7 +97,7 @@ unsent_left t new_tree l new (Unclosed path) none is h same = absurd h
 unsent_left t new_tree l new (Behind recorded end) none is h same = absurd h
 unsent_left t new_tree l new (Log f) none is h same = absurd h
 unsent_left t new_tree l new (Tree f) none is h same = (none, h, same, is)
-unsent_left t new_tree l new NoMemory none is h same = (same, inr is)
+unsent_left t new_tree l new NoMemory none is h same = (same, inr (none, is))
 
 pub sent_left : (t new_tree : TreeValue) (l new : LogValue) (r : Result (Unit {0}) ExitFault) → exit_refusal t l ≡ None → new ≡ reset l → IfErr r (IsMultiFault (tree_after_ops t (exit_ops t))) → OnErr r (new_tree ≡ t) → IfErr r (IsLeft t l new_tree new)
 sent_left t new_tree l new (Ok told) none is h same = tt

@@ -28,4 +28,4 @@ IsLeft t l new_tree new_log (Unclosed path) = IsRefused (answer.Unclosed path) t
 IsLeft t l new_tree new_log (Behind recorded end) = IsRefused (answer.Behind recorded end) t l new_tree new_log
 IsLeft t l new_tree new_log (Log f) = IsLogFault (exit_refusal t l) f × (new_tree ≡ t) × (new_log ≡ l)
 IsLeft t l new_tree new_log (Tree f) = (exit_refusal t l ≡ None) × IsTreeFault (tree_after_ops t (exit_ops t)) f × (new_tree ≡ t) × (new_log ≡ reset l)
-IsLeft t l new_tree new_log NoMemory = (new_tree ≡ t) × ((new_log ≡ l) ⊎ (new_log ≡ reset l))
+IsLeft t l new_tree new_log NoMemory = (new_tree ≡ t) × ((new_log ≡ l) ⊎ ((exit_refusal t l ≡ None) × (new_log ≡ reset l)))

@@ -57,7 +57,8 @@ fn take_back<T: ZTree, L: MetaLog>(
 /// controller holds it, and `/migration`, where it is there; where neither is to be deleted none is sent.
 ///
 /// At `Log` nothing has changed. At `Tree` the log is reset, and the tree is as it was. At `NoMemory` the tree is as it was,
-/// and the log is as it was or reset. A repeated call that answers `Ok` completes what an earlier one left.
+/// and the log is as it was or, where nothing refuses the rollback, reset. A repeated call that answers `Ok` completes what an
+/// earlier one left.
 pub fn rollback<T: ZTree, L: MetaLog>(
     alloc: Global,
     tree: &mut T,

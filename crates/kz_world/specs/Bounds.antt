@@ -14,5 +14,5 @@ event_fault_of work_fault.NoMemory = event_fault.NoMemory
 
 -- The log is read. A fault of its disk is told.
 abbrev pub ReadsForBound : Result ℕ WorkFault → Disks → Disks → Type 0
-ReadsForBound (Ok most) old new = ReadsLog {ℕ} (Ok most) old new
-ReadsForBound (Err f) old new = ReadsLog {ℕ} (Err (event_fault_of f)) old new
+ReadsForBound (Ok most) old new = ReadsLog {A = ℕ} (Ok most) old new
+ReadsForBound (Err f) old new = ReadsLog {A = ℕ} (Err (event_fault_of f)) old new
