@@ -1,5 +1,5 @@
 //! The machine.
-ghost use Rattle.std.specs.Prelude.{◌≡◌, ◌⊎◌, ◌∷◌, [], true, false, Some, IfOk, IfErr, OnErr};
+ghost use Rattle.std.specs.Prelude.{◌≡◌, ◌⊎◌, ◌∷◌, [], true, false, Some, is_some, IfOk, IfErr, OnErr};
 ghost use Rattle.kz_spec_stores.specs.Tree.{migration_record};
 ghost use Rattle.kz_spec_stores.specs.Log.{end_of};
 ghost use Rattle.kz_spec_machine.specs.Driver.{Driver as DriverValue};
@@ -166,13 +166,20 @@ impl<T: ZSessions, L: MetaLog> World<T, L> {
         answered(let_happen(self.alloc, &mut self.parts, event))
     }
 
+    /// Whether this controller runs.
+    pub fn runs(&self, id: i32) -> bool
+        ensures { result ≡ is_some (driver_of id self.now.drivers) }
+    {
+        place_of(&self.parts.drivers, id).is_some()
+    }
+
     /// The most steps of a turn of this controller, which has to run. A turn of a world whose base znodes no client deletes ends by
     /// itself before. The log is read, and all metadata is rendered, or, before the migration, translated.
     ///
     /// `Log` tells that the log's disk failed in an earlier request. A bound of 2^64 and more is answered `NoMemory`: its znodes
     /// would take more bytes than there are addresses.
     pub fn work(&mut self, id: i32) -> Result<u64, WorkFault>
-        requires { (d : DriverValue) × (driver_of id self.old.drivers ≡ Some d) }
+        requires { is_some (driver_of id self.old.drivers) ≡ true }
         ensures ok { (d : DriverValue) → driver_of id self.old.drivers ≡ Some d → IfOk result (λ most. most ≡ work (plain_world T.tree L.log self.old).shared d) }
         ensures same { plain_world T.tree L.log self.new ≡ plain_world T.tree L.log self.old }
         ensures disks { ReadsForBound result (disks_in T.disk L.disk self.old) (disks_in T.disk L.disk self.new) }

@@ -92,6 +92,18 @@ fn a_controller_starts_once(rt: HostRuntime) {
     drop(world);
 }
 
+#[test]
+fn a_turn_over_an_empty_cluster_has_the_least_bound(rt: HostRuntime) {
+    let mut world = started(&rt, rt.alloc());
+    if world.runs(1) {
+        assert!(rt; world.work(1) == Ok(20));
+    } else {
+        panic!(rt; "it runs");
+    }
+    assert!(rt; !world.runs(2));
+    drop(world);
+}
+
 const ELECT: Event = Event::Elect {
     controller: 1,
     now: 6,
