@@ -33,9 +33,11 @@ Leaves s d t e = IsFenced s d → (t ≡ s) × IsFenced t e
 one_leaves : (s : Shared) (running : List ℤ) (now : ℤ) (d : Driver) → IsTime now → IsSharedSound s → IsSoundDriver s d → Leaves s d (step s running now d).shared (step s running now d).driver
 unfolding step
 one_leaves s running now d time kept fine fenced =
-    let same = fenced_driver plan.Deliver s running now d fine fenced in
-    (same, subst (λ (x : Shared). IsBelowShown (shown_in x.tree) (step s running now d).driver.epoch) (sym same)
-      (below_after s.log.epoch (shown_in s.tree) d.epoch (step s running now d).driver.epoch fine.epochs (one_own s running now d).1 fenced))
+    let same = fenced_driver plan.Deliver s running now d fine fenced in (
+      same,
+      subst (λ (x : Shared). IsBelowShown (shown_in x.tree) (step s running now d).driver.epoch) (sym same)
+          (below_after s.log.epoch (shown_in s.tree) d.epoch (step s running now d).driver.epoch fine.epochs (one_own s running now d).1 fenced),
+    )
 
 leaves_on : GoesOn Leaves
 leaves_on s d t e u f own keeps one two fenced =

@@ -92,24 +92,27 @@ gone t new false false held there shape is =
 gone t new true false held there shape is =
     let zxid = t.zxid +ℤ pos 1 in
     let rows = one_deleted t new control_path is in
-    let o = op.Delete control_path (negsuc 0) in
-    (unheld (row_at control_path new.rows) (ap (row_at control_path) rows ∙ deleted_found zxid control_path (negsuc 0) t.rows shape.rise),
-     none_still (row_at migration_path new.rows) (row_at migration_path t.rows) (ap (λ (x : List Row). option_map still (row_at migration_path x)) rows ∙ others_kept zxid o migration_path t.rows (λ same. apart (sym same))) (absent (row_at migration_path t.rows) there))
+    let o = op.Delete control_path (negsuc 0) in (
+      unheld (row_at control_path new.rows) (ap (row_at control_path) rows ∙ deleted_found zxid control_path (negsuc 0) t.rows shape.rise),
+      none_still (row_at migration_path new.rows) (row_at migration_path t.rows) (ap (λ (x : List Row). option_map still (row_at migration_path x)) rows ∙ others_kept zxid o migration_path t.rows (λ same. apart (sym same))) (absent (row_at migration_path t.rows) there),
+    )
 gone t new false true held there shape is =
     let zxid = t.zxid +ℤ pos 1 in
     let rows = one_deleted t new migration_path is in
-    let o = op.Delete migration_path (negsuc 0) in
-    (held_still (row_at control_path new.rows) (row_at control_path t.rows) (ap (λ (x : List Row). option_map still (row_at control_path x)) rows ∙ others_kept zxid o control_path t.rows apart) ∙ held,
-     ap (row_at migration_path) rows ∙ deleted_found zxid migration_path (negsuc 0) t.rows shape.rise)
+    let o = op.Delete migration_path (negsuc 0) in (
+      held_still (row_at control_path new.rows) (row_at control_path t.rows) (ap (λ (x : List Row). option_map still (row_at control_path x)) rows ∙ others_kept zxid o control_path t.rows apart) ∙ held,
+      ap (row_at migration_path) rows ∙ deleted_found zxid migration_path (negsuc 0) t.rows shape.rise,
+    )
 gone t new true true held there shape is =
     let zxid = t.zxid +ℤ pos 1 in
     let first = op.Delete control_path (negsuc 0) in
     let second = op.Delete migration_path (negsuc 0) in
     let between = after_op zxid first t.rows in
-    let rows : new.rows ≡ after_op zxid second between = (multi_ran t new (first ∷ second ∷ []) is).rows in
-    (unheld (row_at control_path new.rows)
-     (none_still (row_at control_path new.rows) (row_at control_path between) (ap (λ (x : List Row). option_map still (row_at control_path x)) rows ∙ others_kept zxid second control_path between apart) (deleted_found zxid control_path (negsuc 0) t.rows shape.rise)),
-     ap (row_at migration_path) rows ∙ deleted_found zxid migration_path (negsuc 0) between (op_rises zxid first t.rows shape.rise))
+    let rows : new.rows ≡ after_op zxid second between = (multi_ran t new (first ∷ second ∷ []) is).rows in (
+      unheld (row_at control_path new.rows)
+          (none_still (row_at control_path new.rows) (row_at control_path between) (ap (λ (x : List Row). option_map still (row_at control_path x)) rows ∙ others_kept zxid second control_path between apart) (deleted_found zxid control_path (negsuc 0) t.rows shape.rise)),
+      ap (row_at migration_path) rows ∙ deleted_found zxid migration_path (negsuc 0) between (op_rises zxid first t.rows shape.rise),
+    )
 
 outside_deleted : (b : Bool) (path : List ℕ) (rest : List Op) → is_migrated path ≡ false → All (λ o. is_migrated (path_of_op o) ≡ false) rest → All (λ o. is_migrated (path_of_op o) ≡ false) (deleted_if b path ++ rest)
 outside_deleted true path rest is all = All-cons (λ o. is_migrated (path_of_op o) ≡ false) (op.Delete path (negsuc 0)) rest is all
