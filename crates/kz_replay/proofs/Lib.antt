@@ -6,5 +6,6 @@ pub mod Statuses
 pub mod Disks
 pub mod Memories
 pub mod Failures
+pub mod Ends
 pub mod TopCall
 pub mod CutOff
