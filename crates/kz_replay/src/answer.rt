@@ -66,7 +66,9 @@ fn ending_of_reply(reply: &Reply) -> Option<Ending>
     ensures { option_map status_of result ≡ ending_of_reply reply.now }
 {
     match reply {
-        Reply::LogFailed(LogFault::Limit { number }) => Some(Ending::StoreLimit { number: *number }),
+        Reply::LogFailed(LogFault::Limit { number }) => Some(Ending::StoreLimit {
+            number: *number,
+        }),
         _ => None,
     }
 }
