@@ -1,5 +1,5 @@
 -- Stores in memory fail by no disk.
-use Rattle.std.proofs.Common.{◌≡◌, ℕ, zero, suc, Bool, true, false, ◌||◌, ℤ, List, [], ◌∷◌, Option, Some, None, Result, Ok, Err, refl, sym, subst}
+use Rattle.std.proofs.Common.{◌≡◌, ℕ, zero, suc, Bool, true, false, ◌||◌, ℤ, List, [], ◌∷◌, Option, Some, None, Result, Ok, Err, if◌then◌else◌, refl, sym, subst}
 use Rattle.std.specs.Prelude.{⊤, option_map}
 use Rattle.std.specs.List.{list_any}
 use Rattle.kz_types.specs.declared.fault.TreeFault.{TreeFault}

@@ -26,7 +26,8 @@ pub trait Machine: Drop + Sized {
 
     /// Lets an event happen, as a line of a script gives it, in a sound world, and answers it. The world stays sound. Its
     /// stores are in memory, so no disk fails. An event that fails leaves the world as it was, but for a turn: the last
-    /// reply of `Turn` tells the failure after the replies of the steps before, and the world is as these left it.
+    /// reply of `Turn` tells the failure after the replies of the steps before, and the world is as these left it. A
+    /// rollback that runs out of memory may have reset the log.
     fn event(&mut self, event: &Event) -> Answer
         requires lawful { IsLawful event.now }
         requires sound { Sound (world self.old) }
