@@ -16,4 +16,4 @@ mod Steps
 mod Start
 mod Others
 mod BasedEvents
-mod Worlds
+pub mod Worlds
