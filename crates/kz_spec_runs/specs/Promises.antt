@@ -1,4 +1,4 @@
--- What is promised of every moment of a run: of the tree and the log at its beginning and after each of its requests.
+-- What is promised of a run: of each of its moments, which are its beginning and the end of each of its requests, and of its events.
 use Rattle.std.specs.Prelude.{◌≡◌, ◌⊎◌, ⊤, All, ℕ, ℤ, pos, negsuc, ◌≤ℤ◌, true, false, if◌then◌else◌, List, [], ◌∷◌, ◌++◌, Option, Some, None, Ok}
 use Rattle.kz_types.specs.declared.machine.Event.{Event}
 use Rattle.kz_types.specs.declared.machine.Event.TheVariants as event
@@ -18,7 +18,7 @@ use Rattle.kz_spec_runs.specs.InStep.{StaysInStep}
 
 -- ---- moments
 
--- Each request of a run leads from one moment to the next one so.
+-- This relation holds between each moment of a run and the next one.
 abbrev pub Linked : (Pair → Pair → Type 0) → Pair → List Pair → Type 0
 Linked R p [] = ⊤
 Linked R p (q ∷ qs) = R p q × Linked R q qs
@@ -63,11 +63,11 @@ pub record IsAsCommitted (t : Tree) (source : List Rendered) (r : Recorded) (pat
 abbrev pub PathsAgree : List Rendered → Pair → Type 0
 PathsAgree source p = is_migrated_log p.log ≡ true → (r : Recorded) → migration_record p.tree ≡ Some r → (path : List ℕ) → IsAsCommitted p.tree source r path ⊎ IsRendered p.tree p.log r path
 
--- what the migrated area was at the commit, as is known at the next moment: what it is, until the log is migrated
+-- the migrated area as it was at the last moment before the log was migrated
 abbrev pub source_after : List Rendered → Pair → List Rendered
 source_after source p = if is_migrated_log p.log then source else area p.tree
 
--- So it is at this moment and at those after it.
+-- The paths agree at this moment and at those after it.
 abbrev pub AgreeFrom : List Rendered → Pair → List Pair → Type 0
 AgreeFrom source p [] = PathsAgree source p
 AgreeFrom source p (q ∷ qs) = PathsAgree source p × AgreeFrom (source_after source p) q qs
@@ -76,14 +76,14 @@ AgreeFrom source p (q ∷ qs) = PathsAgree source p × AgreeFrom (source_after s
 abbrev pub IsAsRecorded : Pair → Type 0
 IsAsRecorded p = is_migrated_log p.log ≡ true → (r : Recorded) → migration_record p.tree ≡ Some r → pos 0 ≤ℤ r.offset → unclosed_path p.tree ≡ None → area p.tree ≡ render (image_at p.log r.offset)
 
--- ---- after a migration is finalised no controller writes
+-- ---- after a migration is finalised
 
--- an event by which controllers, or a rollback, could write
-abbrev pub IsOfControllers : Event → Type 0
-IsOfControllers (event.Step id now plan) = ⊤
-IsOfControllers (event.Turn id now) = ⊤
-IsOfControllers event.Rollback = ⊤
-IsOfControllers e = ⊥
+-- a step, a turn or a rollback
+abbrev pub IsStepTurnOrRollback : Event → Type 0
+IsStepTurnOrRollback (event.Step id now plan) = ⊤
+IsStepTurnOrRollback (event.Turn id now) = ⊤
+IsStepTurnOrRollback event.Rollback = ⊤
+IsStepTurnOrRollback e = ⊥
 
 -- ---- scripts
 
@@ -106,20 +106,21 @@ Agreeing es = AgreeFrom [] first_moment (further_moments es)
 abbrev pub StayingAsRecorded : List Event → Type 0
 StayingAsRecorded es = All IsAsRecorded (first_moment ∷ further_moments es)
 
--- After a migration is finalised, no event of controllers and no rollback changes the tree or the log.
+-- After a migration is finalised, no step, turn or rollback changes the tree or the log.
 abbrev pub FinalisedForGood : List Event → Type 0
-FinalisedForGood es = (before after : List Event) (e : Event) → es ≡ before ++ e ∷ after → is_finalised_log (after_events empty_world before).shared.log ≡ true → IsOfControllers e
+FinalisedForGood es = (before after : List Event) (e : Event) → es ≡ before ++ e ∷ after → is_finalised_log (after_events empty_world before).shared.log ≡ true → IsStepTurnOrRollback e
     → (next (after_events empty_world before) e).0.shared ≡ (after_events empty_world before).shared
 
 -- What is promised of these events.
 pub record Promises (es : List Event) : Type 0 where
   -- A migration is committed whole or not at all, as the translation of the znodes that it read.
   pub committed : CommittedWhole es
-  -- Each migrated znode is as it is rendered at the recorded offset or at a later one.
+  -- Each migrated znode is as it is rendered at the recorded offset or at a later one. Until a first offset is recorded, it may
+  -- be as it was at the commit.
   pub agrees : Agreeing es
   -- All are as they are rendered at the recorded one where no later write stands.
   pub recorded : StayingAsRecorded es
   -- After each turn that comes to rest in dual write, they are as they are rendered at the log's end.
   pub in_step : StaysInStep es
-  -- After the migration is finalised, no controller and no rollback changes the tree or the log.
+  -- After the migration is finalised, no step, turn or rollback changes the tree or the log.
   pub finalised : FinalisedForGood es
