@@ -1,4 +1,5 @@
 pub mod Quiet
+pub mod Unbroken
 pub mod Own
 pub mod Others
 pub mod Steps

@@ -1,5 +1,8 @@
 -- What is promised of a run: of each of its moments, which are its beginning and the end of each of its requests, and of its events.
-use Rattle.std.specs.Prelude.{◌≡◌, ◌⊎◌, ⊤, All, ℕ, ℤ, pos, negsuc, ◌≤ℤ◌, true, false, if◌then◌else◌, List, [], ◌∷◌, ◌++◌, Option, Some, None, Ok}
+use Rattle.std.specs.Prelude.{◌≡◌, ◌⊎◌, ⊤, All, ℕ, ℤ, pos, negsuc, ◌≤ℤ◌, int_le, true, false, if◌then◌else◌, List, [], ◌∷◌, ◌++◌, Option, Some, None, Ok}
+use Rattle.std.specs.List.{filter}
+use Rattle.kz_types.specs.declared.log.BatchRow.{BatchRow}
+use Rattle.kz_types.specs.declared.log.Entry.{Entry}
 use Rattle.kz_types.specs.declared.machine.Event.{Event}
 use Rattle.kz_types.specs.declared.machine.Event.TheVariants as event
 use Rattle.kz_types.specs.declared.machine.Recorded.{Recorded}
@@ -8,12 +11,13 @@ use Rattle.kz_types.specs.declared.tree.Rendered.{Rendered}
 use Rattle.kz_ordered.specs.Order.{bytes_cmp}
 use Rattle.kz_ordered.specs.Ordered.{find}
 use Rattle.kz_spec_stores.specs.Tree.{Tree, area, migration_record, migrated_rows, path_of_rendered, unclosed_path}
-use Rattle.kz_spec_stores.specs.Log.{Log, commit_of, end_of, image_at, is_migrated_log, is_open_log, reset}
+use Rattle.kz_spec_stores.specs.Settlement.{is_marker}
+use Rattle.kz_spec_stores.specs.Log.{Log, commit_of, end_of, entries, entries_at_offsets, image_at, is_migrated_log, is_open_log, reset}
 use Rattle.kz_spec_znodes.specs.Rendering.{render}
 use Rattle.kz_spec_znodes.specs.Translation.{translate}
 use Rattle.kz_spec_machine.specs.Driver.{begin_record, commit_records}
 use Rattle.kz_spec_machine.specs.Machine.{empty_world, Pair, pair_of, request_pairs, is_finalised_log, next, after_events}
-use Rattle.kz_spec_machine.specs.Sound.{IsBatchEnd, IsPastCommit, records_from}
+use Rattle.kz_spec_machine.specs.Sound.{IsBatchEnd, IsPastCommit}
 use Rattle.kz_spec_runs.specs.InStep.{StaysInStep}
 
 -- ---- moments
@@ -25,20 +29,47 @@ Linked R p (q ∷ qs) = R p q × Linked R q qs
 
 -- ---- a migration is committed whole, as the translation of the znodes
 
--- The transaction of a commit: its Begin, the translation of the migrated area, the state of the migration and the End, one after
--- another; and the End is the log's last record and its commit.
+-- the records from an offset on, with their offsets and epochs
+abbrev pub entries_from : Log → ℤ → List Entry
+entries_from l from = filter (λ (e : Entry). int_le from e.offset) (entries l.batches)
+
+-- What stands in the log from this offset on is these records. The first stands at the offset, and each other one at the offset
+-- after the one before it. All of them are of the log's epoch.
+abbrev pub EndsWith : Log → ℤ → List MetaRecord → Type 0
+EndsWith l from records = entries_from l from ≡ entries_at_offsets from l.epoch records
+
+-- The transaction of a commit: its Begin, the translation of the migrated area, the state of the migration and the End, at offsets
+-- without a gap and in one epoch; and the End is the log's last record and its commit.
 pub record IsTranslation (t : Tree) (l : Log) : Type 0 where
   pub from : ℤ
   pub records : List MetaRecord
   pub translated : translate (migrated_rows t) ≡ Ok records
-  pub transaction : records_from l from ≡ begin_record ∷ (records ++ commit_records)
+  pub transaction : EndsWith l from (begin_record ∷ (records ++ commit_records))
   pub commit : commit_of l ≡ Some (end_of l)
 
+-- No record of a batch begins or ends a transaction.
+abbrev pub HoldsNoMarker : BatchRow → Type 0
+HoldsNoMarker b = All (λ (r : MetaRecord). is_marker r ≡ false) b.items
+
+-- The later log is the earlier one with batches appended, or without a change. No record of these batches begins or ends a
+-- transaction.
+pub record BeginsNone (l later : Log) : Type 0 where
+  pub new : List BatchRow
+  pub base : later.base ≡ l.base
+  pub appended : later.batches ≡ l.batches ++ new
+  pub unmarked : All HoldsNoMarker new
+
+-- A log stays migrated, no transaction is open in it, and none is begun.
+pub record StaysCommitted (l later : Log) : Type 0 where
+  pub migrated : is_migrated_log later ≡ true
+  pub settled : is_open_log later ≡ false
+  pub begins : BeginsNone l later
+
 -- The request that commits a migration commits the translation of the znodes that stand then, and leaves the tree. After it
--- the log stays migrated, and no transaction is open, until the log is reset.
+-- the log stays migrated, and no further transaction begins, until the log is reset.
 pub record CommitsWhole (p q : Pair) : Type 0 where
   pub commits : is_migrated_log p.log ≡ false → is_migrated_log q.log ≡ true → IsTranslation p.tree q.log × (q.tree ≡ p.tree)
-  pub stays : is_migrated_log p.log ≡ true → (q.log ≡ reset p.log) ⊎ ((is_migrated_log q.log ≡ true) × (is_open_log q.log ≡ false))
+  pub stays : is_migrated_log p.log ≡ true → (q.log ≡ reset p.log) ⊎ StaysCommitted p.log q.log
 
 -- ---- each znode agrees with the log, path by path
 
