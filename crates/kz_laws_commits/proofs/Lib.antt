@@ -6,3 +6,4 @@ pub mod Steps
 pub mod Turns
 pub mod Events
 pub mod After
+pub mod Begins
