@@ -6,7 +6,7 @@ use Rattle.kz_types.specs.declared.machine.Event.{Event}
 use Rattle.kz_types.specs.declared.plan.Plan.{Plan}
 use Rattle.kz_types.specs.declared.record.MetaRecord.{MetaRecord}
 use Rattle.kz_spec_stores.specs.Tree.{Tree, migrated_rows}
-use Rattle.kz_spec_stores.specs.Log.{Log, append, end_of, begun_of, commit_of}
+use Rattle.kz_spec_stores.specs.Log.{Log, append, end_of, begun_of}
 use Rattle.kz_spec_znodes.specs.Translation.{translate}
 use Rattle.kz_spec_machine.specs.Driver.{Shared, Driver, epoch_or_zero, begin_record, commit_records, planned_step}
 use Rattle.kz_spec_machine.specs.Machine.{World, next, after_events}
@@ -26,7 +26,7 @@ pub record IsCopied (t : Tree) (l : Log) (from : ℤ) (records rest : List MetaR
   pub unbroken : IsUnbroken l from (begin_record ∷ records)
 
 -- The records that a current driver has appended in its transaction, and those that it has still to append, are the translation
--- of the migrated area.
+-- of the migrated area. Those that it has appended are unbroken.
 abbrev pub CopiesAtStage : Tree → Log → Driver → Stage → Type 0
 CopiesAtStage t l d (stage.AppendRecords rest) = IsCurrent t d.claim → d.epoch ≡ Some l.epoch → (from : ℤ) (records : List MetaRecord) → begun_of l ≡ Some from → records_from l from ≡ begin_record ∷ records → IsCopied t l from records rest
 CopiesAtStage t l d x = ⊤

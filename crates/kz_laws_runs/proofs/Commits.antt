@@ -1,5 +1,5 @@
 -- At every moment of a run a migration is committed whole or not at all.
-use Rattle.std.proofs.Common.{◌≡◌, ◌⊎◌, inl, inr, ℤ, Bool, true, false, if◌then◌else◌, List, [], ◌∷◌, take, Option, Some, None, Result, Ok, Err, All, refl, sym, ap, ◌∙◌, subst}
+use Rattle.std.proofs.Common.{◌≡◌, inl, inr, ℤ, Bool, true, false, if◌then◌else◌, List, [], ◌∷◌, take, Option, Some, None, Result, Ok, Err, All, refl, sym, ap, ◌∙◌, subst}
 use Rattle.kz_types.specs.declared.limits.TheConstants.{MAX_APPEND_RECORDS}
 use Rattle.kz_types.specs.declared.driver.Stage.{Stage}
 use Rattle.kz_types.specs.declared.driver.Stage.TheVariants as stage
@@ -16,8 +16,8 @@ use Rattle.kz_spec_stores.specs.Tree.{Tree, multi}
 use Rattle.kz_spec_stores.specs.Log.{Log, append, is_migrated_log, is_open_log, reset}
 use Rattle.kz_spec_znodes.specs.Translation.{Unreadable, translate}
 use Rattle.kz_spec_machine.specs.Driver.{Shared, Driver, epoch_or_zero, claim_ops, remaining_at, write_ops, begin_record, commit_records, begin_request, write_request, request_at, with_tree, with_log, shared_after, reaches_store, planned_step, step}
-use Rattle.kz_spec_machine.specs.Machine.{World, empty_world, pair_of, after_events, request_pairs}
-use Rattle.kz_spec_machine.specs.Sound.{IsTime, IsSharedSound, IsSoundDriver, Sound, IsLawful}
+use Rattle.kz_spec_machine.specs.Machine.{empty_world, pair_of, after_events, request_pairs}
+use Rattle.kz_spec_machine.specs.Sound.{IsTime, IsSharedSound, IsSoundDriver, IsLawful}
 use Rattle.kz_spec_runs.specs.Promises.{IsTranslation, BeginsNone, StaysCommitted, CommitsWhole, CommittedWhole}
 use Rattle.kz_laws_drivers.specs.Effects.{IsUnchanged}
 use Rattle.kz_laws_steps.proofs.Tests.{true_or_false}
@@ -29,7 +29,7 @@ use Rattle.kz_laws_events.proofs.Changed.{IsLeaderBatch, more_of, more_closed}
 use Rattle.kz_laws_events.proofs.Changed as changed
 use Rattle.kz_laws_events.proofs.Exits.{reset_unmigrated}
 use Rattle.kz_laws_events.proofs.Runs.{empty_sound}
-use Rattle.kz_laws_commits.specs.Commits.{Copies, StepCopies}
+use Rattle.kz_laws_commits.specs.Commits.{Copies}
 use Rattle.kz_laws_commits.proofs.Own.{commit_translates}
 use Rattle.kz_laws_commits.proofs.Steps.{step_copies}
 use Rattle.kz_laws_commits.proofs.Events.{event_copies}
