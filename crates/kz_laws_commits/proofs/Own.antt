@@ -108,8 +108,8 @@ append_copies s now d r rs new kept fine copies at made =
     let old : IsCopied s.tree s.log k.before.from k.before.records (r ∷ rs) = held current k.leads k.before.from k.before.records k.before.begun k.before.so_far in
     record {
       translated = old.translated
-      ∙ ap (λ (all : List MetaRecord). Ok all) (sym (same_records MAX_APPEND_RECORDS k.before.records (r ∷ rs)))
-      ∙ ap (λ (some : List MetaRecord). Ok (some ++ rest)) (sym k.same);
+          ∙ ap (λ (all : List MetaRecord). Ok all) (sym (same_records MAX_APPEND_RECORDS k.before.records (r ∷ rs)))
+          ∙ ap (λ (some : List MetaRecord). Ok (some ++ rest)) (sym k.same);
       unbroken = records_stand_last s now d r rs new kept fine made k old.unbroken;
     })
 

@@ -64,7 +64,7 @@ begin_unbroken l epoch now shape =
     let items : List MetaRecord = begin_record ∷ [] in
     record {
       stand = entries_from_more l (end_of l +ℤ pos 1) epoch now items (at_least_itself (end_of l +ℤ pos 1))
-      ∙ ap (λ (es : List Entry). es ++ next_entries l epoch items) (none_stand (end_of l +ℤ pos 1) (end_of l) (entries l.batches) (next_above (end_of l)) (up_to_end l shape));
+          ∙ ap (λ (es : List Entry). es ++ next_entries l epoch items) (none_stand (end_of l +ℤ pos 1) (end_of l) (entries l.batches) (next_above (end_of l)) (up_to_end l shape));
       end = ap (λ (e : ℤ). e +ℤ pos 1) (end_more l epoch now items);
     }
 
@@ -72,9 +72,9 @@ begin_unbroken l epoch now shape =
 pub more_unbroken : (l : Log) (from epoch now : ℤ) (items records : List MetaRecord) → epoch ≡ l.epoch → from ≤ℤ end_of l → IsUnbroken l from records → IsUnbroken (with_batch l epoch now items) from (records ++ items)
 more_unbroken l from epoch now items records same low u = record {
   stand = entries_from_more l from epoch now items (further from (end_of l) low)
-  ∙ ap (λ (es : List Entry). es ++ next_entries l epoch items) u.stand
-  ∙ ap (λ (e : ℤ). entries_at_offsets from e records ++ next_entries l epoch items) (sym same)
-  ∙ sym (numbered_append from epoch (end_of l +ℤ pos 1) records items u.end);
+      ∙ ap (λ (es : List Entry). es ++ next_entries l epoch items) u.stand
+      ∙ ap (λ (e : ℤ). entries_at_offsets from e records ++ next_entries l epoch items) (sym same)
+      ∙ sym (numbered_append from epoch (end_of l +ℤ pos 1) records items u.end);
   end = both (end_of l) (end_of (with_batch l epoch now items)) (length records) (length items) (length (records ++ items)) (end_more l epoch now items) u.end (length-append records items);
 }
   where
