@@ -1,4 +1,4 @@
--- After a migration is finalised nothing is written to ZooKeeper any more.
+-- After a migration is finalised no controller writes to ZooKeeper.
 use Rattle.std.specs.Prelude.{◌≡◌, ◌≢◌, ◌⊎◌, ⊤, ℤ, ◌<ℤ◌, true, List, Option, Some, None, All}
 use Rattle.kz_types.specs.declared.driver.Stage.{Stage}
 use Rattle.kz_types.specs.declared.driver.Stage.TheVariants as stage

@@ -9,7 +9,7 @@ use Rattle.kz_spec_stores.specs.Log.{empty_log, image_at}
 use Rattle.kz_spec_machine.specs.Driver.{Shared, Driver, planned_step, step}
 use Rattle.kz_spec_machine.specs.Machine.{World, empty_world, running_ids, driver_of, running_refusal, step_result, turn, work, turn_result, is_finalised_log, next, after_events}
 use Rattle.kz_spec_machine.specs.Sound.{IsTime, IsSharedSound, IsSoundDriver, Sound, IsLawful}
-use Rattle.kz_spec_runs.specs.Promises.{IsOfControllers, FinalisedForGood}
+use Rattle.kz_spec_runs.specs.Promises.{IsStepTurnOrRollback, FinalisedForGood}
 use Rattle.kz_laws_steps.proofs.Worlds.{unless_made}
 use Rattle.kz_laws_events.proofs.Turned.{GoesOn, turn_leaves}
 use Rattle.kz_laws_events.proofs.Runs.{empty_sound, run_sound}
@@ -58,7 +58,7 @@ turn_event : (w : World) (id now : ℤ) → IsTime now → Sound w → EndHolds 
 unfolding next
 turn_event w id now time sound ends final = unless_made (Stays w) w (running_refusal w id) (turn_result w now (driver_of id w.drivers)) refl (turned w id now (driver_of id w.drivers) refl time sound ends final)
 
-event_rests : (w : World) (e : Event) → IsLawful e → IsOfControllers e → Sound w → EndHolds w → is_finalised_log w.shared.log ≡ true → Stays w (next w e).0
+event_rests : (w : World) (e : Event) → IsLawful e → IsStepTurnOrRollback e → Sound w → EndHolds w → is_finalised_log w.shared.log ≡ true → Stays w (next w e).0
 event_rests w (event.Step id now p) lawful of sound ends final = step_event w id now p sound ends final
 event_rests w (event.Turn id now) lawful of sound ends final = turn_event w id now lawful.1 sound ends final
 event_rests w event.Rollback lawful of sound ends final = ap (λ (x : World). x.shared) (final_rollback_refused w final).0
