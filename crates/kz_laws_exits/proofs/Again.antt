@@ -2,6 +2,7 @@
 use Rattle.std.proofs.Common.{◌≡◌, ℤ, negsuc, Bool, true, false, List, [], ◌∷◌, ◌++◌, Option, Some, None, is_some, option_map, Result, Ok, Err, All, refl, sym, ap, ◌∙◌, subst}
 use Rattle.kz_types.specs.declared.driver.ClaimSeen.{ClaimSeen}
 use Rattle.kz_types.specs.declared.driver.Stage.TheVariants as stage
+use Rattle.kz_types.specs.declared.fault.TreeFault.{TreeFault}
 use Rattle.kz_types.specs.declared.machine.Answer.{Answer}
 use Rattle.kz_types.specs.declared.machine.Answer.TheVariants as answer
 use Rattle.kz_types.specs.declared.machine.Event.{Event}
@@ -19,7 +20,7 @@ use Rattle.kz_laws_steps.proofs.Tests.{true_or_false}
 use Rattle.kz_laws_steps.proofs.Claiming.{Taken, taken}
 use Rattle.kz_laws_events.proofs.Exits.{reset_world_sound}
 use Rattle.kz_laws_events.proofs.Runs.{run_sound}
-use Rattle.kz_laws_exits.specs.Rollbacks.{IsGivenBack}
+use Rattle.kz_laws_exits.specs.Rollbacks.{IsGivenBack, EndsAlike}
 use Rattle.kz_laws_exits.proofs.GivenBack.{exit_again, rollback_gives_back}
 
 -- ---- a rollback that is called again
@@ -51,6 +52,28 @@ rollback_repeats w new again sound told none tree log =
     let ops : exit_ops again.shared.tree ≡ [] = no_ops again.shared.tree (ap is_held_tree tree ∙ k.free) (ap (λ (t : Tree). row_at migration_path t.rows) tree ∙ k.unrecorded) in
     ap (λ (m : Option Answer). unless_refused again m (given_back (reset_world again) (tree_after_ops again.shared.tree (exit_ops again.shared.tree)))) (not_refused again w.shared.log none at)
     ∙ given again ops (reset_same again.shared.log w.shared.log at)
+
+-- ---- a rollback that goes on in another world
+
+ends_alike : (one two : World) (r : Result Tree TreeFault) → one.shared.tree ≡ two.shared.tree → one.shared.log ≡ two.shared.log → EndsAlike (given_back one r) (given_back two r)
+ends_alike one two (Ok t) tree log = record { tree = refl; log = log; told = refl }
+ends_alike one two (Err f) tree log = record { tree = tree; log = log; told = refl }
+
+given_alike : (w half : World) → half.shared.tree ≡ w.shared.tree → half.shared.log ≡ reset w.shared.log → EndsAlike (given_back (reset_world half) (tree_after_ops half.shared.tree (exit_ops half.shared.tree))) (given_back (reset_world w) (tree_after_ops w.shared.tree (exit_ops w.shared.tree)))
+given_alike w half tree log =
+    subst (λ (r : Result Tree TreeFault). EndsAlike (given_back (reset_world half) r) (given_back (reset_world w) (tree_after_ops w.shared.tree (exit_ops w.shared.tree)))) (sym (ap (λ (t : Tree). tree_after_ops t (exit_ops t)) tree))
+    (ends_alike (reset_world half) (reset_world w) (tree_after_ops w.shared.tree (exit_ops w.shared.tree)) tree (ap reset log))
+
+alike_by : (one two : World) (a b : Option Answer) (x y : World × Answer) → a ≡ None → b ≡ None → EndsAlike x y → EndsAlike (unless_refused one a x) (unless_refused two b y)
+alike_by one two None None x y first second k = k
+alike_by one two (Some a) b x y first second k = absurd (cc)
+alike_by one two None (Some b) x y first second k = absurd (cc)
+
+pub rollback_resumes : (w half : World) → rollback_refusal w ≡ None → half.drivers ≡ [] → half.shared.tree ≡ w.shared.tree → half.shared.log ≡ reset w.shared.log → EndsAlike (next half event.Rollback) (next w event.Rollback)
+unfolding next
+rollback_resumes w half none alone tree log =
+    alike_by half w (rollback_refusal half) (rollback_refusal w) (given_back (reset_world half) (tree_after_ops half.shared.tree (exit_ops half.shared.tree))) (given_back (reset_world w) (tree_after_ops w.shared.tree (exit_ops w.shared.tree)))
+    (not_refused half w.shared.log alone log) none (given_alike w half tree log)
 
 -- ---- claims on a log that isn't migrated
 

@@ -7,6 +7,7 @@ use Rattle.kz_types.specs.declared.fault.TreeFault.{TreeFault}
 use Rattle.kz_types.specs.declared.fault.TreeFault.TheVariants as tree_fault
 use Rattle.kz_types.specs.declared.limits.Limit.TheVariants as limits
 use Rattle.kz_types.specs.declared.limits.TheConstants.{MAX_LONG}
+use Rattle.kz_types.specs.declared.machine.Answer.{Answer}
 use Rattle.kz_types.specs.declared.machine.Answer.TheVariants as answer
 use Rattle.kz_types.specs.declared.machine.Event.{Event}
 use Rattle.kz_types.specs.declared.machine.Event.TheVariants as event
@@ -35,6 +36,16 @@ RollbacksGiveBack = (w new : World) → Sound w → next w event.Rollback ≡ (n
 -- One that stopped after the log was reset goes on as it would have gone on.
 abbrev pub RollbacksGoOn : Type 0
 RollbacksGoOn = (w : World) → rollback_refusal w ≡ None → next (reset_world w) event.Rollback ≡ next w event.Rollback
+
+-- What a rollback leaves of the tree and of the log, and its answer, are the same.
+pub record EndsAlike (one two : World × Answer) : Type 0 where
+  pub tree : one.0.shared.tree ≡ two.0.shared.tree
+  pub log : one.0.shared.log ≡ two.0.shared.log
+  pub told : one.1 ≡ two.1
+
+-- So does a rollback of every other world with that tree and that log, in which no controller runs.
+abbrev pub RollbacksResume : Type 0
+RollbacksResume = (w half : World) → rollback_refusal w ≡ None → half.drivers ≡ [] → half.shared.tree ≡ w.shared.tree → half.shared.log ≡ reset w.shared.log → EndsAlike (next half event.Rollback) (next w event.Rollback)
 
 -- One that stopped after the tree was given back, too, is done when it is called again, and changes nothing: of every world with
 -- that tree and that log, in which no controller runs.

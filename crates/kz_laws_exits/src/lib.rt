@@ -4,7 +4,7 @@
 #![tactic(auto)]
 
 ghost use Rattle.kz_laws_exits.specs.Ends.{FinalStepsLeave, FinalRollbacksRefuse, StepsKeepEnd, EventsKeepEnd, RunsKeepEnd, BeginsWithEnd, FirstRunsKeepEnd, FinalStays};
-ghost use Rattle.kz_laws_exits.specs.Rollbacks.{RollbacksGiveBack, RollbacksGoOn, RollbacksRepeat, RollbacksMeetNoCode, EarlyClaimsRecordNone, ClaimsAfterResetRecordNone};
+ghost use Rattle.kz_laws_exits.specs.Rollbacks.{RollbacksGiveBack, RollbacksGoOn, RollbacksResume, RollbacksRepeat, RollbacksMeetNoCode, EarlyClaimsRecordNone, ClaimsAfterResetRecordNone};
 
 /// A rollback that is done gives ZooKeeper back: its migrated area stays, and was the rendering of all of the metadata. One that
 /// stopped between its two requests goes on as it would have gone on. One that stopped after them is done, and changes nothing more.
@@ -12,6 +12,7 @@ ghost use Rattle.kz_laws_exits.specs.Rollbacks.{RollbacksGiveBack, RollbacksGoOn
 pub fn rollbacks_give_back()
     ensures done { RollbacksGiveBack }
     ensures resumed { RollbacksGoOn }
+    ensures resumed_elsewhere { RollbacksResume }
     ensures repeated { RollbacksRepeat }
     ensures taken { RollbacksMeetNoCode }
 {}

@@ -1,5 +1,7 @@
 -- What is promised of a run: of each of its moments, which are its beginning and the end of each of its requests, and of its events.
 use Rattle.std.specs.Prelude.{◌≡◌, ◌⊎◌, ⊤, All, ℕ, ℤ, pos, negsuc, ◌≤ℤ◌, true, false, if◌then◌else◌, List, [], ◌∷◌, ◌++◌, Option, Some, None, Ok}
+use Rattle.kz_types.specs.declared.machine.Answer.{Answer}
+use Rattle.kz_types.specs.declared.machine.Answer.TheVariants as answer
 use Rattle.kz_types.specs.declared.machine.Event.{Event}
 use Rattle.kz_types.specs.declared.machine.Event.TheVariants as event
 use Rattle.kz_types.specs.declared.machine.Recorded.{Recorded}
@@ -12,7 +14,7 @@ use Rattle.kz_spec_stores.specs.Log.{Log, commit_of, end_of, image_at, is_migrat
 use Rattle.kz_spec_znodes.specs.Rendering.{render}
 use Rattle.kz_spec_znodes.specs.Translation.{translate}
 use Rattle.kz_spec_machine.specs.Driver.{begin_record, commit_records}
-use Rattle.kz_spec_machine.specs.Machine.{empty_world, Pair, pair_of, request_pairs, is_finalised_log, next, after_events}
+use Rattle.kz_spec_machine.specs.Machine.{World, empty_world, Pair, pair_of, request_pairs, is_finalised_log, next, after_events}
 use Rattle.kz_spec_machine.specs.Sound.{IsBatchEnd, IsPastCommit, records_from}
 use Rattle.kz_spec_runs.specs.InStep.{StaysInStep}
 
@@ -76,6 +78,14 @@ AgreeFrom source p (q ∷ qs) = PathsAgree source p × AgreeFrom (source_after s
 abbrev pub IsAsRecorded : Pair → Type 0
 IsAsRecorded p = is_migrated_log p.log ≡ true → (r : Recorded) → migration_record p.tree ≡ Some r → pos 0 ≤ℤ r.offset → unclosed_path p.tree ≡ None → area p.tree ≡ render (image_at p.log r.offset)
 
+-- What may be recorded on a log: that there is no offset yet, or an offset that is a batch end and isn't before a commit.
+abbrev pub MayRecord : Log → ℤ → Type 0
+MayRecord l offset = (offset ≡ negsuc 0) ⊎ (IsBatchEnd l offset × IsPastCommit l offset)
+
+-- Where the log is migrated, `/migration` is there and can be read, and what it records may be recorded on the log.
+abbrev pub IsReadable : Pair → Type 0
+IsReadable p = is_migrated_log p.log ≡ true → (r : Recorded) × (migration_record p.tree ≡ Some r) × MayRecord p.log r.offset
+
 -- ---- after a migration is finalised
 
 -- a step, a turn or a rollback
@@ -84,6 +94,17 @@ IsStepTurnOrRollback (event.Step id now plan) = ⊤
 IsStepTurnOrRollback (event.Turn id now) = ⊤
 IsStepTurnOrRollback event.Rollback = ⊤
 IsStepTurnOrRollback e = ⊥
+
+-- A rollback is refused since the migration is finalised, or since a controller runs.
+abbrev pub IsFinalRefusal : Answer → Type 0
+IsFinalRefusal a = (a ≡ answer.Finalised) ⊎ ((id : ℤ) × (a ≡ answer.Running id))
+
+-- What an event leaves of a migration that is finalised: it stays so. A step, a turn or a rollback changes neither the tree nor
+-- the log, and a rollback is refused.
+pub record StaysFinalised (w : World) (e : Event) : Type 0 where
+  pub still : is_finalised_log (next w e).0.shared.log ≡ true
+  pub unchanged : IsStepTurnOrRollback e → (next w e).0.shared ≡ w.shared
+  pub refused : e ≡ event.Rollback → IsFinalRefusal (next w e).1
 
 -- ---- scripts
 
@@ -106,10 +127,14 @@ Agreeing es = AgreeFrom [] first_moment (further_moments es)
 abbrev pub StayingAsRecorded : List Event → Type 0
 StayingAsRecorded es = All IsAsRecorded (first_moment ∷ further_moments es)
 
--- After a migration is finalised, no step, turn or rollback changes the tree or the log.
+-- Where the log is migrated, what is recorded can be read.
+abbrev pub StayingReadable : List Event → Type 0
+StayingReadable es = All IsReadable (first_moment ∷ further_moments es)
+
+-- After a migration is finalised, it stays so at each further event, no step, turn or rollback changes the tree or the log, and
+-- each rollback is refused.
 abbrev pub FinalisedForGood : List Event → Type 0
-FinalisedForGood es = (before after : List Event) (e : Event) → es ≡ before ++ e ∷ after → is_finalised_log (after_events empty_world before).shared.log ≡ true → IsStepTurnOrRollback e
-    → (next (after_events empty_world before) e).0.shared ≡ (after_events empty_world before).shared
+FinalisedForGood es = (before after : List Event) (e : Event) → es ≡ before ++ e ∷ after → is_finalised_log (after_events empty_world before).shared.log ≡ true → StaysFinalised (after_events empty_world before) e
 
 -- What is promised of these events.
 pub record Promises (es : List Event) : Type 0 where
@@ -120,7 +145,10 @@ pub record Promises (es : List Event) : Type 0 where
   pub agrees : Agreeing es
   -- All are as they are rendered at the recorded one where no later write stands.
   pub recorded : StayingAsRecorded es
+  -- While the log is migrated, `/migration` can be read, and the offset that it records, if it records one, is a batch end.
+  pub readable : StayingReadable es
   -- After each turn that comes to rest in dual write, they are as they are rendered at the log's end.
   pub in_step : StaysInStep es
-  -- After the migration is finalised, no step, turn or rollback changes the tree or the log.
+  -- After the migration is finalised, it stays so, no step, turn or rollback changes the tree or the log, and each rollback is
+  -- refused.
   pub finalised : FinalisedForGood es
