@@ -1,20 +1,19 @@
 -- At every moment of a run `/migration` can be read where the log is migrated.
-use Rattle.std.proofs.Common.{◌≡◌, ◌≢◌, ◌⊎◌, inl, inr, ℤ, pos, negsuc, ◌≤ℤ◌, true, List, [], ◌∷◌, Option, Some, None, All, refl, sym, ap, ◌∙◌, arith}
-use Rattle.std.specs.Prelude.{◌<ℤ◌}
-use Rattle.std.proofs.lemmas.Int.{ints}
+use Rattle.std.proofs.Common.{◌≡◌, ◌≢◌, ℤ, true, List, [], ◌∷◌, map, Option, Some, None, is_some, All, refl, sym, ap, ◌∙◌}
 use Rattle.std.proofs.lemmas.List.Elements.{All-cons, All-nil}
 use Rattle.kz_types.specs.declared.machine.Event.{Event}
 use Rattle.kz_types.specs.declared.machine.Recorded.{Recorded}
 use Rattle.kz_types.specs.declared.plan.Plan.{Plan}
 use Rattle.kz_types.specs.declared.record.MetaRecord.{MetaRecord}
-use Rattle.kz_spec_stores.specs.Tree.{Tree, migration_record}
-use Rattle.kz_spec_stores.specs.Log.{Log, is_migrated_log, reset}
+use Rattle.kz_spec_stores.specs.Tree.{Tree, migration_record, rendered_row}
+use Rattle.kz_spec_stores.specs.Log.{Log, commit_of, is_migrated_log, reset}
+use Rattle.kz_spec_znodes.specs.Rendering.{render}
 use Rattle.kz_spec_machine.specs.Driver.{Shared, Driver, planned_step}
 use Rattle.kz_spec_machine.specs.Machine.{Pair, empty_world, pair_of, after_events, request_pairs}
 use Rattle.kz_spec_machine.specs.Sound.{IsTime, RecordAgrees, Agreement, IsSharedSound, IsSoundDriver, IsLawful}
-use Rattle.kz_spec_runs.specs.Promises.{Linked, MayRecord, IsReadable, StayingReadable}
+use Rattle.kz_spec_runs.specs.Promises.{Linked, HasRecord, IsReadable, StayingReadable}
 use Rattle.kz_laws_drivers.specs.Effects.{IsUnchanged, IsLonger}
-use Rattle.kz_laws_drivers.proofs.Numbers.{less_or_same}
+use Rattle.kz_laws_trees.proofs.Commits.{commit_kept}
 use Rattle.kz_laws_steps.proofs.Tests.{true_or_false}
 use Rattle.kz_laws_appends.proofs.Steps.{all_steps}
 use Rattle.kz_laws_events.proofs.Elected.{MayElect, elected_of, shared_elected}
@@ -31,22 +30,12 @@ Leaves p q = IsReadable q
 
 -- ---- a sound tree and log
 
-above : (a : ℤ) → negsuc 0 <ℤ a → pos 0 ≤ℤ a
-above a less = omega (arith, ints, less)
-
-recorded_may : (t : Tree) (l : Log) (r : Recorded) → RecordAgrees t l r → MayRecord l r.offset
-recorded_may t l r agrees = by_order (less_or_same (negsuc 0) r.offset agrees.least)
-  where
-    by_order : (negsuc 0 <ℤ r.offset) ⊎ (negsuc 0 ≡ r.offset) → MayRecord l r.offset
-    by_order (inl less) = inr (agrees.end (above r.offset less), agrees.past (above r.offset less))
-    by_order (inr same) = inl (sym same)
-
-read_by : (t : Tree) (l : Log) (m : Option Recorded) → migration_record t ≡ m → m ≢ None → Agreement t l → (r : Recorded) × (migration_record t ≡ Some r) × MayRecord l r.offset
-read_by t l None is some agrees = absurd (some refl)
-read_by t l (Some r) is some agrees = (r, is, recorded_may t l r (agrees.recorded r is))
+read_by : (t : Tree) (l : Log) (m : Option Recorded) → migration_record t ≡ m → m ≢ None → Agreement t l → HasRecord t l
+read_by t l None is some old = absurd (some refl)
+read_by t l (Some r) is some old = record { held = old.holds; record_is = r; found = is; agrees = old.recorded r is }
 
 sound_readable : (s : Shared) → IsSharedSound s → IsReadable (pair_of s)
-sound_readable s kept migrated = let agrees = kept.agreement migrated in read_by s.tree s.log (migration_record s.tree) refl agrees.record_there agrees
+sound_readable s kept migrated = let old = kept.agreement migrated in read_by s.tree s.log (migration_record s.tree) refl old.record_there old
 
 -- ---- what each request leaves
 
@@ -56,18 +45,47 @@ step_readable p s running now d time kept fine any = sound_readable (planned_ste
 elected_readable : (s : Shared) (now : ℤ) → MayElect s → IsReadable (pair_of (record s { log = elected_of s.log now }))
 elected_readable s now m = sound_readable (record s { log = elected_of s.log now }) (shared_elected s now m)
 
-longer_may : (l more : Log) (offset : ℤ) → IsLonger l more → is_migrated_log l ≡ true → MayRecord l offset → MayRecord more offset
-longer_may l more offset longer migrated (inl none) = inl none
-longer_may l more offset longer migrated (inr (end, past)) = inr (longer.batch_end offset end, longer.past migrated offset past)
+-- more batches leave what was recorded in agreement
+longer_agrees : (t : Tree) (l more : Log) (r : Recorded) → IsLonger l more → more.base ≡ l.base → commit_of more ≡ commit_of l → is_migrated_log l ≡ true → RecordAgrees t l r → RecordAgrees t more r
+longer_agrees t l more r longer base commit migrated old = record {
+  least = old.least;
+  first = λ is. let was = old.first is in (base ∙ was.0, λ none. was.1 (sym commit ∙ none));
+  end = λ low. longer.batch_end r.offset (old.end low);
+  past = λ low. longer.past migrated r.offset (old.past low);
+  same = λ low closed. old.same low closed ∙ ap render (sym (longer.image r.offset (longer.within r.offset (old.end low))));
+}
 
 batch_readable : (s : Shared) (now : ℤ) (items : List MetaRecord) → IsLeaderBatch s now items → IsReadable (pair_of (record s { log = more_of s now items }))
 batch_readable s now items b migrated =
     let before = changed.was s now items b migrated in
-    let k = sound_readable s b.kept before in
-    (k.0, k.1, longer_may s.log (more_of s now items) k.0.offset (changed.longer s now items b) before k.2)
+    let k : HasRecord s.tree s.log = sound_readable s b.kept before in
+    record {
+      held = k.held;
+      record_is = k.record_is;
+      found = k.found;
+      agrees = longer_agrees s.tree s.log (more_of s now items) k.record_is (changed.longer s now items b) refl (commit_kept s.log s.log.epoch now items b.kept.log b.ends) before k.agrees;
+    }
+
+-- a tree in which drivers read the same leaves it so
+unchanged_agrees : (t new : Tree) (l : Log) (r : Recorded) → IsUnchanged t new → RecordAgrees t l r → RecordAgrees new l r
+unchanged_agrees t new l r u old = record {
+  least = old.least;
+  first = old.first;
+  end = old.end;
+  past = old.past;
+  same = λ low closed. ap (map rendered_row) u.rows ∙ old.same low (sym u.unclosed ∙ closed);
+}
 
 tree_readable : (s : Shared) (new : Tree) → IsSharedSound s → (is_migrated_log s.log ≡ true → IsUnchanged s.tree new) → IsReadable (pair_of (record s { tree = new }))
-tree_readable s new kept unchanged migrated = let k = sound_readable s kept migrated in (k.0, (unchanged migrated).recorded ∙ k.1, k.2)
+tree_readable s new kept unchanged migrated =
+    let k : HasRecord s.tree s.log = sound_readable s kept migrated in
+    let u = unchanged migrated in
+    record {
+      held = ap is_some u.shown ∙ k.held;
+      record_is = k.record_is;
+      found = u.recorded ∙ k.found;
+      agrees = unchanged_agrees s.tree new s.log k.record_is u k.agrees;
+    }
 
 reset_readable : (s : Shared) → IsSharedSound s → IsReadable (pair_of (record s { log = reset s.log }))
 reset_readable s kept migrated = absurd (true_or_false (is_migrated_log (reset s.log)) migrated (reset_unmigrated s.log))
