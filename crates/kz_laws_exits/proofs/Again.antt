@@ -1,5 +1,5 @@
 -- A rollback that is called again after its tree was given back, and claims after its log was reset.
-use Rattle.std.proofs.Common.{◌≡◌, ℤ, negsuc, Bool, true, false, List, [], ◌∷◌, ◌++◌, Option, Some, None, is_some, option_map, Result, Ok, Err, All, refl, sym, ap, ◌∙◌, subst}
+use Rattle.std.proofs.Common.{◌≡◌, ℤ, negsuc, Bool, true, false, List, [], ◌++◌, Option, Some, None, is_some, option_map, Result, Ok, Err, All, refl, sym, ap, ◌∙◌, subst}
 use Rattle.kz_types.specs.declared.driver.ClaimSeen.{ClaimSeen}
 use Rattle.kz_types.specs.declared.driver.Stage.TheVariants as stage
 use Rattle.kz_types.specs.declared.fault.TreeFault.{TreeFault}
@@ -17,7 +17,7 @@ use Rattle.kz_spec_machine.specs.Driver.{Shared, Driver, least, views_migrated, 
 use Rattle.kz_spec_machine.specs.Machine.{World, first_of, running_ids, driver_of, exit_refusal, rollback_refusal, is_held_tree, deleted_if, exit_ops, tree_after_ops, reset_world, given_back, unless_refused, next, after_events}
 use Rattle.kz_spec_machine.specs.Sound.{IsTime, IsSharedSound, IsSoundDriver, Sound, IsLawful}
 use Rattle.kz_laws_steps.proofs.Tests.{true_or_false}
-use Rattle.kz_laws_steps.proofs.Claiming.{Taken, taken}
+use Rattle.kz_laws_steps.proofs.Claiming.{taken}
 use Rattle.kz_laws_events.proofs.Exits.{reset_world_sound}
 use Rattle.kz_laws_events.proofs.Runs.{run_sound}
 use Rattle.kz_laws_exits.specs.Rollbacks.{IsGivenBack, EndsAlike}

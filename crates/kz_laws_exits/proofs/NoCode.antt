@@ -1,6 +1,5 @@
 -- The tree's request of a rollback is refused with no code of ZooKeeper.
-use Rattle.std.proofs.Common.{◌≡◌, ◌≢◌, ℕ, ◌+◌, ℤ, pos, negsuc, ◌+ℤ◌, ◌≤ℤ◌, int_le, Bool, true, false, ◌||◌, if◌then◌else◌, List, [], ◌∷◌, ◌++◌, Option, Some, None, is_some, Result, Ok, Err, All, refl, sym, ap, ◌∙◌, subst, arith}
-use Rattle.std.specs.Prelude.{⊤, codes}
+use Rattle.std.proofs.Common.{◌≡◌, ◌≢◌, ℕ, ◌+◌, ℤ, pos, negsuc, ◌+ℤ◌, ◌≤ℤ◌, int_le, Bool, true, false, ◌||◌, List, [], ◌∷◌, ◌++◌, Option, Some, None, is_some, Result, Ok, Err, All, refl, sym, ap, ◌∙◌, arith}
 use Rattle.std.specs.Str.{bytes_eq}
 use Rattle.std.specs.List.{list_any}
 use Rattle.std.proofs.lemmas.Int.{ints}
@@ -19,7 +18,7 @@ use Rattle.kz_spec_values.specs.Control.{control_path, epoch_path, migration_pat
 use Rattle.kz_spec_stores.specs.Tree.{Tree, row_at, parent_of, is_root, has_children, Refusal, delete_refusal, op_refusal, after_op, rows_unless_refused, after_ops, with_zxid, multi}
 use Rattle.kz_spec_machine.specs.Driver.{shown_by}
 use Rattle.kz_spec_machine.specs.Machine.{World, is_held_tree, deleted_if, exit_ops, tree_after_ops}
-use Rattle.kz_spec_machine.specs.Sound.{IsUnreserved, TreeShape, Sound}
+use Rattle.kz_spec_machine.specs.Sound.{IsUnreserved, Sound}
 use Rattle.kz_laws_trees.specs.TreeLaws.{KeepsShape}
 use Rattle.kz_laws_trees.proofs.Each.{all_ran}
 use Rattle.kz_laws_trees.proofs.Parents.{there_kept}

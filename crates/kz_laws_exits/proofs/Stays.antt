@@ -1,7 +1,5 @@
 -- A migration that is finalised stays so: no step and no turn changes the tree or the log, and no event takes it back.
-use Rattle.std.proofs.Common.{◌≡◌, ℕ, ℤ, Bool, true, false, not, List, Option, Some, None, Result, Ok, Err, All, refl, sym, ap, ◌∙◌, subst}
-use Rattle.std.specs.Ordering.{int_eq}
-use Rattle.kz_types.specs.declared.codes.TheConstants.{POST_MIGRATION}
+use Rattle.std.proofs.Common.{◌≡◌, ℕ, ℤ, Bool, true, false, not, List, Option, Some, None, Result, Ok, Err, refl, sym, ap, ◌∙◌, subst}
 use Rattle.kz_types.specs.declared.fault.TreeFault.{TreeFault}
 use Rattle.kz_types.specs.declared.move_fault.MoveFault.{MoveFault}
 use Rattle.kz_types.specs.declared.machine.Answer.TheVariants as answer
@@ -9,11 +7,9 @@ use Rattle.kz_types.specs.declared.machine.Event.{Event}
 use Rattle.kz_types.specs.declared.machine.Event.TheVariants as event
 use Rattle.kz_types.specs.declared.plan.Plan.{Plan}
 use Rattle.kz_types.specs.declared.plan.Plan.TheVariants as plan
-use Rattle.kz_types.specs.declared.record.MetaRecord.{MetaRecord}
-use Rattle.kz_types.specs.declared.tree.Op.{Op}
 use Rattle.kz_spec_stores.specs.Tree.{Tree, multi, begin_session, end_session}
-use Rattle.kz_spec_stores.specs.Log.{Log, end_of, image_of, is_migrated_log, is_open_log, with_batch}
-use Rattle.kz_spec_machine.specs.Driver.{Shared, Driver, planned_step, step}
+use Rattle.kz_spec_stores.specs.Log.{end_of, image_of, is_migrated_log, is_open_log, with_batch}
+use Rattle.kz_spec_machine.specs.Driver.{Shared, Driver, step}
 use Rattle.kz_spec_machine.specs.Machine.{World, running_ids, driver_of, running_refusal, leader_refusal, dual_write_refusal, rest_refusal, unless, full, step_result, turn, work, turn_result, quorum_refusal, declared_world, start_refusal, started_world, stop_refusal, stopped_world, next_epoch, election_refusal, elected_world, election_answer, change_refusal, changed_world, registration, register_refusal, final_records, finalise_refusal, client_refusal, client_world, moved_world, is_finalised_log, next}
 use Rattle.kz_spec_machine.specs.Sound.{IsTime, IsSharedSound, IsSoundDriver, Sound, IsLawful}
 use Rattle.kz_laws_trees.proofs.Asked.{asked_plain}
@@ -26,7 +22,7 @@ use Rattle.kz_laws_events.proofs.Refusals.{six_none, unless_none, decided_by}
 use Rattle.kz_laws_events.proofs.Elected.{MayElect, may_elect, elected_of, stateless}
 use Rattle.kz_laws_events.proofs.Changed.{may_change}
 use Rattle.kz_laws_events.proofs.Turned.{GoesOn, turn_leaves}
-use Rattle.kz_laws_exits.specs.Ends.{HasEnded, StepEnds, EndHolds}
+use Rattle.kz_laws_exits.specs.Ends.{HasEnded, EndHolds}
 use Rattle.kz_laws_exits.proofs.Final.{final_migrated, final_step, step_ends}
 use Rattle.kz_laws_exits.proofs.Finalised.{final_rollback_refused}
 use Rattle.kz_laws_exits.proofs.Events.{plain_final, registration_plain}

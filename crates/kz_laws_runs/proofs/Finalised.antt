@@ -1,9 +1,8 @@
 -- After a migration is finalised it stays so, no step, turn or rollback changes the tree or the log, and each rollback is refused.
-use Rattle.std.proofs.Common.{◌≡◌, ℤ, true, List, [], ◌∷◌, ◌++◌, All, refl, sym, ap, ◌∙◌, subst}
+use Rattle.std.proofs.Common.{◌≡◌, true, List, [], ◌∷◌, ◌++◌, All, sym, ap, subst}
 use Rattle.std.proofs.lemmas.List.Elements.{All-nil, All-cons, All-head, All-tail}
 use Rattle.kz_types.specs.declared.machine.Event.{Event}
 use Rattle.kz_types.specs.declared.machine.Event.TheVariants as event
-use Rattle.kz_spec_machine.specs.Driver.{Shared}
 use Rattle.kz_spec_machine.specs.Machine.{World, empty_world, is_finalised_log, next, after_events}
 use Rattle.kz_spec_machine.specs.Sound.{Sound, IsLawful}
 use Rattle.kz_spec_runs.specs.Promises.{IsStepTurnOrRollback, IsFinalRefusal, StaysFinalised, FinalisedForGood}

@@ -1,5 +1,5 @@
 -- From every sound world on each path stays in agreement with the log.
-use Rattle.std.proofs.Common.{◌≡◌, List, [], ◌∷◌, All, subst}
+use Rattle.std.proofs.Common.{List, [], ◌∷◌, All, subst}
 use Rattle.kz_types.specs.declared.machine.Event.{Event}
 use Rattle.kz_types.specs.declared.tree.Rendered.{Rendered}
 use Rattle.kz_spec_machine.specs.Machine.{World, Pair, pair_of, next, event_pairs, after_events, request_pairs}
