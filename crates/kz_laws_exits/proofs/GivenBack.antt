@@ -61,7 +61,7 @@ whole_area t l agrees k =
 
 -- ---- the tree that is given back
 
-apart : control_path ≢ migration_path
+pub apart : control_path ≢ migration_path
 apart same = cc
 
 none_still : (m n : Option Row) → option_map still m ≡ option_map still n → n ≡ None → m ≡ None
@@ -199,7 +199,7 @@ pub reset_unfinished : (l : Log) → is_finalised_log (reset l) ≡ false
 unfolding image_at
 reset_unfinished l = refl
 
-exit_again : (t : Tree) (l : Log) → exit_refusal t (reset l) ≡ None
+pub exit_again : (t : Tree) (l : Log) → exit_refusal t (reset l) ≡ None
 exit_again t l = rw (reset_unfinished l, reset_unmigrated l) refl
 
 refused_again : (w : World) → rollback_refusal w ≡ None → rollback_refusal (reset_world w) ≡ None

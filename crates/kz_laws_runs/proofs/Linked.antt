@@ -146,7 +146,7 @@ turned : (J : Shared → Driver → Type 0) (R : Pair → Pair → Type 0) (w : 
 turned J R w id now None found h time sound each = refl
 turned J R w id now (Some d) found h time sound each = turn_linked J R (work w.shared d) w.shared (running_ids w.drivers) now d h time sound.kept (sound.each id d found) (each id d found)
 
-event_linked : (J : Shared → Driver → Type 0) (R : Pair → Pair → Type 0) (w : World) (e : Event) → Promised J R → IsLawful e → Sound w → Each (J w.shared) w.drivers → LinkedBy R w (event_pairs w e) (next w e).0
+pub event_linked : (J : Shared → Driver → Type 0) (R : Pair → Pair → Type 0) (w : World) (e : Event) → Promised J R → IsLawful e → Sound w → Each (J w.shared) w.drivers → LinkedBy R w (event_pairs w e) (next w e).0
 unfolding next event_pairs
 event_linked J R w (event.Quorum ids) h lawful sound each = quiet R w (quorum_refusal w ids) (declared_world w ids) _ refl
 event_linked J R w (event.Start id) h lawful sound each = quiet R w (start_refusal w id) (started_world w id) _ refl

@@ -67,8 +67,7 @@ abbrev pub IsLeftByStep : World → Event → World → Type 0
 IsLeftByStep w (event.Step id now p) new = (running_refusal w id ≡ None) × ((d : Driver) × (driver_of id w.drivers ≡ Some d)) × (new ≡ w)
 IsLeftByStep w e new = ⊥
 
--- What an event leaves that is answered `TreeFailed`, and one that is out of memory. A rollback that isn't refused resets the log
--- first. It has done so where the tree failed, and may have where memory ran out.
+-- A rollback that isn't refused resets the log first. It has done so where the tree failed, and may have where memory ran out.
 abbrev pub IsLeftByTree : World → Event → World → Type 0
 IsLeftByTree w event.Rollback new = (rollback_refusal w ≡ None) × (new ≡ reset_world w)
 IsLeftByTree w e new = new ≡ w

@@ -3,6 +3,8 @@ use Rattle.std.specs.Prelude.{◌≡◌, ◌⊎◌, ⊤, All, ℕ, ℤ, pos, neg
 use Rattle.std.specs.List.{filter}
 use Rattle.kz_types.specs.declared.log.BatchRow.{BatchRow}
 use Rattle.kz_types.specs.declared.log.Entry.{Entry}
+use Rattle.kz_types.specs.declared.machine.Answer.{Answer}
+use Rattle.kz_types.specs.declared.machine.Answer.TheVariants as answer
 use Rattle.kz_types.specs.declared.machine.Event.{Event}
 use Rattle.kz_types.specs.declared.machine.Event.TheVariants as event
 use Rattle.kz_types.specs.declared.machine.Recorded.{Recorded}
@@ -16,8 +18,8 @@ use Rattle.kz_spec_stores.specs.Log.{Log, commit_of, end_of, entries, entries_at
 use Rattle.kz_spec_znodes.specs.Rendering.{render}
 use Rattle.kz_spec_znodes.specs.Translation.{translate}
 use Rattle.kz_spec_machine.specs.Driver.{begin_record, commit_records}
-use Rattle.kz_spec_machine.specs.Machine.{empty_world, Pair, pair_of, request_pairs, is_finalised_log, next, after_events}
-use Rattle.kz_spec_machine.specs.Sound.{IsBatchEnd, IsPastCommit}
+use Rattle.kz_spec_machine.specs.Machine.{World, empty_world, Pair, pair_of, request_pairs, is_held_tree, is_finalised_log, next, after_events}
+use Rattle.kz_spec_machine.specs.Sound.{IsBatchEnd, IsPastCommit, RecordAgrees}
 use Rattle.kz_spec_runs.specs.InStep.{StaysInStep}
 
 -- ---- moments
@@ -107,6 +109,18 @@ AgreeFrom source p (q ∷ qs) = PathsAgree source p × AgreeFrom (source_after s
 abbrev pub IsAsRecorded : Pair → Type 0
 IsAsRecorded p = is_migrated_log p.log ≡ true → (r : Recorded) → migration_record p.tree ≡ Some r → pos 0 ≤ℤ r.offset → unclosed_path p.tree ≡ None → area p.tree ≡ render (image_at p.log r.offset)
 
+-- What stands beside a migrated log: a KRaft controller holds the tree; `/migration` is there and can be read; and what it records
+-- agrees with the log. It is an offset that is a batch end and isn't before a commit, or, after a commit, that there is none yet.
+pub record HasRecord (t : Tree) (l : Log) : Type 0 where
+  pub held : is_held_tree t ≡ true
+  pub record_is : Recorded
+  pub found : migration_record t ≡ Some record_is
+  pub agrees : RecordAgrees t l record_is
+
+-- Where the log is migrated, this stands beside it.
+abbrev pub IsReadable : Pair → Type 0
+IsReadable p = is_migrated_log p.log ≡ true → HasRecord p.tree p.log
+
 -- ---- after a migration is finalised
 
 -- a step, a turn or a rollback
@@ -115,6 +129,17 @@ IsStepTurnOrRollback (event.Step id now plan) = ⊤
 IsStepTurnOrRollback (event.Turn id now) = ⊤
 IsStepTurnOrRollback event.Rollback = ⊤
 IsStepTurnOrRollback e = ⊥
+
+-- A rollback is refused since the migration is finalised, or since a controller runs.
+abbrev pub IsFinalRefusal : Answer → Type 0
+IsFinalRefusal a = (a ≡ answer.Finalised) ⊎ ((id : ℤ) × (a ≡ answer.Running id))
+
+-- What an event leaves of a migration that is finalised: it stays so. A step, a turn or a rollback changes neither the tree nor
+-- the log, and a rollback is refused.
+pub record StaysFinalised (w : World) (e : Event) : Type 0 where
+  pub still : is_finalised_log (next w e).0.shared.log ≡ true
+  pub unchanged : IsStepTurnOrRollback e → (next w e).0.shared ≡ w.shared
+  pub refused : e ≡ event.Rollback → IsFinalRefusal (next w e).1
 
 -- ---- scripts
 
@@ -137,10 +162,14 @@ Agreeing es = AgreeFrom [] first_moment (further_moments es)
 abbrev pub StayingAsRecorded : List Event → Type 0
 StayingAsRecorded es = All IsAsRecorded (first_moment ∷ further_moments es)
 
--- After a migration is finalised, no step, turn or rollback changes the tree or the log.
+-- Where the log is migrated, `/migration` can be read.
+abbrev pub StayingReadable : List Event → Type 0
+StayingReadable es = All IsReadable (first_moment ∷ further_moments es)
+
+-- After a migration is finalised, it stays so at each further event, no step, turn or rollback changes the tree or the log, and
+-- each rollback is refused.
 abbrev pub FinalisedForGood : List Event → Type 0
-FinalisedForGood es = (before after : List Event) (e : Event) → es ≡ before ++ e ∷ after → is_finalised_log (after_events empty_world before).shared.log ≡ true → IsStepTurnOrRollback e
-    → (next (after_events empty_world before) e).0.shared ≡ (after_events empty_world before).shared
+FinalisedForGood es = (before after : List Event) (e : Event) → es ≡ before ++ e ∷ after → is_finalised_log (after_events empty_world before).shared.log ≡ true → StaysFinalised (after_events empty_world before) e
 
 -- What is promised of these events.
 pub record Promises (es : List Event) : Type 0 where
@@ -151,7 +180,10 @@ pub record Promises (es : List Event) : Type 0 where
   pub agrees : Agreeing es
   -- All are as they are rendered at the recorded one where no later write stands.
   pub recorded : StayingAsRecorded es
+  -- While the log is migrated, a KRaft controller holds the tree, and `/migration` can be read and agrees with the log.
+  pub readable : StayingReadable es
   -- After each turn that comes to rest in dual write, they are as they are rendered at the log's end.
   pub in_step : StaysInStep es
-  -- After the migration is finalised, no step, turn or rollback changes the tree or the log.
+  -- After the migration is finalised, it stays so, no step, turn or rollback changes the tree or the log, and each rollback is
+  -- refused.
   pub finalised : FinalisedForGood es
