@@ -1,6 +1,6 @@
 -- Every event keeps the end of a migration, and so does every run.
-use Rattle.std.proofs.Common.{◌≡◌, ◌≢◌, ◌⊎◌, inl, inr, ℤ, Bool, true, false, if◌then◌else◌, List, [], ◌∷◌, Option, Some, None, All, refl, sym, ap, ◌∙◌, subst}
-use Rattle.std.specs.Prelude.{◌≤◌, length, Result, Ok, Err}
+use Rattle.std.proofs.Common.{◌≡◌, inl, inr, ℤ, Bool, true, false, if◌then◌else◌, List, [], ◌∷◌, Option, Some, None, All, refl, sym, ap, ◌∙◌, subst}
+use Rattle.std.specs.Prelude.{Result, Ok, Err}
 use Rattle.std.specs.Ordering.{int_eq}
 use Rattle.std.proofs.lemmas.List.Elements.{All-nil, All-cons, All-head, All-tail}
 use Rattle.kz_types.specs.declared.codes.TheConstants.{POST_MIGRATION}
@@ -12,13 +12,12 @@ use Rattle.kz_types.specs.declared.machine.Answer.TheVariants as answer
 use Rattle.kz_types.specs.declared.machine.Event.{Event}
 use Rattle.kz_types.specs.declared.machine.Event.TheVariants as event
 use Rattle.kz_types.specs.declared.record.MetaRecord.{MetaRecord}
-use Rattle.kz_types.specs.declared.record.MetaRecord.TheVariants as meta
 use Rattle.kz_types.specs.declared.tree.Op.{Op}
 use Rattle.kz_spec_stores.specs.Tree.{Tree, multi, begin_session, end_session}
 use Rattle.kz_spec_stores.specs.Log.{Log, empty_log, image_at, image_of, with_batch, is_open_log, reset}
 use Rattle.kz_spec_machine.specs.Driver.{Shared, Driver, new_driver, elected_driver}
 use Rattle.kz_spec_machine.specs.Machine.{World, empty_world, driver_of, quorum_refusal, declared_world, start_refusal, started_world, stop_refusal, stopped_world, next_epoch, election_refusal, elected_world, election_answer, change_refusal, changed_world, registration, register_refusal, is_finalised_log, exit_ops, tree_after_ops, reset_world, given_back, rollback_refusal, with_tree, moved_world, is_held_tree, client_refusal, client_world, next, after_events}
-use Rattle.kz_spec_machine.specs.Sound.{LogShape, IsCurrent, IsBelowShown, claim_version, shown_in, Sound, IsLawful}
+use Rattle.kz_spec_machine.specs.Sound.{LogShape, IsBelowShown, claim_version, shown_in, Sound, IsLawful}
 use Rattle.kz_laws_drivers.specs.Effects.{IsUnchanged}
 use Rattle.kz_laws_trees.specs.LogLaws.{IsPlain}
 use Rattle.kz_laws_trees.proofs.Asked.{asked_plain}
@@ -31,7 +30,7 @@ use Rattle.kz_laws_steps.proofs.Tests.{true_or_false}
 use Rattle.kz_laws_steps.proofs.Worlds.{decided, left_was_there}
 use Rattle.kz_laws_steps.proofs.Events.{each_more, unless_taken}
 use Rattle.kz_laws_events.proofs.Refusals.{decided_by}
-use Rattle.kz_laws_events.proofs.Elected.{MayElect, may_elect, gets_state, elected_of, stateless, was}
+use Rattle.kz_laws_events.proofs.Elected.{MayElect, may_elect, elected_of, stateless, was}
 use Rattle.kz_laws_events.proofs.Elections.{WasFound, was_found}
 use Rattle.kz_laws_events.proofs.Changed.{may_change, more_of}
 use Rattle.kz_laws_events.proofs.Unheld.{unmigrated, none_claimed}
