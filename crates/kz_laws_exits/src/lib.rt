@@ -3,7 +3,7 @@
 //! A law is the contract of a function that does nothing.
 #![tactic(auto)]
 
-ghost use Rattle.kz_laws_exits.specs.Ends.{FinalStepsLeave, FinalRollbacksRefuse, StepsKeepEnd, EventsKeepEnd, RunsKeepEnd, BeginsWithEnd, FirstRunsKeepEnd, FinalStays};
+ghost use Rattle.kz_laws_exits.specs.Ends.{FinalStepsLeave, FinalRollbacksRefuse, StepsKeepEnd, EventsKeepEnd, RunsKeepEnd, BeginsWithEnd, FirstRunsKeepEnd, FinalStays, FinalRunsStay};
 ghost use Rattle.kz_laws_exits.specs.Rollbacks.{RollbacksGiveBack, RollbacksGoOn, RollbacksResume, RollbacksRepeat, RollbacksMeetNoCode, EarlyClaimsRecordNone, ClaimsAfterResetRecordNone};
 
 /// A rollback that is done gives ZooKeeper back: its migrated area stays, and was the rendering of all of the metadata. One that
@@ -35,4 +35,5 @@ pub fn finalised_stays()
     ensures first { BeginsWithEnd }
     ensures first_run { FirstRunsKeepEnd }
     ensures stays { FinalStays }
+    ensures stays_on { FinalRunsStay }
 {}

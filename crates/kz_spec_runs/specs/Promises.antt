@@ -13,8 +13,8 @@ use Rattle.kz_spec_stores.specs.Tree.{Tree, area, migration_record, migrated_row
 use Rattle.kz_spec_stores.specs.Log.{Log, commit_of, end_of, image_at, is_migrated_log, is_open_log, reset}
 use Rattle.kz_spec_znodes.specs.Rendering.{render}
 use Rattle.kz_spec_znodes.specs.Translation.{translate}
-use Rattle.kz_spec_machine.specs.Driver.{begin_record, commit_records}
-use Rattle.kz_spec_machine.specs.Machine.{World, empty_world, Pair, pair_of, request_pairs, is_held_tree, is_finalised_log, next, after_events}
+use Rattle.kz_spec_machine.specs.Driver.{Shared, begin_record, commit_records}
+use Rattle.kz_spec_machine.specs.Machine.{World, empty_world, Pair, pair_of, event_pairs, request_pairs, is_held_tree, is_finalised_log, next, after_events}
 use Rattle.kz_spec_machine.specs.Sound.{IsBatchEnd, IsPastCommit, RecordAgrees, records_from}
 use Rattle.kz_spec_runs.specs.InStep.{StaysInStep}
 
@@ -103,11 +103,16 @@ IsStepTurnOrRollback e = ⊥
 abbrev pub IsFinalRefusal : Answer → Type 0
 IsFinalRefusal a = (a ≡ answer.Finalised) ⊎ ((id : ℤ) × (a ≡ answer.Running id))
 
+-- a moment at which the tree and the log are these
+abbrev pub IsMomentOf : Shared → Pair → Type 0
+IsMomentOf s p = p ≡ pair_of s
+
 -- What an event leaves of a migration that is finalised: it stays so. A step, a turn or a rollback changes neither the tree nor
--- the log, and a rollback is refused.
+-- the log, at none of its moments, and a rollback is refused.
 pub record StaysFinalised (w : World) (e : Event) : Type 0 where
   pub still : is_finalised_log (next w e).0.shared.log ≡ true
   pub unchanged : IsStepTurnOrRollback e → (next w e).0.shared ≡ w.shared
+  pub moments : IsStepTurnOrRollback e → All (IsMomentOf w.shared) (event_pairs w e)
   pub refused : e ≡ event.Rollback → IsFinalRefusal (next w e).1
 
 -- ---- scripts
