@@ -4,5 +4,5 @@ pub mod Agrees
 pub mod Recorded
 pub mod FinalMoments
 pub mod Finalised
-pub mod Readable
+pub mod InAgreement
 pub mod Paths
