@@ -18,8 +18,8 @@ pub fn runs_keep_promises()
     ensures finalised { RunsStayFinalised }
 {}
 
-/// From every sound world on in which each path of the migrated area agrees with the log, they stay in agreement, at each moment of
-/// every event and of every run. From every sound world on a migrated log and its tree are in agreement.
+/// From every sound world on in which each path of the migrated area agrees with the log, they stay in agreement, at each moment
+/// of every event and of every run. From every sound world on a migrated log and its tree are in agreement.
 pub fn paths_stay_agreed()
     ensures event { EventsKeepPaths }
     ensures run { RunsKeepPaths }
