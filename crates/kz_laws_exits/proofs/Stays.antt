@@ -1,5 +1,6 @@
 -- A migration that is finalised stays so: no step and no turn changes the tree or the log, and no event takes it back.
-use Rattle.std.proofs.Common.{◌≡◌, ℕ, ℤ, Bool, true, false, not, List, Option, Some, None, Result, Ok, Err, refl, sym, ap, ◌∙◌, subst}
+use Rattle.std.proofs.Common.{◌≡◌, ℕ, ℤ, Bool, true, false, not, List, [], ◌∷◌, Option, Some, None, Result, Ok, Err, All, refl, sym, ap, ◌∙◌, subst}
+use Rattle.std.proofs.lemmas.List.Elements.{All-head, All-tail}
 use Rattle.kz_types.specs.declared.fault.TreeFault.{TreeFault}
 use Rattle.kz_types.specs.declared.move_fault.MoveFault.{MoveFault}
 use Rattle.kz_types.specs.declared.machine.Answer.TheVariants as answer
@@ -10,7 +11,7 @@ use Rattle.kz_types.specs.declared.plan.Plan.TheVariants as plan
 use Rattle.kz_spec_stores.specs.Tree.{Tree, multi, begin_session, end_session}
 use Rattle.kz_spec_stores.specs.Log.{end_of, image_of, is_migrated_log, is_open_log, with_batch}
 use Rattle.kz_spec_machine.specs.Driver.{Shared, Driver, step}
-use Rattle.kz_spec_machine.specs.Machine.{World, running_ids, driver_of, running_refusal, leader_refusal, dual_write_refusal, rest_refusal, unless, full, step_result, turn, work, turn_result, quorum_refusal, declared_world, start_refusal, started_world, stop_refusal, stopped_world, next_epoch, election_refusal, elected_world, election_answer, change_refusal, changed_world, registration, register_refusal, final_records, finalise_refusal, client_refusal, client_world, moved_world, is_finalised_log, next}
+use Rattle.kz_spec_machine.specs.Machine.{World, running_ids, driver_of, running_refusal, leader_refusal, dual_write_refusal, rest_refusal, unless, full, step_result, turn, work, turn_result, quorum_refusal, declared_world, start_refusal, started_world, stop_refusal, stopped_world, next_epoch, election_refusal, elected_world, election_answer, change_refusal, changed_world, registration, register_refusal, final_records, finalise_refusal, client_refusal, client_world, moved_world, is_finalised_log, next, after_events}
 use Rattle.kz_spec_machine.specs.Sound.{IsTime, IsSharedSound, IsSoundDriver, Sound, IsLawful}
 use Rattle.kz_laws_trees.proofs.Asked.{asked_plain}
 use Rattle.kz_laws_logs.proofs.Opened.{elected_records}
@@ -21,16 +22,17 @@ use Rattle.kz_laws_steps.proofs.Events.{unless_taken}
 use Rattle.kz_laws_events.proofs.Refusals.{six_none, unless_none, decided_by}
 use Rattle.kz_laws_events.proofs.Elected.{MayElect, may_elect, elected_of, stateless}
 use Rattle.kz_laws_events.proofs.Changed.{may_change}
+use Rattle.kz_laws_events.proofs.Every.{event_sound}
 use Rattle.kz_laws_events.proofs.Turned.{GoesOn, turn_leaves}
 use Rattle.kz_laws_exits.specs.Ends.{HasEnded, EndHolds}
 use Rattle.kz_laws_exits.proofs.Final.{final_migrated, final_step, step_ends}
 use Rattle.kz_laws_exits.proofs.Finalised.{final_rollback_refused}
-use Rattle.kz_laws_exits.proofs.Events.{plain_final, registration_plain}
+use Rattle.kz_laws_exits.proofs.Events.{plain_final, registration_plain, event_ends}
 
 -- ---- a turn
 
 -- What a step leaves on a log whose migration is finalised.
-abbrev Rests : Shared → Driver → Shared → Driver → Type 0
+abbrev pub Rests : Shared → Driver → Shared → Driver → Type 0
 Rests s d t e = is_finalised_log s.log ≡ true → HasEnded s d → (t ≡ s) × HasEnded t e
 
 rests_on : GoesOn Rests
@@ -39,7 +41,7 @@ rests_on s d t e u f own keeps one two final ended =
     let second = two (ap (λ (x : Shared). is_finalised_log x.log) first.0 ∙ final) first.1 in
     (second.0 ∙ first.0, second.1)
 
-one_rests : (s : Shared) (running : List ℤ) (now : ℤ) (d : Driver) → IsTime now → IsSharedSound s → IsSoundDriver s d → Rests s d (step s running now d).shared (step s running now d).driver
+pub one_rests : (s : Shared) (running : List ℤ) (now : ℤ) (d : Driver) → IsTime now → IsSharedSound s → IsSoundDriver s d → Rests s d (step s running now d).shared (step s running now d).driver
 unfolding step
 one_rests s running now d time kept fine final ended = (final_step plan.Deliver s running now d fine ended final, (step_ends plan.Deliver s running now d time kept fine ended).driver)
 
@@ -67,7 +69,7 @@ pub turn_event : (w : World) (id now : ℤ) → IsTime now → Sound w → EndHo
 unfolding next
 turn_event w id now time sound ends final = unless_made (Stays w) w (running_refusal w id) (turn_result w now (driver_of id w.drivers)) refl (turned w id now (driver_of id w.drivers) refl time sound ends final)
 
--- ---- every event
+-- ---- every event, and every run
 
 abbrev IsFinal : World → Type 0
 IsFinal w = is_finalised_log w.shared.log ≡ true
@@ -120,3 +122,10 @@ stays_final w event.Check lawful sound ends final = final
 stays_final w (event.ZkOpen session) lawful sound ends final = moved_final w (begin_session w.shared.tree session) final
 stays_final w (event.ZkExpire session) lawful sound ends final = moved_final w (end_session w.shared.tree session) final
 stays_final w (event.Zk ops) lawful sound ends final = unless_taken IsFinal w (client_refusal w.shared.tree ops) (client_world w (multi w.shared.tree ops)) final (λ none. client_final w (multi w.shared.tree ops) final)
+
+pub run_stays_final : (w : World) (es : List Event) → All IsLawful es → Sound w → EndHolds w → IsFinal w → IsFinal (after_events w es)
+unfolding after_events
+run_stays_final w [] lawful sound ends final = final
+run_stays_final w (e ∷ es) lawful sound ends final =
+    let own = All-head IsLawful e es lawful in
+    run_stays_final (next w e).0 es (All-tail IsLawful e es lawful) (event_sound w e own sound) (event_ends w e own sound ends) (stays_final w e own sound ends final)

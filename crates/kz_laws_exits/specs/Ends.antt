@@ -78,3 +78,7 @@ FirstRunsKeepEnd = (es : List Event) → All IsLawful es → EndHolds (after_eve
 -- A migration that is finalised stays so at every event.
 abbrev pub FinalStays : Type 0
 FinalStays = (w : World) (e : Event) → IsLawful e → Sound w → EndHolds w → is_finalised_log w.shared.log ≡ true → is_finalised_log (next w e).0.shared.log ≡ true
+
+-- So it does through every run.
+abbrev pub FinalRunsStay : Type 0
+FinalRunsStay = (w : World) (es : List Event) → All IsLawful es → Sound w → EndHolds w → is_finalised_log w.shared.log ≡ true → is_finalised_log (after_events w es).shared.log ≡ true

@@ -11,6 +11,7 @@ use Rattle.kz_laws_exits.specs.Ends.{EndHolds}
 use Rattle.kz_laws_exits.proofs.Finalised.{final_rollback_refused}
 use Rattle.kz_laws_exits.proofs.Events.{first_run_ends}
 use Rattle.kz_laws_exits.proofs.Stays.{step_event, turn_event, stays_final}
+use Rattle.kz_laws_runs.proofs.FinalMoments.{final_moments}
 
 -- ---- events
 
@@ -30,6 +31,7 @@ event_final : (w : World) (e : Event) → IsLawful e → Sound w → EndHolds w 
 event_final w e lawful sound ends final = record {
   still = stays_final w e lawful sound ends final;
   unchanged = λ of. event_rests w e lawful of sound ends final;
+  moments = λ of. final_moments w e lawful of sound ends final;
   refused = λ is. refused_final w e is final;
 }
 

@@ -2,6 +2,7 @@ pub mod Linked
 pub mod Commits
 pub mod Agrees
 pub mod Recorded
+pub mod FinalMoments
 pub mod Finalised
-pub mod Readable
+pub mod InAgreement
 pub mod Paths

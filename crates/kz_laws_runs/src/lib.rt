@@ -3,24 +3,25 @@
 //! A law is the contract of a function that does nothing.
 #![tactic(auto)]
 
-ghost use Rattle.kz_laws_runs.specs.Runs.{RunsCommitWhole, RunsAgree, RunsStayAsRecorded, RunsStayReadable, RunsStayFinalised};
-ghost use Rattle.kz_laws_runs.specs.Paths.{EventsKeepPaths, RunsKeepPaths};
+ghost use Rattle.kz_laws_runs.specs.Runs.{RunsCommitWhole, RunsAgree, RunsStayAsRecorded, RunsStayInAgreement, RunsStayFinalised};
+ghost use Rattle.kz_laws_runs.specs.Paths.{EventsKeepPaths, RunsKeepPaths, RunsKeepAgreement};
 
 /// A migration is committed whole or not at all, as the translation of the znodes that stand at its commit. Each migrated znode
-/// agrees with the log, path by path, and all of them where none was written since the offset was recorded. What is recorded can be
-/// read while the log is migrated. After the migration is finalised it stays so, and no controller and no rollback changes the
-/// tree or the log.
+/// agrees with the log, path by path, and all of them where none was written since the offset was recorded. While the log is
+/// migrated, a KRaft controller holds the tree, and what is recorded can be read and agrees with the log. After the migration is
+/// finalised it stays so, and no controller and no rollback changes the tree or the log.
 pub fn runs_keep_promises()
     ensures committed { RunsCommitWhole }
     ensures agree { RunsAgree }
     ensures recorded { RunsStayAsRecorded }
-    ensures readable { RunsStayReadable }
+    ensures in_agreement { RunsStayInAgreement }
     ensures finalised { RunsStayFinalised }
 {}
 
-/// From every sound world on in which each path of the migrated area agrees with the log, they stay in agreement, at each moment of
-/// every event and of every run.
+/// From every sound world on in which each path of the migrated area agrees with the log, they stay in agreement, at each moment
+/// of every event and of every run. From every sound world on a migrated log and its tree are in agreement.
 pub fn paths_stay_agreed()
     ensures event { EventsKeepPaths }
     ensures run { RunsKeepPaths }
+    ensures whole { RunsKeepAgreement }
 {}

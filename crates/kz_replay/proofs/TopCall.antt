@@ -12,7 +12,7 @@ use Rattle.kz_laws_scripts.proofs.Scripts.{script_in_step}
 use Rattle.kz_laws_runs.proofs.Commits.{run_commits}
 use Rattle.kz_laws_runs.proofs.Agrees.{run_agrees}
 use Rattle.kz_laws_runs.proofs.Recorded.{run_recorded}
-use Rattle.kz_laws_runs.proofs.Readable.{run_readable}
+use Rattle.kz_laws_runs.proofs.InAgreement.{run_agreed}
 use Rattle.kz_laws_runs.proofs.Finalised.{run_finalised}
 use Rattle.kz_replay.specs.Pending.{State, outcome_to_come, pending_lines}
 use Rattle.kz_replay.specs.Runs.{StreamState, ScriptTurnsEnd, Runs}
@@ -30,7 +30,7 @@ script_promises script = let es = script_events script in let lawful = script_la
   committed = run_commits es lawful;
   agrees = run_agrees es lawful;
   recorded = run_recorded es lawful;
-  readable = run_readable es lawful;
+  in_agreement = run_agreed es lawful;
   in_step = script_in_step script;
   finalised = run_finalised es lawful;
 }

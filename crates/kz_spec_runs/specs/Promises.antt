@@ -17,9 +17,9 @@ use Rattle.kz_spec_stores.specs.Settlement.{is_marker}
 use Rattle.kz_spec_stores.specs.Log.{Log, commit_of, end_of, entries, entries_at_offsets, image_at, is_migrated_log, is_open_log, reset}
 use Rattle.kz_spec_znodes.specs.Rendering.{render}
 use Rattle.kz_spec_znodes.specs.Translation.{translate}
-use Rattle.kz_spec_machine.specs.Driver.{begin_record, commit_records}
-use Rattle.kz_spec_machine.specs.Machine.{World, empty_world, Pair, pair_of, request_pairs, is_held_tree, is_finalised_log, next, after_events}
-use Rattle.kz_spec_machine.specs.Sound.{IsBatchEnd, IsPastCommit, RecordAgrees}
+use Rattle.kz_spec_machine.specs.Driver.{Shared, begin_record, commit_records}
+use Rattle.kz_spec_machine.specs.Machine.{World, empty_world, Pair, pair_of, event_pairs, request_pairs, is_finalised_log, next, after_events}
+use Rattle.kz_spec_machine.specs.Sound.{IsBatchEnd, IsPastCommit, Agreement}
 use Rattle.kz_spec_runs.specs.InStep.{StaysInStep}
 
 -- ---- moments
@@ -109,17 +109,17 @@ AgreeFrom source p (q ∷ qs) = PathsAgree source p × AgreeFrom (source_after s
 abbrev pub IsAsRecorded : Pair → Type 0
 IsAsRecorded p = is_migrated_log p.log ≡ true → (r : Recorded) → migration_record p.tree ≡ Some r → pos 0 ≤ℤ r.offset → unclosed_path p.tree ≡ None → area p.tree ≡ render (image_at p.log r.offset)
 
--- What stands beside a migrated log: a KRaft controller holds the tree; `/migration` is there and can be read; and what it records
--- agrees with the log. It is an offset that is a batch end and isn't before a commit, or, after a commit, that there is none yet.
-pub record HasRecord (t : Tree) (l : Log) : Type 0 where
-  pub held : is_held_tree t ≡ true
+-- A migrated log and its tree are in agreement: a KRaft controller holds the tree; no transaction is open at a batch end that isn't
+-- before a commit; the metadata at each batch end keeps the limits; and `/migration` is there and can be read. It records an
+-- offset, which is a batch end that isn't before a commit, or, after a commit, that there is none yet.
+pub record IsAgreed (t : Tree) (l : Log) : Type 0 where
   pub record_is : Recorded
   pub found : migration_record t ≡ Some record_is
-  pub agrees : RecordAgrees t l record_is
+  pub agreement : Agreement t l
 
--- Where the log is migrated, this stands beside it.
-abbrev pub IsReadable : Pair → Type 0
-IsReadable p = is_migrated_log p.log ≡ true → HasRecord p.tree p.log
+-- They are, where the log is migrated.
+abbrev pub IsInAgreement : Pair → Type 0
+IsInAgreement p = is_migrated_log p.log ≡ true → IsAgreed p.tree p.log
 
 -- ---- after a migration is finalised
 
@@ -134,11 +134,16 @@ IsStepTurnOrRollback e = ⊥
 abbrev pub IsFinalRefusal : Answer → Type 0
 IsFinalRefusal a = (a ≡ answer.Finalised) ⊎ ((id : ℤ) × (a ≡ answer.Running id))
 
+-- a moment at which the tree and the log are these
+abbrev pub IsMomentOf : Shared → Pair → Type 0
+IsMomentOf s p = p ≡ pair_of s
+
 -- What an event leaves of a migration that is finalised: it stays so. A step, a turn or a rollback changes neither the tree nor
--- the log, and a rollback is refused.
+-- the log, at none of its moments, and a rollback is refused.
 pub record StaysFinalised (w : World) (e : Event) : Type 0 where
   pub still : is_finalised_log (next w e).0.shared.log ≡ true
   pub unchanged : IsStepTurnOrRollback e → (next w e).0.shared ≡ w.shared
+  pub moments : IsStepTurnOrRollback e → All (IsMomentOf w.shared) (event_pairs w e)
   pub refused : e ≡ event.Rollback → IsFinalRefusal (next w e).1
 
 -- ---- scripts
@@ -162,9 +167,9 @@ Agreeing es = AgreeFrom [] first_moment (further_moments es)
 abbrev pub StayingAsRecorded : List Event → Type 0
 StayingAsRecorded es = All IsAsRecorded (first_moment ∷ further_moments es)
 
--- Where the log is migrated, `/migration` can be read.
-abbrev pub StayingReadable : List Event → Type 0
-StayingReadable es = All IsReadable (first_moment ∷ further_moments es)
+-- A migrated log and its tree are in agreement.
+abbrev pub StayingInAgreement : List Event → Type 0
+StayingInAgreement es = All IsInAgreement (first_moment ∷ further_moments es)
 
 -- After a migration is finalised, it stays so at each further event, no step, turn or rollback changes the tree or the log, and
 -- each rollback is refused.
@@ -181,7 +186,7 @@ pub record Promises (es : List Event) : Type 0 where
   -- All are as they are rendered at the recorded one where no later write stands.
   pub recorded : StayingAsRecorded es
   -- While the log is migrated, a KRaft controller holds the tree, and `/migration` can be read and agrees with the log.
-  pub readable : StayingReadable es
+  pub in_agreement : StayingInAgreement es
   -- After each turn that comes to rest in dual write, they are as they are rendered at the log's end.
   pub in_step : StaysInStep es
   -- After the migration is finalised, it stays so, no step, turn or rollback changes the tree or the log, and each rollback is

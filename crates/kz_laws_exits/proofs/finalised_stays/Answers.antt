@@ -1,7 +1,7 @@
 use Rattle.kz_laws_exits.proofs.Final.{final_step, step_ends}
 use Rattle.kz_laws_exits.proofs.Finalised.{final_rollback_refused}
 use Rattle.kz_laws_exits.proofs.Events.{event_ends, run_ends, empty_ends, first_run_ends}
-use Rattle.kz_laws_exits.proofs.Stays.{stays_final}
+use Rattle.kz_laws_exits.proofs.Stays.{stays_final, run_stays_final}
 use Rattle.kz_laws_exits.proofs.finalised_stays.Goals as goal
 
 pub returns-clause-leaves : goal.returns-clause-leaves
@@ -27,3 +27,6 @@ returns-clause-first_run c = first_run_ends
 
 pub returns-clause-stays : goal.returns-clause-stays
 returns-clause-stays c = stays_final
+
+pub returns-clause-stays_on : goal.returns-clause-stays_on
+returns-clause-stays_on c = run_stays_final

@@ -1,3 +1,4 @@
+use Rattle.kz_laws_runs.proofs.InAgreement.{pairs_agreed}
 use Rattle.kz_laws_runs.proofs.Paths.{event_agrees, run_agrees_through}
 use Rattle.kz_laws_runs.proofs.paths_stay_agreed.Goals as goal
 
@@ -6,3 +7,6 @@ returns-clause-event c = event_agrees
 
 pub returns-clause-run : goal.returns-clause-run
 returns-clause-run c = run_agrees_through
+
+pub returns-clause-whole : goal.returns-clause-whole
+returns-clause-whole c w es lawful sound = pairs_agreed es w lawful sound
