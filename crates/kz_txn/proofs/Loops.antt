@@ -1,10 +1,13 @@
 -- Steps of the loops that read items.
-use Rattle.std.proofs.Common.{◌≡◌, ℕ, suc, ◌+◌, ◌-◌, ◌<◌, ◌≤◌, ℤ, pos, List, [], ◌∷◌, ◌++◌, Result, Ok, Err, refl, sym, ap, ◌∙◌, append_assoc, arith}
+use Rattle.std.proofs.Common.{◌≡◌, ℕ, suc, ◌+◌, ◌-◌, ◌<◌, ◌≤◌, ℤ, pos, List, [], ◌∷◌, ◌++◌, Result, Ok, Err, refl, sym, ap, ◌∙◌, append_assoc, arith, Bool, false, cond, length}
+use Rattle.std.specs.Prelude.{◌==◌}
+use Rattle.std.proofs.lemmas.Bool.{ne_eqb}
 use Rattle.std.proofs.lemmas.List.{append-nil}
-use Rattle.std.specs.Int.{w64}
-use Rattle.kz_spec_values.specs.Fields.{Reading, ◌>>=◌}
+use Rattle.std.specs.Int.{w8, w64}
+use Rattle.kz_spec_values.specs.Fields.{Reading, ◌>>=◌, start}
 use Rattle.kz_spec_values.specs.Forms.{items_at}
-use Rattle.kz_spec_files.specs.Transactions.{Flaw, within, max_session, sessions_at}
+use Rattle.kz_spec_files.specs.Transactions.{Flaw, at_byte, IsAt, within, max_session, sessions_at, fields_at, txn_alone, txn_of}
+use Rattle.kz_spec_files.specs.declared.files.Txn.{Txn}
 use Rattle.kz_txn.specs.declared.fault.TxnFault.{TxnFault}
 use Rattle.kz_txn.specs.declared.fault.TxnFault.TheVariants.{Malformed, NoMemory}
 use Rattle.kz_txn.specs.Reads.{Fails}
@@ -74,3 +77,18 @@ sessions_done front count i least r total le so_far =
     let k : count - i ≡ 0 = omega arith in
     let one : with_front front (sessions_at (count - i) least r) ≡ Ok (front, r) = rw k (ap (λ l. Ok (l, r)) (append-nil front)) in
     sym so_far ∙ one
+
+-- ---- what stands after a transaction
+
+-- a byte is left: it is the first bad one
+pub more_left : (bytes : List ℕ) (first r : Reading) (t : Txn) (b : ℕ) (rest : List ℕ) (at : ℕ) → first ≡ start bytes → (within w8 1 5).read first >>= fields_at ≡ Ok (t, r) → r.left ≡ b ∷ rest → at ≡ r.at
+    → (flaw : Flaw) × (txn_of bytes ≡ Err flaw) × IsAt flaw at
+unfolding txn_of
+more_left bytes first r t b rest at begins read left place =
+    let count : length r.left ≡ length (b ∷ rest) = ap length left in
+    let some : (length r.left == 0) ≡ false = ne_eqb (length r.left) 0 (λ none. omega (arith, count, none)) in
+    (at_byte r.at,
+    ap (λ (s : Reading). ((within w8 1 5).read s >>= fields_at) >>= txn_alone) (sym begins)
+    ∙ ap (λ m. m >>= txn_alone) read
+    ∙ ap (λ (c : Bool). cond c (Ok t) (Err (at_byte r.at))) some,
+    place)

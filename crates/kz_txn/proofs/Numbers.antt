@@ -54,7 +54,7 @@ both_false_second : (a b : Bool) → b ≡ false → (a && b) ≡ false
 both_false_second true b e = e
 both_false_second false b e = refl
 
-both_true : (a b : Bool) → a ≡ true → b ≡ true → (a && b) ≡ true
+pub both_true : (a b : Bool) → a ≡ true → b ≡ true → (a && b) ≡ true
 both_true true b e f = f
 both_true false b e f = absurd (cc)
 

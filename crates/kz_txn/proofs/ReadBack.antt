@@ -1,6 +1,6 @@
 -- What is written for a transaction that fits is read as it.
 use Rattle.std.proofs.Common.{◌≡◌, ℕ, zero, suc, ◌+◌, ◌-◌, ◌*◌, ◌/◌, ◌%◌, ◌^◌, ◌<◌, ◌≤◌, ℤ, pos, negsuc, Bool, true, false, cond, nat_lt, List, [], ◌∷◌, ◌++◌, length, take, drop, Option, Some, None, Result, Ok, Err, refl, sym, ap, ◌∙◌, subst, append_assoc, append-nil, length-append, add_assoc, add-zero, arith, le-ltb, ltb-true, FitsSigned}
-use Rattle.std.specs.Prelude.{nat_le}
+use Rattle.std.specs.Prelude.{nat_le, ◌==◌}
 use Rattle.std.specs.Ordering.{int_cmp}
 use Rattle.std.specs.declared.cmp.Ordering.TheVariants.{Less, Equal, Greater}
 use Rattle.std.specs.Int.{w8, w32, w64, to_be_bytes, byte_at, bytes_high_first, cast_signed, cast_unsigned}
@@ -100,17 +100,21 @@ wide_back x least most at rest lt low high = number_back 8 x least most at rest 
 count_back : (n at : ℕ) (rest : List ℕ) → n < 2 ^ 32 → Takes count.read n (to_be_bytes w32 n) rest at
 count_back n at rest lt = number_back 4 n 0 (2 ^ 32 - 1) at rest lt (omega arith) (omega arith)
 
+-- a number that was read, seen as another one
+as_number : (m : Result (ℕ × Reading) Flaw) (made : ℕ → ℤ) (n : ℕ) (z : ℤ) (r : Reading) → m ≡ Ok (n, r) → made n ≡ z → ◌>>=◌ {B = ℤ × Reading} m (λ x. Ok (made x.0, x.1)) ≡ Ok (z, r)
+as_number m made n z r e same = ap (λ (k : Result (ℕ × Reading) Flaw). ◌>>=◌ {B = ℤ × Reading} k (λ x. Ok (made x.0, x.1))) e ∙ ap (λ (k : ℤ). Ok (k, r)) same
+
 int32_back : Back (int w32)
 int32_back = record { back = λ z rest at fits.
     let bound : cast_unsigned w32 z < 2 ^ 32 = omega (arith, ints) in
-    ap (λ m. m >>= λ x. Ok (cast_signed w32 x.0, x.1)) (number_back 4 (cast_unsigned w32 z) 0 (2 ^ 32 - 1) at rest bound (omega arith) (omega (arith, bound)))
-    ∙ ap (λ (k : ℤ). Ok (k, record { at = at + 4; left = rest })) (to_z-of_z w32 z fits) }
+    as_number (count.read (record { at = at; left = to_be_bytes w32 (cast_unsigned w32 z) ++ rest })) (cast_signed w32) (cast_unsigned w32 z) z (record { at = at + 4; left = rest })
+    (count_back (cast_unsigned w32 z) at rest bound) (to_z-of_z w32 z fits) }
 
 int64_back : Back (int w64)
 int64_back = record { back = λ z rest at fits.
     let bound : cast_unsigned w64 z < 2 ^ 64 = omega (arith, ints) in
-    ap (λ m. m >>= λ x. Ok (cast_signed w64 x.0, x.1)) (number_back 8 (cast_unsigned w64 z) 0 (2 ^ 64 - 1) at rest bound (omega arith) (omega (arith, bound)))
-    ∙ ap (λ (k : ℤ). Ok (k, record { at = at + 8; left = rest })) (to_z-of_z w64 z fits) }
+    as_number ((within w64 0 (2 ^ 64 - 1)).read (record { at = at; left = to_be_bytes w64 (cast_unsigned w64 z) ++ rest })) (cast_signed w64) (cast_unsigned w64 z) z (record { at = at + 8; left = rest })
+    (wide_back (cast_unsigned w64 z) 0 (2 ^ 64 - 1) at rest bound (omega arith) (omega (arith, bound))) (to_z-of_z w64 z fits) }
 
 -- ---- bytes and paths
 

@@ -1,7 +1,9 @@
 -- What a call that reads answers, and where the bytes stop being a transaction.
 use Rattle.std.specs.Prelude.{◌≡◌, ℕ, ◌+◌, ⊤, List, [], ◌∷◌, Option, Some, None, Result, Ok, Err}
-use Rattle.kz_spec_values.specs.Fields.{Reading}
-use Rattle.kz_spec_files.specs.Transactions.{Flaw, IsAt}
+use Rattle.std.specs.Int.{w8}
+use Rattle.kz_spec_values.specs.Fields.{Reading, ◌>>=◌}
+use Rattle.kz_spec_files.specs.Transactions.{Flaw, IsAt, within, fields_at}
+use Rattle.kz_spec_files.specs.declared.files.Txn.{Txn}
 use Rattle.kz_txn.specs.declared.fault.TxnFault.{TxnFault}
 use Rattle.kz_txn.specs.declared.fault.TxnFault.TheVariants.{Malformed, NoMemory}
 
@@ -19,3 +21,7 @@ Gives view (Err fault) next = Fails fault next
 abbrev pub TakesByte : Option ℕ → Reading → Reading → Type 0
 TakesByte None old new = old.left ≡ []
 TakesByte (Some byte) old new = (old.left ≡ byte ∷ new.left) × (new.at ≡ old.at + 1)
+
+-- The transaction that stands next, whatever follows.
+abbrev pub txn_at : Reading → Result (Txn × Reading) Flaw
+txn_at r = (within w8 1 5).read r >>= fields_at

@@ -2,7 +2,7 @@
 ghost use Rattle.std.specs.Prelude.{◌≡◌, ◌≤◌, ◌<◌, ◌^◌, pos};
 ghost use Rattle.kz_spec_values.specs.Forms.{items_at};
 ghost use Rattle.kz_spec_files.specs.Transactions.{op_at, op, row, list_of, sessions, sessions_at, fields_at, txn_of};
-ghost use Rattle.kz_txn.specs.Reads.{Gives};
+ghost use Rattle.kz_txn.specs.Reads.{Gives, txn_at};
 
 use crate::TxnFault;
 use crate::fields::{
@@ -225,6 +225,14 @@ fn read_fields(alloc: Global, kind: u64, reader: &mut Reader) -> Result<Txn, Txn
     }
 }
 
+// A transaction that stands next: its kind byte and its fields.
+fn read_next(alloc: Global, reader: &mut Reader) -> Result<Txn, TxnFault>
+    ensures { Gives (λ x. (x, reader.new)) result (txn_at reader.old) }
+{
+    let kind = within(reader, 1, 1, 5)?;
+    read_fields(alloc, kind, reader)
+}
+
 /// The transaction that these bytes are.
 ///
 /// The bytes are a kind byte and its fields, as the page on files has them, and nothing after them. `Malformed` tells the
@@ -236,8 +244,7 @@ pub fn read_txn(alloc: Global, bytes: &[u8]) -> Result<Txn, TxnFault>
     ensures { Gives (λ x. x) result (txn_of bytes.now) }
 {
     let mut reader = Reader::new(bytes);
-    let kind = within(&mut reader, 1, 1, 5)?;
-    let txn = read_fields(alloc, kind, &mut reader)?;
+    let txn = read_next(alloc, &mut reader)?;
     let at = reader.at();
     match next_byte(&mut reader) {
         None => Ok(txn),
