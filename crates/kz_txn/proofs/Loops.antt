@@ -86,9 +86,10 @@ pub more_left : (bytes : List ℕ) (first r : Reading) (t : Txn) (b : ℕ) (rest
 unfolding txn_of
 more_left bytes first r t b rest at begins read left place =
     let count : length r.left ≡ length (b ∷ rest) = ap length left in
-    let some : (length r.left == 0) ≡ false = ne_eqb (length r.left) 0 (λ none. omega (arith, count, none)) in
-    (at_byte r.at,
-    ap (λ (s : Reading). ((within w8 1 5).read s >>= fields_at) >>= txn_alone) (sym begins)
-    ∙ ap (λ m. m >>= txn_alone) read
-    ∙ ap (λ (c : Bool). cond c (Ok t) (Err (at_byte r.at))) some,
-    place)
+    let some : (length r.left == 0) ≡ false = ne_eqb (length r.left) 0 (λ none. omega (arith, count, none)) in (
+      at_byte r.at,
+      ap (λ (s : Reading). ((within w8 1 5).read s >>= fields_at) >>= txn_alone) (sym begins)
+          ∙ ap (λ m. m >>= txn_alone) read
+          ∙ ap (λ (c : Bool). cond c (Ok t) (Err (at_byte r.at))) some,
+      place,
+    )

@@ -1,5 +1,5 @@
 -- What is written for a transaction that fits is read as it.
-use Rattle.std.proofs.Common.{◌≡◌, ℕ, zero, suc, ◌+◌, ◌-◌, ◌*◌, ◌/◌, ◌%◌, ◌^◌, ◌<◌, ◌≤◌, ℤ, pos, negsuc, Bool, true, false, cond, nat_lt, List, [], ◌∷◌, ◌++◌, length, take, drop, Option, Some, None, Result, Ok, Err, refl, sym, ap, ◌∙◌, subst, append_assoc, append-nil, length-append, add_assoc, add-zero, arith, le-ltb, ltb-true, FitsSigned}
+use Rattle.std.proofs.Common.{◌≡◌, ℕ, zero, suc, ◌+◌, ◌-◌, ◌*◌, ◌/◌, ◌%◌, ◌^◌, ◌<◌, ◌≤◌, ℤ, pos, negsuc, Bool, true, false, cond, nat_lt, List, [], ◌∷◌, ◌++◌, length, Option, Some, None, Result, Ok, Err, refl, sym, ap, ◌∙◌, subst, append_assoc, append-nil, length-append, add_assoc, add-zero, arith, le-ltb, ltb-true}
 use Rattle.std.specs.Prelude.{nat_le, ◌==◌}
 use Rattle.std.specs.Ordering.{int_cmp}
 use Rattle.std.specs.declared.cmp.Ordering.TheVariants.{Less, Equal, Greater}
@@ -13,11 +13,11 @@ use Rattle.kz_ordered.specs.Ordered.{Rises, RisesAbove}
 use Rattle.kz_types.specs.PathRule.{is_path}
 use Rattle.kz_types.specs.declared.tree.Op.{Op}
 use Rattle.kz_types.specs.declared.tree.Op.TheVariants.{Create, Set, Delete, Check}
-use Rattle.kz_spec_values.specs.Fields.{Reading, Format, format_through, ◌>>=◌, start, front, past}
+use Rattle.kz_spec_values.specs.Fields.{Reading, Format, ◌>>=◌, start, front, past}
 use Rattle.kz_spec_values.specs.Forms.{◌⊗◌, items_at, items_written, AllFit}
 use Rattle.kz_spec_files.specs.declared.files.Txn.{Txn}
 use Rattle.kz_spec_files.specs.declared.files.Txn.TheVariants.{Multi, LoadRows, LoadEnd, Begin, End}
-use Rattle.kz_spec_files.specs.Transactions.{Flaw, at_byte, in_path, goes_on, digits_at, within, int, count, field_or_flaw, byte_field, path_or_flaw, path, max_session, session, owner_of, owner, flag, list_of, sessions_at, sessions, create, set, at_version, op_at, op, row_of, fields_of, row, multi, load_rows, load_end, move, fields_at, txn_alone, txn_of, txn_written, TxnFits}
+use Rattle.kz_spec_files.specs.Transactions.{Flaw, at_byte, goes_on, digits_at, within, int, count, field_or_flaw, byte_field, path_or_flaw, path, max_session, session, owner_of, owner, flag, list_of, sessions_at, sessions, create, set, at_version, op_at, op, row_of, fields_of, row, multi, load_rows, load_end, move, fields_at, txn_alone, txn_of, txn_written, TxnFits}
 use Rattle.kz_txn.proofs.Numbers.{scale_some, owner_some, both_true}
 
 -- This reading takes these bytes as this value, whatever follows.
@@ -40,10 +40,12 @@ taken_then m k x y a b rest at h g =
     ∙ ap (λ n. Ok (y, record { at = n; left = rest })) (add_assoc at (length a) (length b) ∙ ap (λ n. at + n) (sym (length-append a b)))
 
 pair_back : {X Y : Type 0} (f : Format Flaw X) (g : Format Flaw Y) → Back f → Back g → Back (f ⊗ g)
-pair_back f g bf bg = record { back = λ p rest at fits.
-    taken_then f.read (λ x. g.read x.1 >>= λ y. Ok ((x.0, y.0), y.1)) p.0 p (f.written p.0) (g.written p.1) rest at
-    (bf.back p.0 (g.written p.1 ++ rest) at fits.0)
-    (ap (λ m. m >>= λ y. Ok ((p.0, y.0), y.1)) (bg.back p.1 rest (at + length (f.written p.0)) fits.1)) }
+pair_back f g bf bg = record {
+  back = λ p rest at fits.
+      taken_then f.read (λ x. g.read x.1 >>= λ y. Ok ((x.0, y.0), y.1)) p.0 p (f.written p.0) (g.written p.1) rest at
+      (bf.back p.0 (g.written p.1 ++ rest) at fits.0)
+      (ap (λ m. m >>= λ y. Ok ((p.0, y.0), y.1)) (bg.back p.1 rest (at + length (f.written p.0)) fits.1));
+}
 
 cond_true : {A : Type 0} (b : Bool) (x y : A) → b ≡ true → cond b x y ≡ x
 cond_true true x y e = refl
@@ -105,16 +107,20 @@ as_number : (m : Result (ℕ × Reading) Flaw) (made : ℕ → ℤ) (n : ℕ) (z
 as_number m made n z r e same = ap (λ (k : Result (ℕ × Reading) Flaw). ◌>>=◌ {B = ℤ × Reading} k (λ x. Ok (made x.0, x.1))) e ∙ ap (λ (k : ℤ). Ok (k, r)) same
 
 int32_back : Back (int w32)
-int32_back = record { back = λ z rest at fits.
-    let bound : cast_unsigned w32 z < 2 ^ 32 = omega (arith, ints) in
-    as_number (count.read (record { at = at; left = to_be_bytes w32 (cast_unsigned w32 z) ++ rest })) (cast_signed w32) (cast_unsigned w32 z) z (record { at = at + 4; left = rest })
-    (count_back (cast_unsigned w32 z) at rest bound) (to_z-of_z w32 z fits) }
+int32_back = record {
+  back = λ z rest at fits.
+      let bound : cast_unsigned w32 z < 2 ^ 32 = omega (arith, ints) in
+      as_number (count.read (record { at = at; left = to_be_bytes w32 (cast_unsigned w32 z) ++ rest })) (cast_signed w32) (cast_unsigned w32 z) z (record { at = at + 4; left = rest })
+      (count_back (cast_unsigned w32 z) at rest bound) (to_z-of_z w32 z fits);
+}
 
 int64_back : Back (int w64)
-int64_back = record { back = λ z rest at fits.
-    let bound : cast_unsigned w64 z < 2 ^ 64 = omega (arith, ints) in
-    as_number ((within w64 0 (2 ^ 64 - 1)).read (record { at = at; left = to_be_bytes w64 (cast_unsigned w64 z) ++ rest })) (cast_signed w64) (cast_unsigned w64 z) z (record { at = at + 8; left = rest })
-    (wide_back (cast_unsigned w64 z) 0 (2 ^ 64 - 1) at rest bound (omega arith) (omega (arith, bound))) (to_z-of_z w64 z fits) }
+int64_back = record {
+  back = λ z rest at fits.
+      let bound : cast_unsigned w64 z < 2 ^ 64 = omega (arith, ints) in
+      as_number ((within w64 0 (2 ^ 64 - 1)).read (record { at = at; left = to_be_bytes w64 (cast_unsigned w64 z) ++ rest })) (cast_signed w64) (cast_unsigned w64 z) z (record { at = at + 8; left = rest })
+      (wide_back (cast_unsigned w64 z) 0 (2 ^ 64 - 1) at rest bound (omega arith) (omega (arith, bound))) (to_z-of_z w64 z fits);
+}
 
 -- ---- bytes and paths
 
@@ -127,14 +133,18 @@ front_back x rest at =
     ∙ ap (λ d. Ok (x, record { at = at + length x; left = d })) (drop_at x rest (length x) refl))
 
 bytes_back : Back byte_field
-bytes_back = record { back = λ x rest at fits.
-    taken_then count.read (λ n. field_or_flaw ((front n.0).read n.1)) (length x) x (to_be_bytes w32 (length x)) x rest at
-    (count_back (length x) at (x ++ rest) fits) (front_back x rest (at + 4)) }
+bytes_back = record {
+  back = λ x rest at fits.
+      taken_then count.read (λ n. field_or_flaw ((front n.0).read n.1)) (length x) x (to_be_bytes w32 (length x)) x rest at
+      (count_back (length x) at (x ++ rest) fits) (front_back x rest (at + 4));
+}
 
 path_back : Back path
-path_back = record { back = λ x rest at fits.
-    ap (λ m. m >>= path_or_flaw) (bytes_back.back x rest at fits.1)
-    ∙ cond_true (is_path x) _ _ fits.0 }
+path_back = record {
+  back = λ x rest at fits.
+      ap (λ m. m >>= path_or_flaw) (bytes_back.back x rest at fits.1)
+      ∙ cond_true (is_path x) _ _ fits.0;
+}
 
 -- ---- sessions and owners
 
@@ -178,10 +188,12 @@ items_back f bf (x ∷ xs) rest at fits =
     (ap (λ m. m >>= λ ys. Ok (x ∷ ys.0, ys.1)) (items_back f bf xs rest (at + length (f.written x)) fits.1))
 
 list_back : {X : Type 0} (f : Format Flaw X) → Back f → Back (list_of f)
-list_back f bf = record { back = λ xs rest at fits.
-    taken_then count.read (λ n. items_at f.read n.0 n.1) (length xs) xs (to_be_bytes w32 (length xs)) (items_written f.written xs) rest at
-    (count_back (length xs) at (items_written f.written xs ++ rest) fits.0)
-    (items_back f bf xs rest (at + 4) fits.1) }
+list_back f bf = record {
+  back = λ xs rest at fits.
+      taken_then count.read (λ n. items_at f.read n.0 n.1) (length xs) xs (to_be_bytes w32 (length xs)) (items_written f.written xs) rest at
+      (count_back (length xs) at (items_written f.written xs ++ rest) fits.0)
+      (items_back f bf xs rest (at + 4) fits.1);
+}
 
 -- ---- sessions that rise
 
@@ -231,10 +243,12 @@ rising_back (pos n ∷ ss) least rest at rises fits from =
 rising_back (negsuc n ∷ ss) least rest at rises fits from = absurd (omega (arith, ints, fits.0.0))
 
 sessions_back : Back sessions
-sessions_back = record { back = λ ss rest at fits.
-    taken_then count.read (λ n. sessions_at n.0 1 n.1) (length ss) ss (to_be_bytes w32 (length ss)) (items_written session.written ss) rest at
-    (count_back (length ss) at (items_written session.written ss ++ rest) fits.1.0)
-    (rising_back ss 1 rest (at + 4) fits.0 fits.1.1 (some_least ss fits.1.1)) }
+sessions_back = record {
+  back = λ ss rest at fits.
+      taken_then count.read (λ n. sessions_at n.0 1 n.1) (length ss) ss (to_be_bytes w32 (length ss)) (items_written session.written ss) rest at
+      (count_back (length ss) at (items_written session.written ss ++ rest) fits.1.0)
+      (rising_back ss 1 rest (at + 4) fits.0 fits.1.1 (some_least ss fits.1.1));
+}
 
 -- ---- operations and znodes
 

@@ -1,5 +1,5 @@
 -- What a call that reads answers, and where the bytes stop being a transaction.
-use Rattle.std.specs.Prelude.{◌≡◌, ℕ, ◌+◌, ⊤, List, [], ◌∷◌, Option, Some, None, Result, Ok, Err}
+use Rattle.std.specs.Prelude.{◌≡◌, ℕ, ◌+◌, ⊤, [], ◌∷◌, Option, Some, None, Result, Ok, Err}
 use Rattle.std.specs.Int.{w8}
 use Rattle.kz_spec_values.specs.Fields.{Reading, ◌>>=◌}
 use Rattle.kz_spec_files.specs.Transactions.{Flaw, IsAt, within, fields_at}

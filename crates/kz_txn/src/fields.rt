@@ -34,13 +34,7 @@ fn goes_on(size: u8, so_far: u64, least: u64, most: u64) -> bool
 }
 
 // The next byte of a number from `least` to `most`, after those that make `so_far` and before `more` others.
-fn digit(
-    reader: &mut Reader,
-    more: u8,
-    so_far: u64,
-    least: u64,
-    most: u64,
-) -> Result<u64, TxnFault>
+fn digit(reader: &mut Reader, more: u8, so_far: u64, least: u64, most: u64) -> Result<u64, TxnFault>
     requires more { more < 8 }
     requires room { so_far * 256 ^ (more + 1) ≤ most }
     ensures read { MatchResult result (λ x. digits_at (more + 1) so_far least most reader.old.at reader.old.left ≡ digits_at more x least most reader.new.at reader.new.left) (λ fault. Fails fault (digits_at (more + 1) so_far least most reader.old.at reader.old.left)) }

@@ -142,11 +142,7 @@ fn held(number: u64) -> i64
 }
 
 // So many sessions that rise. The list grows with what is read, whatever the count.
-fn read_sessions(
-    alloc: Global,
-    reader: &mut Reader,
-    count: u32,
-) -> Result<Sequence<i64>, TxnFault>
+fn read_sessions(alloc: Global, reader: &mut Reader, count: u32) -> Result<Sequence<i64>, TxnFault>
     ensures { Gives (λ x. (x, reader.new)) result (sessions_at count 1 reader.old) }
 {
     let mut items = Vec::new(alloc);

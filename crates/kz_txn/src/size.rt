@@ -23,9 +23,7 @@ fn op_size(o: &Op) -> u128
         Op::Create { path, body, .. } => {
             9 + bytes_size(path.bytes()) + bytes_size(body.as_slice())
         }
-        Op::Set { path, body, .. } => {
-            5 + bytes_size(path.bytes()) + bytes_size(body.as_slice())
-        }
+        Op::Set { path, body, .. } => { 5 + bytes_size(path.bytes()) + bytes_size(body.as_slice()) }
         Op::Delete { path, .. } => 5 + bytes_size(path.bytes()),
         Op::Check { path, .. } => 5 + bytes_size(path.bytes()),
     }

@@ -77,12 +77,7 @@ fn put_create(
     Ok(())
 }
 
-fn put_set(
-    out: &mut Vec<u8>,
-    p: &ZPath,
-    version: i32,
-    body: &Sequence<u8>,
-) -> Result<(), NoMemory>
+fn put_set(out: &mut Vec<u8>, p: &ZPath, version: i32, body: &Sequence<u8>) -> Result<(), NoMemory>
     requires { set.fits (p.now, (version, body.now)) }
     ensures { OnOk result (out.new.items ≡ out.old.items ++ (2 ∷ set.written (p.now, (version, body.now)))) }
 {
@@ -94,12 +89,7 @@ fn put_set(
 }
 
 // A delete or a check, by its kind byte.
-fn put_at_version(
-    out: &mut Vec<u8>,
-    kind: u8,
-    p: &ZPath,
-    version: i32,
-) -> Result<(), NoMemory>
+fn put_at_version(out: &mut Vec<u8>, kind: u8, p: &ZPath, version: i32) -> Result<(), NoMemory>
     requires { at_version.fits (p.now, version) }
     ensures { OnOk result (out.new.items ≡ out.old.items ++ (kind ∷ at_version.written (p.now, version))) }
 {

@@ -1,4 +1,4 @@
-use Rattle.std.proofs.Common.{◌/◌, ◌^◌, ◌∙◌, arith}
+use Rattle.std.proofs.Common.{◌/◌, ◌∙◌, arith}
 use Rattle.std.proofs.lemmas.Bool.{lt-leb}
 use Rattle.kz_txn.proofs.Numbers.{scale_fits, scale_some, goes_on_by, goes_on_not}
 use Rattle.kz_txn.proofs.fields.goes_on.Goals as goal

@@ -1,4 +1,4 @@
-use Rattle.std.proofs.Common.{◌≡◌, ◌++◌, ◌∷◌, [], ℤ, List, ℕ, ap, ◌∙◌, rules, SFits, to_z-of_z}
+use Rattle.std.proofs.Common.{◌≡◌, ◌++◌, ◌∷◌, [], ℤ, ap, ◌∙◌, rules, SFits, to_z-of_z}
 use Rattle.std.specs.Int.{w64}
 use Rattle.kz_spec_files.specs.Transactions.{int, sessions}
 use Rattle.kz_txn.proofs.Appends.{seq}
