@@ -58,14 +58,6 @@ pub both_true : (a b : Bool) → a ≡ true → b ≡ true → (a && b) ≡ true
 both_true true b e f = f
 both_true false b e f = absurd (cc)
 
-first_true : (a b : Bool) → (a && b) ≡ true → a ≡ true
-first_true true b e = refl
-first_true false b e = e
-
-second_true : (a b : Bool) → (a && b) ≡ true → b ≡ true
-second_true true b e = e
-second_true false b e = absurd (cc)
-
 pub goes_on_true : (n s least most : ℕ) → least / 256 ^ n ≤ s → s ≤ most / 256 ^ n → goes_on n s least most ≡ true
 goes_on_true n s least most low high =
     both_true (nat_le least (s * 256 ^ n + (256 ^ n - 1))) (nat_le (s * 256 ^ n) most)
@@ -93,18 +85,6 @@ goes_on_by n s d least most e low =
 
 pub goes_on_not : (n s d least most : ℕ) → d ≡ 256 ^ n → s < least / d → false ≡ goes_on n s least most
 goes_on_not n s d least most e low = sym (goes_on_low n s least most (subst (λ (k : ℕ). s < least / k) e low))
-
--- what a number that goes on says of its bounds
-pub goes_on_most : (n s least most : ℕ) → goes_on n s least most ≡ true → s * 256 ^ n ≤ most
-goes_on_most n s least most e = leb-true (s * 256 ^ n) most (second_true (nat_le least (s * 256 ^ n + (256 ^ n - 1))) (nat_le (s * 256 ^ n) most) e)
-
-whole_least : (s least most : ℕ) → goes_on 0 s least most ≡ true → least ≤ s
-whole_least s least most e =
-    let h : least ≤ s * 256 ^ 0 + (256 ^ 0 - 1) = leb-true least (s * 256 ^ 0 + (256 ^ 0 - 1)) (first_true (nat_le least (s * 256 ^ 0 + (256 ^ 0 - 1))) (nat_le (s * 256 ^ 0) most) e) in
-    omega (arith, h)
-
-pub goes_on_least : (n s least most : ℕ) → goes_on n s least most ≡ true → n ≡ 0 → least ≤ s
-goes_on_least n s least most e z = whole_least s least most (subst (λ (k : ℕ). goes_on k s least most ≡ true) z e)
 
 more_one : (n : ℕ) → n + 1 ≡ suc n
 more_one n = omega arith
