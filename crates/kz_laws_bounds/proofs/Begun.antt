@@ -136,7 +136,7 @@ appended_left s now d r rs new n kept fine copies at made left =
     let k : IsAppended s d (r ∷ rs) new = appended_log s now d r rs new kept fine at made in
     let lead : IsLeading s d = leads_by s now d (take MAX_APPEND_RECORDS (r ∷ rs)) new kept fine k.elected k.migrates.claimed (some_taken MAX_APPEND_RECORDS r rs few_enough) made in
     let copied : CopiesAtStage s.tree s.log d (stage.AppendRecords (r ∷ rs)) = subst (CopiesAtStage s.tree s.log d) at copies in
-    let translated = copied lead.current k.leads k.before.from k.before.records k.before.begun k.before.so_far in
+    let translated = (copied lead.current k.leads k.before.from k.before.records k.before.begun k.before.so_far).translated in
     let own : Appends (migrated_rows s.tree) (epoch_or_zero d.epoch) (r ∷ rs) (k.before.records ++ (r ∷ rs)) (suc n) = left lead.current k.leads (k.before.records ++ (r ∷ rs)) translated in
     record {
       some = let least = appends_least s d (r ∷ rs) (k.before.records ++ (r ∷ rs)) (suc n) own in omega (arith, least);

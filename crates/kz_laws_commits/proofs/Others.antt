@@ -43,7 +43,9 @@ behind_copies t l f x behind = tt
 
 -- another tree with the same area, on which it was current
 pub same_copies : (t new : Tree) (l : Log) (f : Driver) (x : Stage) → migrated_rows new ≡ migrated_rows t → (IsCurrent new f.claim → IsCurrent t f.claim) → CopiesAtStage t l f x → CopiesAtStage new l f x
-same_copies t new l f (stage.AppendRecords rest) rows was copies = λ current leads from records begun so_far. ap translate rows ∙ copies (was current) leads from records begun so_far
+same_copies t new l f (stage.AppendRecords rest) rows was copies = λ current leads from records begun so_far.
+    let old = copies (was current) leads from records begun so_far in
+    record { translated = ap translate rows ∙ old.translated; unbroken = old.unbroken }
 same_copies t new l f x rows was copies = tt
 
 -- ---- a claim

@@ -1,5 +1,5 @@
 -- A step that appends nothing leaves its driver at a stage that fills no transaction.
-use Rattle.std.proofs.Common.{◌≡◌, ℤ, Bool, false, List, Option, refl}
+use Rattle.std.proofs.Common.{◌≡◌, ℤ, false, List, refl}
 use Rattle.kz_types.specs.declared.driver.Stage.{Stage}
 use Rattle.kz_types.specs.declared.driver.Stage.TheVariants as stage
 use Rattle.kz_types.specs.declared.plan.Plan.{Plan}

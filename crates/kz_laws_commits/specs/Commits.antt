@@ -1,23 +1,34 @@
 -- A migration is committed as the translation of the znodes that stand then.
-use Rattle.std.specs.Prelude.{◌≡◌, ⊤, ℤ, List, [], ◌∷◌, ◌++◌, Some, Ok, All}
+use Rattle.std.specs.Prelude.{◌≡◌, ⊤, ℤ, pos, ◌+ℤ◌, List, [], ◌∷◌, ◌++◌, length, Some, Ok, All}
 use Rattle.kz_types.specs.declared.driver.Stage.{Stage}
 use Rattle.kz_types.specs.declared.driver.Stage.TheVariants as stage
 use Rattle.kz_types.specs.declared.machine.Event.{Event}
 use Rattle.kz_types.specs.declared.plan.Plan.{Plan}
 use Rattle.kz_types.specs.declared.record.MetaRecord.{MetaRecord}
 use Rattle.kz_spec_stores.specs.Tree.{Tree, migrated_rows}
-use Rattle.kz_spec_stores.specs.Log.{Log, append, end_of, begun_of, commit_of}
+use Rattle.kz_spec_stores.specs.Log.{Log, append, end_of, begun_of}
 use Rattle.kz_spec_znodes.specs.Translation.{translate}
 use Rattle.kz_spec_machine.specs.Driver.{Shared, Driver, epoch_or_zero, begin_record, commit_records, planned_step}
 use Rattle.kz_spec_machine.specs.Machine.{World, next, after_events}
 use Rattle.kz_spec_machine.specs.Sound.{IsTime, IsCurrent, IsSharedSound, records_from, IsSoundDriver, Each, Sound, IsLawful}
-use Rattle.kz_spec_runs.specs.Promises.{IsTranslation}
+use Rattle.kz_spec_runs.specs.Promises.{EndsWith, IsTranslation}
 use Rattle.kz_laws_steps.specs.Steps.{IsApartFrom}
 
+-- These records are the last of the log, from this offset up to its end, without a gap and of the log's epoch.
+pub record IsUnbroken (l : Log) (from : ℤ) (records : List MetaRecord) : Type 0 where
+  pub stand : EndsWith l from records
+  pub end : end_of l +ℤ pos 1 ≡ from +ℤ pos (length records)
+
+-- The records that stand after a Begin, and those that are still to append, are the translation of the migrated area. Those
+-- that stand are unbroken from the Begin on.
+pub record IsCopied (t : Tree) (l : Log) (from : ℤ) (records rest : List MetaRecord) : Type 0 where
+  pub translated : translate (migrated_rows t) ≡ Ok (records ++ rest)
+  pub unbroken : IsUnbroken l from (begin_record ∷ records)
+
 -- The records that a current driver has appended in its transaction, and those that it has still to append, are the translation
--- of the migrated area.
+-- of the migrated area. Those that it has appended are unbroken.
 abbrev pub CopiesAtStage : Tree → Log → Driver → Stage → Type 0
-CopiesAtStage t l d (stage.AppendRecords rest) = IsCurrent t d.claim → d.epoch ≡ Some l.epoch → (from : ℤ) (records : List MetaRecord) → begun_of l ≡ Some from → records_from l from ≡ begin_record ∷ records → translate (migrated_rows t) ≡ Ok (records ++ rest)
+CopiesAtStage t l d (stage.AppendRecords rest) = IsCurrent t d.claim → d.epoch ≡ Some l.epoch → (from : ℤ) (records : List MetaRecord) → begun_of l ≡ Some from → records_from l from ≡ begin_record ∷ records → IsCopied t l from records rest
 CopiesAtStage t l d x = ⊤
 
 abbrev pub Copies : Shared → Driver → Type 0

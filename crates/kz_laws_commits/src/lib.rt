@@ -7,8 +7,9 @@ ghost use Rattle.kz_laws_commits.specs.After.{StepsLeaveMigratedLogs, EventsKeep
 ghost use Rattle.kz_laws_commits.specs.Commits.{StepsKeepCopies, CommitsTranslate, EventsKeepCopies, RunsKeepCopies};
 
 /// What a current driver has appended of a migration, and what it has still to append, is the translation of the znodes of the
-/// migrated area, after every step under every plan, every event and every run. So the transaction of a commit holds the
-/// translation of the znodes that stand then.
+/// migrated area, after every step under every plan, every event and every run. What it has appended stands at the log's end,
+/// without a gap and in one epoch. So the transaction of a commit holds the translation of the znodes that stand then, and nothing
+/// stands between its records.
 pub fn commits_translate()
     ensures step { StepsKeepCopies }
     ensures commit { CommitsTranslate }

@@ -1,6 +1,6 @@
 -- Every event keeps the end of a migration, and so does every run.
-use Rattle.std.proofs.Common.{◌≡◌, ◌≢◌, ◌⊎◌, inl, inr, ℤ, Bool, true, false, if◌then◌else◌, List, [], ◌∷◌, Option, Some, None, All, refl, sym, ap, ◌∙◌, subst}
-use Rattle.std.specs.Prelude.{◌≤◌, length, Result, Ok, Err}
+use Rattle.std.proofs.Common.{◌≡◌, inl, inr, ℤ, Bool, true, false, if◌then◌else◌, List, [], ◌∷◌, Option, Some, None, All, refl, sym, ap, ◌∙◌, subst}
+use Rattle.std.specs.Prelude.{Result, Ok, Err}
 use Rattle.std.specs.Ordering.{int_eq}
 use Rattle.std.proofs.lemmas.List.Elements.{All-nil, All-cons, All-head, All-tail}
 use Rattle.kz_types.specs.declared.codes.TheConstants.{POST_MIGRATION}
@@ -12,13 +12,12 @@ use Rattle.kz_types.specs.declared.machine.Answer.TheVariants as answer
 use Rattle.kz_types.specs.declared.machine.Event.{Event}
 use Rattle.kz_types.specs.declared.machine.Event.TheVariants as event
 use Rattle.kz_types.specs.declared.record.MetaRecord.{MetaRecord}
-use Rattle.kz_types.specs.declared.record.MetaRecord.TheVariants as meta
 use Rattle.kz_types.specs.declared.tree.Op.{Op}
 use Rattle.kz_spec_stores.specs.Tree.{Tree, multi, begin_session, end_session}
-use Rattle.kz_spec_stores.specs.Log.{Log, image_of, with_batch, is_open_log, reset}
+use Rattle.kz_spec_stores.specs.Log.{Log, empty_log, image_at, image_of, with_batch, is_open_log, reset}
 use Rattle.kz_spec_machine.specs.Driver.{Shared, Driver, new_driver, elected_driver}
-use Rattle.kz_spec_machine.specs.Machine.{World, driver_of, quorum_refusal, declared_world, start_refusal, started_world, stop_refusal, stopped_world, next_epoch, election_refusal, elected_world, election_answer, change_refusal, changed_world, registration, register_refusal, is_finalised_log, exit_ops, tree_after_ops, reset_world, given_back, rollback_refusal, with_tree, moved_world, is_held_tree, client_refusal, client_world, next, after_events}
-use Rattle.kz_spec_machine.specs.Sound.{LogShape, IsCurrent, IsBelowShown, claim_version, shown_in, Sound, IsLawful}
+use Rattle.kz_spec_machine.specs.Machine.{World, empty_world, driver_of, quorum_refusal, declared_world, start_refusal, started_world, stop_refusal, stopped_world, next_epoch, election_refusal, elected_world, election_answer, change_refusal, changed_world, registration, register_refusal, is_finalised_log, exit_ops, tree_after_ops, reset_world, given_back, rollback_refusal, with_tree, moved_world, is_held_tree, client_refusal, client_world, next, after_events}
+use Rattle.kz_spec_machine.specs.Sound.{LogShape, IsBelowShown, claim_version, shown_in, Sound, IsLawful}
 use Rattle.kz_laws_drivers.specs.Effects.{IsUnchanged}
 use Rattle.kz_laws_trees.specs.LogLaws.{IsPlain}
 use Rattle.kz_laws_trees.proofs.Asked.{asked_plain}
@@ -31,12 +30,13 @@ use Rattle.kz_laws_steps.proofs.Tests.{true_or_false}
 use Rattle.kz_laws_steps.proofs.Worlds.{decided, left_was_there}
 use Rattle.kz_laws_steps.proofs.Events.{each_more, unless_taken}
 use Rattle.kz_laws_events.proofs.Refusals.{decided_by}
-use Rattle.kz_laws_events.proofs.Elected.{MayElect, may_elect, gets_state, elected_of, stateless, was}
+use Rattle.kz_laws_events.proofs.Elected.{MayElect, may_elect, elected_of, stateless, was}
 use Rattle.kz_laws_events.proofs.Elections.{WasFound, was_found}
 use Rattle.kz_laws_events.proofs.Changed.{may_change, more_of}
 use Rattle.kz_laws_events.proofs.Unheld.{unmigrated, none_claimed}
 use Rattle.kz_laws_events.proofs.Exits.{may_roll_back}
 use Rattle.kz_laws_events.proofs.Every.{event_sound}
+use Rattle.kz_laws_events.proofs.Runs.{empty_sound}
 use Rattle.kz_laws_exits.specs.Ends.{RestsAtStage, HasEnded, EndHolds}
 use Rattle.kz_laws_exits.proofs.GivenBack.{reset_unfinished}
 use Rattle.kz_laws_exits.proofs.Ahead.{same_ahead, past_ahead}
@@ -46,7 +46,7 @@ use Rattle.kz_laws_exits.proofs.Finalised.{finalise_ends}
 
 -- ---- a longer log that isn't finalised by what is new
 
-plain_final : (l : Log) (epoch now : ℤ) (items : List MetaRecord) → LogShape l → All IsPlain items → is_finalised_log (with_batch l epoch now items) ≡ is_finalised_log l
+pub plain_final : (l : Log) (epoch now : ℤ) (items : List MetaRecord) → LogShape l → All IsPlain items → is_finalised_log (with_batch l epoch now items) ≡ is_finalised_log l
 plain_final l epoch now items shape plain = ap (λ (s : ℤ). int_eq s POST_MIGRATION) (plain_keeps_state l epoch now items shape plain)
 
 longer_ends : (w : World) (now : ℤ) (items : List MetaRecord) → (is_finalised_log (more_of w.shared now items) ≡ true → is_finalised_log w.shared.log ≡ true) → EndHolds w → EndHolds (changed_world w items now)
@@ -60,7 +60,7 @@ unfolding next
 change_ends w id now records sound old = decided_by EndHolds w (change_refusal w id records) (changed_world w records now) _ old (λ none.
     longer_ends w now records (λ final. sym (plain_final w.shared.log w.shared.log.epoch now records sound.kept.log (asked_plain 0 records (image_of w.shared.log) (may_change w id records none).lawful)) ∙ final) old)
 
-registration_plain : (broker : ℤ) (migrating : Bool) → All IsPlain (registration broker migrating)
+pub registration_plain : (broker : ℤ) (migrating : Bool) → All IsPlain (registration broker migrating)
 registration_plain broker migrating = All-cons IsPlain _ [] tt (All-nil IsPlain)
 
 register_ends : (w : World) (id broker now : ℤ) (migrating : Bool) → Sound w → EndHolds w → EndHolds (next w (event.Register id broker migrating now)).0
@@ -215,3 +215,15 @@ run_ends [] w lawful sound old = old
 run_ends (e ∷ es) w lawful sound old =
     let own = All-head IsLawful e es lawful in
     run_ends es (next w e).0 (All-tail IsLawful e es lawful) (event_sound w e own sound) (event_ends w e own sound old)
+
+-- ---- from the empty world
+
+early : is_finalised_log empty_log ≡ true → ⊥
+unfolding image_at
+early final = cc
+
+pub empty_ends : EndHolds empty_world
+empty_ends = record { closed = λ final. absurd (early final); each = λ id d found. absurd (cc) }
+
+pub first_run_ends : (es : List Event) → All IsLawful es → EndHolds (after_events empty_world es)
+first_run_ends es lawful = run_ends es empty_world lawful empty_sound empty_ends

@@ -1,6 +1,5 @@
 -- Steps on a log whose migration is finalised.
 use Rattle.std.proofs.Common.{◌≡◌, ◌≢◌, ◌⊎◌, inl, inr, ℤ, pos, Bool, true, false, if◌then◌else◌, List, [], ◌∷◌, take, Option, Some, None, Result, Ok, Err, refl, sym, ap, ◌∙◌, subst}
-use Rattle.std.specs.Prelude.{⊤}
 use Rattle.std.specs.Ordering.{int_eq}
 use Rattle.std.proofs.lemmas.Bool.Decides.{Decides-int_eq}
 use Rattle.kz_types.specs.declared.codes.TheConstants.{POST_MIGRATION}
@@ -17,16 +16,15 @@ use Rattle.kz_types.specs.declared.plan.Plan.{Plan}
 use Rattle.kz_types.specs.declared.record.MetaRecord.{MetaRecord}
 use Rattle.kz_types.specs.declared.tree.Op.{Op}
 use Rattle.kz_types.specs.declared.tree.Row.{Row}
-use Rattle.kz_spec_stores.specs.Tree.{Tree, multi, migration_record, unclosed_path}
+use Rattle.kz_spec_stores.specs.Tree.{Tree, multi}
 use Rattle.kz_spec_stores.specs.Image.{is_migrated_state}
-use Rattle.kz_spec_stores.specs.Log.{Log, append, image_of, is_migrated_log, with_batch}
+use Rattle.kz_spec_stores.specs.Log.{Log, append, image_of, is_migrated_log}
 use Rattle.kz_spec_znodes.specs.Translation.{Unreadable, translate}
-use Rattle.kz_spec_machine.specs.Driver.{Shared, Driver, epoch_or_zero, resigned_driver, claim_ops, remaining_at, write_ops, begin_record, commit_records, begin_request, write_request, Request, nothing, read_log, request_at, with_tree, with_log, shared_after, reaches_store, Hearing, hears_answer, hears_nothing, hears_expiry, hearing, driver_after, driver_at_log_end, unless_finalised, after_answer, planned_step}
+use Rattle.kz_spec_machine.specs.Driver.{Shared, Driver, epoch_or_zero, resigned_driver, claim_ops, remaining_at, write_ops, begin_record, commit_records, begin_request, write_request, Request, read_log, request_at, with_tree, with_log, shared_after, reaches_store, Hearing, hears_answer, hears_nothing, hears_expiry, hearing, driver_after, driver_at_log_end, unless_finalised, after_answer, planned_step}
 use Rattle.kz_spec_machine.specs.Machine.{is_finalised_log}
-use Rattle.kz_spec_machine.specs.Sound.{IsTime, IsCurrent, IsBelowShown, shown_in, WasElected, IsSharedSound, IsSoundDriver}
+use Rattle.kz_spec_machine.specs.Sound.{IsTime, IsBelowShown, shown_in, WasElected, IsSharedSound, IsSoundDriver}
 use Rattle.kz_laws_trees.proofs.Migration.{commit_migrates}
 use Rattle.kz_laws_fence.proofs.Drivers.{fenced_driver}
-use Rattle.kz_laws_steps.specs.Steps.{IsApartFrom}
 use Rattle.kz_laws_steps.proofs.Named.{IsOf, step_of_own}
 use Rattle.kz_laws_steps.proofs.Tests.{true_or_false}
 use Rattle.kz_laws_appends.proofs.Filling.{begun_log, appended_log}

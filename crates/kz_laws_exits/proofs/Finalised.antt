@@ -1,20 +1,18 @@
 -- The finalisation of a migration, and rollbacks after it.
-use Rattle.std.proofs.Common.{◌≡◌, ◌≢◌, ◌⊎◌, inl, inr, ℤ, Bool, true, false, not, List, [], ◌∷◌, Option, Some, None, option_map, refl, sym, ap, ◌∙◌, subst, arith}
+use Rattle.std.proofs.Common.{◌≡◌, ◌≢◌, ◌⊎◌, inl, inr, ℤ, Bool, true, false, List, Option, Some, None, refl, sym, ap, ◌∙◌, subst, arith}
 use Rattle.std.specs.Prelude.{◌<ℤ◌, ◌≤ℤ◌}
 use Rattle.std.specs.Ordering.{int_eq}
 use Rattle.std.proofs.lemmas.Int.{ints}
 use Rattle.std.proofs.lemmas.Bool.Decides.{Decides-int_eq}
 use Rattle.kz_types.specs.declared.driver.Stage.{Stage}
 use Rattle.kz_types.specs.declared.driver.Stage.TheVariants as stage
-use Rattle.kz_types.specs.declared.machine.Answer.{Answer}
 use Rattle.kz_types.specs.declared.machine.Answer.TheVariants as answer
 use Rattle.kz_types.specs.declared.machine.Event.TheVariants as event
 use Rattle.kz_types.specs.declared.machine.Recorded.{Recorded}
 use Rattle.kz_types.specs.declared.tree.Op.{Op}
-use Rattle.kz_spec_stores.specs.Tree.{Tree}
-use Rattle.kz_spec_stores.specs.Log.{Log, end_of}
-use Rattle.kz_spec_machine.specs.Driver.{Shared, Driver, epoch_or_zero, state_of, least}
-use Rattle.kz_spec_machine.specs.Machine.{World, unless, running_ids, driver_of, is_finalised_log, is_dual_write, dual_write_refusal, final_records, finalise_refusal, changed_world, next}
+use Rattle.kz_spec_stores.specs.Log.{end_of}
+use Rattle.kz_spec_machine.specs.Driver.{Driver, epoch_or_zero, state_of, least}
+use Rattle.kz_spec_machine.specs.Machine.{World, running_ids, driver_of, is_finalised_log, is_dual_write, dual_write_refusal, final_records, finalise_refusal, changed_world, next}
 use Rattle.kz_spec_machine.specs.Sound.{Epochs, IsBelowShown, shown_in, IsTargetOf, IsAfterMigration, AtStage, IsSharedSound, IsSoundDriver, Sound}
 use Rattle.kz_laws_steps.proofs.Targets.{view_within}
 use Rattle.kz_laws_steps.proofs.Tests.{true_or_false}

@@ -1,6 +1,5 @@
 -- What a rollback leaves.
-use Rattle.std.proofs.Common.{◌≡◌, ◌≢◌, ℕ, ℤ, pos, negsuc, ◌+ℤ◌, Bool, true, false, not, List, [], ◌∷◌, ◌++◌, Option, Some, None, is_some, option_map, Result, Ok, Err, if◌then◌else◌, All, refl, sym, ap, ◌∙◌, subst, arith}
-use Rattle.std.specs.Prelude.{codes}
+use Rattle.std.proofs.Common.{◌≡◌, ◌≢◌, ℕ, ℤ, pos, negsuc, ◌+ℤ◌, Bool, true, false, not, List, [], ◌∷◌, ◌++◌, Option, Some, None, is_some, option_map, Result, Ok, Err, if◌then◌else◌, All, refl, sym, ap, ◌∙◌, subst}
 use Rattle.std.specs.Ordering.{int_eq}
 use Rattle.std.proofs.lemmas.Bool.Decides.{Decides-int_eq}
 use Rattle.std.proofs.lemmas.List.Elements.{All-nil, All-cons}
@@ -19,12 +18,11 @@ use Rattle.kz_spec_stores.specs.Log.{Log, end_of, image_at, image_of, is_migrate
 use Rattle.kz_spec_znodes.specs.Rendering.{render}
 use Rattle.kz_spec_machine.specs.Driver.{shown_by, least}
 use Rattle.kz_spec_machine.specs.Machine.{World, first_of, unless, behind_refusal, rest_refusal, is_finalised_log, running_ids, exit_refusal, rollback_refusal, is_held_tree, deleted_if, exit_ops, tree_after_ops, reset_world, given_back, unless_refused, next}
-use Rattle.kz_spec_machine.specs.Sound.{TreeShape, RecordAgrees, Agreement, shown_in, Sound}
+use Rattle.kz_spec_machine.specs.Sound.{TreeShape, Agreement, Sound}
 use Rattle.kz_laws_trees.proofs.Rows.{still, others_kept, op_rises, deleted_found}
 use Rattle.kz_laws_trees.proofs.Claim.{shown_still}
 use Rattle.kz_laws_trees.proofs.Multi.{multi_ran, outside_left, control_outside, migration_outside}
 use Rattle.kz_laws_steps.proofs.Targets.{closed_offset}
-use Rattle.kz_laws_steps.proofs.Tests.{true_or_false}
 use Rattle.kz_laws_events.proofs.Refusals.{first_none, unless_none}
 use Rattle.kz_laws_events.proofs.Exits.{MayRollBack, may_roll_back, reset_unmigrated}
 use Rattle.kz_laws_exits.specs.Rollbacks.{IsGivenBack}
@@ -61,7 +59,7 @@ whole_area t l agrees k =
 
 -- ---- the tree that is given back
 
-apart : control_path ≢ migration_path
+pub apart : control_path ≢ migration_path
 apart same = cc
 
 none_still : (m n : Option Row) → option_map still m ≡ option_map still n → n ≡ None → m ≡ None
@@ -199,7 +197,7 @@ pub reset_unfinished : (l : Log) → is_finalised_log (reset l) ≡ false
 unfolding image_at
 reset_unfinished l = refl
 
-exit_again : (t : Tree) (l : Log) → exit_refusal t (reset l) ≡ None
+pub exit_again : (t : Tree) (l : Log) → exit_refusal t (reset l) ≡ None
 exit_again t l = rw (reset_unfinished l, reset_unmigrated l) refl
 
 refused_again : (w : World) → rollback_refusal w ≡ None → rollback_refusal (reset_world w) ≡ None

@@ -5,3 +5,6 @@ pub mod Final
 pub mod Turns
 pub mod Finalised
 pub mod Events
+pub mod NoCode
+pub mod Again
+pub mod Stays

@@ -1,5 +1,5 @@
 -- What a request of one driver leaves of the tree for another: the tree stays, or the other's claim isn't current any more.
-use Rattle.std.proofs.Common.{◌≡◌, ◌≢◌, ◌⊎◌, inl, inr, ℤ, Bool, true, false, List, [], ◌∷◌, Option, Some, None, Result, Ok, Err, if◌then◌else◌, refl, sym, subst}
+use Rattle.std.proofs.Common.{◌≡◌, ◌⊎◌, inl, inr, ℤ, Bool, true, false, List, [], ◌∷◌, Option, Some, None, Result, Ok, Err, if◌then◌else◌, refl, sym, subst}
 use Rattle.kz_types.specs.declared.driver.ClaimSeen.{ClaimSeen}
 use Rattle.kz_types.specs.declared.driver.Stage.{Stage}
 use Rattle.kz_types.specs.declared.driver.Stage.TheVariants as stage
@@ -12,10 +12,9 @@ use Rattle.kz_types.specs.declared.tree.Op.{Op}
 use Rattle.kz_spec_stores.specs.Tree.{Tree, multi}
 use Rattle.kz_spec_stores.specs.Log.{Log, append}
 use Rattle.kz_spec_znodes.specs.Translation.{Unreadable, translate}
-use Rattle.kz_spec_machine.specs.Driver.{Shared, Driver, epoch_or_zero, claim_ops, remaining_at, write_ops, begin_record, begin_request, next_records, write_request, Request, request_at, with_tree, with_log, shared_after, reaches_store, planned_step}
+use Rattle.kz_spec_machine.specs.Driver.{Shared, Driver, epoch_or_zero, claim_ops, remaining_at, write_ops, begin_record, begin_request, next_records, write_request, request_at, with_tree, with_log, shared_after, reaches_store, planned_step}
 use Rattle.kz_spec_machine.specs.Sound.{IsTime, IsCurrent, IsSharedSound, IsSoundDriver}
 use Rattle.kz_laws_steps.specs.Steps.{WritesTo, IsApartFrom}
-use Rattle.kz_laws_steps.proofs.Written.{Took, took}
 use Rattle.kz_laws_commits.proofs.Others.{claim_past, one_past}
 
 -- what is shared after a request, for another driver

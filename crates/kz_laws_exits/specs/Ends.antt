@@ -1,8 +1,7 @@
--- After a migration is finalised nothing is written to ZooKeeper any more.
+-- After a migration is finalised no controller writes to ZooKeeper.
 use Rattle.std.specs.Prelude.{◌≡◌, ◌≢◌, ◌⊎◌, ⊤, ℤ, ◌<ℤ◌, true, List, Option, Some, None, All}
 use Rattle.kz_types.specs.declared.driver.Stage.{Stage}
 use Rattle.kz_types.specs.declared.driver.Stage.TheVariants as stage
-use Rattle.kz_types.specs.declared.machine.Answer.{Answer}
 use Rattle.kz_types.specs.declared.machine.Answer.TheVariants as answer
 use Rattle.kz_types.specs.declared.machine.Event.{Event}
 use Rattle.kz_types.specs.declared.machine.Event.TheVariants as event
@@ -10,7 +9,7 @@ use Rattle.kz_types.specs.declared.machine.Recorded.{Recorded}
 use Rattle.kz_types.specs.declared.plan.Plan.{Plan}
 use Rattle.kz_spec_stores.specs.Tree.{Tree, migration_record, unclosed_path}
 use Rattle.kz_spec_machine.specs.Driver.{Shared, Driver, planned_step}
-use Rattle.kz_spec_machine.specs.Machine.{World, is_finalised_log, next, after_events}
+use Rattle.kz_spec_machine.specs.Machine.{World, empty_world, is_finalised_log, next, after_events}
 use Rattle.kz_spec_machine.specs.Sound.{IsTime, IsCurrent, IsBelowShown, shown_in, IsSharedSound, IsSoundDriver, Each, Sound, IsLawful}
 use Rattle.kz_laws_steps.specs.Steps.{IsApartFrom}
 
@@ -68,3 +67,14 @@ EventsKeepEnd = (w : World) (e : Event) → IsLawful e → Sound w → EndHolds 
 -- So does every run.
 abbrev pub RunsKeepEnd : Type 0
 RunsKeepEnd = (es : List Event) (w : World) → All IsLawful es → Sound w → EndHolds w → EndHolds (after_events w es)
+
+-- It holds in the empty world, and so after every run from there.
+abbrev pub BeginsWithEnd : Type 0
+BeginsWithEnd = EndHolds empty_world
+
+abbrev pub FirstRunsKeepEnd : Type 0
+FirstRunsKeepEnd = (es : List Event) → All IsLawful es → EndHolds (after_events empty_world es)
+
+-- A migration that is finalised stays so at every event.
+abbrev pub FinalStays : Type 0
+FinalStays = (w : World) (e : Event) → IsLawful e → Sound w → EndHolds w → is_finalised_log w.shared.log ≡ true → is_finalised_log (next w e).0.shared.log ≡ true

@@ -23,7 +23,7 @@ use Rattle.kz_laws_agreement.proofs.Steps.{step_agrees}
 use Rattle.kz_laws_runs.proofs.Linked.{Promised, run_linked, linked_of}
 
 -- what each request does, whatever the migrated area was at the commit
-abbrev Agrees : Pair → Pair → Type 0
+abbrev pub Agrees : Pair → Pair → Type 0
 Agrees p q = (source : List Rendered) → PathsAgree source p → PathsAgree (source_after source p) q
 
 -- nothing is asked of drivers
@@ -48,7 +48,7 @@ tree_agrees s new kept unchanged source agrees = left_agrees source s new (λ mi
 reset_agrees : (s : Shared) → IsSharedSound s → Agrees (pair_of s) (pair_of (record s { log = reset s.log }))
 reset_agrees s kept source agrees = nothing_owed (source_after source (pair_of s)) (record s { log = reset s.log }) (reset_unmigrated s.log)
 
-agrees_promised : Promised Anything Agrees
+pub agrees_promised : Promised Anything Agrees
 agrees_promised = record {
   on_step = step_agrees_by;
   keeps = λ s running now d time kept fine any. tt;
@@ -60,7 +60,7 @@ agrees_promised = record {
 }
 
 -- from one moment on
-agree_from : (source : List Rendered) (p : Pair) (qs : List Pair) → Linked Agrees p qs → PathsAgree source p → AgreeFrom source p qs
+pub agree_from : (source : List Rendered) (p : Pair) (qs : List Pair) → Linked Agrees p qs → PathsAgree source p → AgreeFrom source p qs
 agree_from source p [] linked agrees = agrees
 agree_from source p (q ∷ qs) linked agrees = (agrees, agree_from (source_after source p) q qs linked.1 (linked.0 source agrees))
 

@@ -1,5 +1,5 @@
 -- At every moment of a run a migration is committed whole or not at all.
-use Rattle.std.proofs.Common.{◌≡◌, ◌⊎◌, inl, inr, ℤ, Bool, true, false, if◌then◌else◌, List, [], ◌∷◌, take, Option, Some, None, Result, Ok, Err, All, refl, sym, ap, ◌∙◌}
+use Rattle.std.proofs.Common.{◌≡◌, inl, inr, ℤ, Bool, true, false, if◌then◌else◌, List, [], ◌∷◌, take, Option, Some, None, Result, Ok, Err, All, refl, sym, ap, ◌∙◌, subst}
 use Rattle.kz_types.specs.declared.limits.TheConstants.{MAX_APPEND_RECORDS}
 use Rattle.kz_types.specs.declared.driver.Stage.{Stage}
 use Rattle.kz_types.specs.declared.driver.Stage.TheVariants as stage
@@ -16,9 +16,9 @@ use Rattle.kz_spec_stores.specs.Tree.{Tree, multi}
 use Rattle.kz_spec_stores.specs.Log.{Log, append, is_migrated_log, is_open_log, reset}
 use Rattle.kz_spec_znodes.specs.Translation.{Unreadable, translate}
 use Rattle.kz_spec_machine.specs.Driver.{Shared, Driver, epoch_or_zero, claim_ops, remaining_at, write_ops, begin_record, commit_records, begin_request, write_request, request_at, with_tree, with_log, shared_after, reaches_store, planned_step, step}
-use Rattle.kz_spec_machine.specs.Machine.{World, empty_world, pair_of, after_events, request_pairs}
-use Rattle.kz_spec_machine.specs.Sound.{IsTime, IsSharedSound, IsSoundDriver, Sound, IsLawful}
-use Rattle.kz_spec_runs.specs.Promises.{IsTranslation, CommitsWhole, CommittedWhole}
+use Rattle.kz_spec_machine.specs.Machine.{empty_world, pair_of, after_events, request_pairs}
+use Rattle.kz_spec_machine.specs.Sound.{IsTime, IsSharedSound, IsSoundDriver, IsLawful}
+use Rattle.kz_spec_runs.specs.Promises.{IsTranslation, BeginsNone, StaysCommitted, CommitsWhole, CommittedWhole}
 use Rattle.kz_laws_drivers.specs.Effects.{IsUnchanged}
 use Rattle.kz_laws_steps.proofs.Tests.{true_or_false}
 use Rattle.kz_laws_appends.proofs.Filling.{begun_log, appended_log}
@@ -29,11 +29,12 @@ use Rattle.kz_laws_events.proofs.Changed.{IsLeaderBatch, more_of, more_closed}
 use Rattle.kz_laws_events.proofs.Changed as changed
 use Rattle.kz_laws_events.proofs.Exits.{reset_unmigrated}
 use Rattle.kz_laws_events.proofs.Runs.{empty_sound}
-use Rattle.kz_laws_commits.specs.Commits.{Copies, StepCopies}
+use Rattle.kz_laws_commits.specs.Commits.{Copies}
 use Rattle.kz_laws_commits.proofs.Own.{commit_translates}
 use Rattle.kz_laws_commits.proofs.Steps.{step_copies}
 use Rattle.kz_laws_commits.proofs.Events.{event_copies}
 use Rattle.kz_laws_commits.proofs.After.{step_same}
+use Rattle.kz_laws_commits.proofs.Begins.{batch_begins, same_begins, election_begins}
 use Rattle.kz_laws_runs.proofs.Linked.{Promised, run_linked, linked_of}
 
 -- ---- the commit
@@ -91,8 +92,12 @@ step_brings p s running now d kept fine copies =
 
 -- ---- a migrated log
 
-settled_still : (s : Shared) (new : Log) → IsSharedSound s → is_migrated_log s.log ≡ true → new ≡ s.log → (is_migrated_log new ≡ true) × (is_open_log new ≡ false)
-settled_still s new kept migrated same = (ap is_migrated_log same ∙ migrated, ap is_open_log same ∙ migrated_settled s.tree s.log kept.log (kept.agreement migrated))
+settled_still : (s : Shared) (new : Log) → IsSharedSound s → is_migrated_log s.log ≡ true → new ≡ s.log → StaysCommitted s.log new
+settled_still s new kept migrated same = record {
+  migrated = ap is_migrated_log same ∙ migrated;
+  settled = ap is_open_log same ∙ migrated_settled s.tree s.log kept.log (kept.agreement migrated);
+  begins = subst (BeginsNone s.log) (sym same) (same_begins s.log);
+}
 
 step_commits : (p : Plan) (s : Shared) (running : List ℤ) (now : ℤ) (d : Driver) → IsTime now → IsSharedSound s → IsSoundDriver s d → Copies s d → CommitsWhole (pair_of s) (pair_of (planned_step p s running now d).shared)
 step_commits p s running now d time kept fine copies = record {
@@ -107,13 +112,21 @@ step_keeps s running now d time kept fine copies = (step_copies plan.Deliver s r
 elected_commits : (s : Shared) (now : ℤ) → MayElect s → CommitsWhole (pair_of s) (pair_of (record s { log = elected_of s.log now }))
 elected_commits s now m = record {
   commits = λ before after. absurd (true_or_false (is_migrated_log s.log) (elected.was s now m after) before);
-  stays = λ migrated. inr ((elected.longer s now m).migrated migrated, elected_closed s now m);
+  stays = λ migrated. inr (record {
+    migrated = (elected.longer s now m).migrated migrated;
+    settled = elected_closed s now m;
+    begins = election_begins s now m migrated;
+  });
 }
 
 batch_commits : (s : Shared) (now : ℤ) (items : List MetaRecord) → IsLeaderBatch s now items → CommitsWhole (pair_of s) (pair_of (record s { log = more_of s now items }))
 batch_commits s now items b = record {
   commits = λ before after. absurd (true_or_false (is_migrated_log s.log) (changed.was s now items b after) before);
-  stays = λ migrated. inr ((changed.longer s now items b).migrated migrated, more_closed s now items b);
+  stays = λ migrated. inr (record {
+    migrated = (changed.longer s now items b).migrated migrated;
+    settled = more_closed s now items b;
+    begins = batch_begins s.log s.log.epoch now items b.unmarked;
+  });
 }
 
 tree_commits : (s : Shared) (new : Tree) → IsSharedSound s → (is_migrated_log s.log ≡ true → IsUnchanged s.tree new) → CommitsWhole (pair_of s) (pair_of (record s { tree = new }))

@@ -3,3 +3,5 @@ pub mod Commits
 pub mod Agrees
 pub mod Recorded
 pub mod Finalised
+pub mod Readable
+pub mod Paths

@@ -1,6 +1,5 @@
 -- What each request does holds of each two moments of a run, one after the other.
-use Rattle.std.proofs.Common.{◌≡◌, ℕ, zero, suc, ℤ, Bool, true, false, if◌then◌else◌, List, [], ◌∷◌, ◌++◌, Option, Some, None, Result, Ok, Err, All, refl, sym, ap, ◌∙◌, subst}
-use Rattle.std.specs.Prelude.{◌≤◌, length}
+use Rattle.std.proofs.Common.{◌≡◌, ℕ, zero, suc, ℤ, Bool, true, false, if◌then◌else◌, List, [], ◌∷◌, ◌++◌, Option, Some, None, Result, Ok, Err, All, refl, sym, subst}
 use Rattle.std.proofs.lemmas.List.Elements.{All-head, All-tail}
 use Rattle.kz_types.specs.declared.fault.TreeFault.{TreeFault}
 use Rattle.kz_types.specs.declared.move_fault.MoveFault.{MoveFault}
@@ -12,9 +11,9 @@ use Rattle.kz_types.specs.declared.plan.Plan.TheVariants as plan
 use Rattle.kz_types.specs.declared.record.MetaRecord.{MetaRecord}
 use Rattle.kz_types.specs.declared.tree.Op.{Op}
 use Rattle.kz_spec_stores.specs.Tree.{Tree, multi, begin_session, end_session}
-use Rattle.kz_spec_stores.specs.Log.{Log, is_migrated_log, reset}
+use Rattle.kz_spec_stores.specs.Log.{is_migrated_log, reset}
 use Rattle.kz_spec_machine.specs.Driver.{Shared, Driver, epoch_or_zero, Request, nothing, request_at, shared_after, reaches_store, planned_step, step}
-use Rattle.kz_spec_machine.specs.Machine.{World, Pair, pair_of, pairs_after, step_pairs, ends, TurnResult, with_reply, turn, turn_pairs, work, running_ids, driver_of, running_refusal, step_result, event_step_pairs, turn_result, event_turn_pairs, outcome_unless, unless_refused, pairs_unless, quorum_refusal, declared_world, start_refusal, started_world, stop_refusal, stopped_world, election_refusal, elected_world, change_refusal, changed_world, registration, register_refusal, final_records, finalise_refusal, exit_ops, tree_after_ops, reset_world, given_back, rollback_refusal, exit_pairs, is_held_tree, client_refusal, client_world, moved_world, with_tree, tree_pairs, next, event_pairs, after_events, request_pairs}
+use Rattle.kz_spec_machine.specs.Machine.{World, Pair, pair_of, pairs_after, step_pairs, ends, TurnResult, with_reply, turn, turn_pairs, work, running_ids, driver_of, running_refusal, step_result, event_step_pairs, turn_result, event_turn_pairs, outcome_unless, unless_refused, pairs_unless, quorum_refusal, declared_world, start_refusal, started_world, stop_refusal, stopped_world, election_refusal, elected_world, change_refusal, changed_world, registration, register_refusal, final_records, finalise_refusal, exit_ops, tree_after_ops, reset_world, given_back, rollback_refusal, exit_pairs, is_held_tree, client_refusal, client_world, moved_world, tree_pairs, next, event_pairs, after_events, request_pairs}
 use Rattle.kz_spec_machine.specs.Sound.{IsTime, IsSharedSound, IsSoundDriver, Each, Sound, IsLawful}
 use Rattle.kz_spec_runs.specs.Promises.{Linked}
 use Rattle.kz_laws_drivers.specs.Effects.{IsUnchanged}
@@ -146,7 +145,7 @@ turned : (J : Shared → Driver → Type 0) (R : Pair → Pair → Type 0) (w : 
 turned J R w id now None found h time sound each = refl
 turned J R w id now (Some d) found h time sound each = turn_linked J R (work w.shared d) w.shared (running_ids w.drivers) now d h time sound.kept (sound.each id d found) (each id d found)
 
-event_linked : (J : Shared → Driver → Type 0) (R : Pair → Pair → Type 0) (w : World) (e : Event) → Promised J R → IsLawful e → Sound w → Each (J w.shared) w.drivers → LinkedBy R w (event_pairs w e) (next w e).0
+pub event_linked : (J : Shared → Driver → Type 0) (R : Pair → Pair → Type 0) (w : World) (e : Event) → Promised J R → IsLawful e → Sound w → Each (J w.shared) w.drivers → LinkedBy R w (event_pairs w e) (next w e).0
 unfolding next event_pairs
 event_linked J R w (event.Quorum ids) h lawful sound each = quiet R w (quorum_refusal w ids) (declared_world w ids) _ refl
 event_linked J R w (event.Start id) h lawful sound each = quiet R w (start_refusal w id) (started_world w id) _ refl

@@ -19,7 +19,7 @@ use Rattle.kz_laws_events.proofs.Elected.{MayElect, elected_of, shared_elected}
 use Rattle.kz_laws_events.proofs.Changed.{IsLeaderBatch, more_of}
 use Rattle.kz_laws_events.proofs.Changed as changed
 use Rattle.kz_laws_events.proofs.Exits.{reset_unmigrated}
-use Rattle.kz_laws_events.proofs.Runs.{empty_sound, not_migrated}
+use Rattle.kz_laws_events.proofs.Runs.{empty_sound}
 use Rattle.kz_laws_runs.proofs.Agrees.{Anything}
 use Rattle.kz_laws_runs.proofs.Linked.{Promised, run_linked, linked_of}
 

@@ -3,14 +3,24 @@
 //! A law is the contract of a function that does nothing.
 #![tactic(auto)]
 
-ghost use Rattle.kz_laws_runs.specs.Runs.{RunsCommitWhole, RunsAgree, RunsStayAsRecorded, RunsStayFinalised};
+ghost use Rattle.kz_laws_runs.specs.Runs.{RunsCommitWhole, RunsAgree, RunsStayAsRecorded, RunsStayReadable, RunsStayFinalised};
+ghost use Rattle.kz_laws_runs.specs.Paths.{EventsKeepPaths, RunsKeepPaths};
 
 /// A migration is committed whole or not at all, as the translation of the znodes that stand at its commit. Each migrated znode
-/// agrees with the log, path by path, and all of them where none was written since the offset was recorded. After the
-/// migration is finalised, no controller and no rollback changes the tree or the log.
+/// agrees with the log, path by path, and all of them where none was written since the offset was recorded. What is recorded can be
+/// read while the log is migrated. After the migration is finalised it stays so, and no controller and no rollback changes the
+/// tree or the log.
 pub fn runs_keep_promises()
     ensures committed { RunsCommitWhole }
     ensures agree { RunsAgree }
     ensures recorded { RunsStayAsRecorded }
+    ensures readable { RunsStayReadable }
     ensures finalised { RunsStayFinalised }
+{}
+
+/// From every sound world on in which each path of the migrated area agrees with the log, they stay in agreement, at each moment of
+/// every event and of every run.
+pub fn paths_stay_agreed()
+    ensures event { EventsKeepPaths }
+    ensures run { RunsKeepPaths }
 {}

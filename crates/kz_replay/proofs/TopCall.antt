@@ -12,9 +12,10 @@ use Rattle.kz_laws_scripts.proofs.Scripts.{script_in_step}
 use Rattle.kz_laws_runs.proofs.Commits.{run_commits}
 use Rattle.kz_laws_runs.proofs.Agrees.{run_agrees}
 use Rattle.kz_laws_runs.proofs.Recorded.{run_recorded}
+use Rattle.kz_laws_runs.proofs.Readable.{run_readable}
 use Rattle.kz_laws_runs.proofs.Finalised.{run_finalised}
 use Rattle.kz_replay.specs.Pending.{State, outcome_to_come, pending_lines}
-use Rattle.kz_replay.specs.Runs.{StreamState, TurnsEnd, Runs}
+use Rattle.kz_replay.specs.Runs.{StreamState, ScriptTurnsEnd, Runs}
 use Rattle.kz_replay.proofs.Cut.{state, lines_at_start}
 use Rattle.kz_replay.proofs.Ends.{turns_end}
 use Rattle.kz_replay.proofs.Runs.{always}
@@ -29,6 +30,7 @@ script_promises script = let es = script_events script in let lawful = script_la
   committed = run_commits es lawful;
   agrees = run_agrees es lawful;
   recorded = run_recorded es lawful;
+  readable = run_readable es lawful;
   in_step = script_in_step script;
   finalised = run_finalised es lawful;
 }
@@ -56,5 +58,5 @@ replays words s input input_now out out_now result replay is ran output whole so
   source = source;
   sink = sink;
   promises = λ _. always input.bytes (λ script. Promises (script_events script)) script_promises;
-  turns = λ _. always input.bytes (λ script. TurnsEnd (script_events script)) (λ script. turns_end (script_events script) (script_lawful script));
+  turns = λ _. always input.bytes (λ script. ScriptTurnsEnd (script_events script)) (λ script. turns_end (script_events script) (script_lawful script));
 }

@@ -25,10 +25,10 @@ pub record StreamState : Type 0 where
 abbrev pub stream_state : {A : Type 0} → (A → Option (List ℕ)) → (A → ℕ) → (A → Bool) → A → StreamState
 stream_state bytes faults last_failed a = record { bytes = bytes a; faults = faults a; last_failed = last_failed a }
 
--- The last reply of each turn among these events ends it, so that no turn is cut off by its bound. Before it no client deletes a
--- base znode between a look of a driver and its claim.
-abbrev pub TurnsEnd : List Event → Type 0
-TurnsEnd es = (before after : List Event) (id now : ℤ) (replies : List Reply) → es ≡ before ++ event.Turn id now ∷ after → AllLeaveBases empty_world before
+-- The last reply of each turn among these events ends it, so that its bound doesn't cut it off. Its premise is that before it no
+-- client deletes a base znode between a look of a driver and its claim.
+abbrev pub ScriptTurnsEnd : List Event → Type 0
+ScriptTurnsEnd es = (before after : List Event) (id now : ℤ) (replies : List Reply) → es ≡ before ++ event.Turn id now ∷ after → AllLeaveBases empty_world before
     → (next (after_events empty_world before) (event.Turn id now)).1 ≡ answer.Turn replies → EndsByItself replies
 
 -- The program runs with these words, on a source and a sink that tell this before and this after, and ends with this status.
@@ -48,5 +48,5 @@ pub record Runs (words : List (String Global)) (input input_now out out_now : St
   pub sink : EndsAtFailure status.WriteFault result out.faults out_now.faults out.last_failed out_now.last_failed
   -- What is promised of the events of the script holds at every moment.
   pub promises : IsReplay words → IfSome input.bytes (λ script. Promises (script_events script))
-  -- Each turn of the script ends by itself.
-  pub turns : IsReplay words → IfSome input.bytes (λ script. TurnsEnd (script_events script))
+  -- Each turn of the script ends by itself, where before it no client deletes a base znode between a look and a claim.
+  pub turns : IsReplay words → IfSome input.bytes (λ script. ScriptTurnsEnd (script_events script))

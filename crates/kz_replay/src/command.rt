@@ -20,7 +20,8 @@ use std::alloc::Global;
 /// - `Usage`: the words aren't the one word `replay`. Nothing was read, and nothing written.
 /// - `Script`: this line is no event. The lines before it have their replies.
 /// - `Limit`: number 10, a line has more than 2,097,152 bytes without its end; 11, the input has more than
-///   4,294,967,296 bytes; 7 and 17, a step of a driver would bring the log past its most records, or its last offset.
+///   4,294,967,296 bytes; 7 and 17, a step of a driver would bring the log past its most records, or its last offset; 17, also, a
+///   rollback's multi would be past the last transaction.
 /// - `ReadFault`: the last read failed. The lines that were read whole have their replies.
 /// - `WriteFault`: the last write failed, or took nothing of a text.
 /// - `NoMemory`: memory ran out.

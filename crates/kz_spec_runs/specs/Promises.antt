@@ -1,5 +1,10 @@
--- What is promised of every moment of a run: of the tree and the log at its beginning and after each of its requests.
-use Rattle.std.specs.Prelude.{◌≡◌, ◌⊎◌, ⊤, All, ℕ, ℤ, pos, negsuc, ◌≤ℤ◌, true, false, if◌then◌else◌, List, [], ◌∷◌, ◌++◌, Option, Some, None, Ok}
+-- What is promised of a run: of each of its moments, which are its beginning and the end of each of its requests, and of its events.
+use Rattle.std.specs.Prelude.{◌≡◌, ◌⊎◌, ⊤, All, ℕ, ℤ, pos, negsuc, ◌≤ℤ◌, int_le, true, false, if◌then◌else◌, List, [], ◌∷◌, ◌++◌, Option, Some, None, Ok}
+use Rattle.std.specs.List.{filter}
+use Rattle.kz_types.specs.declared.log.BatchRow.{BatchRow}
+use Rattle.kz_types.specs.declared.log.Entry.{Entry}
+use Rattle.kz_types.specs.declared.machine.Answer.{Answer}
+use Rattle.kz_types.specs.declared.machine.Answer.TheVariants as answer
 use Rattle.kz_types.specs.declared.machine.Event.{Event}
 use Rattle.kz_types.specs.declared.machine.Event.TheVariants as event
 use Rattle.kz_types.specs.declared.machine.Recorded.{Recorded}
@@ -8,37 +13,65 @@ use Rattle.kz_types.specs.declared.tree.Rendered.{Rendered}
 use Rattle.kz_ordered.specs.Order.{bytes_cmp}
 use Rattle.kz_ordered.specs.Ordered.{find}
 use Rattle.kz_spec_stores.specs.Tree.{Tree, area, migration_record, migrated_rows, path_of_rendered, unclosed_path}
-use Rattle.kz_spec_stores.specs.Log.{Log, commit_of, end_of, image_at, is_migrated_log, is_open_log, reset}
+use Rattle.kz_spec_stores.specs.Settlement.{is_marker}
+use Rattle.kz_spec_stores.specs.Log.{Log, commit_of, end_of, entries, entries_at_offsets, image_at, is_migrated_log, is_open_log, reset}
 use Rattle.kz_spec_znodes.specs.Rendering.{render}
 use Rattle.kz_spec_znodes.specs.Translation.{translate}
 use Rattle.kz_spec_machine.specs.Driver.{begin_record, commit_records}
-use Rattle.kz_spec_machine.specs.Machine.{empty_world, Pair, pair_of, request_pairs, is_finalised_log, next, after_events}
-use Rattle.kz_spec_machine.specs.Sound.{IsBatchEnd, IsPastCommit, records_from}
+use Rattle.kz_spec_machine.specs.Machine.{World, empty_world, Pair, pair_of, request_pairs, is_held_tree, is_finalised_log, next, after_events}
+use Rattle.kz_spec_machine.specs.Sound.{IsBatchEnd, IsPastCommit, RecordAgrees}
 use Rattle.kz_spec_runs.specs.InStep.{StaysInStep}
 
 -- ---- moments
 
--- Each request of a run leads from one moment to the next one so.
+-- This relation holds between each moment of a run and the next one.
 abbrev pub Linked : (Pair → Pair → Type 0) → Pair → List Pair → Type 0
 Linked R p [] = ⊤
 Linked R p (q ∷ qs) = R p q × Linked R q qs
 
 -- ---- a migration is committed whole, as the translation of the znodes
 
--- The transaction of a commit: its Begin, the translation of the migrated area, the state of the migration and the End, one after
--- another; and the End is the log's last record and its commit.
+-- the records from an offset on, with their offsets and epochs
+abbrev pub entries_from : Log → ℤ → List Entry
+entries_from l from = filter (λ (e : Entry). int_le from e.offset) (entries l.batches)
+
+-- What stands in the log from this offset on is these records. The first stands at the offset, and each other one at the offset
+-- after the one before it. All of them are of the log's epoch.
+abbrev pub EndsWith : Log → ℤ → List MetaRecord → Type 0
+EndsWith l from records = entries_from l from ≡ entries_at_offsets from l.epoch records
+
+-- The transaction of a commit: its Begin, the translation of the migrated area, the state of the migration and the End, at offsets
+-- without a gap and in one epoch; and the End is the log's last record and its commit.
 pub record IsTranslation (t : Tree) (l : Log) : Type 0 where
   pub from : ℤ
   pub records : List MetaRecord
   pub translated : translate (migrated_rows t) ≡ Ok records
-  pub transaction : records_from l from ≡ begin_record ∷ (records ++ commit_records)
+  pub transaction : EndsWith l from (begin_record ∷ (records ++ commit_records))
   pub commit : commit_of l ≡ Some (end_of l)
 
+-- No record of a batch begins or ends a transaction.
+abbrev pub HoldsNoMarker : BatchRow → Type 0
+HoldsNoMarker b = All (λ (r : MetaRecord). is_marker r ≡ false) b.items
+
+-- The later log is the earlier one with batches appended, or without a change. No record of these batches begins or ends a
+-- transaction.
+pub record BeginsNone (l later : Log) : Type 0 where
+  pub new : List BatchRow
+  pub base : later.base ≡ l.base
+  pub appended : later.batches ≡ l.batches ++ new
+  pub unmarked : All HoldsNoMarker new
+
+-- A log stays migrated, no transaction is open in it, and none is begun.
+pub record StaysCommitted (l later : Log) : Type 0 where
+  pub migrated : is_migrated_log later ≡ true
+  pub settled : is_open_log later ≡ false
+  pub begins : BeginsNone l later
+
 -- The request that commits a migration commits the translation of the znodes that stand then, and leaves the tree. After it
--- the log stays migrated, and no transaction is open, until the log is reset.
+-- the log stays migrated, and no further transaction begins, until the log is reset.
 pub record CommitsWhole (p q : Pair) : Type 0 where
   pub commits : is_migrated_log p.log ≡ false → is_migrated_log q.log ≡ true → IsTranslation p.tree q.log × (q.tree ≡ p.tree)
-  pub stays : is_migrated_log p.log ≡ true → (q.log ≡ reset p.log) ⊎ ((is_migrated_log q.log ≡ true) × (is_open_log q.log ≡ false))
+  pub stays : is_migrated_log p.log ≡ true → (q.log ≡ reset p.log) ⊎ StaysCommitted p.log q.log
 
 -- ---- each znode agrees with the log, path by path
 
@@ -63,11 +96,11 @@ pub record IsAsCommitted (t : Tree) (source : List Rendered) (r : Recorded) (pat
 abbrev pub PathsAgree : List Rendered → Pair → Type 0
 PathsAgree source p = is_migrated_log p.log ≡ true → (r : Recorded) → migration_record p.tree ≡ Some r → (path : List ℕ) → IsAsCommitted p.tree source r path ⊎ IsRendered p.tree p.log r path
 
--- what the migrated area was at the commit, as is known at the next moment: what it is, until the log is migrated
+-- the migrated area as it was at the last moment before the log was migrated
 abbrev pub source_after : List Rendered → Pair → List Rendered
 source_after source p = if is_migrated_log p.log then source else area p.tree
 
--- So it is at this moment and at those after it.
+-- The paths agree at this moment and at those after it.
 abbrev pub AgreeFrom : List Rendered → Pair → List Pair → Type 0
 AgreeFrom source p [] = PathsAgree source p
 AgreeFrom source p (q ∷ qs) = PathsAgree source p × AgreeFrom (source_after source p) q qs
@@ -76,14 +109,37 @@ AgreeFrom source p (q ∷ qs) = PathsAgree source p × AgreeFrom (source_after s
 abbrev pub IsAsRecorded : Pair → Type 0
 IsAsRecorded p = is_migrated_log p.log ≡ true → (r : Recorded) → migration_record p.tree ≡ Some r → pos 0 ≤ℤ r.offset → unclosed_path p.tree ≡ None → area p.tree ≡ render (image_at p.log r.offset)
 
--- ---- after a migration is finalised no controller writes
+-- What stands beside a migrated log: a KRaft controller holds the tree; `/migration` is there and can be read; and what it records
+-- agrees with the log. It is an offset that is a batch end and isn't before a commit, or, after a commit, that there is none yet.
+pub record HasRecord (t : Tree) (l : Log) : Type 0 where
+  pub held : is_held_tree t ≡ true
+  pub record_is : Recorded
+  pub found : migration_record t ≡ Some record_is
+  pub agrees : RecordAgrees t l record_is
 
--- an event by which controllers, or a rollback, could write
-abbrev pub IsOfControllers : Event → Type 0
-IsOfControllers (event.Step id now plan) = ⊤
-IsOfControllers (event.Turn id now) = ⊤
-IsOfControllers event.Rollback = ⊤
-IsOfControllers e = ⊥
+-- Where the log is migrated, this stands beside it.
+abbrev pub IsReadable : Pair → Type 0
+IsReadable p = is_migrated_log p.log ≡ true → HasRecord p.tree p.log
+
+-- ---- after a migration is finalised
+
+-- a step, a turn or a rollback
+abbrev pub IsStepTurnOrRollback : Event → Type 0
+IsStepTurnOrRollback (event.Step id now plan) = ⊤
+IsStepTurnOrRollback (event.Turn id now) = ⊤
+IsStepTurnOrRollback event.Rollback = ⊤
+IsStepTurnOrRollback e = ⊥
+
+-- A rollback is refused since the migration is finalised, or since a controller runs.
+abbrev pub IsFinalRefusal : Answer → Type 0
+IsFinalRefusal a = (a ≡ answer.Finalised) ⊎ ((id : ℤ) × (a ≡ answer.Running id))
+
+-- What an event leaves of a migration that is finalised: it stays so. A step, a turn or a rollback changes neither the tree nor
+-- the log, and a rollback is refused.
+pub record StaysFinalised (w : World) (e : Event) : Type 0 where
+  pub still : is_finalised_log (next w e).0.shared.log ≡ true
+  pub unchanged : IsStepTurnOrRollback e → (next w e).0.shared ≡ w.shared
+  pub refused : e ≡ event.Rollback → IsFinalRefusal (next w e).1
 
 -- ---- scripts
 
@@ -106,20 +162,28 @@ Agreeing es = AgreeFrom [] first_moment (further_moments es)
 abbrev pub StayingAsRecorded : List Event → Type 0
 StayingAsRecorded es = All IsAsRecorded (first_moment ∷ further_moments es)
 
--- After a migration is finalised, no event of controllers and no rollback changes the tree or the log.
+-- Where the log is migrated, `/migration` can be read.
+abbrev pub StayingReadable : List Event → Type 0
+StayingReadable es = All IsReadable (first_moment ∷ further_moments es)
+
+-- After a migration is finalised, it stays so at each further event, no step, turn or rollback changes the tree or the log, and
+-- each rollback is refused.
 abbrev pub FinalisedForGood : List Event → Type 0
-FinalisedForGood es = (before after : List Event) (e : Event) → es ≡ before ++ e ∷ after → is_finalised_log (after_events empty_world before).shared.log ≡ true → IsOfControllers e
-    → (next (after_events empty_world before) e).0.shared ≡ (after_events empty_world before).shared
+FinalisedForGood es = (before after : List Event) (e : Event) → es ≡ before ++ e ∷ after → is_finalised_log (after_events empty_world before).shared.log ≡ true → StaysFinalised (after_events empty_world before) e
 
 -- What is promised of these events.
 pub record Promises (es : List Event) : Type 0 where
   -- A migration is committed whole or not at all, as the translation of the znodes that it read.
   pub committed : CommittedWhole es
-  -- Each migrated znode is as it is rendered at the recorded offset or at a later one.
+  -- Each migrated znode is as it is rendered at the recorded offset or at a later one. Until a first offset is recorded, it may
+  -- be as it was at the commit.
   pub agrees : Agreeing es
   -- All are as they are rendered at the recorded one where no later write stands.
   pub recorded : StayingAsRecorded es
+  -- While the log is migrated, a KRaft controller holds the tree, and `/migration` can be read and agrees with the log.
+  pub readable : StayingReadable es
   -- After each turn that comes to rest in dual write, they are as they are rendered at the log's end.
   pub in_step : StaysInStep es
-  -- After the migration is finalised, no controller and no rollback changes the tree or the log.
+  -- After the migration is finalised, it stays so, no step, turn or rollback changes the tree or the log, and each rollback is
+  -- refused.
   pub finalised : FinalisedForGood es
