@@ -1,0 +1,4 @@
+mod Appends
+mod Loops
+mod Numbers
+pub mod ReadBack

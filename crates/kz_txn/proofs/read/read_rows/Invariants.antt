@@ -1,0 +1,8 @@
+use Rattle.std.proofs.Common.{◌≡◌, ◌-◌}
+use Rattle.kz_spec_values.specs.Forms.{items_at}
+use Rattle.kz_spec_files.specs.Transactions.{row}
+use Rattle.kz_txn.proofs.Loops.{with_front}
+use Rattle.kz_txn.proofs.read.read_rows.Given as goal
+
+abbrev pub invariant-loop : goal.invariant-loop
+invariant-loop l = with_front l.items.items (items_at row.read (l.count - l.counter) l.reader) ≡ items_at row.read l.count l.fn.reader

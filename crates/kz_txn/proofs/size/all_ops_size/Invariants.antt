@@ -1,0 +1,7 @@
+use Rattle.std.proofs.Common.{◌≡◌, ◌+◌, ◌*◌, ◌^◌, ◌≤◌, length, take}
+use Rattle.kz_spec_values.specs.Forms.{items_written}
+use Rattle.kz_spec_files.specs.Transactions.{op}
+use Rattle.kz_txn.proofs.size.all_ops_size.Given as goal
+
+abbrev pub invariant-loop-item : goal.invariant-loop-item
+invariant-loop-item l = record { size : l.size ≡ length (items_written op.written (take l.item-index l.items)); bound : l.size ≤ l.item-index * (2 ^ 64 + 17) }

@@ -1,0 +1,20 @@
+use Rattle.std.proofs.Common.{◌≡◌, ◌+◌, ◌++◌, ◌∷◌, [], List, ℕ, take, ap, sym, ◌∙◌, append_assoc}
+use Rattle.std.proofs.lemmas.List.{take_more}
+use Rattle.kz_spec_values.specs.Forms.{items_written}
+use Rattle.kz_spec_files.specs.Transactions.{op}
+use Rattle.kz_txn.proofs.Appends.{AllFit_at, items_written_push}
+use Rattle.kz_txn.proofs.write.push_ops.Goals as goal
+
+pub put_op-requires : goal.put_op-requires
+put_op-requires c = rw c.item-item.is (AllFit_at op.fits c.args.items.now c.loop-item.item-index c.item-item.result c.requires c.loop-item-test.true)
+
+pub loop-item-preserved : goal.loop-item-preserved
+loop-item-preserved c =
+    let xs = c.args.items.now in
+    let i = c.loop-item.item-index in
+    let z = c.item-item.result in
+    let old = c.args.out.now.items in
+    let front = items_written op.written (take i xs) in
+    let more : take (i + 1) xs ≡ take i xs ++ z ∷ [] = take_more xs i z c.loop-item-test.true ∙ ap (λ y. take i xs ++ y ∷ []) (sym c.item-item.is) in
+    c.in_ok-put_op.ensures ∙ ap (λ (l : List ℕ). l ++ op.written z) c.loop-item.invariant ∙ append_assoc old front (op.written z)
+    ∙ ap (λ (l : List ℕ). old ++ l) (sym (items_written_push op.written (take i xs) z) ∙ ap (items_written op.written) (sym more))

@@ -1,0 +1,7 @@
+use Rattle.std.proofs.Common.{◌≡◌, ◌++◌, take}
+use Rattle.kz_spec_values.specs.Forms.{items_written}
+use Rattle.kz_spec_files.specs.Transactions.{session}
+use Rattle.kz_txn.proofs.write.push_sessions.Given as goal
+
+abbrev pub invariant-loop-item : goal.invariant-loop-item
+invariant-loop-item l = l.out.items ≡ l.fn.out.items ++ items_written session.written (take l.item-index l.items)

@@ -1,0 +1,20 @@
+use Rattle.std.proofs.Common.{◌≡◌, ◌++◌, ◌∷◌, [], ℤ, ap, ◌∙◌, rules, SFits, to_z-of_z}
+use Rattle.std.specs.Int.{w64}
+use Rattle.kz_spec_files.specs.Transactions.{int, session}
+use Rattle.kz_txn.proofs.Appends.{seq}
+use Rattle.kz_txn.proofs.write.put_move.Goals as goal
+
+pub returns : goal.returns
+returns c =
+    let old = c.args.out.now.items in
+    let first = c.put_byte.new.out.items in
+    let second = c.put_i64.new.out.items in
+    let last = c.put_i64-2.new.out.items in
+    let b2 = (int w64).written c.args.zxid in
+    let b3 = session.written c.args.live in
+    let fits : SFits w64 c.args.zxid = search rules in
+    let e2 : second ≡ first ++ b2 = c.in_ok-put_i64.ensures ∙ ap (λ (y : ℤ). first ++ (int w64).written y) (to_z-of_z fits) in
+    let live_fits : SFits w64 c.args.live = search rules in
+    let e3 : last ≡ second ++ b3 = c.in_ok-put_i64-2.ensures ∙ ap (λ (y : ℤ). second ++ session.written y) (to_z-of_z live_fits) in
+    let both : last ≡ first ++ (b2 ++ b3) = seq first b2 second b3 last e2 e3 in
+    seq old (c.args.kind ∷ []) first (b2 ++ b3) last c.in_ok-put_byte.ensures both

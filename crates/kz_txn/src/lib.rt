@@ -1,0 +1,17 @@
+//! Transactions of a tree, written to bytes and read from them.
+#![tactic(auto)]
+
+mod fault;
+mod fields;
+mod read;
+mod size;
+mod write;
+
+pub use fault::TxnFault;
+pub use kz_spec_files::Txn;
+pub use read::read_txn;
+pub use size::txn_size;
+pub use write::write_txn;
+
+#[cfg(test)]
+mod tests;
