@@ -3,12 +3,14 @@
 
 mod fault;
 mod fields;
+mod laws;
 mod read;
 mod size;
 mod write;
 
 pub use fault::TxnFault;
 pub use kz_spec_files::Txn;
+pub use laws::written_is_read;
 pub use read::read_txn;
 pub use size::txn_size;
 pub use write::write_txn;

@@ -1,4 +1,4 @@
-//! The end of a migration, after which ZooKeeper is written no more.
+//! The end of a migration, after which no controller writes to ZooKeeper.
 ghost use Rattle.std.specs.Prelude.{◌≡◌, false, IfOk, IfSome, OnErr};
 ghost use Rattle.kz_types.specs.declared.machine.Event.TheVariants as event;
 ghost use Rattle.kz_spec_stores.specs.Log.{end_of, image_of};

@@ -49,7 +49,7 @@ impl<T: ZSessions, L: MetaLog> Model for World<T, L> {
     ghost invariant = { λ w. AreKept L.log w.parts };
 }
 
-// Whether the event is a rollback, which alone asks both stores.
+// Whether the event is a rollback, which alone answers a fault after it has changed a store.
 fn is_rollback(event: &Event) -> bool
     ensures { result ≡ is_rollback event.now }
 {
@@ -141,14 +141,15 @@ impl<T: ZSessions, L: MetaLog> World<T, L> {
         }
     }
 
-    /// Lets an event happen, and answers it. A refused event leaves the world as it was. The event is one that a line of a script
+    /// Lets an event happen, and answers it. A refused event leaves the world as it was, but for a rollback whose multi passes the
+    /// limit on transactions: it answers `TreeFailed` with that limit, and has reset the log. The event is one that a line of a script
     /// may give: its ids, times and sessions are in range.
     ///
     /// An event fails with `TreeFailed` or `LogFailed` where the disk below that store failed in this request or in an earlier
     /// one, or the store's file would pass its limit, and with `NoMemory`. It then leaves the world as it was, but for a turn
     /// whose step fails: the last reply of `Turn` tells the failure after the replies of the steps before it, and the world is
-    /// as these left it. A rollback whose tree fails, or that runs out of memory, may leave the log reset, and a repeated one
-    /// goes on. A request that the tree or the log refuses is an answer. Where neither store was down before, a stop
+    /// as these left it. A rollback whose tree fails leaves the log reset, one that runs out of memory may, and a
+    /// repeated one goes on. A request that the tree or the log refuses is an answer. Where neither store was down before, a stop
     /// after a failure finds the tree and the log from before the event, or those after one of its requests.
     ///
     /// What follows is about a world that is sound, as every world of a run from the empty one is. An event keeps it
@@ -174,7 +175,7 @@ impl<T: ZSessions, L: MetaLog> World<T, L> {
     }
 
     /// The most steps of a turn of this controller, which has to run. A turn of a world whose base znodes no client deletes ends by
-    /// itself before. The log is read, and all metadata is rendered, or, before the migration, translated.
+    /// itself within them. The log is read, and all metadata is rendered, or, before the migration, all znodes are translated.
     ///
     /// `Log` tells that the log's disk failed in an earlier request. A bound of 2^64 and more is answered `NoMemory`: its znodes
     /// would take more bytes than there are addresses.
