@@ -9,7 +9,7 @@ ghost use Rattle.kz_laws_runs.specs.Paths.{EventsKeepPaths, RunsKeepPaths, RunsK
 /// A migration is committed whole or not at all, as the translation of the znodes that stand at its commit. Each migrated znode
 /// agrees with the log, path by path, and all of them where none was written since the offset was recorded. While the log is
 /// migrated, a KRaft controller holds the tree, and what is recorded can be read and agrees with the log. After the migration is
-/// finalised it stays so, and no controller and no rollback changes the tree or the log.
+/// finalised it stays so, and no step, turn or rollback changes the tree or the log.
 pub fn runs_keep_promises()
     ensures committed { RunsCommitWhole }
     ensures agree { RunsAgree }
