@@ -35,7 +35,7 @@ fn check_recorded(recorded: Option<Recorded>, log_end: i64) -> Result<(), ExitFa
     }
 }
 
-/// Whether a migration may be finalised, whose log ends at this offset, which is at least -1: ZooKeeper has all of the
+/// Whether a migration may be finalised whose log ends at this offset, -1 where it is empty: ZooKeeper has all of the
 /// metadata. `Unclosed`, where the tree isn't closed; `Behind`, where the recorded offset isn't the log's end. The first of
 /// these is told. `NoMemory`. No other fault comes.
 #[tactic(auto, using(crate::proofs::Refusals::first_told, crate::proofs::Refusals::later_told, crate::proofs::Refusals::none_told))]
