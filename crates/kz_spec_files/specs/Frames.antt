@@ -2,8 +2,9 @@
 --
 -- There are two formats. In a file of format 02 each frame has a sum. In one of format 01 frames have none up to a seal, and
 -- have one after it.
-use Rattle.std.specs.Prelude.{◌≡◌, ◌⊎◌, ℕ, zero, suc, ◌+◌, ◌-◌, Bool, true, false, not, nat_lt, ◌==◌, ◌&&◌, ◌||◌, List, [], ◌∷◌, ◌++◌, length, take, drop, bytes_eq, if◌then◌else◌, codes}
+use Rattle.std.specs.Prelude.{◌≡◌, ◌⊎◌, ℕ, zero, suc, ◌+◌, ◌-◌, ◌<◌, max, Bool, true, false, not, nat_lt, ◌==◌, ◌&&◌, ◌||◌, List, [], ◌∷◌, ◌++◌, length, take, drop, bytes_eq, if◌then◌else◌, codes}
 use Rattle.std.specs.Int.{w32, to_be_bytes}
+use Rattle.kz_types.specs.declared.limits.TheConstants.{MAX_FILE_BYTES}
 use Rattle.kz_spec_values.specs.Batches.{number_at}
 use Rattle.kz_spec_values.specs.Checksum.{crc32c}
 
@@ -156,6 +157,14 @@ journal_with_frame payload j = record j { frames = j.frames ++ record { at = j.e
 -- the journal with a seal more
 abbrev pub journal_with_seal : Journal → Journal
 journal_with_seal j = record j { end = j.end + 9; summed = true }
+
+-- the length that a file would have with a seal after its last frame
+abbrev pub sealed_length : ℕ → List ℕ → ℕ
+sealed_length letter file = max (length file) ((journal_of letter file).end + 10)
+
+-- Further frames of a file have no sums, and it has no room for a seal.
+abbrev pub HasNoRoomForSeal : ℕ → List ℕ → Type 0
+HasNoRoomForSeal letter file = ((journal_of letter file).summed ≡ false) × (MAX_FILE_BYTES < sealed_length letter file)
 
 -- A stop in an append leaves the frames from before it, or these and the new one whole.
 abbrev pub LeftByAppend : ℕ → List ℕ → Journal → List ℕ → Type 0

@@ -11,8 +11,8 @@ use Rattle.kz_spec_values.specs.Fields.{◌>>=◌}
 use Rattle.kz_spec_values.specs.Batches.{BatchContents, batch_of, batch_written, signed_at}
 use Rattle.kz_spec_values.specs.Records.{record_of, bytes_of_record}
 use Rattle.kz_spec_stores.specs.Log.{Log, empty_log, end_of, reset}
-use Rattle.kz_spec_files.specs.declared.files.LogWhy.{LogWhy}
-use Rattle.kz_spec_files.specs.declared.files.LogWhy.TheVariants.{Header, Malformed, Batch, Value, Sequence, Sum}
+use Rattle.kz_types.specs.declared.fault.LogWhy.{LogWhy}
+use Rattle.kz_types.specs.declared.fault.LogWhy.TheVariants.{Header, Malformed, Batch, Value, Sequence, Sum}
 use Rattle.kz_spec_files.specs.Frames.{Framed, Journal, log_letter, journal_of}
 
 -- ---- a batch

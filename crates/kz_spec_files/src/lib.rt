@@ -8,4 +8,4 @@ mod journal_examples;
 mod log_examples;
 mod tree_examples;
 
-pub use files::{LogWhy, Txn};
+pub use files::Txn;

@@ -5,7 +5,7 @@ ghost use Rattle.kz_types.specs.declared.record.BatchFault.TheVariants.{Short, B
 ghost use Rattle.kz_types.specs.declared.record.CodecFault.TheVariants as codec;
 ghost use Rattle.kz_spec_stores.specs.Metadata.{empty_image};
 ghost use Rattle.kz_spec_stores.specs.Log.{empty_log};
-ghost use Rattle.kz_spec_files.specs.declared.files.LogWhy.TheVariants.{Header, Malformed, Batch, Value, Sequence, Sum};
+ghost use Rattle.kz_types.specs.declared.fault.LogWhy.TheVariants.{Header, Malformed, Batch, Value, Sequence, Sum};
 ghost use Rattle.kz_spec_files.specs.LogFile.{log_of, batch_payload, reset_payload};
 
 /// The log of a file: of its batches, and after a reset.

@@ -2,7 +2,9 @@
 ghost use Rattle.std.specs.Prelude.{◌≡◌, [], ◌∷◌, None, Some, pos, negsuc, codes};
 ghost use Rattle.kz_types.specs.declared.machine.DriverState.TheVariants.{WaitForBrokers, BecomeController, DualWrite};
 ghost use Rattle.kz_types.specs.declared.fault.BodyFault.TheVariants as fault;
-ghost use Rattle.kz_types.specs.declared.fault.ReadWhy.TheVariants as why;
+ghost use Rattle.kz_types.specs.declared.fault.ReadWhy.TheVariants as read;
+ghost use Rattle.kz_types.specs.declared.fault.LogWhy.TheVariants as why;
+ghost use Rattle.kz_types.specs.declared.record.BatchFault.TheVariants.{BadCrc};
 ghost use Rattle.kz_types.specs.declared.machine.Reply.TheVariants as reply;
 ghost use Rattle.kz_types.specs.declared.machine.Verdict.TheVariants as verdict;
 ghost use Rattle.kz_types.specs.declared.machine.Answer.TheVariants as answer;
@@ -52,10 +54,10 @@ pub fn client_lines()
 /// The lines of a turn that can't translate a znode. A step without a line prints none.
 #[tactic(auto, unfolding(crate::proofs::OnLiterals::lines_on_literals))]
 pub fn untranslatable_lines()
-    ensures stray { reply_lines 4 (answer.Turn (reply.Untranslatable (codes "/config/brokers/x") why.Stray ∷ [])) ≡ codes "4 untranslatable \"/config/brokers/x\" stray\n" }
-    ensures field { reply_lines 4 (answer.Turn (reply.Read 1 ∷ reply.Untranslatable (codes "/a") (why.Body (fault.BadField (codes "config"))) ∷ []))
+    ensures stray { reply_lines 4 (answer.Turn (reply.Untranslatable (codes "/config/brokers/x") read.Stray ∷ [])) ≡ codes "4 untranslatable \"/config/brokers/x\" stray\n" }
+    ensures field { reply_lines 4 (answer.Turn (reply.Read 1 ∷ reply.Untranslatable (codes "/a") (read.Body (fault.BadField (codes "config"))) ∷ []))
         ≡ codes "4 read 1\n4 untranslatable \"/a\" bad-field \"config\"\n" }
-    ensures over { reply_lines 4 (answer.Turn (reply.Untranslatable (codes "/a") (why.Over 2) ∷ [])) ≡ codes "4 untranslatable \"/a\" over 2\n" }
+    ensures over { reply_lines 4 (answer.Turn (reply.Untranslatable (codes "/a") (read.Over 2) ∷ [])) ≡ codes "4 untranslatable \"/a\" over 2\n" }
     ensures silent { reply_lines 4 (answer.Turn (reply.Looked ∷ reply.NoMemory ∷ [])) ≡ codes "4 looked\n" }
 {}
 
@@ -64,4 +66,7 @@ pub fn untranslatable_lines()
 pub fn endings()
     ensures script { status_text (status.Script 5) ≡ codes "script line 5" }
     ensures limit { status_text (status.Limit 10 2097152) ≡ codes "limit 10" }
+    ensures tree { status_text (status.TreeDamaged 16) ≡ codes "tree damaged at 16" }
+    ensures log { status_text (status.LogDamaged 241 why.Sum) ≡ codes "log damaged at 241 sum" }
+    ensures crc { status_text (status.LogDamaged 16 (why.Batch (BadCrc 0x00ab12ff 0xe3069283))) ≡ codes "log damaged at 16 crc 00ab12ff e3069283" }
 {}

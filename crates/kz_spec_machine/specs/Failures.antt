@@ -67,7 +67,8 @@ abbrev pub IsLeftByStep : World → Event → World → Type 0
 IsLeftByStep w (event.Step id now p) new = (running_refusal w id ≡ None) × ((d : Driver) × (driver_of id w.drivers ≡ Some d)) × (new ≡ w)
 IsLeftByStep w e new = ⊥
 
--- A rollback that isn't refused resets the log first. It has done so where the tree failed, and may have where memory ran out.
+-- What an event leaves that is answered `TreeFailed`, and one that is out of memory. A rollback that isn't refused resets the log
+-- first. It has done so where the tree failed, and may have where memory ran out.
 abbrev pub IsLeftByTree : World → Event → World → Type 0
 IsLeftByTree w event.Rollback new = (rollback_refusal w ≡ None) × (new ≡ reset_world w)
 IsLeftByTree w e new = new ≡ w
@@ -76,10 +77,18 @@ abbrev pub IsLeftOutOfMemory : World → Event → World → Type 0
 IsLeftOutOfMemory w event.Rollback new = (new ≡ w) ⊎ ((rollback_refusal w ≡ None) × (new ≡ reset_world w))
 IsLeftOutOfMemory w e new = new ≡ w
 
+-- What an event leaves that is answered `LogFailed`: the world as it was. A rollback reads the log before anything refuses it, so it
+-- may find the log's disk down; with any other fault of the log nothing refuses it.
+abbrev pub IsLeftByLog : World → Event → LogFault → World → Type 0
+IsLeftByLog w event.Rollback log_fault.Down new = new ≡ w
+IsLeftByLog w event.Rollback fault new = (rollback_refusal w ≡ None) × (new ≡ w)
+IsLeftByLog w e fault new = new ≡ w
+
 -- What an event leaves that failed. But for a turn that was cut off and a rollback, it leaves the world as it was.
 abbrev pub IsLeft : World → Event → Answer → World → Type 0
 IsLeft w e (answer.Turn replies) new = IsLeftByTurn w e replies new
 IsLeft w e (answer.Step r) new = IsLeftByStep w e new
 IsLeft w e (answer.TreeFailed f) new = IsLeftByTree w e new
+IsLeft w e (answer.LogFailed f) new = IsLeftByLog w e f new
 IsLeft w e answer.NoMemory new = IsLeftOutOfMemory w e new
 IsLeft w e a new = new ≡ w

@@ -208,7 +208,7 @@ over number = answer.Over number
 abbrev pub full : Log → List MetaRecord → Option Answer
 full l items = option_map over (full_log l items)
 
--- the controller is declared and runs
+-- why an event of a controller is refused that has to be declared and to run
 abbrev pub running_refusal : World → ℤ → Option Answer
 running_refusal w id = first_of (unless (is_one_of w.shared.declared id) answer.UnknownController) (unless (is_running id w.drivers) answer.NotRunning)
 
@@ -220,13 +220,13 @@ abbrev pub driver_refusal : ℤ → Option Driver → Option Answer
 driver_refusal epoch None = Some answer.NotLeader
 driver_refusal epoch (Some d) = epoch_refusal epoch d.epoch
 
--- and leads the log
+-- and that has to lead the log, too
 abbrev pub leader_refusal : World → ℤ → Option Answer
 leader_refusal w id = first_of (running_refusal w id) (driver_refusal w.shared.log.epoch (driver_of id w.drivers))
 
 -- ---- quorum
 
--- no controller runs, and not too many are declared
+-- why no quorum is declared: a controller runs, or these are too many
 abbrev pub quorum_refusal : World → List ℤ → Option Answer
 quorum_refusal w ids = first_of (option_map (λ id. answer.Running id) (least (running_ids w.drivers))) (unless (nat_le (length ids) MAX_CONTROLLERS) (over (number_of_limit limits.Controllers)))
 
@@ -421,7 +421,7 @@ abbrev pub is_dual_write : DriverState → Bool
 is_dual_write state.DualWrite = true
 is_dual_write other = false
 
--- the driver writes each change of the metadata to ZooKeeper, too
+-- why a migration isn't finalised by this driver: it doesn't write each change of the metadata to ZooKeeper, too
 abbrev pub dual_write_refusal : Option Driver → Option Answer
 dual_write_refusal None = None
 dual_write_refusal (Some d) = unless (is_dual_write (state_of d.stage)) (answer.NotDualWrite (state_of d.stage))
@@ -430,7 +430,7 @@ abbrev pub behind_refusal : Option Recorded → ℤ → Option Answer
 behind_refusal None end = None
 behind_refusal (Some r) end = unless (int_eq r.offset end) (answer.Behind r.offset end)
 
--- the tree is closed, and records the offset at which the log ends
+-- why a migration isn't ended yet: the tree isn't closed, or doesn't record the offset at which the log ends
 abbrev pub rest_refusal : Tree → ℤ → Option Answer
 rest_refusal t end = first_of (option_map (λ path. answer.Unclosed path) (unclosed_path t)) (behind_refusal (migration_record t) end)
 
@@ -448,11 +448,11 @@ finalise_refusal w id = first_of (leader_refusal w id) (
 
 -- ---- a migration that is taken back
 
--- The migration isn't finalised. Where it is committed, ZooKeeper has all of the metadata.
+-- Why a migration isn't taken back: it is finalised, or it is committed and ZooKeeper doesn't have all of the metadata.
 abbrev pub exit_refusal : Tree → Log → Option Answer
 exit_refusal t l = first_of (unless (not (is_finalised_log l)) answer.Finalised) (if is_migrated_log l then rest_refusal t (end_of l) else None)
 
--- and no controller runs
+-- and why a rollback is refused: by a controller that runs, too
 abbrev pub rollback_refusal : World → Option Answer
 rollback_refusal w = first_of (option_map (λ id. answer.Running id) (least (running_ids w.drivers))) (exit_refusal w.shared.tree w.shared.log)
 

@@ -2,9 +2,9 @@
 use Rattle.std.specs.Prelude.{⊤}
 use Rattle.kz_spec_lines.proofs.OnLiterals.{lines_on_literals}
 use Rattle.kz_spec_machine.proofs.OnLiterals.{machine_on_literals}
-use Rattle.kz_spec_runs.specs.Output.{outcome, lines_of_items}
+use Rattle.kz_spec_runs.specs.Output.{outcome, progress_of}
 use Rattle.kz_spec_runs.specs.Moments.{moments}
 
 unfoldable pub runs_on_literals : ⊤
-unfolding lines_on_literals machine_on_literals outcome lines_of_items moments
+unfolding lines_on_literals machine_on_literals outcome progress_of moments
 runs_on_literals = tt

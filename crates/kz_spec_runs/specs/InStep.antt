@@ -12,7 +12,7 @@ use Rattle.kz_spec_stores.specs.Tree.{area, unclosed_path}
 use Rattle.kz_spec_stores.specs.Log.{image_of}
 use Rattle.kz_spec_znodes.specs.Rendering.{render}
 use Rattle.kz_spec_machine.specs.Driver.{Shared, Driver, state_of}
-use Rattle.kz_spec_machine.specs.Machine.{World, empty_world, driver_of, next, after_events}
+use Rattle.kz_spec_machine.specs.Machine.{World, driver_of, next, after_events}
 
 -- No znode of the migrated area was written after the offset was recorded, and the area is the rendering of the metadata
 -- at the log's end.
@@ -31,11 +31,11 @@ pub record ComesToRest (old new : World) (id now : ℤ) (replies : List Reply) :
   pub idle : last_reply replies ≡ Some reply.Idle
   pub dual : option_map (λ (d : Driver). state_of d.stage) (driver_of id new.drivers) ≡ Some state.DualWrite
 
--- After each turn among these events that comes to rest, the tree is in step with the log.
-abbrev pub StaysInStep : List Event → Type 0
-StaysInStep es = (before after : List Event) (id now : ℤ) (new : World) (replies : List Reply)
+-- After each turn among these events, from this world on, that comes to rest, the tree is in step with the log.
+abbrev pub StaysInStep : World → List Event → Type 0
+StaysInStep w es = (before after : List Event) (id now : ℤ) (new : World) (replies : List Reply)
     → es ≡ before ++ event.Turn id now ∷ after
-    → ComesToRest (after_events empty_world before) new id now replies
+    → ComesToRest (after_events w before) new id now replies
     → InStep new.shared
 
 abbrev pub events_on : Option Event → List Event → List Event

@@ -3,3 +3,4 @@ pub mod Moments
 pub mod Endings
 pub mod InStep
 pub mod Promises
+pub mod Openings

@@ -1,11 +1,13 @@
 -- What a stop may find at each moment of a run: what is written by then, and the tree and the log.
-use Rattle.std.specs.Prelude.{ℕ, ◌-◌, take, length, List, [], ◌∷◌, ◌++◌, Option, Some, None, if◌then◌else◌}
+use Rattle.std.specs.Prelude.{◌≡◌, ℕ, ◌-◌, take, length, List, [], ◌∷◌, ◌++◌, Option, Some, None, Contains, if◌then◌else◌}
 use Rattle.kz_types.specs.declared.machine.Event.{Event}
 use Rattle.kz_types.specs.declared.outside.Status.{Status}
 use Rattle.kz_spec_lines.specs.Lines.{Item, line, long, much, items, is_passed_over}
 use Rattle.kz_spec_lines.specs.Events.{line_event}
-use Rattle.kz_spec_machine.specs.Machine.{Pair, pair_of, next, event_pairs}
-use Rattle.kz_spec_runs.specs.Output.{Place, start_place, place_after_line, place_after_event, written_for, ending, summary}
+use Rattle.kz_spec_stores.specs.Tree.{Tree}
+use Rattle.kz_spec_stores.specs.Log.{Log}
+use Rattle.kz_spec_machine.specs.Machine.{World, Pair, pair_of, next, event_pairs}
+use Rattle.kz_spec_runs.specs.Output.{Place, place_of, place_after_line, place_after_event, written_for, ending, summary}
 
 -- The lines that stand whole, the lines that are being written, of which some front may stand, and the tree and the log.
 pub record Moment : Type 0 where
@@ -51,6 +53,22 @@ moments p (long ∷ is) = moment_at [] (pair_of p.world.shared) ∷ []
 moments p (much ∷ is) = moment_at [] (pair_of p.world.shared) ∷ []
 moments p (line l ∷ is) = if is_passed_over l then moments (place_after_line p) is else moments_on p (line_event l) (λ q. moments q is)
 
--- The moments of a replay of these bytes.
-abbrev pub replayed_moments : List ℕ → List Moment
-replayed_moments bytes = moments start_place (items bytes)
+-- The moments of a replay of these bytes that begins in this world.
+abbrev pub replayed_moments : World → List ℕ → List Moment
+replayed_moments w bytes = moments (place_of w) (items bytes)
+
+-- With this much written, a tree and a log that a stop leaves are those of a moment that keeps up with it: the lines that stand
+-- whole are written, and of those under way at most a front.
+pub record StandsAt (ms : List Moment) (sent : List ℕ) (tree : Option Tree) (log : Option Log) : Type 0 where
+  pub moment : Moment
+  pub among : Contains ms moment
+  pub part : List ℕ
+  pub rest : List ℕ
+  pub front : moment.reply ≡ part ++ rest
+  pub written : sent ≡ moment.text ++ part
+  pub tree_is : tree ≡ Some moment.pair.tree
+  pub log_is : log ≡ Some moment.pair.log
+
+-- Whatever a stop leaves of both, it is such a pair.
+abbrev pub LeavesMoment : List Moment → List ℕ → (Option Tree → Type 0) → (Option Log → Type 0) → Type 0
+LeavesMoment ms sent tree_left log_left = (t : Option Tree) (l : Option Log) → tree_left t → log_left l → StandsAt ms sent t l

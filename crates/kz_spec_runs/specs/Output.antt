@@ -1,4 +1,4 @@
--- What `replay` writes for its input, and how it ends.
+-- What `replay` writes for its input, how it ends, and the world in which it ends.
 use Rattle.std.specs.Prelude.{ℕ, ◌+◌, ◌==◌, Bool, ℤ, List, [], ◌∷◌, ◌++◌, length, Option, Some, None, option_map, if◌then◌else◌}
 use Rattle.std.specs.List.{filter_map, list_any}
 use Rattle.kz_types.specs.declared.limits.Limit.TheVariants as limits
@@ -21,20 +21,24 @@ use Rattle.kz_spec_lines.specs.Events.{line_event}
 use Rattle.kz_spec_lines.specs.Replies.{reply_lines, summary_line}
 use Rattle.kz_spec_stores.specs.Tree.{Tree, migration_record}
 use Rattle.kz_spec_stores.specs.Log.{end_of}
-use Rattle.kz_spec_machine.specs.Machine.{World, empty_world, next}
+use Rattle.kz_spec_machine.specs.Machine.{World, next}
 
--- A text, and how the run that writes it ends.
+-- A text, and how the run that writes it ends, and in which world.
 pub record Outcome : Type 0 where
   pub text : List ℕ
   pub status : Status
+  pub world : World
+
+abbrev pub written_and_status : Outcome → List ℕ × Status
+written_and_status o = (o.text, o.status)
 
 -- what is written before the rest of a run
 abbrev pub after : List ℕ → Outcome → Outcome
-after text o = record { text = text ++ o.text; status = o.status }
+after text o = record o { text = text ++ o.text }
 
 -- the end of a run that writes nothing more
-abbrev pub end_of_run : Status → Outcome
-end_of_run s = record { text = []; status = s }
+abbrev pub end_of_run : World → Status → Outcome
+end_of_run w s = record { text = []; status = s; world = w }
 
 -- ---- places
 
@@ -45,8 +49,9 @@ pub record Place : Type 0 where
   pub steps : ℕ
   pub world : World
 
-abbrev pub start_place : Place
-start_place = record { lines = 0; events = 0; steps = 0; world = empty_world }
+-- the place before the first line, of a run that begins in this world
+abbrev pub place_of : World → Place
+place_of w = record { lines = 0; events = 0; steps = 0; world = w }
 
 -- the place after a line that is passed over
 abbrev pub place_after_line : Place → Place
@@ -99,14 +104,14 @@ ending a = None
 
 -- ---- outcomes
 
-abbrev pub unless_ended : Option Status → Outcome → Outcome
-unless_ended (Some s) rest = end_of_run s
-unless_ended None rest = rest
+abbrev pub unless_ended : Option Status → World → Outcome → Outcome
+unless_ended (Some s) w rest = end_of_run w s
+unless_ended None w rest = rest
 
 -- an event's lines and what follows them, or the end of the run where the line is no event
 abbrev pub on_event : Place → Option Event → (Place → Outcome) → Outcome
-on_event p None go = end_of_run (status.Script (p.lines + 1))
-on_event p (Some e) go = after (written_for p e) (unless_ended (ending (next p.world e).1) (go (place_after_event p e)))
+on_event p None go = end_of_run p.world (status.Script (p.lines + 1))
+on_event p (Some e) go = after (written_for p e) (unless_ended (ending (next p.world e).1) (next p.world e).0 (go (place_after_event p e)))
 
 abbrev pub recorded_offset : Tree → Option ℤ
 recorded_offset t = option_map (λ (r : Recorded). r.offset) (migration_record t)
@@ -118,9 +123,9 @@ summary p = summary_line p.events p.steps p.world.shared.tree.zxid (end_of p.wor
 -- The outcome of these lines from a place on: each event's lines, up to the first line that is no event, or the event
 -- that ends the run, or a limit; and the summary at the end of the input.
 unfoldable pub outcome : Place → List Item → Outcome
-outcome p [] = record { text = summary p; status = status.Done }
-outcome p (long ∷ is) = end_of_run (status.Limit (number_of_limit limits.LineBytes) MAX_LINE_BYTES)
-outcome p (much ∷ is) = end_of_run (status.Limit (number_of_limit limits.InputBytes) MAX_INPUT_BYTES)
+outcome p [] = record { text = summary p; status = status.Done; world = p.world }
+outcome p (long ∷ is) = end_of_run p.world (status.Limit (number_of_limit limits.LineBytes) MAX_LINE_BYTES)
+outcome p (much ∷ is) = end_of_run p.world (status.Limit (number_of_limit limits.InputBytes) MAX_INPUT_BYTES)
 outcome p (line l ∷ is) = if is_passed_over l then outcome (place_after_line p) is else on_event p (line_event l) (λ q. outcome q is)
 
 -- ---- what is written while the input goes on
@@ -133,26 +138,38 @@ abbrev pub whole_lines : List ℕ → List ℕ
 whole_lines [] = []
 whole_lines (b ∷ bs) = if has_line_end (b ∷ bs) then b ∷ whole_lines bs else []
 
-abbrev pub nothing_if_ended : Option Status → List ℕ → List ℕ
-nothing_if_ended (Some s) text = []
-nothing_if_ended None text = text
+-- A text that is written, and the world after the lines that it answers.
+pub record Progress : Type 0 where
+  pub text : List ℕ
+  pub world : World
 
-abbrev pub written_on_event : Place → Option Event → (Place → List ℕ) → List ℕ
-written_on_event p None go = []
-written_on_event p (Some e) go = written_for p e ++ nothing_if_ended (ending (next p.world e).1) (go (place_after_event p e))
+abbrev pub progress_after : List ℕ → Progress → Progress
+progress_after text q = record q { text = text ++ q.text }
+
+-- nothing more is written
+abbrev pub no_further : World → Progress
+no_further w = record { text = []; world = w }
+
+abbrev pub unless_over : Option Status → World → Progress → Progress
+unless_over (Some s) w rest = no_further w
+unless_over None w rest = rest
+
+abbrev pub progress_on_event : Place → Option Event → (Place → Progress) → Progress
+progress_on_event p None go = no_further p.world
+progress_on_event p (Some e) go = progress_after (written_for p e) (unless_over (ending (next p.world e).1) (next p.world e).0 (go (place_after_event p e)))
 
 -- the lines that are written for these items from a place on, without the summary
-unfoldable pub lines_of_items : Place → List Item → List ℕ
-lines_of_items p [] = []
-lines_of_items p (long ∷ is) = []
-lines_of_items p (much ∷ is) = []
-lines_of_items p (line l ∷ is) = if is_passed_over l then lines_of_items (place_after_line p) is else written_on_event p (line_event l) (λ q. lines_of_items q is)
+unfoldable pub progress_of : Place → List Item → Progress
+progress_of p [] = no_further p.world
+progress_of p (long ∷ is) = no_further p.world
+progress_of p (much ∷ is) = no_further p.world
+progress_of p (line l ∷ is) = if is_passed_over l then progress_of (place_after_line p) is else progress_on_event p (line_event l) (λ q. progress_of q is)
 
--- What a replay has written once it has taken these bytes, and before it knows what follows: all lines of the events whose
--- lines have ended.
-abbrev pub written_so_far : List ℕ → List ℕ
-written_so_far bytes = lines_of_items start_place (items (whole_lines bytes))
+-- What a replay that began in this world has written once it has taken these bytes, and before it knows what follows: all lines
+-- of the events whose lines have ended.
+abbrev pub written_so_far : World → List ℕ → Progress
+written_so_far w bytes = progress_of (place_of w) (items (whole_lines bytes))
 
--- What `replay` makes of its input.
-abbrev pub outcome_of_replay : List ℕ → Outcome
-outcome_of_replay bytes = outcome start_place (items bytes)
+-- What a replay that begins in this world makes of its input.
+abbrev pub outcome_of_replay : World → List ℕ → Outcome
+outcome_of_replay w bytes = outcome (place_of w) (items bytes)

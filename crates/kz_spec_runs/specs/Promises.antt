@@ -18,7 +18,7 @@ use Rattle.kz_spec_stores.specs.Log.{Log, commit_of, end_of, entries, entries_at
 use Rattle.kz_spec_znodes.specs.Rendering.{render}
 use Rattle.kz_spec_znodes.specs.Translation.{translate}
 use Rattle.kz_spec_machine.specs.Driver.{Shared, begin_record, commit_records}
-use Rattle.kz_spec_machine.specs.Machine.{World, empty_world, Pair, pair_of, event_pairs, request_pairs, is_finalised_log, next, after_events}
+use Rattle.kz_spec_machine.specs.Machine.{World, Pair, pair_of, event_pairs, request_pairs, is_finalised_log, next, after_events}
 use Rattle.kz_spec_machine.specs.Sound.{IsBatchEnd, IsPastCommit, Agreement}
 use Rattle.kz_spec_runs.specs.InStep.{StaysInStep}
 
@@ -146,49 +146,49 @@ pub record StaysFinalised (w : World) (e : Event) : Type 0 where
   pub moments : IsStepTurnOrRollback e → All (IsMomentOf w.shared) (event_pairs w e)
   pub refused : e ≡ event.Rollback → IsFinalRefusal (next w e).1
 
--- ---- scripts
+-- ---- runs
 
--- the moments of these events, from an empty tree and log on
-abbrev pub first_moment : Pair
-first_moment = pair_of empty_world.shared
+-- the moments of these events, from this world on
+abbrev pub first_moment : World → Pair
+first_moment w = pair_of w.shared
 
-abbrev pub further_moments : List Event → List Pair
-further_moments es = request_pairs empty_world es
+abbrev pub further_moments : World → List Event → List Pair
+further_moments w es = request_pairs w es
 
 -- A migration is committed whole or not at all.
-abbrev pub CommittedWhole : List Event → Type 0
-CommittedWhole es = Linked CommitsWhole first_moment (further_moments es)
+abbrev pub CommittedWhole : World → List Event → Type 0
+CommittedWhole w es = Linked CommitsWhole (first_moment w) (further_moments w es)
 
--- Each znode agrees with the log.
-abbrev pub Agreeing : List Event → Type 0
-Agreeing es = AgreeFrom [] first_moment (further_moments es)
+-- Each znode agrees with the log. Where the log is migrated when the run begins, its source is the area then.
+abbrev pub Agreeing : World → List Event → Type 0
+Agreeing w es = AgreeFrom (area w.shared.tree) (first_moment w) (further_moments w es)
 
 -- A tree that wasn't written since an offset was recorded is as it was recorded.
-abbrev pub StayingAsRecorded : List Event → Type 0
-StayingAsRecorded es = All IsAsRecorded (first_moment ∷ further_moments es)
+abbrev pub StayingAsRecorded : World → List Event → Type 0
+StayingAsRecorded w es = All IsAsRecorded (first_moment w ∷ further_moments w es)
 
 -- A migrated log and its tree are in agreement.
-abbrev pub StayingInAgreement : List Event → Type 0
-StayingInAgreement es = All IsInAgreement (first_moment ∷ further_moments es)
+abbrev pub StayingInAgreement : World → List Event → Type 0
+StayingInAgreement w es = All IsInAgreement (first_moment w ∷ further_moments w es)
 
 -- After a migration is finalised, it stays so at each further event, no step, turn or rollback changes the tree or the log, and
 -- each rollback is refused.
-abbrev pub FinalisedForGood : List Event → Type 0
-FinalisedForGood es = (before after : List Event) (e : Event) → es ≡ before ++ e ∷ after → is_finalised_log (after_events empty_world before).shared.log ≡ true → StaysFinalised (after_events empty_world before) e
+abbrev pub FinalisedForGood : World → List Event → Type 0
+FinalisedForGood w es = (before after : List Event) (e : Event) → es ≡ before ++ e ∷ after → is_finalised_log (after_events w before).shared.log ≡ true → StaysFinalised (after_events w before) e
 
--- What is promised of these events.
-pub record Promises (es : List Event) : Type 0 where
+-- What is promised of these events, from this world on.
+pub record Promises (w : World) (es : List Event) : Type 0 where
   -- A migration is committed whole or not at all, as the translation of the znodes that it read.
-  pub committed : CommittedWhole es
+  pub committed : CommittedWhole w es
   -- Each migrated znode is as it is rendered at the recorded offset or at a later one. Until a first offset is recorded, it may
   -- be as it was at the commit.
-  pub agrees : Agreeing es
+  pub agrees : Agreeing w es
   -- All are as they are rendered at the recorded one where no later write stands.
-  pub recorded : StayingAsRecorded es
+  pub recorded : StayingAsRecorded w es
   -- While the log is migrated, a KRaft controller holds the tree, and `/migration` can be read and agrees with the log.
-  pub in_agreement : StayingInAgreement es
+  pub in_agreement : StayingInAgreement w es
   -- After each turn that comes to rest in dual write, they are as they are rendered at the log's end.
-  pub in_step : StaysInStep es
+  pub in_step : StaysInStep w es
   -- After the migration is finalised, it stays so, no step, turn or rollback changes the tree or the log, and each rollback is
   -- refused.
-  pub finalised : FinalisedForGood es
+  pub finalised : FinalisedForGood w es

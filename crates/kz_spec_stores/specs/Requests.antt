@@ -1,6 +1,6 @@
 -- What every store answers a request, what the request did to the store's disk, and what a stop may leave of the store:
 -- the value that is left, or None where what is left stands for none.
-use Rattle.std.specs.Prelude.{◌≡◌, ◌⊎◌, ◌<◌, ◌≤◌, ℕ, ◌+◌, max, ℤ, Bool, true, false, List, Option, Some, None, is_some, option_map, Result, Ok, Err, ⊤}
+use Rattle.std.specs.Prelude.{◌≡◌, ◌⊎◌, ◌<◌, ◌≤◌, ℕ, ◌+◌, ◌-◌, ◌^◌, min, max, ℤ, Bool, true, false, List, Option, Some, None, is_some, option_map, Result, Ok, Err, ⊤}
 use Rattle.kz_types.specs.declared.limits.TheConstants.{MAX_FILE_BYTES}
 use Rattle.kz_types.specs.declared.tree.Op.{Op}
 use Rattle.kz_types.specs.declared.record.MetaRecord.{MetaRecord}
@@ -55,10 +55,10 @@ abbrev pub Fits : Option StoreFile → Type 0
 Fits None = ⊤
 Fits (Some file) = file.length ≤ MAX_FILE_BYTES
 
--- a file would pass the limit, and this is the length that it would have
+-- a file would pass the limit, and this is the length that it would have, or the greatest number of 64 bits where that is less
 abbrev pub IsTooLong : Option StoreFile → ℕ → Type 0
 IsTooLong None told = ⊥
-IsTooLong (Some file) told = (told ≡ file.length) × (MAX_FILE_BYTES < file.length)
+IsTooLong (Some file) told = (told ≡ min file.length (2 ^ 64 - 1)) × (MAX_FILE_BYTES < file.length)
 
 -- ---- what a store answers
 

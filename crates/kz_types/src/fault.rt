@@ -1,5 +1,5 @@
 //! Why a call of the layers below answers no value.
-use crate::Text;
+use crate::{BatchFault, CodecFault, Text};
 
 /// Why the body of a znode can't be read.
 #[derive(Drop)]
@@ -63,4 +63,21 @@ pub enum LogFault {
     Down,
     /// The file would have this length.
     Full { length: u64 },
+}
+
+/// Why a log's file is damaged at a place.
+#[derive(Clone, Copy, Debug, PartialEq, Eq)]
+pub enum LogWhy {
+    /// It doesn't begin with the header of a log's file.
+    Header,
+    /// A field of the frame is cut, or its kind isn't known.
+    Malformed,
+    /// The frame's batch can't be read.
+    Batch(BatchFault),
+    /// A record of the frame's batch can't be read.
+    Value(CodecFault),
+    /// The frame doesn't follow on the log before it.
+    Sequence,
+    /// The frame has another sum.
+    Sum,
 }

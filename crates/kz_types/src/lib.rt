@@ -53,6 +53,7 @@ pub use duplicate::Duplicate;
 pub use duplicate::copy_all;
 pub use fault::BodyFault;
 pub use fault::LogFault;
+pub use fault::LogWhy;
 pub use fault::ReadWhy;
 pub use fault::TreeFault;
 pub use id::Id;

@@ -1,4 +1,5 @@
 //! How a call to the outside fails, and how a run ends.
+use crate::LogWhy;
 
 /// A call to a source, a sink or a disk failed.
 #[derive(Clone, Copy, Debug, PartialEq, Eq)]
@@ -17,8 +18,18 @@ pub enum Status {
     ReadFault,
     /// The sink failed.
     WriteFault,
+    /// A call of the tree's disk failed.
+    TreeFault,
+    /// A call of the log's disk failed.
+    LogFault,
+    /// The tree's file is damaged at this place, in bytes.
+    TreeDamaged { at: u64 },
+    /// The log's file is damaged at this place, in bytes.
+    LogDamaged { at: u64, why: LogWhy },
     /// Memory ran out.
     NoMemory,
     /// The limit numbered `which`, whose greatest value is `number`, would be passed.
     Limit { which: u8, number: u64 },
+    /// A file that should be made holds a tree or a log.
+    NotEmpty,
 }

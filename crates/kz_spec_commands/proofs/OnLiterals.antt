@@ -1,0 +1,7 @@
+-- What a proof unfolds to compute the definitions of this crate on a literal.
+use Rattle.std.specs.Prelude.{⊤}
+use Rattle.kz_spec_files.proofs.FilesOnLiterals.{files_on_literals}
+
+unfoldable pub commands_on_literals : ⊤
+unfolding files_on_literals
+commands_on_literals = tt
