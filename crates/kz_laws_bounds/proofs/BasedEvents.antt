@@ -24,9 +24,11 @@ use Rattle.kz_ordered.specs.Order.{bytes_cmp}
 use Rattle.kz_ordered.proofs.Order.{bytes_order}
 use Rattle.kz_spec_values.specs.Control.{control_path, epoch_path, migration_path, shown_epoch}
 use Rattle.kz_spec_stores.specs.Tree.{Tree, path_of_op, row_at, after_op, multi, begin_session, end_session, is_owner, is_owned, loses_child, after_loss}
+use Rattle.kz_spec_stores.specs.Log.{Log}
 use Rattle.kz_spec_machine.specs.Driver.{Shared, Driver, new_driver, elected_driver}
-use Rattle.kz_spec_machine.specs.Machine.{World, driver_of, quorum_refusal, declared_world, start_refusal, started_world, stop_refusal, stopped_world, next_epoch, election_refusal, elected_world, election_answer, change_refusal, changed_world, registration, register_refusal, final_records, finalise_refusal, exit_ops, tree_after_ops, reset_world, given_back, rollback_refusal, with_tree, moved_world, is_reserved, is_held, is_held_tree, first_told, client_refusal, client_world, next, empty_world, after_events}
+use Rattle.kz_spec_machine.specs.Machine.{World, driver_of, quorum_refusal, declared_world, start_refusal, started_world, stop_refusal, stopped_world, next_epoch, election_refusal, elected_world, election_answer, change_refusal, changed_world, registration, register_refusal, final_records, finalise_refusal, exit_ops, tree_after_ops, reset_world, given_back, rollback_refusal, with_tree, moved_world, is_reserved, is_held, is_held_tree, first_told, client_refusal, client_world, next, after_events}
 use Rattle.kz_spec_machine.specs.Sound.{Lasts, is_lasting, claim_version, shown_in, SeesPresent, Looks, AtStage, IsSoundDriver, Each, Sound, BasesAtStage, Based, IsLawful}
+use Rattle.kz_spec_runs.specs.Openings.{opened_world}
 use Rattle.kz_laws_trees.proofs.Rows.{same, other, compare, created_found, set_found}
 use Rattle.kz_laws_trees.proofs.Runs.{ran}
 use Rattle.kz_laws_trees.proofs.Multi.{multi_ran}
@@ -339,8 +341,8 @@ all_based w each = record { claimed = λ j f found. (each j f found).claimed; lo
 pub event_based : (w : World) (e : Event) → IsLawful e → LeavesBases w e → Sound w → Based w → Based (next w e).0
 event_based w e lawful leaves sound based = all_based (next w e).0 (each_event w e lawful leaves sound (each_based w based))
 
-pub empty_based : Based empty_world
-empty_based = record { claimed = λ j f found. absurd (cc); looked = λ j f found. absurd (cc) }
+pub opened_based : (t : Tree) (l : Log) → Based (opened_world t l)
+opened_based t l = record { claimed = λ j f found. absurd (cc); looked = λ j f found. absurd (cc) }
 
 pub run_based : (es : List Event) (w : World) → All IsLawful es → AllLeaveBases w es → Sound w → Based w → Based (after_events w es)
 unfolding after_events

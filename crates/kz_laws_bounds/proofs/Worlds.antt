@@ -5,18 +5,21 @@ use Rattle.kz_types.specs.declared.machine.Answer.TheVariants as answer
 use Rattle.kz_types.specs.declared.machine.Event.{Event}
 use Rattle.kz_types.specs.declared.machine.Event.TheVariants as event
 use Rattle.kz_types.specs.declared.machine.Reply.{Reply}
+use Rattle.kz_spec_stores.specs.Tree.{Tree}
+use Rattle.kz_spec_stores.specs.Log.{Log}
 use Rattle.kz_spec_machine.specs.Driver.{Driver, is_one_of}
-use Rattle.kz_spec_machine.specs.Machine.{World, empty_world, running_ids, is_running, driver_of, first_of, unless, running_refusal, turn, work, turn_result, unless_refused, next, after_events}
+use Rattle.kz_spec_machine.specs.Machine.{World, running_ids, is_running, driver_of, first_of, unless, running_refusal, turn, work, turn_result, unless_refused, next, after_events}
 use Rattle.kz_spec_machine.specs.Sound.{IsTime, Each, Sound, Based, IsLawful}
+use Rattle.kz_spec_runs.specs.Openings.{opened_world}
 use Rattle.kz_laws_commits.specs.Commits.{Copies}
-use Rattle.kz_laws_events.proofs.Runs.{empty_sound, run_sound}
+use Rattle.kz_laws_events.proofs.Runs.{run_sound}
 use Rattle.kz_laws_commits.proofs.Events.{run_copies}
 use Rattle.kz_laws_bounds.specs.Bounds.{EndsByItself}
 use Rattle.kz_laws_bounds.specs.Events.{AllLeaveBases, TurnEnds}
 use Rattle.kz_laws_bounds.proofs.Turns.{turn_same}
 use Rattle.kz_laws_bounds.proofs.Steps.{ends_by_itself}
 use Rattle.kz_laws_bounds.proofs.Start.{left_at_work}
-use Rattle.kz_laws_bounds.proofs.BasedEvents.{empty_based, run_based}
+use Rattle.kz_laws_bounds.proofs.BasedEvents.{opened_based, run_based}
 
 -- a turn of a driver of the world
 turn_over : (w : World) (id now : ℤ) (d : Driver) → IsTime now → Sound w → Based w → Copies w.shared d → driver_of id w.drivers ≡ Some d → EndsByItself (turn (work w.shared d) w.shared (running_ids w.drivers) now d).replies
@@ -34,12 +37,13 @@ more_are_none w id now d n time sound based copies runs found more = turn_same (
 
 -- ---- runs
 
-none_copies : Each (Copies empty_world.shared) empty_world.drivers
-none_copies id d found = absurd (cc)
+none_copies : (t : Tree) (l : Log) → Each (Copies (opened_world t l).shared) (opened_world t l).drivers
+none_copies t l id d found = absurd (cc)
 
-pub run_turn_ends : (es : List Event) (id now : ℤ) (d : Driver) → All IsLawful es → AllLeaveBases empty_world es → IsTime now → driver_of id (after_events empty_world es).drivers ≡ Some d → TurnEnds (after_events empty_world es) now d
-run_turn_ends es id now d lawful leaves time found =
-    turn_over (after_events empty_world es) id now d time (run_sound es empty_world lawful empty_sound) (run_based es empty_world lawful leaves empty_sound empty_based) (run_copies es empty_world lawful empty_sound none_copies id d found) found
+pub run_turn_ends : (t : Tree) (l : Log) (es : List Event) (id now : ℤ) (d : Driver) → Sound (opened_world t l) → All IsLawful es → AllLeaveBases (opened_world t l) es → IsTime now → driver_of id (after_events (opened_world t l) es).drivers ≡ Some d → TurnEnds (after_events (opened_world t l) es) now d
+run_turn_ends t l es id now d sound lawful leaves time found =
+    let w : World = opened_world t l in
+    turn_over (after_events w es) id now d time (run_sound es w lawful sound) (run_based es w lawful leaves sound (opened_based t l)) (run_copies es w lawful sound (none_copies t l) id d found) found
 
 -- ---- the answer of a turn
 
@@ -61,5 +65,5 @@ unfolding next
 turn_told w id now replies over is =
     told_by w id now (driver_of id w.drivers) replies refl over (not_refused (is_one_of w.shared.declared id) (is_running id w.drivers) w (turn_result w now (driver_of id w.drivers)) replies is)
 
-pub run_turn_told : (es : List Event) (id now : ℤ) (replies : List Reply) → All IsLawful es → AllLeaveBases empty_world es → IsTime now → (next (after_events empty_world es) (event.Turn id now)).1 ≡ answer.Turn replies → EndsByItself replies
-run_turn_told es id now replies lawful leaves time is = turn_told (after_events empty_world es) id now replies (λ d found. run_turn_ends es id now d lawful leaves time found) is
+pub run_turn_told : (t : Tree) (l : Log) (es : List Event) (id now : ℤ) (replies : List Reply) → Sound (opened_world t l) → All IsLawful es → AllLeaveBases (opened_world t l) es → IsTime now → (next (after_events (opened_world t l) es) (event.Turn id now)).1 ≡ answer.Turn replies → EndsByItself replies
+run_turn_told t l es id now replies sound lawful leaves time is = turn_told (after_events (opened_world t l) es) id now replies (λ d found. run_turn_ends t l es id now d sound lawful leaves time found) is

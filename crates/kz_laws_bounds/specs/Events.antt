@@ -10,9 +10,11 @@ use Rattle.kz_types.specs.declared.machine.Event.TheVariants as event
 use Rattle.kz_types.specs.Paths.{base_paths, is_among}
 use Rattle.kz_types.specs.declared.machine.Reply.{Reply}
 use Rattle.kz_spec_stores.specs.Tree.{Tree}
+use Rattle.kz_spec_stores.specs.Log.{Log}
 use Rattle.kz_spec_machine.specs.Driver.{Driver}
-use Rattle.kz_spec_machine.specs.Machine.{World, empty_world, running_ids, driver_of, turn, work, next, after_events}
+use Rattle.kz_spec_machine.specs.Machine.{World, running_ids, driver_of, turn, work, next, after_events}
 use Rattle.kz_spec_machine.specs.Sound.{IsTime, SeesPresent, Each, Sound, Based, IsLawful}
+use Rattle.kz_spec_runs.specs.Openings.{opened_world}
 use Rattle.kz_laws_bounds.specs.Bounds.{EndsByItself}
 
 -- an operation that isn't the delete of a base znode
@@ -34,9 +36,9 @@ LeavesBases w e = ⊤
 abbrev pub EventsKeepBased : Type 0
 EventsKeepBased = (w : World) (e : Event) → IsLawful e → LeavesBases w e → Sound w → Based w → Based (next w e).0
 
--- The empty world is based.
-abbrev pub EmptyIsBased : Type 0
-EmptyIsBased = Based empty_world
+-- The world in which a run begins is based.
+abbrev pub BeginsBased : Type 0
+BeginsBased = (t : Tree) (l : Log) → Based (opened_world t l)
 
 -- each event of a run from this world on is such a one
 abbrev pub AllLeaveBases : World → List Event → Type 0
@@ -51,10 +53,11 @@ RunsKeepBased = (es : List Event) (w : World) → All IsLawful es → AllLeaveBa
 abbrev pub TurnEnds : World → ℤ → Driver → Type 0
 TurnEnds w now d = EndsByItself (turn (work w.shared d) w.shared (running_ids w.drivers) now d).replies
 
--- After a run of such events from the empty world on, each turn ends by itself.
+-- After a run of such events from a sound tree and log, each turn ends by itself.
 abbrev pub TurnsOfRunsEnd : Type 0
-TurnsOfRunsEnd = (es : List Event) (id now : ℤ) (d : Driver) → All IsLawful es → AllLeaveBases empty_world es → IsTime now → driver_of id (after_events empty_world es).drivers ≡ Some d → TurnEnds (after_events empty_world es) now d
+TurnsOfRunsEnd = (t : Tree) (l : Log) (es : List Event) (id now : ℤ) (d : Driver) → Sound (opened_world t l) → All IsLawful es → AllLeaveBases (opened_world t l) es → IsTime now → driver_of id (after_events (opened_world t l) es).drivers ≡ Some d → TurnEnds (after_events (opened_world t l) es) now d
 
 -- And where a turn is answered after it, the last of the replies is one that ends a turn.
 abbrev pub AnswersOfRunsEnd : Type 0
-AnswersOfRunsEnd = (es : List Event) (id now : ℤ) (replies : List Reply) → All IsLawful es → AllLeaveBases empty_world es → IsTime now → (next (after_events empty_world es) (event.Turn id now)).1 ≡ answer.Turn replies → EndsByItself replies
+AnswersOfRunsEnd = (t : Tree) (l : Log) (es : List Event) (id now : ℤ) (replies : List Reply) → Sound (opened_world t l) → All IsLawful es → AllLeaveBases (opened_world t l) es → IsTime now
+    → (next (after_events (opened_world t l) es) (event.Turn id now)).1 ≡ answer.Turn replies → EndsByItself replies

@@ -1,7 +1,7 @@
 -- Runs of events.
-use Rattle.std.proofs.Common.{◌≡◌, ℤ, pos, ◌≤ℤ◌, false, List, [], ◌∷◌, All, refl, arith}
+use Rattle.std.proofs.Common.{◌≡◌, ℤ, pos, ◌≤ℤ◌, false, List, [], ◌∷◌, ◌++◌, All, refl, arith}
 use Rattle.std.proofs.lemmas.Int.{ints}
-use Rattle.std.proofs.lemmas.List.Elements.{All-nil, All-head, All-tail}
+use Rattle.std.proofs.lemmas.List.Elements.{All-nil, All-cons, All-head, All-tail}
 use Rattle.kz_types.specs.declared.log.Entry.{Entry}
 use Rattle.kz_types.specs.declared.machine.Event.{Event}
 use Rattle.kz_spec_stores.specs.Tree.{empty_tree}
@@ -58,3 +58,13 @@ pub run_sound : (es : List Event) (w : World) → All IsLawful es → Sound w �
 unfolding after_events
 run_sound [] w lawful sound = sound
 run_sound (e ∷ es) w lawful sound = run_sound es (next w e).0 (All-tail IsLawful e es lawful) (event_sound w e (All-head IsLawful e es lawful) sound)
+
+-- ---- lawful events
+
+pub lawful_before : (before rest : List Event) → All IsLawful (before ++ rest) → All IsLawful before
+lawful_before [] rest all = All-nil IsLawful
+lawful_before (e ∷ es) rest all = All-cons IsLawful e es (All-head IsLawful e (es ++ rest) all) (lawful_before es rest (All-tail IsLawful e (es ++ rest) all))
+
+pub lawful_next : (before after : List Event) (e : Event) → All IsLawful (before ++ e ∷ after) → IsLawful e
+lawful_next [] after e all = All-head IsLawful e after all
+lawful_next (f ∷ fs) after e all = lawful_next fs after e (All-tail IsLawful f (fs ++ e ∷ after) all)

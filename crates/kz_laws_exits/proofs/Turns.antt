@@ -17,7 +17,7 @@ use Rattle.kz_laws_exits.proofs.Final.{step_ends}
 abbrev StillEnds : Shared → Driver → Shared → Driver → Type 0
 StillEnds s d t e = HasEnded s d → StepEnds s d t e
 
-one_ends : (s : Shared) (running : List ℤ) (now : ℤ) (d : Driver) → IsTime now → IsSharedSound s → IsSoundDriver s d → StillEnds s d (step s running now d).shared (step s running now d).driver
+pub one_ends : (s : Shared) (running : List ℤ) (now : ℤ) (d : Driver) → IsTime now → IsSharedSound s → IsSoundDriver s d → HasEnded s d → StepEnds s d (step s running now d).shared (step s running now d).driver
 unfolding step
 one_ends s running now d time kept fine ended = step_ends plan.Deliver s running now d time kept fine ended
 

@@ -1,6 +1,5 @@
 -- The tree in step with the log after each turn that comes to rest, and what a check then tells.
 use Rattle.std.proofs.Common.{◌≡◌, inl, inr, ℕ, zero, suc, ℤ, Bool, true, false, if◌then◌else◌, List, [], ◌∷◌, ◌++◌, Option, Some, None, option_map, All, refl, sym, ap, ◌∙◌, subst}
-use Rattle.std.proofs.lemmas.List.Elements.{All-nil, All-cons, All-head, All-tail}
 use Rattle.kz_types.specs.declared.driver.Stage.{Stage}
 use Rattle.kz_types.specs.declared.driver.Stage.TheVariants as stage
 use Rattle.kz_types.specs.declared.machine.DriverState.TheVariants as state
@@ -15,7 +14,7 @@ use Rattle.kz_types.specs.declared.machine.Verdict.TheVariants.{Closed}
 use Rattle.kz_types.specs.declared.plan.Plan.TheVariants as plan
 use Rattle.kz_spec_stores.specs.Log.{end_of, is_migrated_log}
 use Rattle.kz_spec_machine.specs.Driver.{Shared, Driver, state_of, epoch_or_zero, is_one_of, Request, nothing, read_log, list_brokers, look_up, read_page, write, add, request_at, shared_after, after_answer, hearing, hears_answer, driver_after, planned_step, step}
-use Rattle.kz_spec_machine.specs.Machine.{World, empty_world, running_ids, is_running, driver_of, with_driver, first_of, unless, running_refusal, ends, TurnResult, with_reply, turn, work, turn_result, unless_refused, next, after_events}
+use Rattle.kz_spec_machine.specs.Machine.{World, running_ids, is_running, driver_of, with_driver, first_of, unless, running_refusal, ends, TurnResult, with_reply, turn, work, turn_result, unless_refused, next, after_events}
 use Rattle.kz_spec_machine.specs.Verdicts.{verdict}
 use Rattle.kz_spec_machine.specs.Sound.{IsTime, IsSharedSound, AtStage, IsSoundDriver, Sound, IsLawful}
 use Rattle.kz_spec_runs.specs.InStep.{InStep, last_reply, StaysInStep, ComesToRest}
@@ -24,7 +23,7 @@ use Rattle.kz_laws_steps.specs.Steps.{IsResynced, StepKeeps}
 use Rattle.kz_laws_steps.proofs.Resting.{resting_step}
 use Rattle.kz_laws_steps.proofs.Worlds.{found_id}
 use Rattle.kz_laws_events.proofs.Turned.{one_step, turn_keeps, turn_own}
-use Rattle.kz_laws_events.proofs.Runs.{empty_sound, run_sound}
+use Rattle.kz_laws_events.proofs.Runs.{lawful_before, lawful_next, run_sound}
 use Rattle.kz_laws_rest.proofs.Idle.{idle_at}
 use Rattle.kz_laws_rest.proofs.Told.{closed_told}
 
@@ -161,19 +160,11 @@ rests_in_step w new id now replies time sound rest = in_step new.shared (rest_ke
 
 -- ---- a run
 
-lawful_before : (before rest : List Event) → All IsLawful (before ++ rest) → All IsLawful before
-lawful_before [] rest all = All-nil IsLawful
-lawful_before (e ∷ es) rest all = All-cons IsLawful e es (All-head IsLawful e (es ++ rest) all) (lawful_before es rest (All-tail IsLawful e (es ++ rest) all))
-
-lawful_after : (before rest : List Event) → All IsLawful (before ++ rest) → All IsLawful rest
-lawful_after [] rest all = all
-lawful_after (e ∷ es) rest all = lawful_after es rest (All-tail IsLawful e (es ++ rest) all)
-
-pub stays_in_step : (es : List Event) → All IsLawful es → StaysInStep es
-stays_in_step es lawful before after id now new replies is rest =
+pub stays_in_step : (w : World) (es : List Event) → Sound w → All IsLawful es → StaysInStep w es
+stays_in_step w es sound lawful before after id now new replies is rest =
     let all = subst (All IsLawful) is lawful in
-    let own = All-head IsLawful (event.Turn id now) after (lawful_after before (event.Turn id now ∷ after) all) in
-    rests_in_step (after_events empty_world before) new id now replies own.1 (run_sound before empty_world (lawful_before before (event.Turn id now ∷ after) all) empty_sound) rest
+    let own = lawful_next before after (event.Turn id now) all in
+    rests_in_step (after_events w before) new id now replies own.1 (run_sound before w (lawful_before before (event.Turn id now ∷ after) all) sound) rest
 
 -- ---- a check then
 

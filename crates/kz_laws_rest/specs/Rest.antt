@@ -18,9 +18,9 @@ use Rattle.kz_spec_runs.specs.InStep.{InStep, StaysInStep, ComesToRest}
 abbrev pub TurnsRestInStep : Type 0
 TurnsRestInStep = (w new : World) (id now : ℤ) (replies : List Reply) → IsTime now → Sound w → ComesToRest w new id now replies → InStep new.shared
 
--- So does each such turn of a run.
+-- So does each such turn of a run from a sound world on.
 abbrev pub RunsStayInStep : Type 0
-RunsStayInStep = (es : List Event) → All IsLawful es → StaysInStep es
+RunsStayInStep = (w : World) (es : List Event) → Sound w → All IsLawful es → StaysInStep w es
 
 -- Where the tree is closed and the log migrated, a check tells so, with the offset that is recorded.
 abbrev pub ClosedIsTold : Type 0

@@ -7,7 +7,8 @@ ghost use Rattle.kz_laws_rest.specs.Clients.{ClientsLeaveHeld, ClientsKeepStep, 
 ghost use Rattle.kz_laws_rest.specs.Rest.{TurnsRestInStep, RunsStayInStep, ClosedIsTold, RestIsTold};
 
 /// After each turn that ends idle in dual write, whatever other controllers have done, the tree is closed and its migrated area
-/// is the rendering of the metadata at the log's end; and a check tells so.
+/// is the rendering of the metadata at the log's end; and a check tells so. This holds in every sound world, and so in each world of
+/// a run from one.
 pub fn turns_rest()
     ensures turn { TurnsRestInStep }
     ensures run { RunsStayInStep }

@@ -5,11 +5,12 @@ use Rattle.kz_types.specs.declared.machine.Event.{Event}
 use Rattle.kz_types.specs.declared.plan.Plan.{Plan}
 use Rattle.kz_types.specs.declared.record.MetaRecord.{MetaRecord}
 use Rattle.kz_types.specs.declared.tree.Rendered.{Rendered}
-use Rattle.kz_spec_stores.specs.Tree.{Tree, rendered_row}
-use Rattle.kz_spec_stores.specs.Log.{is_migrated_log, reset}
+use Rattle.kz_spec_stores.specs.Tree.{Tree, area, rendered_row}
+use Rattle.kz_spec_stores.specs.Log.{Log, is_migrated_log, reset}
 use Rattle.kz_spec_machine.specs.Driver.{Shared, Driver, planned_step}
-use Rattle.kz_spec_machine.specs.Machine.{Pair, empty_world, pair_of, after_events, request_pairs}
+use Rattle.kz_spec_machine.specs.Machine.{World, Pair, pair_of, after_events, request_pairs}
 use Rattle.kz_spec_machine.specs.Sound.{IsTime, IsSharedSound, IsSoundDriver, IsLawful}
+use Rattle.kz_spec_runs.specs.Openings.{opened_world, IsSoundPair}
 use Rattle.kz_spec_runs.specs.Promises.{Linked, PathsAgree, source_after, AgreeFrom, Agreeing}
 use Rattle.kz_laws_drivers.specs.Effects.{IsUnchanged}
 use Rattle.kz_laws_events.proofs.Elected.{MayElect, elected_of}
@@ -17,7 +18,6 @@ use Rattle.kz_laws_events.proofs.Elected as elected
 use Rattle.kz_laws_events.proofs.Changed.{IsLeaderBatch, more_of}
 use Rattle.kz_laws_events.proofs.Changed as changed
 use Rattle.kz_laws_events.proofs.Exits.{reset_unmigrated}
-use Rattle.kz_laws_events.proofs.Runs.{empty_sound, not_migrated}
 use Rattle.kz_laws_agreement.proofs.Effects.{nothing_owed, Leaves, left_agrees, longer_agrees}
 use Rattle.kz_laws_agreement.proofs.Steps.{step_agrees}
 use Rattle.kz_laws_runs.proofs.Linked.{Promised, run_linked, linked_of}
@@ -64,9 +64,10 @@ pub agree_from : (source : List Rendered) (p : Pair) (qs : List Pair) → Linked
 agree_from source p [] linked agrees = agrees
 agree_from source p (q ∷ qs) linked agrees = (agrees, agree_from (source_after source p) q qs linked.1 (linked.0 source agrees))
 
-pub run_agrees : (es : List Event) → All IsLawful es → Agreeing es
-run_agrees es lawful =
-    agree_from [] (pair_of empty_world.shared) (request_pairs empty_world es)
-    (linked_of Agrees (pair_of empty_world.shared) (request_pairs empty_world es) (pair_of (after_events empty_world es).shared)
-    (run_linked Anything Agrees es empty_world agrees_promised lawful empty_sound (λ id d found. absurd (cc))))
-    (nothing_owed [] empty_world.shared not_migrated)
+pub run_agrees : (t : Tree) (l : Log) (es : List Event) → IsSoundPair t l → All IsLawful es → Agreeing (opened_world t l) es
+run_agrees t l es pair lawful =
+    let w : World = opened_world t l in
+    agree_from (area t) (pair_of w.shared) (request_pairs w es)
+    (linked_of Agrees (pair_of w.shared) (request_pairs w es) (pair_of (after_events w es).shared)
+    (run_linked Anything Agrees es w agrees_promised lawful pair.sound (λ id d found. tt)))
+    pair.paths

@@ -16,8 +16,9 @@ use Rattle.kz_spec_stores.specs.Tree.{Tree, multi}
 use Rattle.kz_spec_stores.specs.Log.{Log, append, is_migrated_log, is_open_log, reset}
 use Rattle.kz_spec_znodes.specs.Translation.{Unreadable, translate}
 use Rattle.kz_spec_machine.specs.Driver.{Shared, Driver, epoch_or_zero, claim_ops, remaining_at, write_ops, begin_record, commit_records, begin_request, write_request, request_at, with_tree, with_log, shared_after, reaches_store, planned_step, step}
-use Rattle.kz_spec_machine.specs.Machine.{empty_world, pair_of, after_events, request_pairs}
+use Rattle.kz_spec_machine.specs.Machine.{World, pair_of, after_events, request_pairs}
 use Rattle.kz_spec_machine.specs.Sound.{IsTime, IsSharedSound, IsSoundDriver, IsLawful}
+use Rattle.kz_spec_runs.specs.Openings.{opened_world, IsSoundPair}
 use Rattle.kz_spec_runs.specs.Promises.{IsTranslation, BeginsNone, StaysCommitted, CommitsWhole, CommittedWhole}
 use Rattle.kz_laws_drivers.specs.Effects.{IsUnchanged}
 use Rattle.kz_laws_steps.proofs.Tests.{true_or_false}
@@ -28,7 +29,6 @@ use Rattle.kz_laws_events.proofs.Elected as elected
 use Rattle.kz_laws_events.proofs.Changed.{IsLeaderBatch, more_of, more_closed}
 use Rattle.kz_laws_events.proofs.Changed as changed
 use Rattle.kz_laws_events.proofs.Exits.{reset_unmigrated}
-use Rattle.kz_laws_events.proofs.Runs.{empty_sound}
 use Rattle.kz_laws_commits.specs.Commits.{Copies}
 use Rattle.kz_laws_commits.proofs.Own.{commit_translates}
 use Rattle.kz_laws_commits.proofs.Steps.{step_copies}
@@ -152,7 +152,8 @@ commits_promised = record {
   on_reset = reset_commits;
 }
 
-pub run_commits : (es : List Event) → All IsLawful es → CommittedWhole es
-run_commits es lawful =
-    linked_of CommitsWhole (pair_of empty_world.shared) (request_pairs empty_world es) (pair_of (after_events empty_world es).shared)
-    (run_linked Copies CommitsWhole es empty_world commits_promised lawful empty_sound (λ id d found. absurd (cc)))
+pub run_commits : (t : Tree) (l : Log) (es : List Event) → IsSoundPair t l → All IsLawful es → CommittedWhole (opened_world t l) es
+run_commits t l es pair lawful =
+    let w : World = opened_world t l in
+    linked_of CommitsWhole (pair_of w.shared) (request_pairs w es) (pair_of (after_events w es).shared)
+    (run_linked Copies CommitsWhole es w commits_promised lawful pair.sound (λ id d found. absurd (cc)))

@@ -1,15 +1,17 @@
 -- After a migration is finalised it stays so, no step, turn or rollback changes the tree or the log, and each rollback is refused.
 use Rattle.std.proofs.Common.{◌≡◌, true, List, [], ◌∷◌, ◌++◌, All, sym, ap, subst}
-use Rattle.std.proofs.lemmas.List.Elements.{All-nil, All-cons, All-head, All-tail}
 use Rattle.kz_types.specs.declared.machine.Event.{Event}
 use Rattle.kz_types.specs.declared.machine.Event.TheVariants as event
-use Rattle.kz_spec_machine.specs.Machine.{World, empty_world, is_finalised_log, next, after_events}
+use Rattle.kz_spec_stores.specs.Tree.{Tree}
+use Rattle.kz_spec_stores.specs.Log.{Log}
+use Rattle.kz_spec_machine.specs.Machine.{World, is_finalised_log, next, after_events}
 use Rattle.kz_spec_machine.specs.Sound.{Sound, IsLawful}
+use Rattle.kz_spec_runs.specs.Openings.{opened_world, IsSoundPair}
 use Rattle.kz_spec_runs.specs.Promises.{IsStepTurnOrRollback, IsFinalRefusal, StaysFinalised, FinalisedForGood}
-use Rattle.kz_laws_events.proofs.Runs.{empty_sound, run_sound}
+use Rattle.kz_laws_events.proofs.Runs.{lawful_before, lawful_next, run_sound}
 use Rattle.kz_laws_exits.specs.Ends.{EndHolds}
 use Rattle.kz_laws_exits.proofs.Finalised.{final_rollback_refused}
-use Rattle.kz_laws_exits.proofs.Events.{first_run_ends}
+use Rattle.kz_laws_exits.proofs.Events.{run_ends}
 use Rattle.kz_laws_exits.proofs.Stays.{step_event, turn_event, stays_final}
 use Rattle.kz_laws_runs.proofs.FinalMoments.{final_moments}
 
@@ -37,17 +39,13 @@ event_final w e lawful sound ends final = record {
 
 -- ---- runs
 
-lawful_before : (before rest : List Event) → All IsLawful (before ++ rest) → All IsLawful before
-lawful_before [] rest all = All-nil IsLawful
-lawful_before (e ∷ es) rest all = All-cons IsLawful e es (All-head IsLawful e (es ++ rest) all) (lawful_before es rest (All-tail IsLawful e (es ++ rest) all))
+-- what the end of a migration rests on holds where a run begins
+pub opened_ends : (t : Tree) (l : Log) → IsSoundPair t l → EndHolds (opened_world t l)
+opened_ends t l pair = record { closed = pair.closed; each = λ id d found. absurd (cc) }
 
-lawful_next : (before after : List Event) (e : Event) → All IsLawful (before ++ e ∷ after) → IsLawful e
-lawful_next [] after e all = All-head IsLawful e after all
-lawful_next (f ∷ fs) after e all = lawful_next fs after e (All-tail IsLawful f (fs ++ e ∷ after) all)
-
-pub run_finalised : (es : List Event) → All IsLawful es → FinalisedForGood es
-run_finalised es lawful before after e is final =
+pub run_finalised : (t : Tree) (l : Log) (es : List Event) → IsSoundPair t l → All IsLawful es → FinalisedForGood (opened_world t l) es
+run_finalised t l es pair lawful before after e is final =
     let all : All IsLawful (before ++ e ∷ after) = subst (All IsLawful) is lawful in
     let front = lawful_before before (e ∷ after) all in
-    let w : World = after_events empty_world before in
-    event_final w e (lawful_next before after e all) (run_sound before empty_world front empty_sound) (first_run_ends before front) final
+    let w : World = opened_world t l in
+    event_final (after_events w before) e (lawful_next before after e all) (run_sound before w front pair.sound) (run_ends before w front pair.sound (opened_ends t l pair)) final

@@ -13,8 +13,9 @@ use Rattle.kz_types.specs.declared.tree.Op.{Op}
 use Rattle.kz_spec_stores.specs.Tree.{Tree, multi, begin_session, end_session, migration_record}
 use Rattle.kz_spec_stores.specs.Log.{Log, is_migrated_log}
 use Rattle.kz_spec_machine.specs.Driver.{Shared, Driver, Request, nothing, request_at, planned_step, step}
-use Rattle.kz_spec_machine.specs.Machine.{World, empty_world, Pair, pair_of, pairs_after, step_pairs, ends, turn_pairs, work, running_ids, driver_of, running_refusal, event_step_pairs, event_turn_pairs, outcome_unless, unless_refused, pairs_unless, tree_pairs, election_refusal, elected_world, election_answer, change_refusal, changed_world, registration, register_refusal, final_records, finalise_refusal, rollback_refusal, reset_world, exit_ops, exit_pairs, client_refusal, client_world, moved_world, with_tree, next, event_pairs, request_pairs}
+use Rattle.kz_spec_machine.specs.Machine.{World, Pair, pair_of, pairs_after, step_pairs, ends, turn_pairs, work, running_ids, driver_of, running_refusal, event_step_pairs, event_turn_pairs, outcome_unless, unless_refused, pairs_unless, tree_pairs, election_refusal, elected_world, election_answer, change_refusal, changed_world, registration, register_refusal, final_records, finalise_refusal, rollback_refusal, reset_world, exit_ops, exit_pairs, client_refusal, client_world, moved_world, with_tree, next, event_pairs, request_pairs}
 use Rattle.kz_spec_machine.specs.Sound.{IsTime, Agreement, IsSharedSound, IsSoundDriver, Sound, IsLawful}
+use Rattle.kz_spec_runs.specs.Openings.{opened_world, IsSoundPair}
 use Rattle.kz_spec_runs.specs.Promises.{IsAgreed, IsInAgreement, StayingInAgreement}
 use Rattle.kz_laws_steps.specs.Steps.{StepKeeps}
 use Rattle.kz_laws_steps.proofs.Tests.{true_or_false}
@@ -22,7 +23,6 @@ use Rattle.kz_laws_appends.proofs.Steps.{all_steps}
 use Rattle.kz_laws_events.proofs.Turned.{one_step}
 use Rattle.kz_laws_events.proofs.Exits.{reset_unmigrated}
 use Rattle.kz_laws_events.proofs.Every.{event_sound}
-use Rattle.kz_laws_events.proofs.Runs.{empty_sound}
 
 -- ---- a sound tree and log
 
@@ -139,5 +139,5 @@ further_agreed (e ∷ es) w lawful sound =
 pub pairs_agreed : (es : List Event) (w : World) → All IsLawful es → Sound w → All IsInAgreement (pair_of w.shared ∷ request_pairs w es)
 pairs_agreed es w lawful sound = All-cons IsInAgreement (pair_of w.shared) (request_pairs w es) (sound_agreed w.shared sound.kept) (further_agreed es w lawful sound)
 
-pub run_agreed : (es : List Event) → All IsLawful es → StayingInAgreement es
-run_agreed es lawful = pairs_agreed es empty_world lawful empty_sound
+pub run_agreed : (t : Tree) (l : Log) (es : List Event) → IsSoundPair t l → All IsLawful es → StayingInAgreement (opened_world t l) es
+run_agreed t l es pair lawful = pairs_agreed es (opened_world t l) lawful pair.sound

@@ -6,3 +6,5 @@ pub mod FinalMoments
 pub mod Finalised
 pub mod InAgreement
 pub mod Paths
+pub mod Kept
+pub mod Pairs

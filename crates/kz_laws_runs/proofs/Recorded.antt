@@ -5,11 +5,12 @@ use Rattle.kz_types.specs.declared.machine.Event.{Event}
 use Rattle.kz_types.specs.declared.plan.Plan.{Plan}
 use Rattle.kz_types.specs.declared.record.MetaRecord.{MetaRecord}
 use Rattle.kz_spec_stores.specs.Tree.{Tree, rendered_row}
-use Rattle.kz_spec_stores.specs.Log.{is_migrated_log, reset}
+use Rattle.kz_spec_stores.specs.Log.{Log, is_migrated_log, reset}
 use Rattle.kz_spec_znodes.specs.Rendering.{render}
 use Rattle.kz_spec_machine.specs.Driver.{Shared, Driver, planned_step}
-use Rattle.kz_spec_machine.specs.Machine.{Pair, empty_world, pair_of, after_events, request_pairs}
+use Rattle.kz_spec_machine.specs.Machine.{World, Pair, pair_of, after_events, request_pairs}
 use Rattle.kz_spec_machine.specs.Sound.{IsTime, IsSharedSound, IsSoundDriver, IsLawful}
+use Rattle.kz_spec_runs.specs.Openings.{opened_world, IsSoundPair}
 use Rattle.kz_spec_runs.specs.Promises.{Linked, IsAsRecorded, StayingAsRecorded}
 use Rattle.kz_laws_drivers.specs.Effects.{IsUnchanged}
 use Rattle.kz_laws_steps.proofs.Tests.{true_or_false}
@@ -19,7 +20,6 @@ use Rattle.kz_laws_events.proofs.Elected.{MayElect, elected_of, shared_elected}
 use Rattle.kz_laws_events.proofs.Changed.{IsLeaderBatch, more_of}
 use Rattle.kz_laws_events.proofs.Changed as changed
 use Rattle.kz_laws_events.proofs.Exits.{reset_unmigrated}
-use Rattle.kz_laws_events.proofs.Runs.{empty_sound}
 use Rattle.kz_laws_runs.proofs.Agrees.{Anything}
 use Rattle.kz_laws_runs.proofs.Linked.{Promised, run_linked, linked_of}
 
@@ -67,8 +67,9 @@ all_recorded : (p : Pair) (qs : List Pair) → IsAsRecorded p → Linked Leaves 
 all_recorded p [] own linked = All-cons IsAsRecorded p [] own (All-nil IsAsRecorded)
 all_recorded p (q ∷ qs) own linked = All-cons IsAsRecorded p (q ∷ qs) own (all_recorded q qs linked.0 linked.1)
 
-pub run_recorded : (es : List Event) → All IsLawful es → StayingAsRecorded es
-run_recorded es lawful =
-    all_recorded (pair_of empty_world.shared) (request_pairs empty_world es) (sound_recorded empty_world.shared empty_sound.kept)
-    (linked_of Leaves (pair_of empty_world.shared) (request_pairs empty_world es) (pair_of (after_events empty_world es).shared)
-    (run_linked Anything Leaves es empty_world recorded_promised lawful empty_sound (λ id d found. absurd (cc))))
+pub run_recorded : (t : Tree) (l : Log) (es : List Event) → IsSoundPair t l → All IsLawful es → StayingAsRecorded (opened_world t l) es
+run_recorded t l es pair lawful =
+    let w : World = opened_world t l in
+    all_recorded (pair_of w.shared) (request_pairs w es) (sound_recorded w.shared pair.sound.kept)
+    (linked_of Leaves (pair_of w.shared) (request_pairs w es) (pair_of (after_events w es).shared)
+    (run_linked Anything Leaves es w recorded_promised lawful pair.sound (λ id d found. tt)))

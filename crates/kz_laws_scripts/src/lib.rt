@@ -5,8 +5,8 @@
 
 ghost use Rattle.kz_laws_scripts.specs.Scripts.{ScriptsAreLawful, ScriptsKeepSound, ScriptsStayInStep};
 
-/// The events that the lines of a script give are lawful, so the world after them is sound, and each turn that ends idle in dual
-/// write leaves the tree in step with the log.
+/// The events that the lines of a script give are lawful. So from every sound world on the world after them is sound, and each turn
+/// that ends idle in dual write leaves the tree in step with the log.
 pub fn scripts_stay_in_step()
     ensures lawful { ScriptsAreLawful }
     ensures sound { ScriptsKeepSound }

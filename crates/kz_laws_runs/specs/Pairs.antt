@@ -1,0 +1,24 @@
+-- The pairs of a tree and a log that a run, or a stop of it, leaves: a further run may begin with each of them.
+use Rattle.std.specs.Prelude.{List, ◌∷◌, All}
+use Rattle.kz_types.specs.declared.machine.Event.{Event}
+use Rattle.kz_spec_stores.specs.Tree.{Tree, empty_tree}
+use Rattle.kz_spec_stores.specs.Log.{Log, empty_log}
+use Rattle.kz_spec_machine.specs.Machine.{Pair, pair_of, after_events, request_pairs}
+use Rattle.kz_spec_machine.specs.Sound.{IsLawful}
+use Rattle.kz_spec_runs.specs.Openings.{opened_world, IsSoundPair}
+
+-- The tree and the log of a moment are a sound pair.
+abbrev pub IsSoundMoment : Pair → Type 0
+IsSoundMoment p = IsSoundPair p.tree p.log
+
+-- The empty tree and log are a sound pair.
+abbrev pub EmptyIsSoundPair : Type 0
+EmptyIsSoundPair = IsSoundPair empty_tree empty_log
+
+-- Those after a run from a sound pair are one.
+abbrev pub RunsLeaveSoundPairs : Type 0
+RunsLeaveSoundPairs = (t : Tree) (l : Log) (es : List Event) → IsSoundPair t l → All IsLawful es → IsSoundMoment (pair_of (after_events (opened_world t l) es).shared)
+
+-- So are those at each moment of it.
+abbrev pub MomentsAreSoundPairs : Type 0
+MomentsAreSoundPairs = (t : Tree) (l : Log) (es : List Event) → IsSoundPair t l → All IsLawful es → All IsSoundMoment (pair_of (opened_world t l).shared ∷ request_pairs (opened_world t l) es)
