@@ -1,13 +1,15 @@
 -- What a file says in which a seal is appended.
 use Rattle.std.proofs.Common.{◌≡◌, ℕ, ◌+◌, ◌^◌, ◌<◌, max, Bool, true, false, List, [], ◌∷◌, ◌++◌, length, take, Option, Some, sym, ap, ◌∙◌, subst, arith}
 use Rattle.std.specs.Prelude.{option_map}
+use Rattle.std.proofs.lemmas.List.{length-take-le}
+use Rattle.kz_spec_stores.specs.Requests.{IsTooLong}
 use Rattle.kz_spec_values.specs.Checksum.{crc32c}
-use Rattle.kz_spec_files.specs.Frames.{journal_of, open_gate, closed_gate, seal_written, journal_with_seal, LeftBySeal}
+use Rattle.kz_spec_files.specs.Frames.{Journal, journal_of, open_gate, closed_gate, seal_written, journal_with_seal, LeftBySeal, HasNoRoomForSeal}
 use Rattle.kz_laws_files.specs.Fronts.{IsFront}
 use Rattle.kz_laws_files.proofs.Fronts.{Grows, seal_is_read}
 use Rattle.kz_journal.specs.declared.place.Place.{Place}
 use Rattle.kz_journal.specs.Appends.{with_open_gate, IsCutAppend, IsResting}
-use Rattle.kz_journal.specs.Journals.{IsReadTo, HasClosedGate, HasNewSeal}
+use Rattle.kz_journal.specs.Journals.{IsReadTo, HasClosedGate, HasNewSeal, file_at, with_seal}
 use Rattle.kz_journal.proofs.Crashes.{told_after}
 use Rattle.kz_journal.proofs.Files.{resting_file, left_by_writing, says_done, rests_done, long_done}
 
@@ -52,3 +54,14 @@ module _ (letter : ℕ) (place : Place) (file : List ℕ) (read : IsReadTo lette
   seal_cut piece left same cut =
       left_by_writing letter place.gate false true (seal_written (take place.gate file)) file (journal_with_seal (journal_of letter file)) rest grown left
       (subst (λ (b : List ℕ). IsCutAppend place.gate b file left) same cut)
+
+-- A file whose length with a seal passes the limit has no room for one.
+pub no_room : (letter : ℕ) (place : Place) (file : List ℕ) (told : ℕ) → IsReadTo letter place file → HasClosedGate place file → place.gate < place.length → place.summed ≡ false
+    → IsTooLong (Some (with_seal (file_at place))) told → HasNoRoomForSeal letter file
+no_room letter place file told read closed stands plain long =
+    let rest = read_rests letter place file read closed stands in
+    let same = resting_file letter place.gate place.summed file rest in
+    let was = read.measured.long in
+    let ends = ap (λ (j : Journal). j.end) same ∙ rest.front.ends ∙ length-take-le place.gate file (omega (arith, stands, was)) in
+    let passes = long.1 in
+    (ap (λ (j : Journal). j.summed) same ∙ rest.front.sums ∙ plain, omega (arith, passes, was, ends))

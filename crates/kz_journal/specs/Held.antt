@@ -1,14 +1,14 @@
 -- What a journal holds, and what its calls do.
 use Rattle.std.specs.Prelude.{◌≡◌, ◌<◌, ◌-◌, ℕ, Bool, true, false, ⊤, List, [], Option, Some, None, is_some, Result, Ok, Err}
 use Rattle.kz_types.specs.Causes.{Rose}
-use Rattle.kz_spec_stores.specs.Requests.{Disk, StoreFile, Fits}
-use Rattle.kz_spec_files.specs.Frames.{after_frame, journal_of, journal_with_seal}
+use Rattle.kz_spec_stores.specs.Requests.{Disk, StoreFile, Fits, IsTooLong}
+use Rattle.kz_spec_files.specs.Frames.{after_frame, journal_of, journal_with_seal, HasNoRoomForSeal}
 use Rattle.kz_spec_files.specs.Frames as files
 use Rattle.kz_journal.specs.declared.fault.JournalFault.{JournalFault}
 use Rattle.kz_journal.specs.declared.fault.JournalFault.TheVariants as fault
 use Rattle.kz_journal.specs.declared.journal.Frame.{Frame}
 use Rattle.kz_journal.specs.declared.journal.Journal.{Journal}
-use Rattle.kz_journal.specs.Journals.{journal_at, disk_at, file_at, sealed_file, IsFull}
+use Rattle.kz_journal.specs.Journals.{journal_at, disk_at, file_at, sealed_file}
 use Rattle.kz_journal.specs.Openings.{has_header}
 use Rattle.kz_journal.specs.Nexts.{IsAllRead, IsDamagedAt, SaysTheSame}
 
@@ -108,16 +108,41 @@ abbrev pub Appends : {T : Type 0} → Option StoreFile → Result T JournalFault
 Appends made (Ok at) old new failed = (old.down ≡ false) × Fits made × (new ≡ record old { file = made })
 Appends made (Err fault.DiskFault) old new failed = (old.down ≡ false) × Fits made × Rose old.faults new.faults × (new.down ≡ true) × (is_some new.file ≡ is_some old.file) × (failed ≡ true)
 Appends made (Err (fault.Damaged at)) old new failed = ⊥
-Appends made (Err (fault.Full length)) old new failed = (old.down ≡ false) × IsFull made length × (new ≡ old)
+Appends made (Err (fault.Full length)) old new failed = (old.down ≡ false) × IsTooLong made length × (new ≡ old)
 Appends made (Err fault.NoMemory) old new failed = (old.down ≡ false) × Fits made × (new ≡ old)
 Appends made (Err fault.Down) old new failed = (old.down ≡ true) × (new ≡ old)
 
+-- where no call of the disk was made, this holds
+abbrev pub IfUncalled : {T : Type 0} → Result T JournalFault → Type 0 → Type 0
+IfUncalled (Ok x) same = ⊤
+IfUncalled (Err fault.DiskFault) same = ⊤
+IfUncalled (Err (fault.Damaged at)) same = same
+IfUncalled (Err (fault.Full length)) same = same
+IfUncalled (Err fault.NoMemory) same = same
+IfUncalled (Err fault.Down) same = same
+
 -- ---- a seal
+
+-- the same of a call for a seal, which makes none either where frames have sums
+abbrev pub IfSealUncalled : Result Bool JournalFault → Type 0 → Type 0
+IfSealUncalled (Ok true) same = ⊤
+IfSealUncalled (Ok false) same = same
+IfSealUncalled (Err e) same = IfUncalled {T = Bool} (Err e) same
 
 -- A seal was appended to the file, or it needed none, and is the same.
 abbrev pub IsSealed : ℕ → List ℕ → Bool → Option (List ℕ) → Type 0
 IsSealed letter file true told = (new : List ℕ) × (told ≡ Some new) × (journal_of letter new ≡ journal_with_seal (journal_of letter file))
 IsSealed letter file false told = (told ≡ Some file) × ((journal_of letter file).summed ≡ true)
+
+-- What a call for a seal made of a file, by its answer: the file has a seal more, or needed none; or it has no room for one, and is
+-- the same.
+abbrev pub AnswersSeal : ℕ → List ℕ → Result Bool JournalFault → Option (List ℕ) → Type 0
+AnswersSeal letter file (Ok done) told = IsSealed letter file done told
+AnswersSeal letter file (Err fault.DiskFault) told = ⊤
+AnswersSeal letter file (Err (fault.Damaged at)) told = ⊥
+AnswersSeal letter file (Err (fault.Full length)) told = (told ≡ Some file) × HasNoRoomForSeal letter file
+AnswersSeal letter file (Err fault.NoMemory) told = ⊥
+AnswersSeal letter file (Err fault.Down) told = told ≡ Some file
 
 -- What a call for a seal did to the disk, by its answer. None is appended exactly where frames have sums.
 abbrev pub Seals : Bool → Result Bool JournalFault → Disk → Disk → Bool → Type 0

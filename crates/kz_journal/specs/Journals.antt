@@ -1,8 +1,7 @@
 -- How far a journal's file has been read, and what is appended to it there.
-use Rattle.std.specs.Prelude.{◌≡◌, ℕ, ◌+◌, ◌-◌, ◌^◌, ◌<◌, min, max, Bool, true, ⊤, List, length, take, slice_index, Option, Some, None, Result, Ok, Err}
-use Rattle.kz_types.specs.declared.limits.TheConstants.{MAX_FILE_BYTES}
+use Rattle.std.specs.Prelude.{◌≡◌, ℕ, ◌+◌, max, Bool, true, ⊤, List, length, take, slice_index, Option, Some, None, Result, Ok, Err}
 use Rattle.kz_types.specs.Causes.{Rose}
-use Rattle.kz_spec_stores.specs.Requests.{Disk, StoreFile, Fits}
+use Rattle.kz_spec_stores.specs.Requests.{Disk, StoreFile, Fits, IsTooLong}
 use Rattle.kz_spec_files.specs.Frames.{Journal, closed_gate, size_before, journal_from, journal_of, journal_with_frame, journal_with_seal}
 use Rattle.kz_laws_files.specs.Fronts.{IsFront}
 use Rattle.kz_journal.specs.Appends.{next_gate_of}
@@ -50,11 +49,6 @@ abbrev pub sealed_file : Option StoreFile → Option StoreFile
 sealed_file None = None
 sealed_file (Some file) = Some (with_seal file)
 
--- The file would pass the limit, and this is the length that it would have, or the greatest number of 64 bits where that is less.
-abbrev pub IsFull : Option StoreFile → ℕ → Type 0
-IsFull None told = ⊥
-IsFull (Some file) told = (told ≡ min file.length (2 ^ 64 - 1)) × (MAX_FILE_BYTES < file.length)
-
 -- ---- one frame or seal more
 
 -- The place of the gate after a frame with this payload.
@@ -93,7 +87,7 @@ pub record HasNewSeal (letter : ℕ) (next : Place) (file : List ℕ) (told : Op
 abbrev pub EndsAppend : {T : Type 0} → Option StoreFile → Result T AppendFault → ℕ → ℕ → Bool → Type 0
 EndsAppend made (Ok next) before now failed = Fits made × (now ≡ before)
 EndsAppend made (Err append_fault.Failed) before now failed = Fits made × Rose before now × (failed ≡ true)
-EndsAppend made (Err (append_fault.Full told)) before now failed = IsFull made told × (now ≡ before)
+EndsAppend made (Err (append_fault.Full told)) before now failed = IsTooLong made told × (now ≡ before)
 EndsAppend made (Err append_fault.NoMemory) before now failed = Fits made × (now ≡ before)
 
 -- where no call of the disk was made, this holds
@@ -107,7 +101,7 @@ IfNotCalled (Err append_fault.NoMemory) same = same
 abbrev pub EndsSeal : {T : Type 0} → Option StoreFile → Result T SealFault → ℕ → ℕ → Bool → Type 0
 EndsSeal made (Ok next) before now failed = Fits made × (now ≡ before)
 EndsSeal made (Err seal_fault.Failed) before now failed = Fits made × Rose before now × (failed ≡ true)
-EndsSeal made (Err (seal_fault.Full told)) before now failed = IsFull made told × (now ≡ before)
+EndsSeal made (Err (seal_fault.Full told)) before now failed = IsTooLong made told × (now ≡ before)
 
 abbrev pub IfNotSealed : {T : Type 0} → Result T SealFault → Type 0 → Type 0
 IfNotSealed (Ok next) same = ⊤

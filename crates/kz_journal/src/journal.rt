@@ -55,7 +55,7 @@ impl<D: Disk> Journal<D> {
     ghost use Rattle.kz_journal.specs.Appends.{IsTornOr};
     ghost use Rattle.kz_journal.specs.Journals.{HasFrameMore};
     ghost use Rattle.kz_journal.specs.Openings.{IsRefused, HasFaultCause, Settles};
-    ghost use Rattle.kz_journal.specs.Held.{disk_of, letter_of, has_ended, is_down, has_sums, disk_state, bytes_left, IsOpened, IsMade, AnswersNext, EndsAt, LeavesFewer, EndsCall, Appends, IsSealed, Seals};
+    ghost use Rattle.kz_journal.specs.Held.{disk_of, letter_of, has_ended, is_down, has_sums, disk_state, bytes_left, IsOpened, IsMade, AnswersNext, EndsAt, LeavesFewer, EndsCall, Appends, IfUncalled, AnswersSeal, Seals, IfSealUncalled};
 
     /// Makes the disk's file a journal of this letter without frames, whatever it holds. The letter of a tree's file is `T`,
     /// that of a log's file `L`.
@@ -167,6 +167,7 @@ impl<D: Disk> Journal<D> {
         ensures appended { IfOk result (λ at. (file : List ℕ) → D.told (disk_of self.old) ≡ Some file → HasFrameMore (letter_of self.old) at payload.now file (D.told (disk_of self.new))) }
         ensures kept { (letter_of self.new ≡ letter_of self.old) × (has_ended self.new ≡ has_ended self.old) }
         ensures disk { Appends (file_with (length payload.now) (disk_state D.faults self.old)) result (disk_state D.faults self.old) (disk_state D.faults self.new) (D.last_failed (disk_of self.new)) }
+        ensures untouched { IfUncalled result (disk_of self.new ≡ disk_of self.old) }
         ensures told { StaysTold (D.told (disk_of self.old)) (D.told (disk_of self.new)) }
         ensures stop { is_down self.old ≡ false → (file : List ℕ) → D.told (disk_of self.old) ≡ Some file
             → (left : List ℕ) → D.may_leave (disk_of self.new) left → LeftByAppend (letter_of self.old) payload.now (journal_of (letter_of self.old) file) left }
@@ -198,9 +199,10 @@ impl<D: Disk> Journal<D> {
     /// the journal is as it was, and no call of the disk was made.
     pub fn seal(&mut self) -> Result<bool, JournalFault>
         requires ended { is_down self.old ≡ false → has_ended self.old ≡ true }
-        ensures sealed { IfOk result (λ done. (file : List ℕ) → D.told (disk_of self.old) ≡ Some file → IsSealed (letter_of self.old) file done (D.told (disk_of self.new))) }
+        ensures sealed { (file : List ℕ) → D.told (disk_of self.old) ≡ Some file → AnswersSeal (letter_of self.old) file result (D.told (disk_of self.new)) }
         ensures kept { (letter_of self.new ≡ letter_of self.old) × (has_ended self.new ≡ has_ended self.old) }
         ensures disk { Seals (has_sums self.old) result (disk_state D.faults self.old) (disk_state D.faults self.new) (D.last_failed (disk_of self.new)) }
+        ensures untouched { IfSealUncalled result (disk_of self.new ≡ disk_of self.old) }
         ensures told { StaysTold (D.told (disk_of self.old)) (D.told (disk_of self.new)) }
         ensures stop { is_down self.old ≡ false → (file : List ℕ) → D.told (disk_of self.old) ≡ Some file
             → (left : List ℕ) → D.may_leave (disk_of self.new) left → LeftBySeal (letter_of self.old) (journal_of (letter_of self.old) file) left }

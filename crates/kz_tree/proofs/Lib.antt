@@ -1,12 +1,8 @@
 pub mod Areas
-pub mod ChildPaths
-pub mod Counts
 pub mod Kept
-pub mod LastSlash
-pub mod Looks
+pub mod Loads
 pub mod Moves
 pub mod Multis
 pub mod Owned
-pub mod Pages
 pub mod Steps
 pub mod Zxids

@@ -4,3 +4,4 @@ pub mod Changes
 pub mod Requests
 pub mod Wires
 pub mod Lending
+pub mod Loads

@@ -6,9 +6,8 @@ ghost use Rattle.kz_tree.specs.Kept.{AreRows};
 ghost use Rattle.kz_tree.specs.Refusals.{IsMultiFaultOf, meaning};
 
 use crate::faults::MultiFault;
-use crate::names::parent_of;
 use crate::refusals::{Refusal, op_refusal};
-use crate::rows::Rows;
+use kz_tree_rows::{Rows, parent_of};
 use kz_types::{Duplicate, NoMemory, Op, Row, Sequence, ZPath};
 use std::alloc::Global;
 

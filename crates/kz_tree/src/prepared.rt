@@ -3,7 +3,7 @@ ghost use Rattle.std.specs.Prelude.{◌≡◌};
 ghost use Rattle.kz_spec_stores.specs.Tree.{Tree};
 ghost use Rattle.kz_tree.specs.Kept.{IsKept};
 
-use crate::rows::Rows;
+use kz_tree_rows::Rows;
 use std::marker::Model;
 
 /// A change that a tree has prepared, with all the memory that it takes: contracts see the tree that it makes.

@@ -4,10 +4,7 @@ ghost use Rattle.kz_types.specs.declared.limits.TheConstants.{MAX_ZNODES};
 ghost use Rattle.kz_spec_stores.specs.Tree.{may_own, row_at, is_root, has_parent, is_ephemeral, fits_version, count_beside, limit_beside, create_refusal, set_refusal, delete_refusal, check_refusal, op_refusal};
 ghost use Rattle.kz_tree.specs.Refusals.{meaning};
 
-use crate::children::has_children;
-use crate::migrated::is_migrated;
-use crate::names::parent_of;
-use crate::rows::Rows;
+use kz_tree_rows::{Rows, has_children, is_migrated, parent_of};
 use kz_types::{
     BAD_VERSION, Limit, MAX_BODY_BYTES, MAX_VERSION, MAX_ZNODES, NO_CHILDREN_FOR_EPHEMERALS,
     NO_NODE, NODE_EXISTS, NOT_EMPTY, NoMemory, Op, Row, SESSION_EXPIRED,
@@ -21,7 +18,8 @@ pub enum Refusal {
     Limit(u8),
 }
 
-fn may_own(owner: Option<i64>, sessions: &[i64]) -> bool
+/// Whether the owner, if there is one, is a live session.
+pub fn may_own(owner: Option<i64>, sessions: &[i64]) -> bool
     ensures { result ≡ may_own owner sessions.now }
 {
     match owner {
@@ -36,14 +34,16 @@ fn is_root(path: &[u8]) -> bool
     path.is_empty()
 }
 
-fn has_parent(path: &[u8], rows: &Rows) -> bool
+/// Whether the parent of a path is there.
+pub fn has_parent(path: &[u8], rows: &Rows) -> bool
     ensures { result ≡ has_parent path.now rows.now }
 {
     let parent = parent_of(path);
     is_root(parent) || rows.find(parent).is_some()
 }
 
-fn is_ephemeral(row: Option<&Row>) -> bool
+/// Whether a znode is there and ends with a session.
+pub fn is_ephemeral(row: Option<&Row>) -> bool
     ensures { result ≡ is_ephemeral (option_map (λ r. r.now) row.entry) }
 {
     match row {
@@ -58,14 +58,15 @@ fn fits_version(version: i32, row: &Row) -> bool
     version == -1 || version == row.version
 }
 
-// Whether there are as many znodes beside a path as there may be.
-fn is_full_beside(path: &[u8], rows: &Rows) -> bool
+/// Whether there are as many znodes beside a path as there may be.
+pub fn is_full_beside(path: &[u8], rows: &Rows) -> bool
     ensures { result ≡ nat_le MAX_ZNODES (count_beside path.now rows.now) }
 {
     rows.count_beside(path) >= MAX_ZNODES
 }
 
-fn limit_beside(path: &[u8]) -> u8
+/// The number of the limit on znodes beside a path.
+pub fn limit_beside(path: &[u8]) -> u8
     ensures { result ≡ limit_beside path.now }
 {
     if is_migrated(path) {

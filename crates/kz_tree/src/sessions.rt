@@ -7,8 +7,7 @@ ghost use Rattle.kz_ordered.specs.Ordered.{put, without};
 ghost use Rattle.kz_spec_stores.specs.Tree.{is_live, is_owned, loses_child, without_owned};
 ghost use Rattle.kz_tree.specs.Kept.{AreRows, AreSessions};
 
-use crate::names::parent_of;
-use crate::rows::Rows;
+use kz_tree_rows::{Rows, parent_of};
 use kz_types::{Duplicate, NoMemory, Row, copy_all};
 use std::alloc::Global;
 

@@ -12,10 +12,9 @@ ghost use Rattle.kz_tree.specs.Refusals.{IsFaultOf, IsMultiFaultOf, IsMoveFaultO
 use crate::effects::after_ops;
 use crate::faults::{ClosedFault, MultiFault, tree_fault};
 use crate::prepared::Prepared;
-use crate::reads;
-use crate::rows::Rows;
 use crate::sessions::{is_live, with_session, without_owned, without_session};
 use kz_blocks::Items;
+use kz_tree_rows::{Rows, reads};
 use kz_types::{
     Duplicate, Limit, MAX_LONG, MoveFault, NoMemory, Op, Recorded, Rendered, Row, TreeFault, ZPath,
     copy_all,
@@ -67,6 +66,19 @@ impl Tree {
             zxid: 0,
             sessions: Vec::new(alloc),
             rows: Rows::new(alloc),
+        }
+    }
+
+    /// The tree of these parts. It keeps this allocator.
+    pub(crate) fn from_parts(alloc: Global, zxid: i64, sessions: Vec<i64>, rows: Rows) -> Tree
+        requires { IsKept zxid sessions.items rows }
+        ensures { result ≡ record { zxid = zxid; sessions = sessions.items; rows = rows } }
+    {
+        Tree {
+            alloc,
+            zxid,
+            sessions,
+            rows,
         }
     }
 

@@ -1,4 +1,4 @@
-use Rattle.kz_tree.proofs.ChildPaths.{not_empty}
+use Rattle.kz_tree_rows.proofs.ChildPaths.{not_empty}
 use Rattle.kz_tree.proofs.refusals.op_refusal.Goals as goal
 
 pub delete_refusal-requires : goal.delete_refusal-requires

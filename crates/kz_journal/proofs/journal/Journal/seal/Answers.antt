@@ -1,7 +1,9 @@
-use Rattle.std.proofs.Common.{arith, sym, ◌∙◌}
+use Rattle.std.proofs.Common.{◌≡◌, Some, Err, arith, sym, ap, subst, ◌∙◌}
 use Rattle.kz_spec_files.specs.Frames.{journal_of, LeftBySeal}
-use Rattle.kz_journal.specs.Journals.{IsReadTo, HasClosedGate}
+use Rattle.kz_journal.specs.declared.place.Place.{Place}
+use Rattle.kz_journal.specs.Journals.{IsReadTo, HasClosedGate, EndsSeal, IfNotSealed, file_at, with_seal}
 use Rattle.kz_journal.proofs.Crashes.{holds_now, left_at_end}
+use Rattle.kz_journal.proofs.Sealed.{no_room}
 use Rattle.kz_journal.proofs.Steps.{sums_at_end}
 use Rattle.kz_journal.proofs.journal.Journal.seal.Goals as goal
 
@@ -59,3 +61,12 @@ returns-in-Err-Failed-clause-stop g c = λ up file told.
     let s = c.args.self.now in
     left_at_end g.D.Disk.moment g.D.Disk.left_since g.D.Disk.may_leave s.disk c.seal_at.new.disk (LeftBySeal s.letter (journal_of s.letter file)) (λ t left before now. g.met.D.Disk.counts_now c.seal_at.new.disk t left before now)
     (c.seal_at.ensures.any_moment s.letter file told (s.read up file told) (s.closed up (c.requires.ended up) file told))
+
+pub returns-in-Err-Full-clause-sealed : goal.returns-in-Err-Full-clause-sealed
+returns-in-Err-Full-clause-sealed g c = λ file told.
+    let s = c.args.self.now in
+    let up = c.if-self.false in
+    let ended = c.requires.ended up in
+    let answer = subst (λ e. EndsSeal {T = Place} (Some (with_seal (file_at s.place))) (Err e) (g.D.Disk.faults s.disk) (g.D.Disk.faults c.seal_at.new.disk) (g.D.Disk.last_failed c.seal_at.new.disk)) c.in-Err-Full.field-0-is c.in-Err-Full.ensures.answer in
+    let same = subst (λ e. IfNotSealed {T = Place} (Err e) (c.seal_at.new.disk ≡ s.disk)) c.in-Err-Full.field-0-is c.in-Err-Full.ensures.untouched in
+    (ap g.D.Disk.told same ∙ told, no_room s.letter s.place file c.in-Err-Full.length (s.read up file told) (s.closed up ended file told) (s.stands ended) c.if-self-2.false answer.0)

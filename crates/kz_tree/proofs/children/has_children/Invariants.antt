@@ -1,7 +1,0 @@
-use Rattle.std.proofs.Common.{◌≡◌}
-use Rattle.kz_spec_stores.specs.Tree.{has_children}
-use Rattle.kz_tree.specs.Kept.{AreRows}
-use Rattle.kz_tree.proofs.children.has_children.Given as goal
-
-abbrev pub invariant-loop-row : goal.invariant-loop-row
-invariant-loop-row l = (has_children l.path l.row-iterator ≡ has_children l.path l.fn.rows) × AreRows l.row-iterator

@@ -1,5 +1,0 @@
-use Rattle.kz_tree.proofs.LastSlash.{BeginsAt}
-use Rattle.kz_tree.proofs.names.name_of.Given as goal
-
-abbrev pub invariant-loop-at : goal.invariant-loop-at
-invariant-loop-at l = BeginsAt l.path l.at l.start

@@ -1,0 +1,211 @@
+//! Znodes by rising path.
+ghost use Rattle.std.specs.Prelude.{◌≡◌, ◌≢◌, [], None, length, option_map, Some, IfOk, OnOk, OnErr, if◌then◌else◌};
+ghost use Rattle.std.specs.List.{filter, count_by};
+ghost use Rattle.kz_types.specs.Paths.{is_migrated};
+ghost use Rattle.kz_spec_stores.specs.Tree.{row_at, put_row, without_row, with_child_change, is_after, first_row, count_beside};
+ghost use Rattle.kz_tree_rows.specs.Kept.{AreRows};
+
+use crate::migrated::is_migrated;
+use kz_blocks::{Blocks, Items};
+use kz_types::{Duplicate, NoMemory, Row, ZPath};
+use std::alloc::Global;
+use std::marker::Model;
+
+/// Znodes by rising path, no two with one path, and how many there are. A copy has the same blocks of znodes: it costs a
+/// pointer for each. Contracts see the list of the znodes.
+#[derive(Drop)]
+pub struct Rows {
+    list: Blocks<Row>,
+    count: usize,
+    migrated: usize,
+}
+
+impl Model for Rows {
+    ghost use Rattle.std.specs.Prelude.{List};
+    ghost use Rattle.kz_types.specs.declared.tree.Row.{Row};
+    ghost use Rattle.kz_tree_rows.specs.Kept.{AreCounted};
+
+    ghost Value = { List Row };
+
+    ghost view = { λ r. r.list };
+
+    ghost invariant = { λ r. AreCounted r.list r.count r.migrated };
+}
+
+// 1 for a path of the migrated area, and 0 for another.
+fn migrated_part(path: &[u8]) -> usize
+    ensures { result ≡ (if is_migrated path.now then 1 else 0) }
+{
+    if is_migrated(path) { 1 } else { 0 }
+}
+
+// A copy of a znode that got or lost a child.
+fn touched_row(alloc: Global, row: &Row, zxid: i64) -> Result<Row, NoMemory>
+    ensures { IfOk result (λ made. made ≡ record row.now { pzxid = zxid }) }
+{
+    let mut made = row.copy(alloc)?;
+    made.pzxid = zxid;
+    Ok(made)
+}
+
+impl Rows {
+    /// No znode.
+    pub fn new(alloc: Global) -> Rows
+        ensures { result ≡ [] }
+    {
+        Rows {
+            list: Blocks::new(alloc),
+            count: 0,
+            migrated: 0,
+        }
+    }
+
+    /// How many znodes there are.
+    pub fn count(&self) -> usize
+        ensures { result ≡ length self.now }
+    {
+        self.count
+    }
+
+    /// How many of them are in the migrated area.
+    pub fn migrated_count(&self) -> usize
+        ensures { result ≡ count_by (λ row. is_migrated row.path) self.now }
+    {
+        self.migrated
+    }
+
+    /// How many znodes there are on the side of a path, of the border of the migrated area.
+    pub fn count_beside(&self, path: &[u8]) -> usize
+        ensures { result ≡ count_beside path.now self.now }
+    {
+        if is_migrated(path) {
+            self.migrated
+        } else {
+            self.count - self.migrated
+        }
+    }
+
+    /// The znode at a path.
+    pub fn find(&self, path: &[u8]) -> Option<&Row>
+        ensures { option_map (λ row. row.now) result ≡ row_at path.now self.now }
+    {
+        self.list.find(path)
+    }
+
+    /// All znodes, by rising path.
+    pub fn items(&self) -> Items<'_, Row>
+        ensures items { result ≡ self.now }
+        ensures rise { AreRows self.now }
+    {
+        self.list.items()
+    }
+
+    /// The znodes after a path, or all, by rising path.
+    pub fn items_after(&self, after: Option<&ZPath>) -> Items<'_, Row>
+        ensures items { result ≡ filter (is_after (option_map (λ path. path.now) after.entry)) self.now }
+        ensures rise { AreRows self.now }
+    {
+        match after {
+            None => self.list.items_after(None),
+            Some(path) => self.list.items_after(Some(path.bytes())),
+        }
+    }
+
+    /// The znodes after these bytes, by rising path.
+    pub fn items_behind(&self, bytes: &[u8]) -> Items<'_, Row>
+        ensures items { result ≡ filter (is_after (Some bytes.now)) self.now }
+        ensures rise { AreRows self.now }
+    {
+        self.list.items_after(Some(bytes))
+    }
+
+    /// The first znode after a path, or the first of all.
+    pub fn next_after(&self, after: Option<&ZPath>) -> Option<&Row>
+        ensures { option_map (λ row. row.now) result ≡ first_row (filter (is_after (option_map (λ path. path.now) after.entry)) self.now) }
+    {
+        let mut items = self.items_after(after);
+        items.next()
+    }
+
+    // Puts a znode in the place of the one with its path.
+    fn replace(&mut self, row: Row) -> Result<(), NoMemory>
+        requires { row_at row.path self.old ≢ None }
+        ensures ok { OnOk result (self.new ≡ put_row row self.old) }
+        ensures err { OnErr result (self.new ≡ self.old) }
+    {
+        self.list.put(row)
+    }
+
+    // Puts a znode whose path no other has. Where a `usize` can't count one more, it answers out of memory.
+    fn add(&mut self, row: Row) -> Result<(), NoMemory>
+        requires { row_at row.path self.old ≡ None }
+        ensures ok { OnOk result (self.new ≡ put_row row self.old) }
+        ensures err { OnErr result (self.new ≡ self.old) }
+    {
+        let Some(count) = self.count.checked_add(1) else {
+            return Err(NoMemory);
+        };
+        let migrated = self.migrated + migrated_part(row.path.bytes());
+        self.list.put(row)?;
+        self.count = count;
+        self.migrated = migrated;
+        Ok(())
+    }
+
+    /// Puts a znode at its place, instead of the one with its path. At `Err` the znodes are as they were.
+    pub fn put(&mut self, row: Row) -> Result<(), NoMemory>
+        ensures ok { OnOk result (self.new ≡ put_row row self.old) }
+        ensures err { OnErr result (self.new ≡ self.old) }
+    {
+        if self.find(row.path.bytes()).is_some() {
+            return self.replace(row);
+        }
+        self.add(row)
+    }
+
+    /// The znode at a path, where there is one, got or lost a child. At `Err` the znodes are as they were.
+    pub fn touch(&mut self, alloc: Global, path: &[u8], zxid: i64) -> Result<(), NoMemory>
+        ensures ok { OnOk result (self.new ≡ with_child_change zxid (row_at path.now self.old) self.old) }
+        ensures err { OnErr result (self.new ≡ self.old) }
+    {
+        let Some(row) = self.find(path) else {
+            return Ok(());
+        };
+        let row = touched_row(alloc, row, zxid)?;
+        self.put(row)
+    }
+
+    // Takes the znode of a path out, which is there.
+    fn remove(&mut self, path: &[u8]) -> Result<(), NoMemory>
+        requires { row_at path.now self.old ≢ None }
+        ensures ok { OnOk result (self.new ≡ without_row path.now self.old) }
+        ensures err { OnErr result (self.new ≡ self.old) }
+    {
+        self.list.without(path)?;
+        self.count -= 1;
+        self.migrated -= migrated_part(path);
+        Ok(())
+    }
+
+    /// Takes the znode of a path out. At `Err` the znodes are as they were.
+    pub fn take_out(&mut self, path: &[u8]) -> Result<(), NoMemory>
+        ensures ok { OnOk result (self.new ≡ without_row path.now self.old) }
+        ensures err { OnErr result (self.new ≡ self.old) }
+    {
+        if self.find(path).is_none() {
+            return Ok(());
+        }
+        self.remove(path)
+    }
+}
+
+impl Duplicate for Rows {
+    // The same znodes in the same blocks.
+    fn copy(&self, alloc: Global) -> Result<Self, NoMemory> {
+        Ok(Rows {
+            list: self.list.copy(alloc)?,
+            count: self.count,
+            migrated: self.migrated,
+        })
+    }
+}

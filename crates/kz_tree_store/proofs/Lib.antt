@@ -1,0 +1,10 @@
+pub mod Positive
+pub mod Reading
+pub mod Frames
+pub mod Loading
+pub mod Lists
+pub mod Fits
+pub mod Makes
+pub mod Written
+pub mod Opening
+pub mod LoadStops

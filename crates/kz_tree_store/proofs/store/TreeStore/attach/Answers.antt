@@ -1,0 +1,34 @@
+use Rattle.std.proofs.Common.{sym, ◌∙◌, subst}
+use Rattle.kz_journal.specs.Held.{disk_of}
+use Rattle.kz_tree_store.specs.Opened.{read_known}
+use Rattle.kz_tree_store.specs.Stores.{IsUnopened}
+use Rattle.kz_tree_store.proofs.Opening.{unopened, unread, still}
+use Rattle.kz_tree_store.proofs.store.TreeStore.attach.Goals as goal
+
+pub returns-in-Err-clause-refused : goal.returns-in-Err-clause-refused
+returns-in-Err-clause-refused g c =
+    let told = g.D.Disk.told in
+    subst (λ f. IsUnopened f (told c.args.disk) (told c.in-Err.disk)) (sym c.open_fault.ensures) (unopened c.in-Err.fault (told c.args.disk) (told c.in-Err.disk) c.in-Err.ensures.refused)
+
+pub returns-in-Err-read_frames-clause-refused : goal.returns-in-Err-read_frames-clause-refused
+returns-in-Err-read_frames-clause-refused g c =
+    let told = g.D.Disk.told in
+    let opened = c.in-Ok.ensures.opened in
+    subst (λ d. IsUnopened c.in-Err-read_frames.fault (told c.args.disk) (told d)) (sym c.into_disk.ensures)
+    (unread c.in-Err-read_frames.fault (told c.args.disk) (told (disk_of c.in-Ok.journal)) (told (disk_of c.read_frames.new.journal)) opened.same
+    (λ file here. c.in-Err-read_frames.ensures.answer file here (opened.all file (sym opened.same ∙ here))))
+
+pub invariant_of-result : goal.invariant_of-result
+invariant_of-result g c =
+    let told = g.D.Disk.told in
+    let opened = c.in-Ok.ensures.opened in
+    let read = c.in-Ok-read_frames.ensures in
+    record {
+      positive = read.positive;
+      letter = c.read_frames.ensures.letter;
+      down_is = sym read.cause.0;
+      ended = λ up. read.ended;
+      same = λ up file here.
+          still (read_known c.in-Ok-read_frames.tree c.in-Ok-read_frames.fresh) (told (disk_of c.in-Ok.journal)) (told (disk_of c.read_frames.new.journal)) c.read_frames.ensures.told
+          (λ f t. read.answer f t (opened.all f (sym opened.same ∙ t))) file here;
+    }
