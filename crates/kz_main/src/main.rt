@@ -1,10 +1,14 @@
-//! The program: hands the words and the standard streams to the top call.
+//! The program: hands the words, the standard streams and the two files to the top call.
 #![tactic(auto)]
 
-use kz_io::{StdSink, StdSource};
+use kz_disk::{FailDisk, FileDisk};
+use kz_io::{Sink, Source, StdSink, StdSource};
 use kz_replay::{Status, code, run, text};
 use kz_types::NoMemory;
+use std::alloc::Global;
+use std::fs::OpenOptions;
 use std::io::{ErrorKind, Print};
+use std::path::Path;
 use std::process::ExitCode;
 use std::{env, io};
 
@@ -27,7 +31,38 @@ fn words(rt: &HostRuntime) -> Result<Vec<String>, NoMemory> {
     Ok(words)
 }
 
-// Runs what the words name on the standard streams.
+// Opens a file for reading and writing, and makes it where it is absent. `None` where it doesn't open.
+fn open(rt: &HostRuntime, path: &str) -> Option<FileDisk> {
+    let opened = OpenOptions::new()
+        .read(true)
+        .write(true)
+        .create(true)
+        .open(rt, Path::new(path));
+    match opened {
+        Ok(file) => Some(FileDisk::new(file)),
+        Err(_) => None,
+    }
+}
+
+// Runs the command that these words name on these streams and two files. A file that doesn't open is a disk that fails each call.
+fn run_on<S: Source, K: Sink>(
+    alloc: Global,
+    words: &[String],
+    input: &mut S,
+    out: &mut K,
+    tree: Option<FileDisk>,
+    log: Option<FileDisk>,
+) -> Status {
+    match (tree, log) {
+        (Some(tree), Some(log)) => run(alloc, words, input, out, tree, log).0,
+        (Some(tree), None) => run(alloc, words, input, out, tree, FailDisk::new()).0,
+        (None, Some(log)) => run(alloc, words, input, out, FailDisk::new(), log).0,
+        (None, None) => run(alloc, words, input, out, FailDisk::new(), FailDisk::new()).0,
+    }
+}
+
+// Runs what the words name: the tree's file, the log's file, and a command. Fewer words than three name no command, and no file is
+// opened.
 fn run_words(rt: &HostRuntime) -> Status {
     let words = match words(rt) {
         Ok(words) => words,
@@ -35,7 +70,14 @@ fn run_words(rt: &HostRuntime) -> Status {
     };
     let mut input = StdSource::new(rt.reader());
     let mut out = StdSink::new(io::writer(rt));
-    run(rt.alloc(), &words, &mut input, &mut out)
+    match words.as_slice() {
+        [tree, log, first, ..] => {
+            let _first = first;
+            let (tree, log) = (open(rt, tree), open(rt, log));
+            run_on(rt.alloc(), &words[2..], &mut input, &mut out, tree, log)
+        }
+        _ => run_on(rt.alloc(), &[], &mut input, &mut out, None, None),
+    }
 }
 
 // Tells on standard error how the run ended, unless it is done: one line, or nothing where there is no memory for it.
@@ -54,3 +96,6 @@ fn main(rt: HostRuntime) -> ExitCode {
     tell(&rt, &status);
     ExitCode::from(code(&status))
 }
+
+#[cfg(test)]
+mod tests;

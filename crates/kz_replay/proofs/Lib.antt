@@ -1,11 +1,2 @@
-pub mod Outcomes
-pub mod Cut
-pub mod Takings
-pub mod Runs
-pub mod Statuses
-pub mod Disks
-pub mod Memories
-pub mod Failures
 pub mod Ends
-pub mod TopCall
-pub mod CutOff
+pub mod Replaying

@@ -1,41 +1,86 @@
-//! The top call: the command that the program has.
-ghost use Rattle.kz_replay.specs.Runs.{stream_state, Runs};
+//! The top call: the commands that the program has.
+ghost use Rattle.std.specs.Prelude.{◌≡◌, option_map};
+ghost use Rattle.kz_spec_commands.specs.Words.{command_of};
+ghost use Rattle.kz_commands.specs.Outside.{outside};
+ghost use Rattle.kz_replay.specs.Commands.{defined_command};
+ghost use Rattle.kz_replay.specs.Runs.{Runs};
 
-use crate::program::run_on;
+use crate::program::replay;
+use kz_commands::{init, upgrade};
+use kz_disk::Disk;
 use kz_io::{Sink, Source};
-use kz_log::MemoryLog;
-use kz_session::MemoryTree;
 use kz_types::Status;
-use kz_world::World;
 use std::alloc::Global;
 
-/// Runs the command that the words name. There is one, the word `replay`: it reads a script from `input`, lets each of
-/// its events happen on a machine that begins with an empty tree and an empty log, and writes the replies to `out` in the
-/// order of the events. After the last line it writes one with the numbers of the run. Empty lines and
-/// those that begin with `#` are passed over, and count as lines.
+/// Runs the command that the words name, over the file of a tree and that of a log. Each command is one word:
+///
+/// - `init` makes both files journals that stand for an empty tree and an empty log. A file of at most 17 bytes is made, unless it is
+///   such a journal already; a longer one is left as it is.
+/// - `replay` reads a script from `input`, lets each of its events happen on the tree and the log of the files, and writes the
+///   replies to `out` in the order of the events. After the last line it writes one with the numbers of the run. Empty lines and
+///   those that begin with `#` are passed over, and count as lines.
+/// - `upgrade` seals both files, so that each further frame has a sum.
 ///
 /// The status says what ended the run, which is the first of these that was met:
 ///
-/// - `Done`: the input was read to its end, and all was written.
-/// - `Usage`: the words aren't the one word `replay`. Nothing was read, and nothing written.
+/// - `Done`: what the command reads was read to its end, and all was written.
+/// - `Usage`: the words name no command. Nothing was touched.
+/// - `TreeFault`, `LogFault`: the last call of that disk failed.
+/// - `TreeDamaged`, `LogDamaged`: the file is damaged at this place. No file is made, and no frame changed. The tree's file is tested
+///   first.
+/// - `NotEmpty`: for `init`, a file holds a tree or a log. No file is made.
 /// - `Script`: this line is no event. The lines before it have their replies.
 /// - `Limit`: number 10, a line has more than 2,097,152 bytes without its end; 11, the input has more than
 ///   4,294,967,296 bytes; 7 and 17, a step of a driver would bring the log past its most records, or its last offset; 17, also, a
-///   rollback's multi would be past the last transaction.
+///   rollback's multi would be past the last transaction; 12 and 13, the tree's file or the log's would have more than
+///   2,147,483,647 bytes.
 /// - `ReadFault`: the last read failed. The lines that were read whole have their replies.
 /// - `WriteFault`: the last write failed, or took nothing of a text.
 /// - `NoMemory`: memory ran out.
 ///
-/// At `WriteFault` and `NoMemory`, what is written is a front of what the script asks for. With any other status but `Usage`
-/// it is all of that, at `ReadFault` for the lines that were read whole.
-pub fn run<S: Source, K: Sink>(
+/// At `WriteFault`, `TreeFault`, `LogFault`, `NoMemory` and the limits 12 and 13, what is written is a front of what the script asks
+/// for. With any other status of a replay it is all of that, at `ReadFault` for the lines that were read whole. Both disks are handed
+/// back.
+pub fn run<S: Source, K: Sink, D: Disk, E: Disk>(
     alloc: Global,
     words: &[String],
     input: &mut S,
     out: &mut K,
-) -> Status
-    ensures { Runs words.now (stream_state S.left S.faults S.last_failed input.old) (stream_state S.left S.faults S.last_failed input.new)
-        (stream_state K.taken K.faults K.last_failed out.old) (stream_state K.taken K.faults K.last_failed out.new) result }
+    tree: D,
+    log: E,
+) -> (Status, D, E)
+    ensures { Runs words.now (outside S.left S.faults S.last_failed input.old) (outside S.left S.faults S.last_failed input.new)
+        (outside K.taken K.faults K.last_failed out.old) (outside K.taken K.faults K.last_failed out.new)
+        (outside D.told D.faults D.last_failed tree) (outside D.told D.faults D.last_failed result.1)
+        (outside E.told E.faults E.last_failed log) (outside E.told E.faults E.last_failed result.2) result.0 }
 {
-    run_on::<World<MemoryTree, MemoryLog>, S, K>(alloc, words, input, out)
+    match command_of(words) {
+        None => (Status::Usage, tree, log),
+        Some(Command::Init) => init(alloc, tree, log),
+        Some(Command::Replay) => replay(alloc, input, out, tree, log),
+        Some(Command::Upgrade) => upgrade(alloc, tree, log),
+    }
+}
+
+/// A command of the program.
+#[derive(Clone, Copy, Debug, PartialEq, Eq)]
+enum Command {
+    Init,
+    Replay,
+    Upgrade,
+}
+
+// The command that these words name.
+fn command_of(words: &[String]) -> Option<Command>
+    ensures { option_map defined_command result ≡ command_of words.now }
+{
+    match words {
+        [word] => match word.as_str() {
+            "init" => Some(Command::Init),
+            "replay" => Some(Command::Replay),
+            "upgrade" => Some(Command::Upgrade),
+            _ => None,
+        },
+        _ => None,
+    }
 }

@@ -1,14 +1,11 @@
-//! The top call: reads a script, runs it, and writes the replies.
+//! The top call: what the program does with its words, its streams and its two files.
 #![tactic(auto)]
 
-mod answer;
 mod command;
-mod ending;
 mod exit;
 mod machine;
-mod place;
 mod program;
-mod stream;
+mod pump;
 
 pub use command::run;
 pub use exit::{code, text};

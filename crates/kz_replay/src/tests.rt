@@ -1,5 +1,7 @@
 use super::{Status, code, run, text};
+use kz_disk::{Disk, MemoryDisk, StopDisk};
 use kz_io::{Failed, MemorySink, MemorySource, Sink, Source};
+use kz_types::LogWhy;
 use std::alloc::{AllocError, Global};
 use std::process::Abort;
 
@@ -81,7 +83,48 @@ type Failures = (&'static [u64], &'static [u64], &'static [u64]);
 
 const NONE: Failures = (&[], &[], &[]);
 
-// A run of this script ends with this status and these replies, where these reads and writes fail.
+// A disk that holds these bytes. The calls with these numbers fail.
+fn disk_of(rt: &impl Abort, alloc: Global, bytes: &[u8], fail: &[u64]) -> MemoryDisk {
+    let bytes = made(rt, bytes.to_vec(alloc));
+    made(
+        rt,
+        MemoryDisk::new(alloc, bytes, made(rt, fail.to_vec(alloc))),
+    )
+}
+
+// Both disks after `init` on two empty ones.
+fn empty_files(rt: &impl Abort, alloc: Global) -> (MemoryDisk, MemoryDisk) {
+    let tree = disk_of(rt, alloc, b"", &[]);
+    let log = disk_of(rt, alloc, b"", &[]);
+    runs(rt, alloc, "init", "", tree, log, Status::Done, "")
+}
+
+// This command on these disks, with this script as input, ends with this status and prints these lines. Gives the disks back.
+fn runs<D: Disk + Drop, E: Disk + Drop>(
+    rt: &impl Abort,
+    alloc: Global,
+    word: &str,
+    script: &str,
+    tree: D,
+    log: E,
+    status: Status,
+    lines: &str,
+) -> (D, E) {
+    let script = made(rt, script.as_bytes().to_vec(alloc));
+    let mut input = MemorySource::new(script, Vec::new(alloc));
+    let mut out = MemorySink::new(alloc, Vec::new(alloc), Vec::new(alloc));
+    let words = words_of(rt, alloc, &[word]);
+    let (ended, tree, log) = run(alloc, &words, &mut input, &mut out, tree, log);
+    assert!(rt; ended == status);
+    assert!(rt; out.taken() == lines.as_bytes());
+    drop(words);
+    drop(input);
+    drop(out);
+    (tree, log)
+}
+
+// A run of this script on an empty tree and an empty log ends with this status and these replies, where these reads and writes
+// fail.
 fn replays(
     rt: &impl Abort,
     alloc: Global,
@@ -96,12 +139,15 @@ fn replays(
     let writes = made(rt, writes.to_vec(alloc));
     let mut out = MemorySink::new(alloc, writes, made(rt, none.to_vec(alloc)));
     let words = words_of(rt, alloc, &["replay"]);
-    let ended = run(alloc, &words, &mut input, &mut out);
+    let (tree, log) = empty_files(rt, alloc);
+    let (ended, tree, log) = run(alloc, &words, &mut input, &mut out, tree, log);
     assert!(rt; ended == status);
     assert!(rt; out.taken() == replies.as_bytes());
     drop(words);
     drop(input);
     drop(out);
+    drop(tree);
+    drop(log);
 }
 
 // Scripts, how their runs end, and the replies.
@@ -334,8 +380,11 @@ fn pieces_of_one_byte_change_nothing(rt: HostRuntime) {
     };
     let mut out = MemorySink::new(alloc, Vec::new(alloc), Vec::new(alloc));
     let words = words_of(&rt, alloc, &["replay"]);
-    let status = run(alloc, &words, &mut input, &mut out);
+    let (tree, log) = empty_files(&rt, alloc);
+    let (status, tree, log) = run(alloc, &words, &mut input, &mut out, tree, log);
     let replies = joined(&rt, alloc, &SINGLE_REPLIES);
+    drop(tree);
+    drop(log);
     assert!(rt; status == Status::Done);
     assert!(rt; out.taken() == replies.as_bytes());
     drop(words);
@@ -346,7 +395,7 @@ fn pieces_of_one_byte_change_nothing(rt: HostRuntime) {
 static OTHER_WORDS: [&[&str]; 6] = [
     &[],
     &[""],
-    &["init"],
+    &["init", "x"],
     &["Replay"],
     &["replay "],
     &["replay", "replay"],
@@ -359,16 +408,21 @@ fn are_untouched(mut input: MemorySource, mut out: MemorySink) -> bool {
 }
 
 #[test]
-fn other_words_touch_neither_side(rt: HostRuntime) {
+fn other_words_touch_nothing(rt: HostRuntime) {
     let alloc = rt.alloc();
     for list in &OTHER_WORDS {
         let words = words_of(&rt, alloc, list);
         let script = made(&rt, MIGRATION.as_bytes().to_vec(alloc));
         let mut input = MemorySource::new(script, made(&rt, [0].to_vec(alloc)));
         let mut out = MemorySink::new(alloc, made(&rt, [0].to_vec(alloc)), Vec::new(alloc));
-        let status = run(alloc, &words, &mut input, &mut out);
+        let tree = disk_of(&rt, alloc, b"", &[]);
+        let log = disk_of(&rt, alloc, b"", &[]);
+        let (status, tree, log) = run(alloc, &words, &mut input, &mut out, tree, log);
         assert!(rt; status == Status::Usage);
         assert!(rt; are_untouched(input, out));
+        assert!(rt; tree.bytes().is_empty() && log.bytes().is_empty());
+        drop(tree);
+        drop(log);
         drop(words);
     }
 }
@@ -454,4 +508,255 @@ fn writes_go_in_chunks_and_reads_in_pages(rt: HostRuntime) {
     let script = made(&rt, many_changes(alloc, 300));
     let replies = made(&rt, many_replies(alloc, 300));
     replays(&rt, alloc, script, &NONE, Status::Done, replies);
+}
+
+const CHECKED: &str = "1 closed 4\nend events=1 steps=0 zxid=2 offset=4 recorded=4\n";
+
+const EMPTY_END: &str = "end events=0 steps=0 zxid=0 offset=-1 recorded=none\n";
+
+const EARLIER_END: &str = "end events=0 steps=0 zxid=2 offset=2 recorded=4\n";
+
+const MIGRATED_END: &str = "1 done
+2 done
+3 elected 1 1
+4 moved WAIT_FOR_BROKERS
+4 looked
+4 moved BECOME_CONTROLLER
+4 looked
+4 claimed 1
+4 read 0
+4 appended 2
+4 appended 4
+4 looked
+4 read 0
+4 recorded 4
+4 moved DUAL_WRITE
+4 idle
+end events=4 steps=13 zxid=2 offset=4 recorded=4
+";
+
+// Files after the migration of an empty cluster, that begin with these bytes.
+fn migrated_files(
+    rt: &impl Abort,
+    alloc: Global,
+    tree: &[u8],
+    log: &[u8],
+) -> (MemoryDisk, MemoryDisk) {
+    let tree = disk_of(rt, alloc, tree, &[]);
+    let log = disk_of(rt, alloc, log, &[]);
+    let (tree, log) = runs(rt, alloc, "init", "", tree, log, Status::Done, "");
+    runs(
+        rt,
+        alloc,
+        "replay",
+        MIGRATION,
+        tree,
+        log,
+        Status::Done,
+        MIGRATED_END,
+    )
+}
+
+#[test]
+fn files_are_made_once(rt: HostRuntime) {
+    let alloc = rt.alloc();
+    let (tree, log) = empty_files(&rt, alloc);
+    let (tree, log) = runs(&rt, alloc, "init", "", tree, log, Status::Done, "");
+    let (tree, log) = runs(&rt, alloc, "replay", "", tree, log, Status::Done, EMPTY_END);
+    let (tree, log) = runs(
+        &rt,
+        alloc,
+        "replay",
+        MIGRATION,
+        tree,
+        log,
+        Status::Done,
+        MIGRATED_END,
+    );
+    let (tree, log) = runs(&rt, alloc, "init", "", tree, log, Status::NotEmpty, "");
+    let (tree, log) = runs(
+        &rt,
+        alloc,
+        "replay",
+        CHECK,
+        tree,
+        log,
+        Status::Done,
+        CHECKED,
+    );
+    drop(tree);
+    drop(log);
+}
+
+#[test]
+fn files_without_a_header_are_damaged(rt: HostRuntime) {
+    let alloc = rt.alloc();
+    let tree = disk_of(&rt, alloc, b"", &[]);
+    let log = disk_of(&rt, alloc, b"", &[]);
+    let damaged = Status::TreeDamaged { at: 0 };
+    let (tree, log) = runs(&rt, alloc, "replay", CHECK, tree, log, damaged, "");
+    assert!(rt; tree.bytes().is_empty() && log.bytes().is_empty());
+    drop(tree);
+    drop(log);
+}
+
+#[test]
+fn a_disk_that_fails_is_told(rt: HostRuntime) {
+    let alloc = rt.alloc();
+    let (tree, log) = empty_files(&rt, alloc);
+    let failing = disk_of(&rt, alloc, tree.bytes(), &[0]);
+    let (failing, log) = runs(
+        &rt,
+        alloc,
+        "replay",
+        MIGRATION,
+        failing,
+        log,
+        Status::TreeFault,
+        "",
+    );
+    drop(failing);
+    let failing = disk_of(&rt, alloc, log.bytes(), &[0]);
+    let (tree, failing) = runs(
+        &rt,
+        alloc,
+        "replay",
+        MIGRATION,
+        tree,
+        failing,
+        Status::LogFault,
+        "",
+    );
+    drop(tree);
+    drop(failing);
+    drop(log);
+}
+
+// The log's file of `migrated_files`, changed at a place.
+fn changed_log(
+    rt: &impl Abort,
+    alloc: Global,
+    log: &MemoryDisk,
+    at: usize,
+    byte: u8,
+) -> MemoryDisk {
+    let mut bytes = made(rt, log.bytes().to_vec(alloc));
+    if at < bytes.len() {
+        bytes[at] = byte;
+    }
+    let log = disk_of(rt, alloc, &bytes, &[]);
+    drop(bytes);
+    log
+}
+
+#[test]
+fn a_torn_frame_is_left_out_and_a_changed_one_is_told(rt: HostRuntime) {
+    let alloc = rt.alloc();
+    let (tree, log) = migrated_files(&rt, alloc, b"", b"");
+    // the last frame's gate stands at byte 207 and its last byte at 300; the next gate is closed
+    assert!(rt; log.bytes().len() == 302);
+    let cut = disk_of(&rt, alloc, &log.bytes()[..300], &[]);
+    let (tree, cut) = runs(
+        &rt,
+        alloc,
+        "replay",
+        "",
+        tree,
+        cut,
+        Status::Done,
+        EARLIER_END,
+    );
+    let closed = changed_log(&rt, alloc, &log, 207, 0x7F);
+    let (tree, closed) = runs(
+        &rt,
+        alloc,
+        "replay",
+        "",
+        tree,
+        closed,
+        Status::Done,
+        EARLIER_END,
+    );
+    drop(cut);
+    drop(closed);
+    let sum = Status::LogDamaged {
+        at: 207,
+        why: LogWhy::Sum,
+    };
+    let changed = changed_log(&rt, alloc, &log, 300, 1);
+    let (tree, changed) = runs(&rt, alloc, "replay", CHECK, tree, changed, sum, "");
+    drop(tree);
+    drop(changed);
+    drop(log);
+}
+
+const PLAIN_TREE: &[u8] = b"KZ-JOURNAL T 01\n\x00";
+
+const PLAIN_LOG: &[u8] = b"KZ-JOURNAL L 01\n\x00";
+
+#[test]
+fn old_files_are_sealed_once(rt: HostRuntime) {
+    let alloc = rt.alloc();
+    let (tree, log) = migrated_files(&rt, alloc, PLAIN_TREE, PLAIN_LOG);
+    let (tree, log) = runs(&rt, alloc, "upgrade", "", tree, log, Status::Done, "");
+    let (tree_size, log_size) = (tree.bytes().len(), log.bytes().len());
+    let (tree, log) = runs(&rt, alloc, "upgrade", "", tree, log, Status::Done, "");
+    assert!(rt; tree.bytes().len() == tree_size && log.bytes().len() == log_size);
+    let (tree, log) = runs(
+        &rt,
+        alloc,
+        "replay",
+        CHECK,
+        tree,
+        log,
+        Status::Done,
+        CHECKED,
+    );
+    drop(tree);
+    drop(log);
+}
+
+#[test]
+fn a_seal_has_nine_bytes(rt: HostRuntime) {
+    let alloc = rt.alloc();
+    let tree = disk_of(&rt, alloc, PLAIN_TREE, &[]);
+    let log = disk_of(&rt, alloc, PLAIN_LOG, &[]);
+    let (tree, log) = runs(&rt, alloc, "upgrade", "", tree, log, Status::Done, "");
+    assert!(rt; tree.bytes().len() == 26 && log.bytes().len() == 26);
+    assert!(rt; tree.bytes()[16..21] == [0xA5, 0xFF, 0xFF, 0xFF, 0xFF]);
+    let mut bytes = made(&rt, tree.bytes().to_vec(alloc));
+    bytes[21] ^= 1;
+    let changed = disk_of(&rt, alloc, &bytes, &[]);
+    let damaged = Status::TreeDamaged { at: 16 };
+    let (changed, log) = runs(&rt, alloc, "replay", CHECK, changed, log, damaged, "");
+    drop(bytes);
+    drop(changed);
+    drop(tree);
+    drop(log);
+}
+
+// An upgrade in which both machines stop after so many calls of their disks. What is left stands for the same tree and log.
+fn stops_in_an_upgrade(rt: &impl Abort, alloc: Global, calls: u64) {
+    let (tree, log) = migrated_files(rt, alloc, PLAIN_TREE, PLAIN_LOG);
+    let mut input = MemorySource::new(Vec::new(alloc), Vec::new(alloc));
+    let mut out = MemorySink::new(alloc, Vec::new(alloc), Vec::new(alloc));
+    let words = words_of(rt, alloc, &["upgrade"]);
+    let tree = StopDisk::new(tree, calls);
+    let log = StopDisk::new(log, calls);
+    let (_, tree, log) = run(alloc, &words, &mut input, &mut out, tree, log);
+    let (tree, log) = (tree.into_disk(), log.into_disk());
+    let (tree, log) = runs(rt, alloc, "upgrade", "", tree, log, Status::Done, "");
+    let (tree, log) = runs(rt, alloc, "replay", CHECK, tree, log, Status::Done, CHECKED);
+    drop(words);
+    drop(input);
+    drop(out);
+    drop(tree);
+    drop(log);
+}
+
+#[test]
+fn a_stop_in_an_upgrade_leaves_tree_and_log(rt: HostRuntime) {
+    for calls in 0..30u64 {
+        stops_in_an_upgrade(&rt, rt.alloc(), calls);
+    }
 }

@@ -1,6 +1,8 @@
 -- What an event answers, leaves and keeps.
 use Rattle.std.proofs.Common.{◌≡◌, ◌⊎◌, inl, inr, ℕ, zero, suc, Bool, true, false, if◌then◌else◌, ℤ, pos, List, [], ◌∷◌, Option, Some, None, Result, Ok, Err, IfOk, IfErr, refl, sym, ap, ◌∙◌, subst}
 use Rattle.kz_types.specs.declared.fault.TreeFault.{TreeFault}
+use Rattle.kz_types.specs.declared.fault.LogFault.{LogFault}
+use Rattle.kz_types.specs.declared.fault.LogFault.TheVariants as log_fault
 use Rattle.kz_types.specs.declared.move_fault.MoveFault.{MoveFault}
 use Rattle.kz_types.specs.declared.machine.Answer.{Answer}
 use Rattle.kz_types.specs.declared.machine.Answer.TheVariants as answer
@@ -13,7 +15,7 @@ use Rattle.kz_spec_stores.specs.Tree.{Tree, begin_session, end_session, multi}
 use Rattle.kz_spec_stores.specs.Log.{Log}
 use Rattle.kz_spec_machine.specs.Driver.{Shared, Driver, StepResult, planned_step, step}
 use Rattle.kz_spec_machine.specs.Machine.{World, next, running_ids, driver_of, with_driver, running_refusal, outcome_unless, unless_refused, ends, TurnResult, turn, with_reply, work, step_result, turn_result, pair_of, event_pairs, moved_world, client_refusal, client_world, quorum_refusal, declared_world, start_refusal, started_world, stop_refusal, stopped_world, election_refusal, elected_world, election_answer, change_refusal, changed_world, register_refusal, final_records, finalise_refusal, exit_ops, tree_after_ops, reset_world, given_back, rollback_refusal, is_rollback, registration}
-use Rattle.kz_spec_machine.specs.Failures.{is_failed_step, is_failure, IsCutOff, CutOffTurn, IsLeftByTurn, IsLeftByStep, IsLeftByTree, IsLeftOutOfMemory, IsLeft}
+use Rattle.kz_spec_machine.specs.Failures.{is_failed_step, is_failure, IsCutOff, CutOffTurn, IsLeftByTurn, IsLeftByStep, IsLeftByTree, IsLeftByLog, IsLeftOutOfMemory, IsLeft}
 use Rattle.kz_spec_machine.specs.Sound.{IsTime, IsLawful, Sound}
 use Rattle.kz_laws_fence.specs.Fence.{IsOfFence}
 use Rattle.kz_laws_fence.proofs.Drivers.{fenced_driver}
@@ -104,6 +106,12 @@ unmade_step : (w : World) (e : Event) (new : World) → IsLeftByStep w e new →
 unmade_step w (event.Step id now p) new left = left.2
 unmade_step w e new left = absurd left
 
+-- where the log failed, nothing has changed
+log_alone : (w : World) (e : Event) (f : LogFault) (new : World) → IsLeftByLog w e f new → new ≡ w
+log_alone w event.Rollback log_fault.Down new left = left
+log_alone w event.Rollback f new left = left.1
+log_alone w e f new left = left
+
 -- a rollback resets the log first
 left_by_tree : (w : World) (e : Event) (new : World) → IsLeftByTree w e new → Sound w → Sound new
 left_by_tree w event.Rollback new left sound = subst Sound (sym left.1) (reset_world_sound w sound left.0)
@@ -118,6 +126,7 @@ left_sound : (w : World) (e : Event) (a : Answer) (new : World) → IsLawful e �
 left_sound w e (answer.Turn replies) new lawful left sound = left_by_turn w e replies new lawful left sound
 left_sound w e (answer.Step r) new lawful left sound = subst Sound (sym (unmade_step w e new left)) sound
 left_sound w e (answer.TreeFailed f) new lawful left sound = left_by_tree w e new left sound
+left_sound w e (answer.LogFailed f) new lawful left sound = subst Sound (sym (log_alone w e f new left)) sound
 left_sound w e answer.NoMemory new lawful left sound = out_of_memory w e new left sound
 left_sound w e a new lawful left sound = subst Sound (sym left) sound
 
@@ -144,6 +153,7 @@ left_alone : (w : World) (e : Event) (a : Answer) (new : World) → is_rollback 
 left_alone w e (answer.Turn replies) new forward alone left = absurd (alone replies left)
 left_alone w e (answer.Step r) new forward alone left = unmade_step w e new left
 left_alone w e (answer.TreeFailed f) new forward alone left = tree_alone w e new forward left
+left_alone w e (answer.LogFailed f) new forward alone left = log_alone w e f new left
 left_alone w e answer.NoMemory new forward alone left = memory_alone w e new forward left
 left_alone w e a new forward alone left = left
 
@@ -179,6 +189,7 @@ turn_left : (w : World) (id now : ℤ) (a : Answer) (new : World) → IsTime now
 turn_left w id now (answer.Turn replies) new time sound fenced left = cut_off_leaves w id now replies new time sound fenced left
 turn_left w id now (answer.Step r) new time sound fenced left = absurd left
 turn_left w id now (answer.TreeFailed f) new time sound fenced left = ap (λ (x : World). x.shared) left
+turn_left w id now (answer.LogFailed f) new time sound fenced left = ap (λ (x : World). x.shared) left
 turn_left w id now answer.NoMemory new time sound fenced left = ap (λ (x : World). x.shared) left
 turn_left w id now a new time sound fenced left = ap (λ (x : World). x.shared) left
 

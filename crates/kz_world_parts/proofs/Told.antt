@@ -16,7 +16,7 @@ use Rattle.kz_spec_stores.specs.Log.{Log, append, elect, begun_of, image_of}
 use Rattle.kz_spec_stores.specs.Requests.{Disk, StoreAnswer, Done, Multi, BeginSession, EndSession, Append, Elect, IsTaken, ChangesDisk, ReadsDisk, answer_of_tree_fault, answer_of_log_fault}
 use Rattle.kz_spec_machine.specs.Driver.{Driver, least}
 use Rattle.kz_spec_machine.specs.Machine.{World, running_refusal, leader_refusal, client_refusal, driver_of, running_ids, election_records, registration, final_records, is_rollback}
-use Rattle.kz_spec_machine.specs.Failures.{is_tree_failure, is_log_failure, is_failure, IsLeftByTree, IsLeftOutOfMemory, IsLeft}
+use Rattle.kz_spec_machine.specs.Failures.{is_tree_failure, is_log_failure, is_failure, IsLeftByTree, IsLeftByLog, IsLeftOutOfMemory, IsLeft}
 use Rattle.kz_requests.specs.Disks.{answer_of_made}
 use Rattle.kz_driver.specs.Disks.{Disks, Payloads}
 use Rattle.kz_world_parts.specs.declared.faults.EventFault.{EventFault}
@@ -139,6 +139,10 @@ left_by_tree : (w : World) (e : Event) (new : World) → is_rollback e ≡ false
 left_by_tree w event.Rollback new forward h = absurd (cc)
 left_by_tree w e new forward h = h
 
+left_by_log : (w : World) (e : Event) (f : LogFault) (new : World) → is_rollback e ≡ false → new ≡ w → IsLeftByLog w e f new
+left_by_log w event.Rollback f new forward h = absurd (cc)
+left_by_log w e f new forward h = h
+
 left_out_of_memory : (w : World) (e : Event) (new : World) → is_rollback e ≡ false → new ≡ w → IsLeftOutOfMemory w e new
 left_out_of_memory w event.Rollback new forward h = absurd (cc)
 left_out_of_memory w e new forward h = h
@@ -146,7 +150,7 @@ left_out_of_memory w e new forward h = h
 -- an event other than a rollback that answers a fault leaves the world as it was
 pub left_by : (w : World) (e : Event) (f : EventFault) (new : World) → is_rollback e ≡ false → new ≡ w → IsLeft w e (answer_of_fault f) new
 left_by w e (event_fault.Tree f) new forward h = left_by_tree w e new forward h
-left_by w e (event_fault.Log f) new forward h = h
+left_by w e (event_fault.Log f) new forward h = left_by_log w e f new forward h
 left_by w e event_fault.NoMemory new forward h = left_out_of_memory w e new forward h
 
 -- ---- answers that tell of no failure

@@ -1,0 +1,5 @@
+pub mod Disks
+pub mod Opened
+pub mod Sealed
+pub mod Fresh
+pub mod Made

@@ -1,0 +1,34 @@
+use Rattle.std.proofs.Common.{sym, ◌∙◌, subst}
+use Rattle.kz_spec_files.specs.Frames.{tree_letter, log_letter}
+use Rattle.kz_spec_files.specs.TreeFile.{tree_of, tree_of_stored, stored_in}
+use Rattle.kz_spec_files.specs.LogFile.{log_in}
+use Rattle.kz_tree_store.specs.Stores as trees
+use Rattle.kz_log_store.specs.Stores as logs
+use Rattle.kz_commands.specs.Stops.{StandsAtStop}
+use Rattle.kz_commands.proofs.Disks.{settled}
+use Rattle.kz_commands.proofs.opening.open.Goals as goal
+
+pub returns-in-Ok-attach-clause-tree_stop : goal.returns-in-Ok-attach-clause-tree_stop
+returns-in-Ok-attach-clause-tree_stop g c =
+    let s = c.in-Ok.tree in
+    let now = trees.store_disk s in
+    let opened = c.in-Ok.ensures.opened in
+    settled (λ j. tree_of_stored (stored_in j)) tree_letter (g.D.Disk.told c.args.tree) (g.D.Disk.told now) (g.D.Disk.may_leave c.args.tree) (g.D.Disk.may_leave now) (g.D.Disk.syncs c.args.tree) (g.D.Disk.syncs now) opened.same
+    (s.journal.settled (sym s.down_is ∙ opened.up))
+
+pub returns-in-Ok-attach-clause-log_stop : goal.returns-in-Ok-attach-clause-log_stop
+returns-in-Ok-attach-clause-log_stop g c =
+    let s = c.in-Ok-attach.log in
+    let now = logs.store_disk s in
+    let opened = c.in-Ok-attach.ensures.opened in
+    settled log_in log_letter (g.E.Disk.told c.args.log) (g.E.Disk.told now) (g.E.Disk.may_leave c.args.log) (g.E.Disk.may_leave now) (g.E.Disk.syncs c.args.log) (g.E.Disk.syncs now) opened.same
+    (s.journal.settled (sym s.down_is ∙ opened.up))
+
+pub returns-in-Err-attach-clause-tree_stop : goal.returns-in-Err-attach-clause-tree_stop
+returns-in-Err-attach-clause-tree_stop g c =
+    let s = c.in-Ok.tree in
+    let now = trees.store_disk s in
+    let opened = c.in-Ok.ensures.opened in
+    subst (λ d. StandsAtStop tree_of (g.D.Disk.told c.args.tree) (g.D.Disk.may_leave c.args.tree) (g.D.Disk.syncs c.args.tree) (g.D.Disk.syncs d) (g.D.Disk.may_leave d)) (sym c.into_disk.ensures)
+    (settled (λ j. tree_of_stored (stored_in j)) tree_letter (g.D.Disk.told c.args.tree) (g.D.Disk.told now) (g.D.Disk.may_leave c.args.tree) (g.D.Disk.may_leave now) (g.D.Disk.syncs c.args.tree) (g.D.Disk.syncs now) opened.same
+    (s.journal.settled (sym s.down_is ∙ opened.up)))

@@ -1,0 +1,5 @@
+pub mod Answers
+pub mod Stores
+pub mod Requests
+pub mod Rollbacks
+pub mod Events

@@ -1,0 +1,69 @@
+use Rattle.std.proofs.Common.{ℕ, List, IfSome, sym, ap, ◌∙◌, subst}
+use Rattle.std.specs.Io.KnownBytes.{Appends, Consumes}
+use Rattle.kz_spec_machine.specs.Sound.{Sound}
+use Rattle.kz_spec_runs.specs.Endings.{EndsAs}
+use Rattle.kz_driver.specs.Disks.{disks_of}
+use Rattle.kz_turns.specs.Stops.{AreUp}
+use Rattle.kz_world_parts.specs.Worlds.{plain_world}
+use Rattle.kz_world_parts.specs.Disks.{disks_in}
+use Rattle.kz_tree_store.specs.Stores as trees
+use Rattle.kz_log_store.specs.Stores as logs
+use Rattle.kz_stream.specs.Pending.{state_of, outcome_to_come, pending_lines}
+use Rattle.kz_commands.specs.Outside.{outside}
+use Rattle.kz_replay.specs.Disks.{RunDisks}
+use Rattle.kz_replay.proofs.Replaying.{Told, not_opened, opened, tree_stands, log_stands_for}
+use Rattle.kz_replay.proofs.program.replay.Goals as goal
+
+pub returns-in-Err-clause-replays : goal.returns-in-Err-clause-replays
+returns-in-Err-clause-replays g c =
+    not_opened (outside g.S.Source.left g.S.Source.faults g.S.Source.last_failed c.args.input.now) (outside g.K.Sink.taken g.K.Sink.faults g.K.Sink.last_failed c.args.out.now)
+    (outside g.D.Disk.told g.D.Disk.faults g.D.Disk.last_failed c.args.tree) (outside g.D.Disk.told g.D.Disk.faults g.D.Disk.last_failed c.in-Err.refused.1)
+    (outside g.E.Disk.told g.E.Disk.faults g.E.Disk.last_failed c.args.log) (outside g.E.Disk.told g.E.Disk.faults g.E.Disk.last_failed c.in-Err.refused.2) c.in-Err.refused.0 c.in-Err.ensures.refused
+
+pub returns-clause-replays : goal.returns-clause-replays
+returns-clause-replays g c =
+    let source = outside g.S.Source.left g.S.Source.faults g.S.Source.last_failed in
+    let sink = outside g.K.Sink.taken g.K.Sink.faults g.K.Sink.last_failed in
+    let tree_disk = outside g.D.Disk.told g.D.Disk.faults g.D.Disk.last_failed in
+    let log_disk = outside g.E.Disk.told g.E.Disk.faults g.E.Disk.last_failed in
+    let first_tree = c.in-Ok.stores.0 in
+    let first_log = c.in-Ok.stores.1 in
+    let last = c.pump-status.result.1.world in
+    let result = c.pump-status.result.0 in
+    let world = plain_world (λ t. trees.held_tree t) (λ l. logs.held_log l) in
+    let disks = disks_in (λ t. trees.store_state g.D.Disk.faults t) (λ l. logs.store_state g.E.Disk.faults l) in
+    let tree_is = c.into_disk.ensures ∙ ap (λ t. trees.store_disk t) c.into_parts-tree.ensures.tree in
+    let log_is = c.into_disk-2.ensures ∙ ap (λ l. logs.store_disk l) c.into_parts-tree.ensures.log in
+    let is = c.in-Ok.ensures.opened in
+    let made = c.pump-status.ensures in
+    let script_is = g.S.Source.left c.args.input.now in
+    let input = source c.args.input.now in
+    let input_now = source c.pump-status.new.input in
+    let out = sink c.args.out.now in
+    let out_now = sink c.pump-status.new.out in
+    opened (trees.held_tree first_tree) (logs.held_log first_log) (world last) (disks_of (trees.store_state g.D.Disk.faults first_tree) (logs.store_state g.E.Disk.faults first_log)) (disks last)
+    input input_now out out_now
+    (tree_disk c.args.tree) (tree_disk c.into_disk.result) (log_disk c.args.log) (log_disk c.into_disk-2.result) result
+    (record {
+      tree_stood = is.tree_opened.tree;
+      log_stood = λ file told. (is.log_opened.log file told).log;
+      up = record { tree = sym first_tree.down_is ∙ is.tree_opened.up; log = sym first_log.down_is ∙ is.log_opened.up };
+      faults = record {
+        tree_before = is.tree_calm;
+        tree_after = sym (ap g.D.Disk.faults tree_is);
+        log_before = is.log_calm;
+        log_after = sym (ap g.E.Disk.faults log_is);
+      };
+      standing = λ up t l is_t is_l. record {
+        tree_is = tree_stands (trees.held_tree last.tree) (g.D.Disk.told (trees.store_disk last.tree)) (g.D.Disk.may_leave (trees.store_disk last.tree)) (made.settled up).0
+            (λ file told. g.met.D.Disk.may_stay (trees.store_disk last.tree) file told) t (sym (ap g.D.Disk.told tree_is) ∙ is_t);
+        log_is = log_stands_for (logs.held_log last.log) (g.E.Disk.told (logs.store_disk last.log)) (g.E.Disk.may_leave (logs.store_disk last.log)) (made.settled up).1
+            (λ file told. g.met.E.Disk.may_stay (logs.store_disk last.log) file told) l (sym (ap g.E.Disk.told log_is) ∙ is_l);
+      };
+      output = subst (λ w. Sound (world w) → IfSome script_is (Told (world w) input input_now out out_now (world last) result)) c.new-world.ensures
+          (subst (λ s. Sound (world s.place.machine.world) → IfSome script_is (λ script. (taken : List ℕ) × (sent : List ℕ) × Consumes script_is (g.S.Source.left c.pump-status.new.input) taken
+          × Appends (g.K.Sink.taken c.args.out.now) (g.K.Sink.taken c.pump-status.new.out) sent
+          × EndsAs (outcome_to_come (state_of (λ r. world r.world) s) script) (pending_lines (state_of (λ r. world r.world) s) taken) sent (world last) result)) c.new.ensures made.output);
+      disks = subst (λ w. Sound (world w) → AreUp (disks w) → RunDisks result (disks w) (disks last)) c.new-world.ensures
+          (subst (λ s. Sound (world s.place.machine.world) → AreUp (disks s.place.machine.world) → RunDisks result (disks s.place.machine.world) (disks last)) c.new.ensures made.disks);
+    }) made.whole made.source made.sink

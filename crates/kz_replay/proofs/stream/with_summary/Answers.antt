@@ -1,8 +1,0 @@
-use Rattle.std.proofs.Common.{List, ℕ, ◌++◌, ap, ◌∙◌}
-use Rattle.kz_replay.proofs.Takings.{summary_begins}
-use Rattle.kz_replay.proofs.stream.with_summary.Goals as goal
-
-pub returns : goal.returns
-returns g c = λ o h.
-    summary_begins c.args.printed.text.items c.extend_from_slice.new.self.items c.args.printed.next o c.args.place.now c.in-GoesOn.is
-    (c.in-Ok.ensures.items ∙ ap (λ (t : List ℕ). c.args.printed.text.items ++ t) (c.deref.ensures.value ∙ c.in_ok-summary.ensures)) h
