@@ -220,7 +220,7 @@ fn a_failed_call_is_told(rt: HostRuntime) {
         );
         assert!(rt; status == Status::TreeFault || status == Status::Done);
         if status == Status::TreeFault {
-            in_init += 1;
+            in_init = in_init.saturating_add(1);
         }
         let (status, _tree, _log) = init(
             alloc,
@@ -241,7 +241,7 @@ fn a_failed_call_is_told(rt: HostRuntime) {
         );
         assert!(rt; status == Status::LogFault || status == Status::Done);
         if status == Status::LogFault {
-            in_upgrade += 1;
+            in_upgrade = in_upgrade.saturating_add(1);
         }
     }
     assert!(rt; in_init == 5);

@@ -649,13 +649,19 @@ fn changed_log(
     log
 }
 
+// The first bytes of a file, which has as many.
+fn front_of<'a>(rt: &impl Abort, bytes: &'a [u8], end: usize) -> &'a [u8] {
+    assert!(rt; end <= bytes.len());
+    &bytes[..end]
+}
+
 #[test]
 fn a_torn_frame_is_left_out_and_a_changed_one_is_told(rt: HostRuntime) {
     let alloc = rt.alloc();
     let (tree, log) = migrated_files(&rt, alloc, b"", b"");
     // the last frame's gate stands at byte 207 and its last byte at 300; the next gate is closed
     assert!(rt; log.bytes().len() == 302);
-    let cut = disk_of(&rt, alloc, &log.bytes()[..300], &[]);
+    let cut = disk_of(&rt, alloc, front_of(&rt, log.bytes(), 300), &[]);
     let (tree, cut) = runs(
         &rt,
         alloc,
@@ -725,6 +731,7 @@ fn a_seal_has_nine_bytes(rt: HostRuntime) {
     assert!(rt; tree.bytes().len() == 26 && log.bytes().len() == 26);
     assert!(rt; tree.bytes()[16..21] == [0xA5, 0xFF, 0xFF, 0xFF, 0xFF]);
     let mut bytes = made(&rt, tree.bytes().to_vec(alloc));
+    assert!(rt; bytes.len() > 21);
     bytes[21] ^= 1;
     let changed = disk_of(&rt, alloc, &bytes, &[]);
     let damaged = Status::TreeDamaged { at: 16 };
