@@ -1,24 +1,21 @@
 use super::{open, run_on};
 use kz_io::{MemorySink, MemorySource};
 use kz_replay::Status;
-use std::alloc::Global;
-use std::process::Abort;
+use kz_types::NoMemory;
 use std::test::Fail;
 use std::{env, fs};
 
-// What a call gave, which must not have failed.
-fn made<T: Drop, E: Drop>(rt: &impl Abort, outcome: Result<T, E>) -> T {
-    match outcome {
-        Ok(value) => value,
-        Err(_) => panic!(rt; "a call failed"),
-    }
-}
-
 // Whether a command without input on two real files is done, and prints these lines.
-fn is_done(rt: &HostRuntime, word: &str, tree: &str, log: &str, lines: &str) -> bool {
+fn is_done(
+    rt: &HostRuntime,
+    word: &str,
+    tree: &str,
+    log: &str,
+    lines: &str,
+) -> Result<bool, NoMemory> {
     let alloc = rt.alloc();
     let mut words = Vec::new(alloc);
-    made(rt, words.push(made(rt, String::from_str(alloc, word))));
+    words.push(String::from_str(alloc, word)?)?;
     let mut input = MemorySource::new(Vec::new(alloc), Vec::new(alloc));
     let mut out = MemorySink::new(alloc, Vec::new(alloc), Vec::new(alloc));
     let (tree, log) = (open(rt, tree), open(rt, log));
@@ -28,7 +25,7 @@ fn is_done(rt: &HostRuntime, word: &str, tree: &str, log: &str, lines: &str) -> 
     drop(words);
     drop(input);
     drop(out);
-    same
+    Ok(same)
 }
 
 #[test]
@@ -47,6 +44,6 @@ fn real_files_are_made_and_read(rt: HostRuntime) -> Result<(), Fail> {
     let read = is_done(&rt, "replay", tree_name, log_name, end);
     fs::remove_file(&rt, tree.as_path())?;
     fs::remove_file(&rt, log.as_path())?;
-    assert!(rt; made && read);
+    assert!(rt; matches!(made, Ok(true)) && matches!(read, Ok(true)));
     Ok(())
 }
