@@ -8,3 +8,4 @@ pub mod InAgreement
 pub mod Paths
 pub mod Kept
 pub mod Pairs
+pub mod Moments

@@ -66,7 +66,7 @@ by_request : (R : Pair → Pair → Type 0) (p : Plan) (s : Shared) (epoch now :
 by_request R p s epoch now nothing h = same_pair (reaches_store p nothing) s
 by_request R p s epoch now r h = (h, refl)
 
-step_linked : (R : Pair → Pair → Type 0) (p : Plan) (s : Shared) (running : List ℤ) (now : ℤ) (d : Driver) → R (pair_of s) (pair_of (planned_step p s running now d).shared) → LinkedTo R (pair_of s) (step_pairs p s running now d) (pair_of (planned_step p s running now d).shared)
+pub step_linked : (R : Pair → Pair → Type 0) (p : Plan) (s : Shared) (running : List ℤ) (now : ℤ) (d : Driver) → R (pair_of s) (pair_of (planned_step p s running now d).shared) → LinkedTo R (pair_of s) (step_pairs p s running now d) (pair_of (planned_step p s running now d).shared)
 unfolding planned_step
 step_linked R p s running now d h = by_request R p s (epoch_or_zero d.epoch) now (request_at s now d d.stage) h
 

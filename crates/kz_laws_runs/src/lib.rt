@@ -5,7 +5,7 @@
 
 ghost use Rattle.kz_laws_runs.specs.Runs.{RunsCommitWhole, RunsAgree, RunsStayAsRecorded, RunsStayInAgreement, RunsStayFinalised};
 ghost use Rattle.kz_laws_runs.specs.Paths.{EventsKeepPaths, RunsKeepPaths, RunsKeepAgreement};
-ghost use Rattle.kz_laws_runs.specs.Pairs.{EmptyIsSoundPair, RunsLeaveSoundPairs, MomentsAreSoundPairs};
+ghost use Rattle.kz_laws_runs.specs.Pairs.{EmptyIsSoundPair, RunsLeaveSoundPairs, MomentsAreSoundPairs, ReplayMomentsArePairs, ReplayMomentsAreSoundPairs};
 
 /// In every run from a sound pair of a tree and a log, a migration is committed whole or not at all, as the translation of the
 /// znodes that stand at its commit. Each migrated znode agrees with the log, path by path, and all of them where none was written
@@ -34,4 +34,11 @@ pub fn pairs_stay_sound()
     ensures empty { EmptyIsSoundPair }
     ensures run { RunsLeaveSoundPairs }
     ensures moments { MomentsAreSoundPairs }
+{}
+
+/// What a stop finds at a moment of a replay from a sound pair is the tree and the log of the run's beginning or after one of its
+/// requests, and a sound pair. So a further replay may begin with what a stop of it leaves.
+pub fn replay_moments_stay_sound()
+    ensures pairs { ReplayMomentsArePairs }
+    ensures sound { ReplayMomentsAreSoundPairs }
 {}

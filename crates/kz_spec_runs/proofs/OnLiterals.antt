@@ -3,8 +3,8 @@ use Rattle.std.specs.Prelude.{⊤}
 use Rattle.kz_spec_lines.proofs.OnLiterals.{lines_on_literals}
 use Rattle.kz_spec_machine.proofs.OnLiterals.{machine_on_literals}
 use Rattle.kz_spec_runs.specs.Output.{outcome, progress_of}
-use Rattle.kz_spec_runs.specs.Moments.{moments}
+use Rattle.kz_spec_runs.specs.Moments.{moments, turn_moments}
 
 unfoldable pub runs_on_literals : ⊤
-unfolding lines_on_literals machine_on_literals outcome progress_of moments
+unfolding lines_on_literals machine_on_literals outcome progress_of moments turn_moments
 runs_on_literals = tt

@@ -1,12 +1,17 @@
 -- What a stop may find at each moment of a run: what is written by then, and the tree and the log.
-use Rattle.std.specs.Prelude.{◌≡◌, ℕ, ◌-◌, take, length, List, [], ◌∷◌, ◌++◌, Option, Some, None, Contains, if◌then◌else◌}
+use Rattle.std.specs.Prelude.{◌≡◌, ℕ, zero, suc, ◌+◌, ℤ, List, [], ◌∷◌, ◌++◌, Option, Some, None, Contains, if◌then◌else◌}
+use Rattle.kz_types.specs.declared.machine.Answer.{Answer}
 use Rattle.kz_types.specs.declared.machine.Event.{Event}
+use Rattle.kz_types.specs.declared.machine.Event.TheVariants as event
 use Rattle.kz_types.specs.declared.outside.Status.{Status}
+use Rattle.kz_types.specs.declared.plan.Plan.TheVariants as plan
 use Rattle.kz_spec_lines.specs.Lines.{Item, line, long, much, items, is_passed_over}
 use Rattle.kz_spec_lines.specs.Events.{line_event}
+use Rattle.kz_spec_lines.specs.Replies.{reply_line, reply_text}
 use Rattle.kz_spec_stores.specs.Tree.{Tree}
 use Rattle.kz_spec_stores.specs.Log.{Log}
-use Rattle.kz_spec_machine.specs.Machine.{World, Pair, pair_of, next, event_pairs}
+use Rattle.kz_spec_machine.specs.Driver.{Shared, Driver, step}
+use Rattle.kz_spec_machine.specs.Machine.{World, Pair, pair_of, step_pairs, ends, work, running_ids, running_refusal, driver_of, next, event_pairs}
 use Rattle.kz_spec_runs.specs.Output.{Place, place_of, place_after_line, place_after_event, written_for, ending, summary}
 
 -- The lines that stand whole, the lines that are being written, of which some front may stand, and the tree and the log.
@@ -19,11 +24,7 @@ pub record Moment : Type 0 where
 abbrev pub moment_at : List ℕ → Pair → Moment
 moment_at reply pair = record { text = []; reply = reply; pair = pair }
 
--- a text without its last byte
-abbrev pub without_last : List ℕ → List ℕ
-without_last text = take (length text - 1) text
-
--- the moments at these requests
+-- the moments with these pairs
 abbrev pub moments_at : List ℕ → List Pair → List Moment
 moments_at reply [] = []
 moments_at reply (p ∷ ps) = moment_at reply p ∷ moments_at reply ps
@@ -36,17 +37,44 @@ abbrev pub later : List ℕ → List Moment → List Moment
 later text [] = []
 later text (m ∷ ms) = moment_after text m ∷ later text ms
 
+-- ---- the moments of an event
+
+-- The moments of at most so many steps of a driver's turn, which is the event of the line of this number. Where a step fails, the
+-- lines of the steps before it are written, and a stop finds the tree and the log from before its request, or after it.
+unfoldable pub turn_moments : ℕ → List ℕ → ℕ → Shared → List ℤ → ℤ → Driver → List Moment
+turn_moments number before zero s running now d = []
+turn_moments number before (suc n) s running now d = moments_at before (pair_of s ∷ step_pairs plan.Deliver s running now d)
+    ++ (if ends (step s running now d).reply then [] else turn_moments number (before ++ reply_line number (reply_text (step s running now d).reply)) n (step s running now d).shared running now (step s running now d).driver)
+
+abbrev pub driver_moments : Place → ℤ → Option Driver → List Moment
+driver_moments p now None = []
+driver_moments p now (Some d) = turn_moments (p.lines + 1) [] (work p.world.shared d) p.world.shared (running_ids p.world.drivers) now d
+
+-- those of a turn that isn't refused
+abbrev pub moments_of_turn : Option Answer → List Moment → List Moment
+moments_of_turn (Some refusal) ms = []
+moments_of_turn None ms = ms
+
+-- The moments of the requests of an event. Until the event is done, none of its lines is written, but for those of a turn's steps.
+abbrev pub request_moments : Place → Event → List Moment
+request_moments p (event.Turn id now) = moments_of_turn (running_refusal p.world id) (driver_moments p now (driver_of id p.world.drivers))
+request_moments p e = moments_at [] (event_pairs p.world e)
+
+-- ---- the moments of a run
+
 abbrev pub moments_unless : Option Status → Place → List Moment → List Moment
 moments_unless (Some s) p rest = moment_at [] (pair_of p.world.shared) ∷ []
 moments_unless None p rest = rest
 
+-- Before an event, at its requests, while its lines are written, and after it.
 abbrev pub moments_on : Place → Option Event → (Place → List Moment) → List Moment
 moments_on p None go = moment_at [] (pair_of p.world.shared) ∷ []
-moments_on p (Some e) go = moments_at (without_last (written_for p e)) (pair_of p.world.shared ∷ event_pairs p.world e)
-    ++ later (written_for p e) (moments_unless (ending (next p.world e).1) (place_after_event p e) (go (place_after_event p e)))
+moments_on p (Some e) go = moment_at [] (pair_of p.world.shared)
+    ∷ (request_moments p e
+    ++ (moment_at (written_for p e) (pair_of (next p.world e).0.shared)
+    ∷ later (written_for p e) (moments_unless (ending (next p.world e).1) (place_after_event p e) (go (place_after_event p e)))))
 
--- The moments of these lines from a place on. At each request of an event, a stop may find some of the event's lines printed,
--- but not all of them. All of them are printed only where all requests of the event are made.
+-- The moments of these lines from a place on.
 unfoldable pub moments : Place → List Item → List Moment
 moments p [] = moment_at (summary p) (pair_of p.world.shared) ∷ []
 moments p (long ∷ is) = moment_at [] (pair_of p.world.shared) ∷ []

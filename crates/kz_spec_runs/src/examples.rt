@@ -1,8 +1,10 @@
 //! Laws by example: what the program writes for worked scripts.
-ghost use Rattle.std.specs.Prelude.{◌≡◌, [], codes};
+ghost use Rattle.std.specs.Prelude.{◌≡◌, ℕ, ℤ, List, [], ◌∷◌, map, pos, negsuc, codes};
 ghost use Rattle.kz_types.specs.declared.outside.Status.TheVariants as status;
 ghost use Rattle.kz_spec_machine.specs.Machine.{empty_world};
+ghost use Rattle.kz_spec_stores.specs.Log.{end_of};
 ghost use Rattle.kz_spec_runs.specs.Output.{written_and_status, outcome_of_replay, written_so_far};
+ghost use Rattle.kz_spec_runs.specs.Moments.{replayed_moments};
 
 /// One controller migrates an empty tree.
 #[tactic(auto, unfolding(crate::proofs::OnLiterals::runs_on_literals))]
@@ -50,4 +52,19 @@ pub fn no_event()
 #[tactic(auto, unfolding(crate::proofs::OnLiterals::runs_on_literals))]
 pub fn unfinished_line()
     ensures { (written_so_far empty_world (codes "{\"event\":\"quorum\",\"ids\":[3000]}\n{\"event\":\"start\",\"controller\":3000}")).text ≡ codes "1 done\n" }
+{}
+
+/// What a stop may find while a controller is elected: its record stands in the log before the line of its event is written.
+#[tactic(auto, unfolding(crate::proofs::OnLiterals::runs_on_literals))]
+pub fn moments_of_an_election()
+    ensures { map {B = List ℕ × List ℕ × ℤ} (λ m. (m.text, m.reply, end_of m.pair.log)) (replayed_moments empty_world (codes "{\"event\":\"quorum\",\"ids\":[3000]}\n{\"event\":\"start\",\"controller\":3000}\n{\"event\":\"elect\",\"controller\":3000}\n"))
+        ≡ (([], [], negsuc 0)
+        ∷ ([], codes "1 done\n", negsuc 0)
+        ∷ (codes "1 done\n", [], negsuc 0)
+        ∷ (codes "1 done\n", codes "2 done\n", negsuc 0)
+        ∷ (codes "1 done\n2 done\n", [], negsuc 0)
+        ∷ (codes "1 done\n2 done\n", [], pos 1)
+        ∷ (codes "1 done\n2 done\n", codes "3 elected 1 1\n", pos 1)
+        ∷ (codes "1 done\n2 done\n3 elected 1 1\n", codes "end events=3 steps=0 zxid=0 offset=1 recorded=none\n", pos 1)
+        ∷ []) }
 {}
