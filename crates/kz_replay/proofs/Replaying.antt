@@ -22,6 +22,8 @@ use Rattle.kz_spec_machine.specs.Sound.{Sound, IsLawful}
 use Rattle.kz_spec_runs.specs.Output.{Progress, place_of, outcome_of_replay}
 use Rattle.kz_spec_runs.specs.Endings.{Agrees, EndsAs, EndsAtFailure}
 use Rattle.kz_spec_runs.specs.InStep.{script_events}
+use Rattle.kz_spec_runs.specs.Moments.{Moment, LeavesMoment, replayed_moments}
+use Rattle.kz_spec_lines.specs.Lines.{items}
 use Rattle.kz_spec_runs.specs.Openings.{opened_world, IsSoundPair}
 use Rattle.kz_spec_runs.specs.Promises.{Promises}
 use Rattle.kz_spec_commands.specs.Files.{tree_damage, log_damage, first_reason, damage, StandFor, SayTheSame, EndsAtDisk}
@@ -38,14 +40,17 @@ use Rattle.kz_turns.specs.Stops.{AreUp}
 use Rattle.kz_failures.specs.declared.failure.Failure.{Failure}
 use Rattle.kz_failures.specs.declared.failure.Failure.TheVariants as failure
 use Rattle.kz_failures.specs.Disks.{HasFailed, AreQuiet, AnswerDisks}
-use Rattle.kz_stream.specs.Pending.{outcome_to_come, pending_lines}
+use Rattle.kz_stream.specs.Pending.{outcome_to_come, moments_to_come, pending_lines}
 use Rattle.kz_stream.proofs.Cut.{state, lines_at_start}
 use Rattle.kz_stream.proofs.Failures.{no_failure}
 use Rattle.kz_stream.proofs.Runs.{always}
+use Rattle.kz_stream.proofs.Moments.{leaves_here}
 use Rattle.kz_commands.specs.Outside.{Outside}
 use Rattle.kz_commands.specs.Opening.{IsUnopenedStatus, IsForDamage, LeavesUnopened, AreUnopened}
 use Rattle.kz_replay.specs.Disks.{RunDisks}
-use Rattle.kz_replay.specs.Replays.{EndsAtDamage, LeavesWorld, Replayed, ScriptTurnsEnd, ReplaysSoundly, Replays}
+use Rattle.kz_commands.specs.Stops.{StandsAtStop}
+use Rattle.kz_replay.specs.Stops.{StandAtMoment, Contents, FilesKeepUp, ReplayStops}
+use Rattle.kz_replay.specs.Replays.{EndsAtDamage, LeavesWorld, KeepsUpAt, Replayed, ScriptTurnsEnd, ReplaysSoundly, Replays}
 
 -- ---- what holds of every script
 
@@ -113,6 +118,15 @@ same_tree t new tree is same = ap (λ (j : Journal). tree_of_stored (stored_in j
 same_log : (l new : List ℕ) (log : Log) → log_of l ≡ Ok log → SayTheSame log_letter l new → log_of new ≡ Ok log
 same_log l new log is same = ap log_in same ∙ is
 
+-- files that stand for the world that a replay begins in
+at_first : (t l : List ℕ) (held_tree : Tree) (held_log : Log) (script : List ℕ) → tree_of t ≡ Ok held_tree → log_of l ≡ Ok held_log → StandAtMoment (replayed_moments (opened_world held_tree held_log) script) [] t l
+at_first t l held_tree held_log script is_tree is_log = record {
+  tree = held_tree;
+  log = held_log;
+  stand = record { tree_is = is_tree; log_is = is_log };
+  moment = leaves_here (place_of (opened_world held_tree held_log)) (items script) (λ (found : Option Tree). found ≡ Some held_tree) (λ (found : Option Log). found ≡ Some held_log) (λ found is. is, λ found is. is) (Some held_tree) (Some held_log) refl refl;
+}
+
 unopened_leaves : (result : Status) (tree tree_now log log_now : Outside) (t l new_t new_l : List ℕ) (held_tree : Tree) (held_log : Log) → IsUnopenedStatus result → LeavesUnopened result t l new_t new_l → StandFor t l held_tree held_log
     → LeavesWorld result tree tree_now log log_now new_t new_l (opened_world held_tree held_log)
 unopened_leaves status.TreeFault tree tree_now log log_now t l new_t new_l held_tree held_log ends h stand = tt
@@ -128,6 +142,32 @@ unopened_leaves status.WriteFault tree tree_now log log_now t l new_t new_l held
 unopened_leaves (status.Limit which number) tree tree_now log log_now t l new_t new_l held_tree held_log ends h stand = absurd ends
 unopened_leaves status.NotEmpty tree tree_now log log_now t l new_t new_l held_tree held_log ends h stand = absurd ends
 
+-- files that weren't opened stand for the first moment of the replay
+unopened_keeps_up : (result : Status) (t l new_t new_l : List ℕ) (held_tree : Tree) (held_log : Log) (script : List ℕ) → IsUnopenedStatus result → LeavesUnopened result t l new_t new_l → StandFor t l held_tree held_log
+    → KeepsUpAt result (replayed_moments (opened_world held_tree held_log) script) [] new_t new_l
+unopened_keeps_up status.TreeFault t l new_t new_l held_tree held_log script ends h stand = tt
+unopened_keeps_up status.LogFault t l new_t new_l held_tree held_log script ends h stand = tt
+unopened_keeps_up status.NoMemory t l new_t new_l held_tree held_log script ends h stand = at_first new_t new_l held_tree held_log script (same_tree t new_t held_tree stand.tree_is h.0) (same_log l new_l held_log stand.log_is h.1)
+unopened_keeps_up (status.TreeDamaged at) t l new_t new_l held_tree held_log script ends h stand = at_first new_t new_l held_tree held_log script (same_tree t new_t held_tree stand.tree_is h.0) (same_log l new_l held_log stand.log_is h.1)
+unopened_keeps_up (status.LogDamaged at why) t l new_t new_l held_tree held_log script ends h stand = at_first new_t new_l held_tree held_log script (same_tree t new_t held_tree stand.tree_is h.0) (same_log l new_l held_log stand.log_is h.1)
+unopened_keeps_up status.Done t l new_t new_l held_tree held_log script ends h stand = absurd ends
+unopened_keeps_up status.Usage t l new_t new_l held_tree held_log script ends h stand = absurd ends
+unopened_keeps_up (status.Script line) t l new_t new_l held_tree held_log script ends h stand = absurd ends
+unopened_keeps_up status.ReadFault t l new_t new_l held_tree held_log script ends h stand = absurd ends
+unopened_keeps_up status.WriteFault t l new_t new_l held_tree held_log script ends h stand = absurd ends
+unopened_keeps_up (status.Limit which number) t l new_t new_l held_tree held_log script ends h stand = absurd ends
+unopened_keeps_up status.NotEmpty t l new_t new_l held_tree held_log script ends h stand = absurd ends
+
+-- whatever a stop leaves of files that weren't opened
+pub unopened_stops : (input out : Option (List ℕ)) (tree tree_now log log_now : Contents) → StandsAtStop tree_of tree.told tree.leaves tree.syncs tree_now.syncs tree_now.leaves → StandsAtStop log_of log.told log.leaves log.syncs log_now.syncs log_now.leaves
+    → ReplayStops input out out tree tree_now log log_now
+unopened_stops input out tree tree_now log log_now tree_stop log_stop t l opened_tree opened_log is_t is_l stand pair stable_t stable_l =
+    always input (λ script. (sent : List ℕ) × Appends out out sent × FilesKeepUp (replayed_moments (opened_world opened_tree opened_log) script) sent tree_now log_now) (λ script. (
+      [],
+      Appends-nil out,
+      λ new_t new_l tells_t tells_l left_t left_l. at_first new_t new_l opened_tree opened_log script (tree_stop stable_t.0 t is_t stable_t.1 new_t left_t ∙ stand.tree_is) (log_stop stable_l.0 l is_l stable_l.1 new_l left_l ∙ stand.log_is),
+    ))
+
 unopened_soundly : (t l : List ℕ) (opened_tree : Tree) (opened_log : Log) (input out tree tree_now log log_now : Outside) (result : Status) → tree.bytes ≡ Some t → log.bytes ≡ Some l → StandFor t l opened_tree opened_log
     → IsSoundPair opened_tree opened_log → AreUnopened tree tree_now log log_now result → ReplaysSoundly (opened_world opened_tree opened_log) input input out out tree tree_now log log_now result
 unopened_soundly t l opened_tree opened_log input out tree tree_now log log_now result is_t is_l stand pair h =
@@ -140,6 +180,7 @@ unopened_soundly t l opened_tree opened_log input out tree tree_now log log_now 
         appends = Appends-nil out.bytes;
         agrees = unopened_agrees first script result h.told (subst (IsForDamage result) (no_damage t l opened_tree opened_log stand.tree_is stand.log_is) (h.reason t l is_t is_l));
         leaves = λ new_t new_l is_new_t is_new_l. unopened_leaves result tree tree_now log log_now t l new_t new_l opened_tree opened_log h.told (h.files t l new_t new_l is_t is_l is_new_t is_new_l) stand;
+        keeps_up = λ new_t new_l is_new_t is_new_l. unopened_keeps_up result t l new_t new_l opened_tree opened_log script h.told (h.files t l new_t new_l is_t is_l is_new_t is_new_l) stand;
       });
       tree_disk = h.tree_disk;
       log_disk = h.log_disk;
@@ -254,29 +295,67 @@ agrees : (first : World) (script taken sent : List ℕ) (last : World) (result :
     → EndsAs (outcome_to_come (state (place_of first) [] 0) script) (pending_lines (state (place_of first) [] 0) taken) sent last result → Agrees first script taken sent last result
 agrees first script taken sent last result h = subst (λ (p : Progress). EndsAs (outcome_of_replay first script) p sent last result) (sym (lines_at_start (place_of first) 0 taken)) h
 
+-- ---- what a stop leaves of files that were opened
+
+pub tree_read : (r : Result Tree ℕ) (t : Tree) → tree_found r ≡ Some t → r ≡ Ok t
+tree_read (Ok x) t is = cc is
+tree_read (Err e) t is = absurd (cc is)
+
+pub log_read : (r : Result Log (ℕ × LogWhy)) (l : Log) → log_found r ≡ Some l → r ≡ Ok l
+log_read (Ok x) l is = cc is
+log_read (Err e) l is = absurd (cc is)
+
+-- What stores leave keeps up with what is written: so do the files that they stand on.
+files_keep_up : (ms : List Moment) (sent : List ℕ) (tree log : Contents) → LeavesMoment ms sent (LeavesTree tree.told tree.leaves) (LeavesLog log.told log.leaves) → FilesKeepUp ms sent tree log
+files_keep_up ms sent tree log h = λ t l tells_t tells_l left_t left_l.
+    let at = h (tree_in_file t) (log_stands l) (record { tells = tells_t; file = t; left = left_t; is = refl }) (record { tells = tells_l; file = l; left = left_l; is = refl }) in record {
+      tree = at.moment.pair.tree;
+      log = at.moment.pair.log;
+      stand = record { tree_is = tree_read (tree_of t) at.moment.pair.tree at.tree_is; log_is = log_read (log_of l) at.moment.pair.log at.log_is };
+      moment = record { moment = at.moment; among = at.among; part = at.part; rest = at.rest; front = at.front; written = at.written; tree_is = refl; log_is = refl };
+    }
+
 -- What is told of a run from this world on.
-abbrev pub Told : World → Outside → Outside → Outside → Outside → World → Status → List ℕ → Type 0
-Told first input input_now out out_now last result script =
+abbrev pub Told : World → Outside → Outside → Outside → Outside → World → Status → Disks → Contents → Contents → List ℕ → Type 0
+Told first input input_now out out_now last result old tree_left log_left script =
     (taken : List ℕ) × (sent : List ℕ) × Consumes input.bytes input_now.bytes taken × Appends out.bytes out_now.bytes sent
     × EndsAs (outcome_to_come (state (place_of first) [] 0) script) (pending_lines (state (place_of first) [] 0) taken) sent last result
+    × (AreUp old → LeavesMoment (moments_to_come (state (place_of first) [] 0) script) sent (LeavesTree tree_left.told tree_left.leaves) (LeavesLog log_left.told log_left.leaves))
+
+-- where no status tells of a failed disk
+keeps_up_at : (result : Status) (ms : List Moment) (sent t l : List ℕ) → StandAtMoment ms sent t l → KeepsUpAt result ms sent t l
+keeps_up_at status.TreeFault ms sent t l h = tt
+keeps_up_at status.LogFault ms sent t l h = tt
+keeps_up_at status.Done ms sent t l h = h
+keeps_up_at status.Usage ms sent t l h = h
+keeps_up_at (status.Script line) ms sent t l h = h
+keeps_up_at status.ReadFault ms sent t l h = h
+keeps_up_at status.WriteFault ms sent t l h = h
+keeps_up_at (status.TreeDamaged at) ms sent t l h = h
+keeps_up_at (status.LogDamaged at why) ms sent t l h = h
+keeps_up_at status.NoMemory ms sent t l h = h
+keeps_up_at (status.Limit which number) ms sent t l h = h
+keeps_up_at status.NotEmpty ms sent t l h = h
 
 -- A run over stores that were opened: what its files stood for, and stand for while no store is down, and what it did to its disks.
-pub record Opened (held_tree : Tree) (held_log : Log) (last : World) (old new : Disks) (input input_now out out_now tree tree_now log log_now : Outside) (result : Status) : Type 0 where
+pub record Opened (held_tree : Tree) (held_log : Log) (last : World) (old new : Disks) (input input_now out out_now tree tree_now log log_now : Outside) (tree_left log_left : Contents) (result : Status) : Type 0 where
   pub tree_stood : (t : List ℕ) → tree.bytes ≡ Some t → tree_of t ≡ Ok held_tree
   pub log_stood : (l : List ℕ) → log.bytes ≡ Some l → log_of l ≡ Ok held_log
   pub up : AreUp old
   pub faults : Faults old new tree tree_now log log_now
   pub standing : Standing new tree_now log_now last
-  pub output : Sound (opened_world held_tree held_log) → IfSome input.bytes (Told (opened_world held_tree held_log) input input_now out out_now last result)
+  pub output : Sound (opened_world held_tree held_log) → IfSome input.bytes (Told (opened_world held_tree held_log) input input_now out out_now last result old tree_left log_left)
+  pub tree_stays : (t : List ℕ) → tree_now.bytes ≡ Some t → (is_some tree_left.told ≡ true) × tree_left.leaves t
+  pub log_stays : (l : List ℕ) → log_now.bytes ≡ Some l → (is_some log_left.told ≡ true) × log_left.leaves l
   pub disks : Sound (opened_world held_tree held_log) → AreUp old → RunDisks result old new
 
-opened_soundly : (held_tree : Tree) (held_log : Log) (last : World) (old new : Disks) (input input_now out out_now tree tree_now log log_now : Outside) (result : Status)
-    → Opened held_tree held_log last old new input input_now out out_now tree tree_now log log_now result → IsSoundPair held_tree held_log
+opened_soundly : (held_tree : Tree) (held_log : Log) (last : World) (old new : Disks) (input input_now out out_now tree tree_now log log_now : Outside) (tree_left log_left : Contents) (result : Status)
+    → Opened held_tree held_log last old new input input_now out out_now tree tree_now log log_now tree_left log_left result → IsSoundPair held_tree held_log
     → ReplaysSoundly (opened_world held_tree held_log) input input_now out out_now tree tree_now log log_now result
-opened_soundly held_tree held_log last old new input input_now out out_now tree tree_now log log_now result h pair =
+opened_soundly held_tree held_log last old new input input_now out out_now tree tree_now log log_now tree_left log_left result h pair =
     let first = opened_world held_tree held_log in
     let disks = h.disks pair.sound h.up in record {
-      output = some_map input.bytes (Told first input input_now out out_now last result) (λ script. Replayed first script input input_now out out_now tree tree_now log log_now result) (λ script told. record {
+      output = some_map input.bytes (Told first input input_now out out_now last result old tree_left log_left) (λ script. Replayed first script input input_now out out_now tree tree_now log log_now result) (λ script told. record {
         taken = told.0;
         sent = told.1;
         last = last;
@@ -284,6 +363,10 @@ opened_soundly held_tree held_log last old new input input_now out out_now tree 
         appends = told.3;
         agrees = agrees first script told.0 told.1 last result told.4;
         leaves = λ t l is_t is_l. run_leaves result old new tree tree_now log log_now t l last h.faults disks (λ up. h.standing up t l is_t is_l);
+        keeps_up = λ t l is_t is_l.
+            let stays_t = h.tree_stays t is_t in
+            let stays_l = h.log_stays l is_l in
+            keeps_up_at result (replayed_moments first script) told.1 t l (files_keep_up (replayed_moments first script) told.1 tree_left log_left (told.5 h.up) t l stays_t.0 stays_l.0 stays_t.1 stays_l.1);
       }) (h.output pair.sound);
       tree_disk = tree_ends result old new tree tree_now log log_now h.faults disks;
       log_disk = log_ends result old new tree tree_now log log_now h.faults disks;
@@ -299,13 +382,13 @@ abbrev log_or : Log → Result Log (ℕ × LogWhy) → Log
 log_or x (Ok l) = l
 log_or x (Err e) = x
 
-pub opened : (held_tree : Tree) (held_log : Log) (last : World) (old new : Disks) (input input_now out out_now tree tree_now log log_now : Outside) (result : Status)
-    → Opened held_tree held_log last old new input input_now out out_now tree tree_now log log_now result
+pub opened : (held_tree : Tree) (held_log : Log) (last : World) (old new : Disks) (input input_now out out_now tree tree_now log log_now : Outside) (tree_left log_left : Contents) (result : Status)
+    → Opened held_tree held_log last old new input input_now out out_now tree tree_now log log_now tree_left log_left result
     → (result ≡ status.Done → IsAtEnd input_now.bytes)
     → EndsAtFailure status.ReadFault result input.faults input_now.faults input.last_failed input_now.last_failed
     → EndsAtFailure status.WriteFault result out.faults out_now.faults out.last_failed out_now.last_failed
     → Replays input input_now out out_now tree tree_now log log_now result
-opened held_tree held_log last old new input input_now out out_now tree tree_now log log_now result h whole source sink = record {
+opened held_tree held_log last old new input input_now out out_now tree tree_now log log_now tree_left log_left result h whole source sink = record {
   damaged = λ t l is_t is_l. subst (λ (d : Option Status). EndsAtDamage input input_now out out_now d result) (sym (no_damage t l held_tree held_log (h.tree_stood t is_t) (h.log_stood l is_l))) tt;
   sound = λ t l opened_tree opened_log is_t is_l stand pair.
       let same_tree : held_tree ≡ opened_tree = ap (tree_or held_tree) (sym (h.tree_stood t is_t) ∙ stand.tree_is) in
@@ -313,21 +396,13 @@ opened held_tree held_log last old new input input_now out out_now tree tree_now
       let own = subst (λ (x : Log). IsSoundPair held_tree x) (sym same_log) (subst (λ (x : Tree). IsSoundPair x opened_log) (sym same_tree) pair) in
       subst (λ (x : Log). ReplaysSoundly (opened_world opened_tree x) input input_now out out_now tree tree_now log log_now result) same_log
       (subst (λ (x : Tree). ReplaysSoundly (opened_world x held_log) input input_now out out_now tree tree_now log log_now result) same_tree
-      (opened_soundly held_tree held_log last old new input input_now out out_now tree tree_now log log_now result h own));
+      (opened_soundly held_tree held_log last old new input input_now out out_now tree tree_now log log_now tree_left log_left result h own));
   whole = whole;
   source = source;
   sink = sink;
 }
 
 -- ---- what a store's file stands for
-
-pub tree_read : (r : Result Tree ℕ) (t : Tree) → tree_found r ≡ Some t → r ≡ Ok t
-tree_read (Ok x) t is = cc is
-tree_read (Err e) t is = absurd (cc is)
-
-pub log_read : (r : Result Log (ℕ × LogWhy)) (l : Log) → log_found r ≡ Some l → r ≡ Ok l
-log_read (Ok x) l is = cc is
-log_read (Err e) l is = absurd (cc is)
 
 tells : (o : Option (List ℕ)) (file : List ℕ) → o ≡ Some file → is_some o ≡ true
 tells o file is = ap is_some is
@@ -338,3 +413,22 @@ tree_stands t told leaves only stay file is = tree_read (tree_of file) t (only (
 
 pub log_stands_for : (l : Log) (told : Option (List ℕ)) (leaves : List ℕ → Type 0) → Only l (LeavesLog told leaves) → ((file : List ℕ) → told ≡ Some file → leaves file) → (file : List ℕ) → told ≡ Some file → log_of file ≡ Ok l
 log_stands_for l told leaves only stay file is = log_read (log_of file) l (only (log_stands file) (record { tells = tells told file is; file = file; left = stay file is; is = refl }))
+
+-- ---- stops
+
+-- Whatever a stop leaves of files that were opened.
+pub opened_stops : (held_tree : Tree) (held_log : Log) (last : World) (old : Disks) (input input_now out out_now : Outside) (tree tree_now log log_now : Contents) (result : Status)
+    → ((t : List ℕ) → tree.told ≡ Some t → tree_of t ≡ Ok held_tree) → ((l : List ℕ) → log.told ≡ Some l → log_of l ≡ Ok held_log) → AreUp old
+    → (Sound (opened_world held_tree held_log) → IfSome input.bytes (Told (opened_world held_tree held_log) input input_now out out_now last result old tree_now log_now))
+    → ReplayStops input.bytes out.bytes out_now.bytes tree tree_now log log_now
+opened_stops held_tree held_log last old input input_now out out_now tree tree_now log log_now result tree_stood log_stood up output t l opened_tree opened_log is_t is_l stand pair stable_t stable_l =
+    let same_tree : held_tree ≡ opened_tree = ap (tree_or held_tree) (sym (tree_stood t is_t) ∙ stand.tree_is) in
+    let same_log : held_log ≡ opened_log = ap (log_or held_log) (sym (log_stood l is_l) ∙ stand.log_is) in
+    let own = subst (λ (x : Log). IsSoundPair held_tree x) (sym same_log) (subst (λ (x : Tree). IsSoundPair x opened_log) (sym same_tree) pair) in
+    let Stops : Tree → Log → Type 0 = λ x y. IfSome input.bytes (λ script. (sent : List ℕ) × Appends out.bytes out_now.bytes sent × FilesKeepUp (replayed_moments (opened_world x y) script) sent tree_now log_now) in
+    subst (λ (y : Log). Stops opened_tree y) same_log
+    (subst (λ (x : Tree). Stops x held_log) same_tree
+    (some_map input.bytes (Told (opened_world held_tree held_log) input input_now out out_now last result old tree_now log_now)
+    (λ script. (sent : List ℕ) × Appends out.bytes out_now.bytes sent × FilesKeepUp (replayed_moments (opened_world held_tree held_log) script) sent tree_now log_now)
+    (λ script told. (told.1, told.3, files_keep_up (replayed_moments (opened_world held_tree held_log) script) told.1 tree_now log_now (told.5 up)))
+    (output own.sound)))

@@ -13,12 +13,14 @@ use Rattle.kz_spec_stores.specs.Log.{Log}
 use Rattle.kz_spec_machine.specs.Machine.{World, after_events, next}
 use Rattle.kz_spec_runs.specs.Endings.{Agrees, EndsAtFailure}
 use Rattle.kz_spec_runs.specs.InStep.{script_events}
+use Rattle.kz_spec_runs.specs.Moments.{Moment, replayed_moments}
 use Rattle.kz_spec_runs.specs.Openings.{opened_world, IsSoundPair}
 use Rattle.kz_spec_runs.specs.Promises.{Promises}
 use Rattle.kz_laws_bounds.specs.Bounds.{EndsByItself}
 use Rattle.kz_laws_bounds.specs.Events.{AllLeaveBases}
 use Rattle.kz_spec_commands.specs.Files.{damage, StandFor, EndsAtDisk}
 use Rattle.kz_commands.specs.Outside.{Outside}
+use Rattle.kz_replay.specs.Stops.{StandAtMoment}
 
 -- ---- files that are damaged
 
@@ -44,8 +46,14 @@ LeavesWorld status.LogFault tree tree_now log log_now t l w = ⊤
 LeavesWorld status.WriteFault tree tree_now log log_now t l w = StandFor t l w.shared.tree w.shared.log ⊎ (Rose tree.faults tree_now.faults ⊎ Rose log.faults log_now.faults)
 LeavesWorld result tree tree_now log log_now t l w = StandFor t l w.shared.tree w.shared.log
 
+-- Unless a disk failed, they stand for a moment of the replay that keeps up with what was written.
+abbrev pub KeepsUpAt : Status → List Moment → List ℕ → List ℕ → List ℕ → Type 0
+KeepsUpAt status.TreeFault ms sent t l = ⊤
+KeepsUpAt status.LogFault ms sent t l = ⊤
+KeepsUpAt result ms sent t l = StandAtMoment ms sent t l
+
 -- A replay of this script, whose files stood for this world, took these bytes, wrote so much, and ended in another world, as the
--- script asks for. Its files stand for that world.
+-- script asks for. Its files stand for that world, which keeps up with what was written.
 pub record Replayed (first : World) (script : List ℕ) (input input_now out out_now tree tree_now log log_now : Outside) (result : Status) : Type 0 where
   pub taken : List ℕ
   pub sent : List ℕ
@@ -54,6 +62,7 @@ pub record Replayed (first : World) (script : List ℕ) (input input_now out out
   pub appends : Appends out.bytes out_now.bytes sent
   pub agrees : Agrees first script taken sent last result
   pub leaves : (t l : List ℕ) → tree_now.bytes ≡ Some t → log_now.bytes ≡ Some l → LeavesWorld result tree tree_now log log_now t l last
+  pub keeps_up : (t l : List ℕ) → tree_now.bytes ≡ Some t → log_now.bytes ≡ Some l → KeepsUpAt result (replayed_moments first script) sent t l
 
 -- The last reply of each turn among these events ends it, so that its bound doesn't cut it off. Its premise is that before it no
 -- client deletes a base znode between a look of a driver and its claim.

@@ -1,5 +1,5 @@
 -- What a run of the program does.
-use Rattle.std.specs.Prelude.{◌≡◌, ◌↔◌, ℕ, List, Some, None, String}
+use Rattle.std.specs.Prelude.{◌≡◌, ◌↔◌, ℕ, List, Option, Some, None, String}
 use Rattle.std.specs.declared.alloc.Global.{Global}
 use Rattle.kz_types.specs.declared.outside.Status.{Status}
 use Rattle.kz_types.specs.declared.outside.Status.TheVariants as status
@@ -9,6 +9,7 @@ use Rattle.kz_spec_commands.specs.Upgrade.{Upgrades}
 use Rattle.kz_commands.specs.Outside.{Outside}
 use Rattle.kz_commands.specs.Makes.{MakesFiles}
 use Rattle.kz_replay.specs.Replays.{Replays}
+use Rattle.kz_replay.specs.Stops.{Contents, ReplayStops, UpgradeStops}
 
 -- A command that reads and writes nothing makes this of the files.
 pub record MakesFilesAlone (holds : List ℕ → List ℕ → List ℕ → List ℕ → Status → Type 0) (input input_now out out_now tree tree_now log log_now : Outside) (result : Status) : Type 0 where
@@ -26,3 +27,8 @@ pub record Runs (words : List (String Global)) (input input_now out out_now tree
   pub init : command_of words ≡ Some Init → MakesFilesAlone Inits input input_now out out_now tree tree_now log log_now result
   pub upgrade : command_of words ≡ Some Upgrade → MakesFilesAlone Upgrades input input_now out out_now tree tree_now log log_now result
   pub replay : command_of words ≡ Some Replay → Replays input input_now out out_now tree tree_now log log_now result
+
+-- What a stop leaves of both files after a run with these words.
+pub record RunStops (words : List (String Global)) (input out out_now : Option (List ℕ)) (tree tree_now log log_now : Contents) : Type 0 where
+  pub replay : command_of words ≡ Some Replay → ReplayStops input out out_now tree tree_now log log_now
+  pub upgrade : command_of words ≡ Some Upgrade → UpgradeStops tree tree_now log log_now

@@ -3,7 +3,8 @@ ghost use Rattle.std.specs.Prelude.{◌≡◌, option_map};
 ghost use Rattle.kz_spec_commands.specs.Words.{command_of};
 ghost use Rattle.kz_commands.specs.Outside.{outside};
 ghost use Rattle.kz_replay.specs.Commands.{defined_command};
-ghost use Rattle.kz_replay.specs.Runs.{Runs};
+ghost use Rattle.kz_replay.specs.Runs.{Runs, RunStops};
+ghost use Rattle.kz_replay.specs.Stops.{contents};
 
 use crate::program::replay;
 use kz_commands::{init, upgrade};
@@ -40,7 +41,8 @@ use std::alloc::Global;
 ///
 /// At `WriteFault`, `TreeFault`, `LogFault`, `NoMemory` and the limits 12 and 13, what is written is a front of what the script asks
 /// for. With any other status of a replay it is all of that, at `ReadFault` for the lines that were read whole. Both disks are handed
-/// back.
+/// back. Whatever a stop leaves of them then keeps up with what a replay has written: all events whose lines are written stand in the
+/// files, and at most one more, whole or up to one of its requests.
 pub fn run<S: Source, K: Sink, D: Disk, E: Disk>(
     alloc: Global,
     words: &[String],
@@ -49,10 +51,12 @@ pub fn run<S: Source, K: Sink, D: Disk, E: Disk>(
     tree: D,
     log: E,
 ) -> (Status, D, E)
-    ensures { Runs words.now (outside S.left S.faults S.last_failed input.old) (outside S.left S.faults S.last_failed input.new)
+    ensures runs { Runs words.now (outside S.left S.faults S.last_failed input.old) (outside S.left S.faults S.last_failed input.new)
         (outside K.taken K.faults K.last_failed out.old) (outside K.taken K.faults K.last_failed out.new)
         (outside D.told D.faults D.last_failed tree) (outside D.told D.faults D.last_failed result.1)
         (outside E.told E.faults E.last_failed log) (outside E.told E.faults E.last_failed result.2) result.0 }
+    ensures stop { RunStops words.now (S.left input.old) (K.taken out.old) (K.taken out.new) (contents D.told D.may_leave D.syncs tree) (contents D.told D.may_leave D.syncs result.1)
+        (contents E.told E.may_leave E.syncs log) (contents E.told E.may_leave E.syncs result.2) }
 {
     match command_of(words) {
         None => (Status::Usage, tree, log),

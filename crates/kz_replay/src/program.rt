@@ -2,6 +2,7 @@
 ghost use Rattle.std.specs.Prelude.{◌≢◌};
 ghost use Rattle.kz_commands.specs.Outside.{outside};
 ghost use Rattle.kz_replay.specs.Replays.{Replays};
+ghost use Rattle.kz_replay.specs.Stops.{ReplayStops, contents};
 
 use crate::machine::Replayer;
 use crate::pump::pump;
@@ -26,6 +27,8 @@ pub(crate) fn replay<S: Source, K: Sink, D: Disk, E: Disk>(
         (outside K.taken K.faults K.last_failed out.old) (outside K.taken K.faults K.last_failed out.new)
         (outside D.told D.faults D.last_failed tree) (outside D.told D.faults D.last_failed result.1)
         (outside E.told E.faults E.last_failed log) (outside E.told E.faults E.last_failed result.2) result.0 }
+    ensures stop { ReplayStops (S.left input.old) (K.taken out.old) (K.taken out.new) (contents D.told D.may_leave D.syncs tree) (contents D.told D.may_leave D.syncs result.1)
+        (contents E.told E.may_leave E.syncs log) (contents E.told E.may_leave E.syncs result.2) }
 {
     let (tree, log) = match open(alloc, tree, log) {
         Ok(stores) => stores,

@@ -6,9 +6,9 @@ use Rattle.kz_types.specs.Limits.{number_of_limit}
 use Rattle.kz_types.specs.declared.limits.TheConstants.{MAX_INPUT_BYTES, MAX_LINE_BYTES}
 use Rattle.kz_spec_lines.specs.Lines.{Item, line, long, much, with_byte, with_front, items_from}
 use Rattle.kz_spec_runs.specs.Output.{Place, outcome, end_of_run, has_line_end, whole_lines, no_further, progress_of}
-use Rattle.kz_spec_machine.specs.Machine.{World}
 use Rattle.kz_types.specs.declared.outside.Status.TheVariants as status
-use Rattle.kz_stream.specs.Pending.{State, lines_to_come, outcome_to_come, pending_lines}
+use Rattle.kz_spec_runs.specs.Moments.{moments}
+use Rattle.kz_stream.specs.Pending.{State, lines_to_come, outcome_to_come, moments_to_come, pending_lines}
 use Rattle.kz_stream.proofs.Outcomes.{outcome_long, outcome_much, written_end}
 
 front_byte : (l : List ℕ) (b : ℕ) (is : List Item) → with_front l (with_byte b is) ≡ with_front (l ++ b ∷ []) is
@@ -92,6 +92,14 @@ pub pending_end_much : (p : Place) (l : List ℕ) (t : ℕ) (rest : List ℕ) �
 pending_end_much p l t rest full =
     ap (λ is. outcome p (with_front l is)) (items_end_much (MAX_LINE_BYTES - length l) (MAX_INPUT_BYTES - t) rest (omega arith)) ∙ ap (outcome p) (front_much l []) ∙ outcome_much p []
 
+-- ---- the moments
+
+pub moments_byte : (p : Place) (l : List ℕ) (t b : ℕ) (rest : List ℕ) → b ≢ 10 → length l < MAX_LINE_BYTES → t < MAX_INPUT_BYTES → moments_to_come (state p l t) (b ∷ rest) ≡ moments_to_come (state p (l ++ b ∷ []) (t + 1)) rest
+moments_byte p l t b rest no_end room more = ap (moments p) (coming_byte p l t b rest no_end room more)
+
+pub moments_end : (p q : Place) (l : List ℕ) (t : ℕ) (rest : List ℕ) → t < MAX_INPUT_BYTES → moments_to_come (state p l t) (10 ∷ rest) ≡ moments p (line l ∷ lines_to_come (state q [] (t + 1)) rest)
+moments_end p q l t rest more = ap (moments p) (coming_end p q l t rest more)
+
 -- ---- what is written for the lines that have ended
 
 no_whole : (rest : List ℕ) → has_line_end rest ≡ false → whole_lines rest ≡ []
@@ -137,3 +145,6 @@ no_item (x ∷ l) h = absurd (omega arith)
 
 pub some_bytes : (l : List ℕ) (empty : Bool) → empty ≡ eqb (length l) 0 → empty ≡ false → 0 < length l
 some_bytes l empty e f = grind (arith, nat_tests)
+
+pub no_bytes : (l : List ℕ) (empty : Bool) → empty ≡ eqb (length l) 0 → empty ≡ true → length l ≡ 0
+no_bytes l empty e t = grind (arith, nat_tests)

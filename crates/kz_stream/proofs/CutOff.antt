@@ -23,7 +23,7 @@ use Rattle.kz_failures.proofs.Answers.{is_failed, is_done}
 use Rattle.kz_stream.proofs.Outcomes.{no_text, prints_all}
 
 -- the lines of these steps
-abbrev lines : ℕ → List Reply → List ℕ
+abbrev pub lines : ℕ → List Reply → List ℕ
 lines n replies = flat_map (λ r. reply_line n (reply_text r)) replies
 
 -- a step that failed prints nothing
@@ -33,7 +33,10 @@ failed_text (reply.LogFailed f) failed = refl
 failed_text reply.NoMemory failed = refl
 failed_text r failed = absurd (cc)
 
-no_line : (n : ℕ) (r : Reply) → is_failed_step r ≡ true → lines n (r ∷ []) ≡ []
+pub no_reply_line : (n : ℕ) (r : Reply) → is_failed_step r ≡ true → reply_line n (reply_text r) ≡ []
+no_reply_line n r failed = ap (reply_line n) (failed_text r failed)
+
+pub no_line : (n : ℕ) (r : Reply) → is_failed_step r ≡ true → lines n (r ∷ []) ≡ []
 no_line n r failed = ap (λ t. reply_line n t ++ []) (failed_text r failed)
 
 -- the replies of a turn that goes on after its first step
@@ -95,7 +98,7 @@ place_after p new a = record { lines = p.lines + 1; events = p.events + 1; steps
 abbrev effect_from : Place → World × Answer → Effect
 effect_from p r = record { text = reply_lines (p.lines + 1) r.1; end = ending r.1; place = place_after p r.0 r.1 }
 
-calm_lines : (line : ℕ) (e : Event) (a : Answer) → failure_of a ≡ None → printed_lines line e a ≡ reply_lines line a
+pub calm_lines : (line : ℕ) (e : Event) (a : Answer) → failure_of a ≡ None → printed_lines line e a ≡ reply_lines line a
 calm_lines line (event.Turn id now) a calm = refl
 calm_lines line e a calm = rw calm refl
 

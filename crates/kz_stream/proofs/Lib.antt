@@ -5,4 +5,5 @@ pub mod Runs
 pub mod Statuses
 pub mod Failures
 pub mod CutOff
+pub mod Moments
 pub mod Quiet

@@ -1,5 +1,5 @@
 -- Parts of a run, one after another.
-use Rattle.std.proofs.Common.{◌≡◌, ℕ, ◌+◌, ◌<◌, Bool, true, false, List, [], ◌∷◌, ◌++◌, length, take, drop, get_or, refl, sym, ap, ◌∙◌, subst, append_assoc, append-nil, add-one, drop-cons, take-append-drop, Option, Some, None, IfSome, Result, Ok, Err, IfErr, arith, length-append}
+use Rattle.std.proofs.Common.{◌≡◌, ℕ, ◌+◌, ◌<◌, Bool, true, false, List, [], ◌∷◌, ◌++◌, Contains, length, take, drop, get_or, refl, sym, ap, ◌∙◌, subst, append_assoc, append-nil, add-one, drop-cons, take-append-drop, Option, Some, None, IfSome, Result, Ok, Err, OnOk, IfErr, arith, length-append}
 use Rattle.std.specs.Io.KnownBytes.{Consumes}
 use Rattle.kz_types.specs.declared.outside.Status.{Status}
 use Rattle.kz_types.specs.declared.outside.Status.TheVariants as status
@@ -12,7 +12,11 @@ use Rattle.kz_stream.specs.declared.ending.Next.TheVariants as next_is
 use Rattle.kz_stream.specs.declared.ending.Stop.{Stop}
 use Rattle.kz_stream.specs.declared.ending.Stop.TheVariants as stop
 use Rattle.kz_stream.specs.Endings.{Stops}
-use Rattle.kz_stream.specs.Pending.{State, outcome_to_come, pending_lines, Takes, GoesOn, GoesSoundly, StopsSoundly}
+use Rattle.kz_spec_runs.specs.Moments.{Moment, moment_after, LeavesMoment}
+use Rattle.kz_spec_stores.specs.Tree.{Tree}
+use Rattle.kz_spec_stores.specs.Log.{Log}
+use Rattle.kz_stream.specs.Pending.{State, outcome_to_come, moments_to_come, pending_lines, Takes, GoesOn, GoesSoundly, StopsSoundly}
+use Rattle.kz_stream.proofs.Moments.{leaves_later}
 
 after-append : (xs ys : List ℕ) (o : Outcome) → after xs (after ys o) ≡ after (xs ++ ys) o
 after-append xs ys o = ap (λ t. record o { text = t }) (sym (append_assoc xs ys o.text))
@@ -27,16 +31,23 @@ one_by_one : {X : Type 0} (told : State → List ℕ → X) (joined : List ℕ �
 one_by_one told joined joins a b d xs ys sent more first second rest =
     ap (told a) (append_assoc xs ys rest) ∙ first (ys ++ rest) ∙ ap (joined sent) (second rest) ∙ joins sent more (told d rest)
 
+-- the moments of one part after another
+moments_on : (a d : State) (xs ys rest sent more : List ℕ) (m : Moment) → Contains (moments_to_come a (xs ++ (ys ++ rest))) (moment_after sent (moment_after more m)) → Contains (moments_to_come a ((xs ++ ys) ++ rest)) (moment_after (sent ++ more) m)
+moments_on a d xs ys rest sent more m h =
+    subst (λ (bytes : List ℕ). Contains (moments_to_come a bytes) (moment_after (sent ++ more) m)) (sym (append_assoc xs ys rest))
+    (subst (λ (text : List ℕ). Contains (moments_to_come a (xs ++ (ys ++ rest))) (record { text = text; reply = m.reply; pair = m.pair })) (sym (append_assoc sent more m.text)) h)
+
 pub goes_on : (a b d : State) (xs ys sent more : List ℕ) → GoesOn a b xs sent → GoesOn b d ys more → GoesOn a d (xs ++ ys) (sent ++ more)
 goes_on a b d xs ys sent more first second = record {
   begins = one_by_one outcome_to_come after after-append a b d xs ys sent more first.begins second.begins;
   lines = λ goes. one_by_one pending_lines progress_after progress-append a b d xs ys sent more (first.lines refl) (second.lines refl);
   count = λ goes. omega (arith, first.count refl, second.count refl, length-append xs ys);
+  moments = λ goes rest m among. moments_on a d xs ys rest sent more m (first.moments refl (ys ++ rest) (moment_after more m) (second.moments refl rest m among));
 }
 
 -- at the beginning
 pub goes_nowhere : (a : State) → GoesOn a a [] []
-goes_nowhere a = record { begins = λ rest. refl; lines = λ goes rest. refl; count = λ goes. omega arith }
+goes_nowhere a = record { begins = λ rest. refl; lines = λ goes rest. refl; count = λ goes. omega arith; moments = λ goes rest m among. among }
 
 -- what holds of a part that goes on
 pub takes_on : (old new : State) (bytes text : List ℕ) (what : Next) → what ≡ next_is.GoesOn → Takes old new bytes text what → GoesOn old new bytes text
@@ -95,6 +106,10 @@ goes_nowhere_soundly a sound = (goes_nowhere a, sound)
 pub stops_soundly : (a b : State) (xs ys sent more : List ℕ) (w : World) (s : Stop) → GoesSoundly a b xs sent → StopsSoundly b ys more w s → (rest : List ℕ) → Sound a.place.world → Stops (outcome_to_come a (xs ++ (ys ++ rest))) (sent ++ more) w s
 stops_soundly a b xs ys sent more w s go h rest sound = let x = go sound in stops_after a b xs (ys ++ rest) sent more w s x.0 (h x.1 rest)
 
+-- a stop after a part leaves a moment of the whole
+pub leaves_after : (a b : State) (xs ys sent more : List ℕ) (tree_left : Option Tree → Type 0) (log_left : Option Log → Type 0) → GoesOn a b xs sent → LeavesMoment (moments_to_come b ys) more tree_left log_left → LeavesMoment (moments_to_come a (xs ++ ys)) (sent ++ more) tree_left log_left
+leaves_after a b xs ys sent more tree_left log_left go h = leaves_later sent (moments_to_come b ys) (moments_to_come a (xs ++ ys)) more tree_left log_left (go.moments refl ys) h
+
 -- a list, cut at one of its members
 pub cut_at : (xs rest : List ℕ) (i : ℕ) → i < length xs → take i xs ++ (get_or xs i 0 ∷ (drop (i + 1) xs ++ rest)) ≡ xs ++ rest
 cut_at xs rest i h =
@@ -116,3 +131,7 @@ always (Some x) P h = h x
 pub each_stop : {T : Type 0} (r : Result T Stop) (P Q : Stop → Type 0) → ((s : Stop) → P s → Q s) → IfErr r P → IfErr r Q
 each_stop (Ok x) P Q f h = h
 each_stop (Err s) P Q f h = f s h
+
+pub each_ok : {T P Q : Type 0} (r : Result T Stop) → (P → Q) → OnOk r P → OnOk r Q
+each_ok (Ok x) f h = f h
+each_ok (Err s) f h = tt

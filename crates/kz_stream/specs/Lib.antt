@@ -4,3 +4,4 @@ pub mod Endings
 pub mod Lines
 pub mod Pending
 pub mod Disks
+pub mod Moments

@@ -1,10 +1,11 @@
 -- What a run that stands in the middle of its input is still to write.
-use Rattle.std.specs.Prelude.{◌≡◌, ℕ, ◌+◌, ◌-◌, List, [], ◌++◌, length, if◌then◌else◌}
+use Rattle.std.specs.Prelude.{◌≡◌, ℕ, ◌+◌, ◌-◌, List, [], ◌++◌, length, Contains, if◌then◌else◌}
 use Rattle.kz_types.specs.declared.limits.TheConstants.{MAX_INPUT_BYTES, MAX_LINE_BYTES}
 use Rattle.kz_spec_lines.specs.Lines.{Item, with_front, items_from}
 use Rattle.kz_spec_machine.specs.Machine.{World}
 use Rattle.kz_spec_machine.specs.Sound.{Sound}
 use Rattle.kz_spec_runs.specs.Output.{Outcome, Place, Progress, outcome, has_line_end, whole_lines, no_further, progress_after, progress_of}
+use Rattle.kz_spec_runs.specs.Moments.{Moment, moment_after, moments}
 use Rattle.kz_stream.specs.declared.ending.Next.{Next}
 use Rattle.kz_stream.specs.declared.ending.Next.TheVariants as next_is
 use Rattle.kz_stream.specs.declared.ending.Stop.{Stop}
@@ -26,6 +27,10 @@ lines_to_come s rest = with_front s.line (items_from (MAX_LINE_BYTES - length s.
 abbrev pub outcome_to_come : State → List ℕ → Outcome
 outcome_to_come s rest = outcome s.place (lines_to_come s rest)
 
+-- the moments where these bytes follow, and then the end of the input
+abbrev pub moments_to_come : State → List ℕ → List Moment
+moments_to_come s rest = moments s.place (lines_to_come s rest)
+
 -- what is written for the lines that have ended, once these bytes are taken, too
 abbrev pub pending_lines : State → List ℕ → Progress
 pending_lines s rest = if has_line_end rest then progress_of s.place (lines_to_come s (whole_lines rest)) else no_further s.place.world
@@ -35,6 +40,7 @@ pub record Takes (old new : State) (bytes text : List ℕ) (what : Next) : Type 
   pub begins : (rest : List ℕ) → Begins text what new.place.world (outcome_to_come old (bytes ++ rest)) (outcome_to_come new rest)
   pub lines : what ≡ next_is.GoesOn → (rest : List ℕ) → pending_lines old (bytes ++ rest) ≡ progress_after text (pending_lines new rest)
   pub count : what ≡ next_is.GoesOn → new.taken ≡ old.taken + length bytes
+  pub moments : what ≡ next_is.GoesOn → (rest : List ℕ) (m : Moment) → Contains (moments_to_come new rest) m → Contains (moments_to_come old (bytes ++ rest)) (moment_after text m)
 
 -- and goes on
 abbrev pub GoesOn : State → State → List ℕ → List ℕ → Type 0

@@ -1,14 +1,14 @@
 //! What a run asks of the machine.
-ghost use Rattle.std.specs.Prelude.{◌≡◌, ◌∷◌, true, false, Option, IfOk};
+ghost use Rattle.std.specs.Prelude.{◌≡◌, true, false, Option, IfOk};
 ghost use Rattle.kz_spec_stores.specs.Tree.{Tree};
 ghost use Rattle.kz_spec_stores.specs.Log.{Log, end_of};
 ghost use Rattle.kz_spec_stores.specs.Requests.{Only};
-ghost use Rattle.kz_spec_machine.specs.Machine.{World, next, pair_of, event_pairs};
+ghost use Rattle.kz_spec_machine.specs.Machine.{World, next};
 ghost use Rattle.kz_spec_machine.specs.Sound.{Sound, IsLawful};
 ghost use Rattle.kz_spec_machine.specs.Failures.{is_failure, IsLeft};
 ghost use Rattle.kz_spec_runs.specs.Output.{recorded_offset};
 ghost use Rattle.kz_driver.specs.Disks.{Disks};
-ghost use Rattle.kz_turns.specs.Stops.{AreUp, LeavesOneOf};
+ghost use Rattle.kz_turns.specs.Stops.{AreUp, LeavesOneOf, failure_pairs};
 ghost use Rattle.kz_failures.specs.Failures.{failure_of};
 ghost use Rattle.kz_failures.specs.Disks.{AnswerDisks};
 
@@ -32,7 +32,7 @@ pub trait Machine {
     /// one stays so. An event that fails leaves the world as it was, but for a turn: the last reply of `Turn` tells the failure after
     /// the replies of the steps before, and the world is as these left it. A rollback that fails may have reset the log. Where neither
     /// store was down, a disk fails exactly where the event does by it, and a stop after a failure finds the tree and the log from
-    /// before the event, or those after one of its requests.
+    /// before the event, or those after one of its requests; after a turn, those from before its last step, or that step's.
     fn event(&mut self, event: &Event) -> Answer
         requires { IsLawful event.now }
         ensures next { Sound (world self.old) → is_failure result ≡ false → next (world self.old) event.now ≡ (world self.new, result) }
@@ -40,7 +40,7 @@ pub trait Machine {
         ensures sound { Sound (world self.old) → Sound (world self.new) }
         ensures disks { Sound (world self.old) → AreUp (disks self.old) → AnswerDisks (failure_of result) (disks self.old) (disks self.new) }
         ensures stop { Sound (world self.old) → AreUp (disks self.old) → is_failure result ≡ true
-            → LeavesOneOf (pair_of (world self.old).shared ∷ event_pairs (world self.old) event.now) (tree_left self.new) (log_left self.new) };
+            → LeavesOneOf (failure_pairs (world self.old) event.now result) (tree_left self.new) (log_left self.new) };
 
     /// The last transaction of the tree.
     fn zxid(&self) -> i64

@@ -7,6 +7,7 @@ ghost use Rattle.kz_stream.specs.Machines.{PlaceOver, plain_place, printed_lines
 ghost use Rattle.kz_stream.specs.Kept.{IsPlace};
 ghost use Rattle.kz_stream.specs.Lines.{effect_of_event, effect_of_line, Prints};
 ghost use Rattle.kz_stream.specs.Disks.{NextDisks, PrintedDisks, OverSound};
+ghost use Rattle.kz_stream.specs.Moments.{EventKeepsUp, LineKeepsUp, text_of};
 
 use crate::answer::{next_after, out_of_memory, steps_of};
 use crate::ending::{Ending, Next, Printed};
@@ -95,6 +96,7 @@ impl<M: Machine> Place<M> {
         ensures prints { Sound (M.world self.old.machine) → Prints (effect_of_event (plain_place M.world self.old) event.now) result.text.items result.next (plain_place M.world self.new) }
         ensures sound { Sound (M.world self.old.machine) → Sound (M.world self.new.machine) }
         ensures disks { OverSound (M.world self.old.machine) (M.disks self.old.machine) (NextDisks result.next (M.disks self.old.machine) (M.disks self.new.machine)) }
+        ensures stop { OverSound (M.world self.old.machine) (M.disks self.old.machine) (EventKeepsUp (plain_place M.world self.old) event.now result.text.items (M.tree_left self.new.machine) (M.log_left self.new.machine)) }
         ensures lines { self.new.lines ≤ self.old.lines + 1 }
     {
         let line = self.lines + 1;
@@ -112,6 +114,7 @@ impl<M: Machine> Place<M> {
         ensures prints { Sound (M.world self.old.machine) → IfOk result (λ p. Prints (effect_of_line (plain_place M.world self.old) line.now) p.text.items p.next (plain_place M.world self.new)) }
         ensures sound { Sound (M.world self.old.machine) → Sound (M.world self.new.machine) }
         ensures disks { OverSound (M.world self.old.machine) (M.disks self.old.machine) (PrintedDisks result (M.disks self.old.machine) (M.disks self.new.machine)) }
+        ensures stop { OverSound (M.world self.old.machine) (M.disks self.old.machine) (LineKeepsUp (plain_place M.world self.old) line.now (text_of result) (M.tree_left self.new.machine) (M.log_left self.new.machine)) }
         ensures lines { self.new.lines ≤ self.old.lines + 1 }
     {
         if is_passed_over(line) {

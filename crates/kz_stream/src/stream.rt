@@ -1,5 +1,5 @@
 //! A script that comes in pieces.
-ghost use Rattle.std.specs.Prelude.{◌≡◌, ◌≢◌, ◌+◌, ◌<◌, ◌≤◌, ◌^◌, [], ◌∷◌, List, ℕ, IfOk, IfErr, OnOk, OnErr, length};
+ghost use Rattle.std.specs.Prelude.{◌≡◌, ◌≢◌, ◌+◌, ◌<◌, ◌≤◌, ◌^◌, [], ◌∷◌, List, ℕ, IfOk, IfErr, OnOk, OnErr, length, Contains};
 ghost use Rattle.std.specs.Io.KnownBytes.{Appends};
 ghost use Rattle.kz_types.specs.declared.limits.TheConstants.{MAX_INPUT_BYTES, MAX_LINE_BYTES};
 ghost use Rattle.kz_types.specs.declared.outside.Status.TheVariants as status;
@@ -7,11 +7,14 @@ ghost use Rattle.kz_spec_lines.specs.Lines.{with_front};
 ghost use Rattle.kz_spec_machine.specs.Machine.{World};
 ghost use Rattle.kz_spec_machine.specs.Sound.{Sound};
 ghost use Rattle.kz_spec_runs.specs.Output.{Outcome, end_of_run, outcome};
+ghost use Rattle.kz_spec_runs.specs.Endings.{IsFront};
+ghost use Rattle.kz_spec_runs.specs.Moments.{Moment, moment_after, moments, LeavesMoment};
 ghost use Rattle.kz_stream.specs.Machines.{StreamOver, plain_place};
 ghost use Rattle.kz_stream.specs.Endings.{Begins, Stops, StopsAtSink};
 ghost use Rattle.kz_stream.specs.Kept.{IsKept};
-ghost use Rattle.kz_stream.specs.Pending.{state_of, outcome_to_come, TakesSoundly, GoesSoundly, StopsSoundly, StopsAtEnd, IsDone};
+ghost use Rattle.kz_stream.specs.Pending.{state_of, outcome_to_come, TakesSoundly, GoesSoundly, StopsSoundly, StopsAtEnd, IsDone, moments_to_come};
 ghost use Rattle.kz_stream.specs.Disks.{PrintedDisks, PartDisks, OverSound, IsEndOf};
+ghost use Rattle.kz_stream.specs.Moments.{KeepsUp, BytesKeepUp, LeavesPart, text_of, summarised};
 
 use crate::ending::{Ending, Next, Printed, Stop};
 use crate::machine::Machine;
@@ -43,7 +46,7 @@ impl<M: Machine> Model for Stream<M> {
 fn print<K: Sink>(printed: &Printed, out: &mut K) -> Result<(), Stop>
     ensures ok { OnOk result (Appends (K.taken out.old) (K.taken out.new) printed.now.text.items × (printed.now.next ≡ Next.GoesOn)) }
     ensures stop { IfErr result (λ stop. (sent : List ℕ) × Appends (K.taken out.old) (K.taken out.new) sent
-        × ((w : World) (o rest : Outcome) → Begins printed.now.text.items printed.now.next w o rest → Stops o sent w stop)) }
+        × ((w : World) (o rest : Outcome) → Begins printed.now.text.items printed.now.next w o rest → Stops o sent w stop) × IsFront sent printed.now.text.items) }
     ensures why { IsEndOf printed.now.next result }
     ensures sink { StopsAtSink result (K.faults out.old) (K.faults out.new) (K.last_failed out.old) (K.last_failed out.new) }
 {
@@ -67,6 +70,8 @@ fn last_line<M: Machine>(
     requires { place.old.lines < 2 ^ 33 }
     ensures begins { Sound (M.world place.old.machine) → IfOk result (λ p. Begins p.text.items p.next (M.world place.new.machine) (outcome (plain_place M.world place.old) (with_front line.now [])) (outcome (plain_place M.world place.new) [])) }
     ensures disks { OverSound (M.world place.old.machine) (M.disks place.old.machine) (PrintedDisks result (M.disks place.old.machine) (M.disks place.new.machine)) }
+    ensures stop { OverSound (M.world place.old.machine) (M.disks place.old.machine) (KeepsUp (moments (plain_place M.world place.old) (with_front line.now [])) (text_of result) (M.tree_left place.new.machine) (M.log_left place.new.machine)) }
+    ensures moments { Sound (M.world place.old.machine) → IfOk result (λ p. p.next ≡ Next.GoesOn → (m : Moment) → Contains (moments (plain_place M.world place.new) []) m → Contains (moments (plain_place M.world place.old) (with_front line.now [])) (moment_after p.text.items m)) }
 {
     if line.is_empty() {
         Ok(Printed::nothing(alloc, Next::GoesOn))
@@ -83,6 +88,7 @@ fn with_summary<M: Machine>(
 ) -> Result<Printed, NoMemory>
     ensures next { IfOk result (λ p. p.next ≡ printed.next) }
     ensures memory { OnErr result (printed.next ≡ Next.GoesOn) }
+    ensures text { IfOk result (λ p. p.text.items ≡ summarised printed.next printed.text.items (plain_place M.world place.now)) }
     ensures begins { IfOk result (λ p. (o : Outcome) → Begins printed.text.items printed.next (M.world place.now.machine) o (outcome (plain_place M.world place.now) []) → Begins p.text.items p.next (M.world place.now.machine) o (end_of_run (M.world place.now.machine) status.Done)) }
 {
     let Next::GoesOn = printed.next else {
@@ -108,6 +114,7 @@ fn closing<M: Machine>(
     requires { place.old.lines < 2 ^ 33 }
     ensures begins { Sound (M.world place.old.machine) → IfOk result (λ p. Begins p.text.items p.next (M.world place.new.machine) (outcome (plain_place M.world place.old) (with_front line.now [])) (end_of_run (M.world place.new.machine) status.Done)) }
     ensures disks { OverSound (M.world place.old.machine) (M.disks place.old.machine) (PrintedDisks result (M.disks place.old.machine) (M.disks place.new.machine)) }
+    ensures stop { OverSound (M.world place.old.machine) (M.disks place.old.machine) (KeepsUp (moments (plain_place M.world place.old) (with_front line.now [])) (text_of result) (M.tree_left place.new.machine) (M.log_left place.new.machine)) }
 {
     let printed = last_line(alloc, place, line)?;
     with_summary(alloc, place, printed)
@@ -122,9 +129,11 @@ fn close<M: Machine, K: Sink>(
 ) -> Result<(), Stop>
     requires { place.old.lines < 2 ^ 33 }
     ensures ok { OnOk result ((sent : List ℕ) × Appends (K.taken out.old) (K.taken out.new) sent
-        × (Sound (M.world place.old.machine) → outcome (plain_place M.world place.old) (with_front line.now []) ≡ record { text = sent; status = status.Done; world = M.world place.new.machine })) }
+        × (Sound (M.world place.old.machine) → outcome (plain_place M.world place.old) (with_front line.now []) ≡ record { text = sent; status = status.Done; world = M.world place.new.machine })
+        × OverSound (M.world place.old.machine) (M.disks place.old.machine) (LeavesMoment (moments (plain_place M.world place.old) (with_front line.now [])) sent (M.tree_left place.new.machine) (M.log_left place.new.machine))) }
     ensures stop { IfErr result (λ stop. (sent : List ℕ) × Appends (K.taken out.old) (K.taken out.new) sent
-        × (Sound (M.world place.old.machine) → Stops (outcome (plain_place M.world place.old) (with_front line.now [])) sent (M.world place.new.machine) stop)) }
+        × (Sound (M.world place.old.machine) → Stops (outcome (plain_place M.world place.old) (with_front line.now [])) sent (M.world place.new.machine) stop)
+        × OverSound (M.world place.old.machine) (M.disks place.old.machine) (LeavesMoment (moments (plain_place M.world place.old) (with_front line.now [])) sent (M.tree_left place.new.machine) (M.log_left place.new.machine))) }
     ensures disks { OverSound (M.world place.old.machine) (M.disks place.old.machine) (PartDisks result (M.disks place.old.machine) (M.disks place.new.machine)) }
     ensures sink { StopsAtSink result (K.faults out.old) (K.faults out.new) (K.last_failed out.old) (K.last_failed out.new) }
 {
@@ -154,6 +163,7 @@ impl<M: Machine> Stream<M> {
         ensures count { IfOk result (λ p. p.next ≡ Next.GoesOn → self.new.taken ≡ self.old.taken + 1) }
         ensures takes { IfOk result (λ p. TakesSoundly (state_of M.world self.old) (state_of M.world self.new) (byte ∷ []) p.text.items p.next) }
         ensures disks { OverSound (M.world self.old.place.machine) (M.disks self.old.place.machine) (PrintedDisks result (M.disks self.old.place.machine) (M.disks self.new.place.machine)) }
+        ensures stop { OverSound (M.world self.old.place.machine) (M.disks self.old.place.machine) (BytesKeepUp (state_of M.world self.old) (byte ∷ []) (text_of result) (M.tree_left self.new.place.machine) (M.log_left self.new.place.machine)) }
     {
         if self.line.len() >= MAX_LINE_BYTES {
             return Ok(Printed::nothing(self.alloc, Next::Ends(Ending::LongLine)));
@@ -173,6 +183,7 @@ impl<M: Machine> Stream<M> {
         ensures count { IfOk result (λ p. p.next ≡ Next.GoesOn → self.new.taken ≡ self.old.taken + 1) }
         ensures takes { IfOk result (λ p. TakesSoundly (state_of M.world self.old) (state_of M.world self.new) (10 ∷ []) p.text.items p.next) }
         ensures disks { OverSound (M.world self.old.place.machine) (M.disks self.old.place.machine) (PrintedDisks result (M.disks self.old.place.machine) (M.disks self.new.place.machine)) }
+        ensures stop { OverSound (M.world self.old.place.machine) (M.disks self.old.place.machine) (BytesKeepUp (state_of M.world self.old) (10 ∷ []) (text_of result) (M.tree_left self.new.place.machine) (M.log_left self.new.place.machine)) }
     {
         if self.taken >= MAX_INPUT_BYTES {
             return Ok(Printed::nothing(self.alloc, Next::Ends(Ending::LongInput)));
@@ -191,6 +202,7 @@ impl<M: Machine> Stream<M> {
         ensures count { IfOk result (λ p. p.next ≡ Next.GoesOn → self.new.taken ≡ self.old.taken + 1) }
         ensures takes { IfOk result (λ p. TakesSoundly (state_of M.world self.old) (state_of M.world self.new) (byte ∷ []) p.text.items p.next) }
         ensures disks { OverSound (M.world self.old.place.machine) (M.disks self.old.place.machine) (PrintedDisks result (M.disks self.old.place.machine) (M.disks self.new.place.machine)) }
+        ensures stop { OverSound (M.world self.old.place.machine) (M.disks self.old.place.machine) (BytesKeepUp (state_of M.world self.old) (byte ∷ []) (text_of result) (M.tree_left self.new.place.machine) (M.log_left self.new.place.machine)) }
     {
         if byte == b'\n' {
             self.end_line()
@@ -205,7 +217,8 @@ impl<M: Machine> Stream<M> {
         ensures ok { OnOk result ((sent : List ℕ) × Appends (K.taken out.old) (K.taken out.new) sent
             × GoesSoundly (state_of M.world self.old) (state_of M.world self.new) (byte ∷ []) sent) }
         ensures stop { IfErr result (λ stop. (sent : List ℕ) × Appends (K.taken out.old) (K.taken out.new) sent
-            × StopsSoundly (state_of M.world self.old) (byte ∷ []) sent (M.world self.new.place.machine) stop) }
+            × StopsSoundly (state_of M.world self.old) (byte ∷ []) sent (M.world self.new.place.machine) stop
+            × OverSound (M.world self.old.place.machine) (M.disks self.old.place.machine) (LeavesPart (state_of M.world self.old) (byte ∷ []) sent (M.tree_left self.new.place.machine) (M.log_left self.new.place.machine))) }
         ensures disks { OverSound (M.world self.old.place.machine) (M.disks self.old.place.machine) (PartDisks result (M.disks self.old.place.machine) (M.disks self.new.place.machine)) }
         ensures sink { StopsAtSink result (K.faults out.old) (K.faults out.new) (K.last_failed out.old) (K.last_failed out.new) }
     {
@@ -224,7 +237,8 @@ impl<M: Machine> Stream<M> {
         ensures count { OnOk result (self.new.taken ≡ self.old.taken + length piece.now) }
         ensures bound { OnOk result (self.new.taken ≤ MAX_INPUT_BYTES) }
         ensures stop { IfErr result (λ stop. (sent : List ℕ) × Appends (K.taken out.old) (K.taken out.new) sent
-            × StopsSoundly (state_of M.world self.old) piece.now sent (M.world self.new.place.machine) stop) }
+            × StopsSoundly (state_of M.world self.old) piece.now sent (M.world self.new.place.machine) stop
+            × OverSound (M.world self.old.place.machine) (M.disks self.old.place.machine) (LeavesPart (state_of M.world self.old) piece.now sent (M.tree_left self.new.place.machine) (M.log_left self.new.place.machine))) }
         ensures disks { OverSound (M.world self.old.place.machine) (M.disks self.old.place.machine) (PartDisks result (M.disks self.old.place.machine) (M.disks self.new.place.machine)) }
         ensures sink { StopsAtSink result (K.faults out.old) (K.faults out.new) (K.last_failed out.old) (K.last_failed out.new) }
     {
@@ -241,9 +255,11 @@ impl<M: Machine> Stream<M> {
     /// The end of the input: writes what there is to write for it, and gives the machine back.
     pub fn finish<K: Sink>(self, out: &mut K) -> (Result<(), Stop>, M)
         ensures ok { OnOk result.0 ((sent : List ℕ) × Appends (K.taken out.old) (K.taken out.new) sent
-            × IsDone (state_of M.world self) sent (M.world result.1)) }
+            × IsDone (state_of M.world self) sent (M.world result.1)
+            × OverSound (M.world self.place.machine) (M.disks self.place.machine) (LeavesMoment (moments_to_come (state_of M.world self) []) sent (M.tree_left result.1) (M.log_left result.1))) }
         ensures stop { IfErr result.0 (λ stop. (sent : List ℕ) × Appends (K.taken out.old) (K.taken out.new) sent
-            × StopsAtEnd (state_of M.world self) sent (M.world result.1) stop) }
+            × StopsAtEnd (state_of M.world self) sent (M.world result.1) stop
+            × OverSound (M.world self.place.machine) (M.disks self.place.machine) (LeavesMoment (moments_to_come (state_of M.world self) []) sent (M.tree_left result.1) (M.log_left result.1))) }
         ensures disks { OverSound (M.world self.place.machine) (M.disks self.place.machine) (PartDisks result.0 (M.disks self.place.machine) (M.disks result.1)) }
         ensures sink { StopsAtSink result.0 (K.faults out.old) (K.faults out.new) (K.last_failed out.old) (K.last_failed out.new) }
     {

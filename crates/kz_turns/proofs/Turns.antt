@@ -1,8 +1,6 @@
 -- A turn of a sound driver, step by step.
 use Rattle.std.proofs.Common.{◌≡◌, inl, inr, ℕ, zero, suc, ◌<◌, Bool, true, false, if◌then◌else◌, ℤ, List, [], ◌∷◌, ◌++◌, length, Option, Err, refl, sym, ap, subst, ◌∙◌, arith, append-nil}
-use Rattle.std.specs.Prelude.{Contains}
 use Rattle.std.specs.List.{list_any}
-use Rattle.std.proofs.lemmas.List.Elements.{Contains-append_left, Contains-append_right}
 use Rattle.kz_types.specs.declared.plan.Plan.TheVariants as plan
 use Rattle.kz_types.specs.declared.machine.Reply.{Reply}
 use Rattle.kz_types.specs.declared.machine.Reply.TheVariants as reply
@@ -10,7 +8,7 @@ use Rattle.kz_spec_stores.specs.Tree.{Tree}
 use Rattle.kz_spec_stores.specs.Log.{Log}
 use Rattle.kz_spec_stores.specs.Requests.{Disk}
 use Rattle.kz_spec_machine.specs.Driver.{Shared, Driver, StepResult, planned_step, step, epoch_or_zero, Request, nothing}
-use Rattle.kz_spec_machine.specs.Machine.{Pair, pair_of, step_pairs, TurnResult, ends, turn, turn_pairs, with_reply}
+use Rattle.kz_spec_machine.specs.Machine.{Pair, pair_of, step_pairs, TurnResult, ends, turn, with_reply}
 use Rattle.kz_spec_machine.specs.Failures.{is_failed_step, IsCutOff}
 use Rattle.kz_laws_steps.specs.Steps.{StepKeeps}
 use Rattle.kz_laws_steps.proofs.Named.{IsOf}
@@ -21,11 +19,11 @@ use Rattle.kz_driver.specs.Disks.{Disks, disks_of, Payloads, RequestDisks}
 use Rattle.kz_driver.specs.Steps.{shared_over, made_request, KeepsViews}
 use Rattle.kz_turns.specs.Pairs.{IsSoundPair}
 use Rattle.kz_turns.specs.Disks.{StepRequestDisks, TurnDisks}
-use Rattle.kz_turns.specs.Stops.{AreUp, LeavesOneOf}
+use Rattle.kz_turns.specs.Stops.{AreUp, LeavesOneOf, last_step_pairs}
 use Rattle.kz_turns.specs.Steps.{StepEnds, TurnEnds}
 use Rattle.kz_turns.proofs.Replies.{goes_on}
 use Rattle.kz_turns.proofs.Requests.{step_keeps_up}
-use Rattle.kz_turns.proofs.Stops.{among_both, leaves_more, pair_after_step, Settled, leaves_present}
+use Rattle.kz_turns.proofs.Stops.{Settled, leaves_present}
 
 -- ---- one step of a turn
 
@@ -49,19 +47,6 @@ ends_at n s running now d t e r is last = first_step n s running now d ∙ ap (b
 goes_on_at : (n : ℕ) (s : Shared) (running : List ℤ) (now : ℤ) (d : Driver) (t : Shared) (e : Driver) (r : Reply) → step s running now d ≡ stepped t e r → ends r ≡ false → turn (suc n) s running now d ≡ with_reply r (turn n t running now e)
 goes_on_at n s running now d t e r is more = first_step n s running now d ∙ ap (by_step n running now) is ∙ ap (λ b. if b then turned t e (r ∷ []) else with_reply r (turn n t running now e)) more
 
--- the pairs of a turn by its first step
-abbrev pairs_by_step : ℕ → List ℤ → ℤ → List Pair → StepResult → List Pair
-pairs_by_step n running now pairs x = pairs ++ (if ends x.reply then [] else turn_pairs n x.shared running now x.driver)
-
-first_pairs : (n : ℕ) (s : Shared) (running : List ℤ) (now : ℤ) (d : Driver) → turn_pairs (suc n) s running now d ≡ pairs_by_step n running now (step_pairs plan.Deliver s running now d) (step s running now d)
-unfolding turn_pairs
-first_pairs n s running now d = refl
-
-pairs_on : (n : ℕ) (s : Shared) (running : List ℤ) (now : ℤ) (d : Driver) (t : Shared) (e : Driver) (r : Reply) → step s running now d ≡ stepped t e r → ends r ≡ false → turn_pairs (suc n) s running now d ≡ step_pairs plan.Deliver s running now d ++ turn_pairs n t running now e
-pairs_on n s running now d t e r is more =
-    let pairs = step_pairs plan.Deliver s running now d in
-    first_pairs n s running now d ∙ ap (pairs_by_step n running now pairs) is ∙ ap (λ b. pairs ++ (if b then [] else turn_pairs n t running now e)) more
-
 step_is : (s : Shared) (running : List ℤ) (now : ℤ) (d : Driver) (x : StepResult) → planned_step plan.Deliver s running now d ≡ x → step s running now d ≡ x
 unfolding step
 step_is s running now d x is = is
@@ -71,11 +56,6 @@ sound_after : (s : Shared) (running : List ℤ) (now : ℤ) (d : Driver) (t : Sh
 sound_after s running now d t e r is sound =
     let keeps : StepKeeps s d t e = subst (λ (x : StepResult). StepKeeps s d x.shared x.driver) is (one_step s running now d sound.time sound.shared sound.driver) in
     record { time = sound.time; shared = keeps.shared; driver = keeps.driver }
-
--- what a step leaves is among the pairs of the turn
-pair_after : (s : Shared) (running : List ℤ) (now : ℤ) (d : Driver) (t : Shared) (e : Driver) (r : Reply) → step s running now d ≡ stepped t e r → Contains (pair_of s ∷ step_pairs plan.Deliver s running now d) (pair_of t)
-unfolding step
-pair_after s running now d t e r is = subst (λ (x : StepResult). Contains (pair_of s ∷ step_pairs plan.Deliver s running now d) (pair_of x.shared)) is (pair_after_step plan.Deliver s running now d)
 
 -- ---- the steps so far
 
@@ -191,24 +171,17 @@ all_disks payloads running now m (q ∷ qs) n rest new steps h = (
 last_disks : (payloads : Payloads) (running : List ℤ) (now : ℤ) (m : Moment) (rs : List Reply) (n : Moment) (r : Reply) (o : Moment) → AreSteps payloads running now m rs n → StepMoves payloads now n r o → TurnDisks m.shared running now m.driver payloads (rs ++ r ∷ []) m.disks o.disks
 last_disks payloads running now m rs n r o steps moves = all_disks payloads running now m rs n (r ∷ []) o.disks steps (o.disks, moves, refl)
 
--- The pairs of the step to come are among those of the whole turn.
-among_turn : (payloads : Payloads) (running : List ℤ) (now : ℤ) (most : ℕ) (m : Moment) (rs : List Reply) (n : Moment) → length rs < most → AreSteps payloads running now m rs n → (pair : Pair) → Contains (pair_of n.shared ∷ step_pairs plan.Deliver n.shared running now n.driver) pair
-    → Contains (pair_of m.shared ∷ turn_pairs most m.shared running now m.driver) pair
-among_turn payloads running now zero m rs n few h pair there = absurd (omega (arith, few))
-among_turn payloads running now (suc k) m [] n few same pair there =
-    let here = subst (λ (x : Moment). Contains (pair_of x.shared ∷ step_pairs plan.Deliver x.shared running now x.driver) pair) (sym same) there in
-    let own = pair_of m.shared ∷ step_pairs plan.Deliver m.shared running now m.driver in
-    let rest = if ends (step m.shared running now m.driver).reply then [] else turn_pairs k (step m.shared running now m.driver).shared running now (step m.shared running now m.driver).driver in
-    subst (λ (xs : List Pair). Contains (pair_of m.shared ∷ xs) pair) (sym (first_pairs k m.shared running now m.driver)) (Contains-append_left own rest pair here)
-among_turn payloads running now (suc k) m (q ∷ qs) n few h pair there =
-    let mid = h.0 in
-    let own = pair_of m.shared ∷ step_pairs plan.Deliver m.shared running now m.driver in
-    let rest = turn_pairs k mid.shared running now mid.driver in
-    subst (λ (xs : List Pair). Contains (pair_of m.shared ∷ xs) pair) (sym (pairs_on k m.shared running now m.driver mid.shared mid.driver q h.1.made h.1.on))
-    (among_both (pair_of mid.shared) rest (own ++ rest) pair
-    (Contains-append_left own rest (pair_of mid.shared) (pair_after m.shared running now m.driver mid.shared mid.driver q h.1.made))
-    (λ later. Contains-append_right own rest pair later)
-    (among_turn payloads running now k mid qs n (omega (arith, few)) h.2 pair there))
+-- The pairs of the last step are those of the step to come.
+last_pairs : (payloads : Payloads) (running : List ℤ) (now : ℤ) (m : Moment) (rs : List Reply) (n : Moment) (r : Reply) → AreSteps payloads running now m rs n → last_step_pairs (rs ++ r ∷ []) m.shared running now m.driver ≡ pair_of n.shared ∷ step_pairs plan.Deliver n.shared running now n.driver
+unfolding last_step_pairs
+last_pairs payloads running now m [] n r same = ap (λ (x : Moment). pair_of x.shared ∷ step_pairs plan.Deliver x.shared running now x.driver) same
+last_pairs payloads running now m (q ∷ []) n r h = ap (λ (x : StepResult). last_step_pairs (r ∷ []) x.shared running now x.driver) h.1.made ∙ last_pairs payloads running now h.0 [] n r h.2
+last_pairs payloads running now m (q ∷ p ∷ ps) n r h = ap (λ (x : StepResult). last_step_pairs (p ∷ (ps ++ r ∷ [])) x.shared running now x.driver) h.1.made ∙ last_pairs payloads running now h.0 (p ∷ ps) n r h.2
+
+-- what a stop leaves of the step to come
+last_leaves : (payloads : Payloads) (running : List ℤ) (now : ℤ) (m : Moment) (rs : List Reply) (n : Moment) (r : Reply) (tree_left : Option Tree → Type 0) (log_left : Option Log → Type 0) → AreSteps payloads running now m rs n → LeavesOneOf (pair_of n.shared ∷ step_pairs plan.Deliver n.shared running now n.driver) tree_left log_left
+    → LeavesOneOf (last_step_pairs (rs ++ r ∷ []) m.shared running now m.driver) tree_left log_left
+last_leaves payloads running now m rs n r tree_left log_left steps h = subst (λ (ps : List Pair). LeavesOneOf ps tree_left log_left) (sym (last_pairs payloads running now m rs n r steps)) h
 
 -- ---- how a turn ends
 
@@ -216,7 +189,7 @@ among_turn payloads running now (suc k) m (q ∷ qs) n few h pair there =
 pub record IsTurn (most : ℕ) (payloads : Payloads) (running : List ℤ) (now : ℤ) (m : Moment) (replies : List Reply) (n : Moment) (tree_left : Option Tree → Type 0) (log_left : Option Log → Type 0) : Type 0 where
   pub ends : TurnEnds most m.shared running now m.driver replies n.shared n.driver
   pub disks : TurnDisks m.shared running now m.driver payloads replies m.disks n.disks
-  pub stop : AreUp m.disks → list_any is_failed_step replies ≡ true → LeavesOneOf (pair_of m.shared ∷ turn_pairs most m.shared running now m.driver) tree_left log_left
+  pub stop : AreUp m.disks → list_any is_failed_step replies ≡ true → LeavesOneOf (last_step_pairs replies m.shared running now m.driver) tree_left log_left
 
 -- what a stop leaves where a step fails
 abbrev pub StopsAs : List ℤ → ℤ → Moment → Reply → (Option Tree → Type 0) → (Option Log → Type 0) → Type 0
@@ -232,8 +205,7 @@ pub memory_ends : (most : ℕ) (payloads : Payloads) (running : List ℤ) (now :
 memory_ends most payloads running now m rs n tree_left log_left few steps settled = record {
   ends = inr (cut_step payloads running now most m rs n reply.NoMemory n.shared n.driver few steps refl (refl, refl));
   disks = last_disks payloads running now m rs n reply.NoMemory n steps (out_of_memory n.shared (epoch_or_zero n.driver.epoch) now payloads (made_request n.shared now n.driver n.driver.stage) n.disks);
-  stop = λ up any. leaves_more (pair_of n.shared ∷ step_pairs plan.Deliver n.shared running now n.driver) (pair_of m.shared ∷ turn_pairs most m.shared running now m.driver) tree_left log_left (among_turn payloads running now most m rs n few steps)
-      (leaves_present n.shared (step_pairs plan.Deliver n.shared running now n.driver) n.disks tree_left log_left settled (up_still payloads running now m rs n steps up));
+  stop = λ up any. last_leaves payloads running now m rs n reply.NoMemory tree_left log_left steps (leaves_present n.shared (step_pairs plan.Deliver n.shared running now n.driver) n.disks tree_left log_left settled (up_still payloads running now m rs n steps up));
 }
 
 -- The last step: where it doesn't fail, it ends the turn.
@@ -242,8 +214,7 @@ last_by : (b : Bool) (most : ℕ) (payloads : Payloads) (running : List ℤ) (no
 last_by true most payloads running now m rs n r o tree_left log_left is few last end moves stop steps = record {
   ends = inr (cut_step payloads running now most m rs n r o.shared o.driver few steps is (end.failed is));
   disks = last_disks payloads running now m rs n r o steps moves;
-  stop = λ up any. leaves_more (pair_of n.shared ∷ step_pairs plan.Deliver n.shared running now n.driver) (pair_of m.shared ∷ turn_pairs most m.shared running now m.driver) tree_left log_left (among_turn payloads running now most m rs n few steps)
-      (stop (up_still payloads running now m rs n steps up) is);
+  stop = λ up any. last_leaves payloads running now m rs n r tree_left log_left steps (stop (up_still payloads running now m rs n steps up) is);
 }
 last_by false most payloads running now m rs n r o tree_left log_left is few last end moves stop steps =
     let none : list_any is_failed_step (rs ++ r ∷ []) ≡ false = no_failure payloads running now m rs n (r ∷ []) steps (rw is refl) in

@@ -3,13 +3,13 @@ ghost use Rattle.std.specs.Prelude.{◌≡◌, ◌++◌, ◌∷◌, [], true, Li
 ghost use Rattle.std.specs.List.{list_any};
 ghost use Rattle.kz_types.specs.declared.machine.Reply.{Reply as ReplyValue};
 ghost use Rattle.kz_spec_stores.specs.Log.{IsViewOf};
-ghost use Rattle.kz_spec_machine.specs.Machine.{ends, pair_of, turn_pairs};
+ghost use Rattle.kz_spec_machine.specs.Machine.{ends};
 ghost use Rattle.kz_spec_machine.specs.Failures.{is_failed_step};
 ghost use Rattle.kz_driver.specs.Disks.{disks_of, payloads_of};
 ghost use Rattle.kz_driver.specs.Steps.{shared_over, KeepsViews};
 ghost use Rattle.kz_turns.specs.Pairs.{IsSoundPair};
 ghost use Rattle.kz_turns.specs.Disks.{TurnDisks};
-ghost use Rattle.kz_turns.specs.Stops.{AreUp, LeavesOneOf};
+ghost use Rattle.kz_turns.specs.Stops.{AreUp, LeavesOneOf, last_step_pairs};
 ghost use Rattle.kz_turns.specs.Steps.{TurnEnds};
 ghost use Rattle.kz_turns.specs.Bounds.{IsKnown};
 ghost use Rattle.kz_work.specs.Starts.{most_from};
@@ -123,8 +123,7 @@ pub fn turn<T: ZTree, L: MetaLog>(
         (disks_of (T.disk tree.old.inner) (L.disk log.old.inner)) (disks_of (T.disk tree.new.inner) (L.disk log.new.inner))) }
     ensures stop { IsSoundPair (shared_over T.tree L.log peers.now.declared tree.old log.old) now driver.old → AreUp (disks_of (T.disk tree.old.inner) (L.disk log.old.inner)) → IfOk result (λ replies.
         list_any is_failed_step replies.items ≡ true
-        → LeavesOneOf (pair_of (shared_over T.tree L.log peers.now.declared tree.old log.old) ∷ turn_pairs (most_from start.now image.now) (shared_over T.tree L.log peers.now.declared tree.old log.old) peers.now.running now driver.old)
-        (T.left tree.new.inner) (L.left log.new.inner)) }
+        → LeavesOneOf (last_step_pairs replies.items (shared_over T.tree L.log peers.now.declared tree.old log.old) peers.now.running now driver.old) (T.left tree.new.inner) (L.left log.new.inner)) }
     ensures err { OnErr result ((driver.new ≡ driver.old) × (tree.new ≡ tree.old) × (log.new ≡ log.old)) }
 {
     let mut replies = Vec::new(alloc);

@@ -14,7 +14,7 @@ use Rattle.kz_types.specs.declared.plan.Plan.{Plan}
 use Rattle.kz_spec_stores.specs.Tree.{Tree, begin_session, end_session, multi}
 use Rattle.kz_spec_stores.specs.Log.{Log}
 use Rattle.kz_spec_machine.specs.Driver.{Shared, Driver, StepResult, planned_step, step}
-use Rattle.kz_spec_machine.specs.Machine.{World, next, running_ids, driver_of, with_driver, running_refusal, outcome_unless, unless_refused, ends, TurnResult, turn, with_reply, work, step_result, turn_result, pair_of, event_pairs, moved_world, client_refusal, client_world, quorum_refusal, declared_world, start_refusal, started_world, stop_refusal, stopped_world, election_refusal, elected_world, election_answer, change_refusal, changed_world, register_refusal, final_records, finalise_refusal, exit_ops, tree_after_ops, reset_world, given_back, rollback_refusal, is_rollback, registration}
+use Rattle.kz_spec_machine.specs.Machine.{World, next, running_ids, driver_of, with_driver, running_refusal, outcome_unless, unless_refused, ends, TurnResult, turn, with_reply, work, step_result, turn_result, moved_world, client_refusal, client_world, quorum_refusal, declared_world, start_refusal, started_world, stop_refusal, stopped_world, election_refusal, elected_world, election_answer, change_refusal, changed_world, register_refusal, final_records, finalise_refusal, exit_ops, tree_after_ops, reset_world, given_back, rollback_refusal, is_rollback, registration}
 use Rattle.kz_spec_machine.specs.Failures.{is_failed_step, is_failure, IsCutOff, CutOffTurn, IsLeftByTurn, IsLeftByStep, IsLeftByTree, IsLeftByLog, IsLeftOutOfMemory, IsLeft}
 use Rattle.kz_spec_machine.specs.Sound.{IsTime, IsLawful, Sound}
 use Rattle.kz_laws_fence.specs.Fence.{IsOfFence}
@@ -25,7 +25,7 @@ use Rattle.kz_laws_events.proofs.Turned.{turn_keeps, turn_own}
 use Rattle.kz_laws_events.proofs.Fenced.{fenced_turn, fenced_cut_off}
 use Rattle.kz_laws_events.proofs.Every.{event_sound}
 use Rattle.kz_driver.specs.Disks.{Disks, Payloads}
-use Rattle.kz_turns.specs.Stops.{AreUp, LeavesOneOf}
+use Rattle.kz_turns.specs.Stops.{AreUp, LeavesOneOf, failure_pairs}
 use Rattle.kz_world_parts.specs.declared.faults.EventFault.{EventFault}
 use Rattle.kz_world_parts.specs.Disks.{ResultDisks, EventDisks}
 use Rattle.kz_world_parts.specs.Faults.{answer_of_fault, answer_of_result, result_of_answer}
@@ -55,9 +55,9 @@ event_disks w new e payloads (Err f) a old later is outcome disks = subst (λ x.
 
 -- what a stop leaves
 pub event_stop : (w : World) (e : Event) (r : Result Answer EventFault) (a : Answer) (old : Disks) (tree_left : Option Tree → Type 0) (log_left : Option Log → Type 0) → a ≡ answer_of_result r → EventLeaves w e r old tree_left log_left → AreUp old → is_failure a ≡ true
-    → LeavesOneOf (pair_of w.shared ∷ event_pairs w e) tree_left log_left
-event_stop w e (Ok b) a old tree_left log_left is leaves up fails = leaves up (sym (ap is_failure is) ∙ fails)
-event_stop w e (Err f) a old tree_left log_left is leaves up fails = leaves up tt
+    → LeavesOneOf (failure_pairs w e a) tree_left log_left
+event_stop w e (Ok b) a old tree_left log_left is leaves up fails = subst (λ (x : Answer). LeavesOneOf (failure_pairs w e x) tree_left log_left) (sym is) (leaves up (sym (ap is_failure is) ∙ fails))
+event_stop w e (Err f) a old tree_left log_left is leaves up fails = subst (λ (x : Answer). LeavesOneOf (failure_pairs w e x) tree_left log_left) (sym is) (leaves up tt)
 
 -- ---- a world stays sound
 

@@ -11,17 +11,18 @@ use Rattle.kz_types.specs.declared.plan.Plan.{Plan}
 use Rattle.kz_spec_stores.specs.Tree.{Tree}
 use Rattle.kz_spec_stores.specs.Log.{Log}
 use Rattle.kz_spec_machine.specs.Driver.{Shared, Driver, planned_step, step}
-use Rattle.kz_spec_machine.specs.Machine.{World, next, running_ids, driver_of, running_refusal, unless_refused, ends, turn, work, stepped_world, step_result, turned_world, turn_result, Pair, pair_of, step_pairs, turn_pairs, pairs_unless, event_step_pairs, event_turn_pairs, event_pairs}
+use Rattle.kz_spec_machine.specs.Machine.{World, next, running_ids, driver_of, running_refusal, unless_refused, ends, turn, work, stepped_world, step_result, turned_world, turn_result, Pair, pair_of, step_pairs, pairs_unless, event_step_pairs, event_pairs}
 use Rattle.kz_spec_machine.specs.Failures.{is_failed_step, is_failure, IsCutOff}
 use Rattle.kz_spec_machine.specs.Sound.{IsTime, Sound}
 use Rattle.kz_driver.specs.Disks.{Disks, Payloads}
 use Rattle.kz_turns.specs.Disks.{StepRequestDisks}
 use Rattle.kz_turns.specs.Pairs.{IsSoundPair}
 use Rattle.kz_turns.specs.Steps.{StepEnds, TurnEnds}
-use Rattle.kz_turns.specs.Stops.{AreUp, LeavesOneOf}
+use Rattle.kz_turns.specs.Stops.{AreUp, LeavesOneOf, turn_failure_pairs}
 use Rattle.kz_world_parts.specs.declared.faults.EventFault.{EventFault}
 use Rattle.kz_world_parts.specs.Disks.{DriverTurnDisks, TurnEventDisks, DriverStepDisks, ResultDisks}
-use Rattle.kz_world_parts.specs.Stops.{FailureLeaves, EventLeaves}
+use Rattle.kz_world_parts.specs.Faults.{answer_of_result}
+use Rattle.kz_world_parts.specs.Stops.{TurnLeaves, EventLeaves}
 use Rattle.kz_world_parts.specs.Turns.{IsStepped, IsTurned}
 use Rattle.kz_world_parts.specs.Worlds.{AreDistinct, IsOutcome}
 use Rattle.kz_world_parts.proofs.Listings.{one_place}
@@ -202,16 +203,12 @@ turn_disks r w id now at payloads old new runs h found time each sound =
     (by_driver (λ o. driver_of id w.drivers ≡ o → TurnEventDisks w now (driver_of id w.drivers) payloads r old new) w.drivers at (slice_get w.drivers at) h refl
     (λ d is same. subst (λ o. TurnEventDisks w now o payloads r old new) (sym same) (each d is (sound_pair w id now d time sound same))) found)
 
-turn_event_pairs : (w : World) (id now : ℤ) (d : Driver) → running_refusal w id ≡ None → driver_of id w.drivers ≡ Some d → turn_pairs (work w.shared d) w.shared (running_ids w.drivers) now d ≡ event_pairs w (event.Turn id now)
-unfolding event_pairs
-turn_event_pairs w id now d runs found = sym (ap (λ a. pairs_unless a (event_turn_pairs w now (driver_of id w.drivers))) runs ∙ ap (event_turn_pairs w now) found)
-
 -- what a stop leaves
-pub turn_stop : (r : Result Answer EventFault) (w : World) (id now : ℤ) (at : ℕ) (old : Disks) (tree_left : Option Tree → Type 0) (log_left : Option Log → Type 0) → running_refusal w id ≡ None → at < length w.drivers → driver_of id w.drivers ≡ slice_get w.drivers at → IsTime now
-    → ((d : Driver) → slice_get w.drivers at ≡ Some d → IsSoundPair w.shared now d → FailureLeaves w (turn_pairs (work w.shared d) w.shared (running_ids w.drivers) now d) r old tree_left log_left) → Sound w → EventLeaves w (event.Turn id now) r old tree_left log_left
-turn_stop r w id now at old tree_left log_left runs h found time each sound =
+pub turn_stop : (r : Result Answer EventFault) (w : World) (id now : ℤ) (at : ℕ) (old : Disks) (tree_left : Option Tree → Type 0) (log_left : Option Log → Type 0) → at < length w.drivers → driver_of id w.drivers ≡ slice_get w.drivers at → IsTime now
+    → ((d : Driver) → slice_get w.drivers at ≡ Some d → IsSoundPair w.shared now d → TurnLeaves w now d r old tree_left log_left) → Sound w → EventLeaves w (event.Turn id now) r old tree_left log_left
+turn_stop r w id now at old tree_left log_left h found time each sound =
     by_driver (λ o. driver_of id w.drivers ≡ o → EventLeaves w (event.Turn id now) r old tree_left log_left) w.drivers at (slice_get w.drivers at) h refl
-    (λ d is same. subst (λ (ps : List Pair). FailureLeaves w ps r old tree_left log_left) (turn_event_pairs w id now d runs same) (each d is (sound_pair w id now d time sound same))) found
+    (λ d is same up fails. subst (λ (o : Option Driver). LeavesOneOf (turn_failure_pairs w now (answer_of_result r) o) tree_left log_left) (sym same) (each d is (sound_pair w id now d time sound same) up fails)) found
 
 -- a turn that is refused
 pub turn_refused : (w : World) (id now : ℤ) (r : Answer) → running_refusal w id ≡ Some r → is_failure r ≡ false → IsOutcome w (event.Turn id now) w r

@@ -3,9 +3,9 @@ ghost use Rattle.std.specs.Prelude.{◌≡◌, ◌⊎◌, ◌∷◌, [], true, f
 ghost use Rattle.kz_spec_stores.specs.Tree.{migration_record};
 ghost use Rattle.kz_spec_stores.specs.Log.{end_of};
 ghost use Rattle.kz_spec_machine.specs.Driver.{Driver as DriverValue};
-ghost use Rattle.kz_spec_machine.specs.Machine.{next, pair_of, driver_of, event_pairs, is_rollback, work};
+ghost use Rattle.kz_spec_machine.specs.Machine.{next, driver_of, is_rollback, work};
 ghost use Rattle.kz_spec_machine.specs.Sound.{Sound, IsLawful};
-ghost use Rattle.kz_turns.specs.Stops.{AreUp, LeavesOneOf};
+ghost use Rattle.kz_turns.specs.Stops.{AreUp, LeavesOneOf, failure_pairs};
 ghost use Rattle.kz_world_parts.specs.Fences.{IsOfFenced, TellsFence};
 ghost use Rattle.kz_spec_machine.specs.Failures.{is_failure, IsLeft};
 ghost use Rattle.kz_driver.specs.Disks.{payloads_of};
@@ -150,7 +150,8 @@ impl<T: ZSessions, L: MetaLog> World<T, L> {
     /// whose step fails: the last reply of `Turn` tells the failure after the replies of the steps before it, and the world is
     /// as these left it. A rollback whose tree fails leaves the log reset, one that runs out of memory may, and a
     /// repeated one goes on. A request that the tree or the log refuses is an answer. Where neither store was down before, a stop
-    /// after a failure finds the tree and the log from before the event, or those after one of its requests.
+    /// after a failure finds the tree and the log from before the event, or those after one of its requests; after a turn, those
+    /// from before its last step, or that step's.
     ///
     /// What follows is about a world that is sound, as every world of a run from the empty one is. An event keeps it
     /// sound. A step or a turn of a controller that another one has taken over from leaves the tree and the log.
@@ -162,7 +163,7 @@ impl<T: ZSessions, L: MetaLog> World<T, L> {
         ensures disks { Sound (plain_world T.tree L.log self.old) → EventDisks (plain_world T.tree L.log self.old) event.now (payloads_of T.payload_bytes L.payload_bytes) result (disks_in T.disk L.disk self.old) (disks_in T.disk L.disk self.new) }
         ensures fenced { Sound (plain_world T.tree L.log self.old) → IsOfFenced (plain_world T.tree L.log self.old) event.now ⊎ TellsFence result → (plain_world T.tree L.log self.new).shared ≡ (plain_world T.tree L.log self.old).shared }
         ensures stop { Sound (plain_world T.tree L.log self.old) → AreUp (disks_in T.disk L.disk self.old) → is_failure result ≡ true
-            → LeavesOneOf (pair_of (plain_world T.tree L.log self.old).shared ∷ event_pairs (plain_world T.tree L.log self.old) event.now) (T.left self.new.tree) (L.left self.new.log) }
+            → LeavesOneOf (failure_pairs (plain_world T.tree L.log self.old) event.now result) (T.left self.new.tree) (L.left self.new.log) }
     {
         answered(let_happen(self.alloc, &mut self.parts, event))
     }

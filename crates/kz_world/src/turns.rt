@@ -3,14 +3,14 @@ ghost use Rattle.std.specs.Prelude.{◌≡◌, ◌<◌, ◌∷◌, false, length
 ghost use Rattle.kz_types.specs.declared.machine.Event.TheVariants as event;
 ghost use Rattle.kz_spec_stores.specs.Log.{image_of};
 ghost use Rattle.kz_spec_machine.specs.Driver.{Driver as DriverValue};
-ghost use Rattle.kz_spec_machine.specs.Machine.{running_ids, turn_pairs, work};
+ghost use Rattle.kz_spec_machine.specs.Machine.{running_ids};
 ghost use Rattle.kz_spec_machine.specs.Sound.{IsTime, Sound};
 ghost use Rattle.kz_driver.specs.Disks.{payloads_of};
 ghost use Rattle.kz_turns.specs.Pairs.{IsSoundPair};
 ghost use Rattle.kz_work.specs.Starts.{start_of};
 ghost use Rattle.kz_world_parts.specs.Stores.{ReadsLog};
 ghost use Rattle.kz_world_parts.specs.Disks.{disks_in, DriverTurnDisks, ResultDisks};
-ghost use Rattle.kz_world_parts.specs.Stops.{FailureLeaves, EventLeaves};
+ghost use Rattle.kz_world_parts.specs.Stops.{TurnLeaves, EventLeaves};
 ghost use Rattle.kz_world_parts.specs.Turns.{IsTurned};
 ghost use Rattle.kz_world_parts.specs.Worlds.{world_of, world_of_parts, AreKept, IsOutcome};
 
@@ -85,7 +85,7 @@ fn turn_at<T: ZTree, L: MetaLog>(
     ensures disks { (d : DriverValue) → slice_get parts.old.drivers.items at ≡ Some d → IsSoundPair (world_of T.tree L.log parts.old).shared now d
         → DriverTurnDisks (world_of T.tree L.log parts.old) now d (payloads_of T.payload_bytes L.payload_bytes) result (disks_in T.disk L.disk (world_of_parts parts.old)) (disks_in T.disk L.disk (world_of_parts parts.new)) }
     ensures stop { (d : DriverValue) → slice_get parts.old.drivers.items at ≡ Some d → IsSoundPair (world_of T.tree L.log parts.old).shared now d
-        → FailureLeaves (world_of T.tree L.log parts.old) (turn_pairs (work (world_of T.tree L.log parts.old).shared d) (world_of T.tree L.log parts.old).shared (running_ids parts.old.drivers.items) now d) result (disks_in T.disk L.disk (world_of_parts parts.old)) (T.left parts.new.tree.inner) (L.left parts.new.log.inner) }
+        → TurnLeaves (world_of T.tree L.log parts.old) now d result (disks_in T.disk L.disk (world_of_parts parts.old)) (T.left parts.new.tree.inner) (L.left parts.new.log.inner) }
 {
     match turn(
         alloc,
@@ -117,7 +117,7 @@ fn prepared_turn<T: ZTree, L: MetaLog>(
     ensures disks { (d : DriverValue) → slice_get parts.old.drivers.items at ≡ Some d → IsSoundPair (world_of T.tree L.log parts.old).shared now d
         → DriverTurnDisks (world_of T.tree L.log parts.old) now d (payloads_of T.payload_bytes L.payload_bytes) result (disks_in T.disk L.disk (world_of_parts parts.old)) (disks_in T.disk L.disk (world_of_parts parts.new)) }
     ensures stop { (d : DriverValue) → slice_get parts.old.drivers.items at ≡ Some d → IsSoundPair (world_of T.tree L.log parts.old).shared now d
-        → FailureLeaves (world_of T.tree L.log parts.old) (turn_pairs (work (world_of T.tree L.log parts.old).shared d) (world_of T.tree L.log parts.old).shared (running_ids parts.old.drivers.items) now d) result (disks_in T.disk L.disk (world_of_parts parts.old)) (T.left parts.new.tree.inner) (L.left parts.new.log.inner) }
+        → TurnLeaves (world_of T.tree L.log parts.old) now d result (disks_in T.disk L.disk (world_of_parts parts.old)) (T.left parts.new.tree.inner) (L.left parts.new.log.inner) }
 {
     let Ok(peers) = peers(alloc, parts) else {
         return Err(EventFault::NoMemory);

@@ -1,5 +1,5 @@
 -- What a stop leaves where an event failed.
-use Rattle.std.proofs.Common.{◌≡◌, ◌⊎◌, inl, inr, ℕ, false, List, [], ◌∷◌, Contains, Option, Some, Result, Ok, Err, IfOk, OnErr, IsErrOf, refl, sym, ap, ◌∙◌, subst}
+use Rattle.std.proofs.Common.{◌≡◌, ◌⊎◌, inl, inr, ℕ, ℤ, false, List, [], ◌∷◌, Contains, Option, Some, Result, Ok, Err, IfOk, OnErr, IsErrOf, refl, sym, ap, ◌∙◌, subst}
 use Rattle.std.proofs.lemmas.List.Elements.{Contains-append_right}
 use Rattle.kz_types.specs.declared.fault.TreeFault.{TreeFault}
 use Rattle.kz_types.specs.declared.fault.TreeFault.TheVariants as tree_fault
@@ -16,16 +16,17 @@ use Rattle.kz_spec_stores.specs.Requests.{Disk, IsTaken, ChangesDisk, ReadsDisk,
 use Rattle.kz_log.specs.Requests.{IsRefusal as IsLogRefusal}
 use Rattle.kz_tree.specs.Requests.{IsRefusal as IsTreeRefusal}
 use Rattle.kz_session.specs.Sessions.{answer_of_session_fault, IsRefusal as IsSessionRefusal}
-use Rattle.kz_spec_machine.specs.Driver.{Shared}
-use Rattle.kz_spec_machine.specs.Machine.{World, Pair, pair_of, event_pairs}
+use Rattle.kz_spec_machine.specs.Driver.{Shared, Driver}
+use Rattle.kz_spec_machine.specs.Machine.{World, Pair, pair_of}
 use Rattle.kz_spec_machine.specs.Failures.{is_failure}
 use Rattle.kz_driver.specs.Disks.{Disks}
+use Rattle.kz_turns.specs.Stops.{LeavesOneOf, turn_failure_pairs}
 use Rattle.kz_turns.proofs.Stops.{first_of_all, Settled, leaves_present}
 use Rattle.kz_world_parts.specs.declared.faults.EventFault.{EventFault}
 use Rattle.kz_world_parts.specs.declared.faults.EventFault.TheVariants as event_fault
-use Rattle.kz_world_parts.specs.Faults.{after_tree_fault, after_log_fault, after_session_fault}
+use Rattle.kz_world_parts.specs.Faults.{answer_of_fault, after_tree_fault, after_log_fault, after_session_fault}
 use Rattle.kz_world_parts.specs.Stores.{OnTreeFault, OnLogFault, ReadsLog, ChangesTree, ChangesLog}
-use Rattle.kz_world_parts.specs.Stops.{FailureLeaves, EventLeaves}
+use Rattle.kz_world_parts.specs.Stops.{FailureLeaves, TurnLeaves, EventLeaves}
 use Rattle.kz_world_parts.proofs.Told.{log_disk, tree_disk, session_disk}
 use Rattle.kz_world_parts.proofs.Views.{read_keeps}
 
@@ -201,7 +202,25 @@ later_leaves w mid pairs more r old between tree_left log_left same disks is h =
     (subst (λ (d : Disks). FailureLeaves w pairs r d tree_left log_left) disks
     (subst (λ (x : World). FailureLeaves x pairs r between tree_left log_left) same h))
 
+-- the same of a turn
+pub turn_later : (w mid : World) (now at : ℤ) (d : Driver) (r : Result Answer EventFault) (old between : Disks) (tree_left : Option Tree → Type 0) (log_left : Option Log → Type 0) → mid ≡ w → between ≡ old → at ≡ now → TurnLeaves mid at d r between tree_left log_left → TurnLeaves w now d r old tree_left log_left
+turn_later w mid now at d r old between tree_left log_left same disks is h =
+    subst (λ x. TurnLeaves w x d r old tree_left log_left) is
+    (subst (λ (b : Disks). TurnLeaves w at d r b tree_left log_left) disks
+    (subst (λ (x : World). TurnLeaves x at d r between tree_left log_left) same h))
+
+-- a turn that failed by itself made no step
+unmade_pairs : (w : World) (now : ℤ) (d : Driver) (f : EventFault) → turn_failure_pairs w now (answer_of_fault f) (Some d) ≡ pair_of w.shared ∷ []
+unmade_pairs w now d (event_fault.Tree f) = refl
+unmade_pairs w now d (event_fault.Log f) = refl
+unmade_pairs w now d event_fault.NoMemory = refl
+
+pub unmade_turn : (w : World) (now : ℤ) (d : Driver) (f : EventFault) (old : Disks) (tree_left : Option Tree → Type 0) (log_left : Option Log → Type 0) → FailureLeaves w [] (Err f) old tree_left log_left → TurnLeaves w now d (Err f) old tree_left log_left
+unmade_turn w now d f old tree_left log_left h up fails = subst (λ (ps : List Pair). LeavesOneOf ps tree_left log_left) (sym (unmade_pairs w now d f)) (h up fails)
+
 -- the same of an event
 pub event_later : (w mid : World) (e f : Event) (r : Result Answer EventFault) (old between : Disks) (tree_left : Option Tree → Type 0) (log_left : Option Log → Type 0) → mid ≡ w → between ≡ old → e ≡ f → EventLeaves mid e r between tree_left log_left → EventLeaves w f r old tree_left log_left
 event_later w mid e f r old between tree_left log_left same disks is h =
-    later_leaves w mid (event_pairs mid e) (event_pairs w f) r old between tree_left log_left same disks (ap (λ (x : World). event_pairs x e) same ∙ ap (event_pairs w) is) h
+    subst (λ (x : Event). EventLeaves w x r old tree_left log_left) is
+    (subst (λ (d : Disks). EventLeaves w e r d tree_left log_left) disks
+    (subst (λ (x : World). EventLeaves x e r between tree_left log_left) same h))

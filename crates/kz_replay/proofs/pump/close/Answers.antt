@@ -10,7 +10,7 @@ use Rattle.kz_replay.proofs.pump.close.Goals as goal
 pub returns-in-Ok-clause-output : goal.returns-in-Ok-clause-output
 returns-in-Ok-clause-output g c =
     let h = on_ok c.finish-ended.result.0 c.in-Ok.field-0 c.in-Ok.is c.finish-ended.ensures.ok in
-    (h.0, h.1, λ sound lines. h.2 sound)
+    (h.0, h.1, λ sound lines. h.2 sound, h.3)
 
 pub returns-in-Ok-clause-disks : goal.returns-in-Ok-clause-disks
 returns-in-Ok-clause-disks g c = λ sound up. part_ok c.finish-ended.result.0 c.in-Ok.field-0 c.in-Ok.is _ _ (c.finish-ended.ensures.disks sound up)
@@ -20,7 +20,7 @@ returns-in-Err-clause-output g c =
     let h = on_err c.finish-ended.result.0 c.in-Err.stop c.in-Err.is _ c.finish-ended.ensures.stop in
     let o = outcome_to_come (state_of g.M.Machine.world c.args.stream) [] in
     let w = g.M.Machine.world c.finish-ended.result.1 in
-    (h.0, h.1, λ sound lines. subst (λ (s : Status). EndsAs o lines h.0 w s) (sym c.stop_status.ensures) (Stops-EndsAs o lines h.0 w c.in-Err.stop (h.2 sound)))
+    (h.0, h.1, λ sound lines. subst (λ (s : Status). EndsAs o lines h.0 w s) (sym c.stop_status.ensures) (Stops-EndsAs o lines h.0 w c.in-Err.stop (h.2 sound)), h.3)
 
 pub returns-in-Err-clause-disks : goal.returns-in-Err-clause-disks
 returns-in-Err-clause-disks g c = λ sound up.

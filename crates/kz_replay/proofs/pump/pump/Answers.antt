@@ -1,4 +1,4 @@
-use Rattle.std.proofs.Common.{◌≡◌, ℕ, ◌+◌, ◌≤◌, List, [], ◌++◌, take, sym, ap, ◌∙◌, subst, arith, append_assoc}
+use Rattle.std.proofs.Common.{◌≡◌, ℕ, ◌+◌, ◌≤◌, List, [], ◌++◌, take, sym, ap, ◌∙◌, subst, arith, append_assoc, append-nil}
 use Rattle.std.proofs.KnownBytes.{Appends-trans, Consumes-trans, Consumes-kept, Consumes-whole}
 use Rattle.std.specs.Io.KnownBytes.{Appends, Consumes}
 use Rattle.kz_types.specs.declared.outside.Status.{Status}
@@ -6,8 +6,10 @@ use Rattle.kz_types.specs.declared.outside.Status.TheVariants as status
 use Rattle.kz_failures.specs.Disks.{AreQuiet}
 use Rattle.kz_spec_runs.specs.Endings.{EndsAs}
 use Rattle.kz_stream.specs.Endings.{Stops}
-use Rattle.kz_stream.specs.Pending.{outcome_to_come, pending_lines, state_of}
-use Rattle.kz_stream.proofs.Runs.{told, always, goes_soundly, stops_soundly, ends_after, lines_taken}
+use Rattle.kz_spec_runs.specs.Moments.{LeavesMoment}
+use Rattle.kz_stream.specs.Pending.{outcome_to_come, lines_to_come, moments_to_come, pending_lines, state_of}
+use Rattle.kz_stream.proofs.Moments.{leaves_here}
+use Rattle.kz_stream.proofs.Runs.{told, goes_soundly, stops_soundly, leaves_after, ends_after, lines_taken}
 use Rattle.kz_stream.proofs.Statuses.{Stops-EndsAs}
 use Rattle.kz_stream.proofs.Quiet.{stays_up, both_on, stop_on}
 use Rattle.kz_replay.specs.Disks.{RunDisks}
@@ -24,16 +26,19 @@ returns-in-Err-clause-output g c = λ sound.
     let left = Consumes-kept _ _ _ inv.0 inv.2 c.in-Err.ensures.bytes in
     let world = g.M.Machine.world in
     let old = state_of world c.args.stream in
-    always (g.S.Source.left c.args.input.now)
-    (λ script.
-    (taken : List ℕ) × (sent : List ℕ) × Consumes (g.S.Source.left c.args.input.now) (g.S.Source.left c.read.new.self) taken
-    × Appends (g.K.Sink.taken c.args.out.now) (g.K.Sink.taken c.loop-turn.out) sent × EndsAs (outcome_to_come old script) (pending_lines old taken) sent (world c.into_machine.result) status.ReadFault)
-    (λ script. (
+    let here = state_of world c.loop-turn.stream in
+    let m = c.loop-turn.stream.place.machine in
+    let go = inv.4 sound in
+    told _ _ inv.0 _ left (λ rest. (
       inv.0,
       inv.1,
       left,
       inv.3,
-      lines_taken old (state_of world c.loop-turn.stream) inv.0 inv.1 (inv.4 sound).0 ∙ ap (λ m. record { text = inv.1; world = world m }) (sym c.into_machine.ensures),
+      lines_taken old here inv.0 inv.1 go.0 ∙ ap (λ m. record { text = inv.1; world = world m }) (sym c.into_machine.ensures),
+      λ up.
+          subst (λ x. LeavesMoment (moments_to_come old (inv.0 ++ rest)) inv.1 (g.M.Machine.tree_left x) (g.M.Machine.log_left x)) (sym c.into_machine.ensures)
+          (subst (λ (t : List ℕ). LeavesMoment (moments_to_come old (inv.0 ++ rest)) t (g.M.Machine.tree_left m) (g.M.Machine.log_left m)) (append-nil inv.1)
+          (leaves_after old here inv.0 rest inv.1 [] (g.M.Machine.tree_left m) (g.M.Machine.log_left m) go.0 (leaves_here here.place (lines_to_come here rest) (g.M.Machine.tree_left m) (g.M.Machine.log_left m) (g.met.M.Machine.settled m (stays_up _ _ (c.loop-turn.invariant.8 sound up)))))),
     ))
 
 pub returns-in-Err-clause-disks : goal.returns-in-Err-clause-disks
@@ -55,6 +60,7 @@ returns-then-count-eq0-clause-output g c = λ sound.
       read,
       Appends-trans _ _ _ inv.1 h.0 inv.3 h.1,
       ends_after (state_of world c.args.stream) (state_of world c.loop-turn.stream) inv.0 inv.1 h.0 (world c.close.result.1) c.close.result.0 before.0 (h.2 before.1),
+      λ up. leaves_after (state_of world c.args.stream) (state_of world c.loop-turn.stream) inv.0 [] inv.1 h.0 _ _ before.0 (h.3 before.1 (stays_up _ _ (c.loop-turn.invariant.8 sound up))),
     )
 
 pub returns-then-count-eq0-clause-disks : goal.returns-then-count-eq0-clause-disks
@@ -82,6 +88,12 @@ returns-in-Err-feed-clause-output g c = λ sound.
           (Stops-EndsAs o lines sent (world c.feed.new.self.place.machine) c.in-Err-feed.stop
           (subst (λ (t : List ℕ). Stops (outcome_to_come old t) sent (world c.feed.new.self.place.machine) c.in-Err-feed.stop) (sym (append_assoc inv.0 got rest))
           (stops_soundly old (state_of world c.loop-turn.stream) inv.0 got inv.1 h.0 (world c.feed.new.self.place.machine) c.in-Err-feed.stop inv.4 h.2 rest sound)))),
+      λ up.
+          let m = c.feed.new.self.place.machine in
+          let go = inv.4 sound in
+          subst (λ x. LeavesMoment (moments_to_come old ((inv.0 ++ got) ++ rest)) sent (g.M.Machine.tree_left x) (g.M.Machine.log_left x)) (sym c.into_machine-in-Err-feed.ensures)
+          (subst (λ (t : List ℕ). LeavesMoment (moments_to_come old t) sent (g.M.Machine.tree_left m) (g.M.Machine.log_left m)) (sym (append_assoc inv.0 got rest))
+          (leaves_after old (state_of world c.loop-turn.stream) inv.0 (got ++ rest) inv.1 h.0 (g.M.Machine.tree_left m) (g.M.Machine.log_left m) go.0 (h.3 go.1 (stays_up _ _ (c.loop-turn.invariant.8 sound up)) rest))),
     ))
 
 pub returns-in-Err-feed-clause-disks : goal.returns-in-Err-feed-clause-disks

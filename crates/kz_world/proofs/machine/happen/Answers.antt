@@ -18,8 +18,11 @@ returns-in_err-declare-in-Quorum-clause-stop g c = λ sound.
     let q = c.declare.new.parts in
     let world = world_of g.T.ZTree.tree g.L.MetaLog.log in
     let disks = disks_in g.T.ZTree.disk g.L.MetaLog.disk in
-    still_failure (world p) (world q) (event_pairs (world p) c.args.event.now) c.from_residual.result (disks (world_of_parts p)) (disks (world_of_parts q)) (g.T.ZTree.left q.tree.inner) (g.L.MetaLog.left q.log.inner) c.in_err-declare-in-Quorum.ensures.err c.declare.ensures.disks
-    (record { tree = g.met.T.ZTree.settled q.tree.inner; log = g.met.L.MetaLog.settled q.log.inner })
+    let tree_left = g.T.ZTree.left q.tree.inner in
+    let log_left = g.L.MetaLog.left q.log.inner in
+    event_later (world p) (world p) (event.Quorum c.in-Quorum.ids) c.args.event.now c.from_residual.result (disks (world_of_parts p)) (disks (world_of_parts p)) tree_left log_left refl refl (sym c.in-Quorum.is)
+    (still_failure (world p) (world q) (event_pairs (world p) (event.Quorum c.in-Quorum.ids)) c.from_residual.result (disks (world_of_parts p)) (disks (world_of_parts q)) tree_left log_left c.in_err-declare-in-Quorum.ensures.err c.declare.ensures.disks
+    (record { tree = g.met.T.ZTree.settled q.tree.inner; log = g.met.L.MetaLog.settled q.log.inner }))
 
 pub returns-in_err-start-in-Start-clause-stop : goal.returns-in_err-start-in-Start-clause-stop
 returns-in_err-start-in-Start-clause-stop g c = λ sound.
@@ -27,8 +30,11 @@ returns-in_err-start-in-Start-clause-stop g c = λ sound.
     let q = c.start.new.parts in
     let world = world_of g.T.ZTree.tree g.L.MetaLog.log in
     let disks = disks_in g.T.ZTree.disk g.L.MetaLog.disk in
-    still_failure (world p) (world q) (event_pairs (world p) c.args.event.now) c.from_residual-in_err-start-in-Start.result (disks (world_of_parts p)) (disks (world_of_parts q)) (g.T.ZTree.left q.tree.inner) (g.L.MetaLog.left q.log.inner) c.in_err-start-in-Start.ensures.err c.start.ensures.disks
-    (record { tree = g.met.T.ZTree.settled q.tree.inner; log = g.met.L.MetaLog.settled q.log.inner })
+    let tree_left = g.T.ZTree.left q.tree.inner in
+    let log_left = g.L.MetaLog.left q.log.inner in
+    event_later (world p) (world p) (event.Start c.in-Start.controller) c.args.event.now c.from_residual-in_err-start-in-Start.result (disks (world_of_parts p)) (disks (world_of_parts p)) tree_left log_left refl refl (sym c.in-Start.is)
+    (still_failure (world p) (world q) (event_pairs (world p) (event.Start c.in-Start.controller)) c.from_residual-in_err-start-in-Start.result (disks (world_of_parts p)) (disks (world_of_parts q)) tree_left log_left c.in_err-start-in-Start.ensures.err c.start.ensures.disks
+    (record { tree = g.met.T.ZTree.settled q.tree.inner; log = g.met.L.MetaLog.settled q.log.inner }))
 
 pub returns-in-Elect-clause-stop : goal.returns-in-Elect-clause-stop
 returns-in-Elect-clause-stop g c = λ sound.

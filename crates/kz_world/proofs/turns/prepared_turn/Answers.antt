@@ -1,13 +1,13 @@
-use Rattle.std.proofs.Common.{◌≡◌, Some, Err, refl, sym, ap, subst, ◌∙◌, w64, to_z, of_z}
+use Rattle.std.proofs.Common.{◌≡◌, [], Some, Err, refl, sym, ap, subst, ◌∙◌, w64, to_z, of_z}
 use Rattle.std.specs.Prelude.{slice_get, IfOk}
 use Rattle.std.proofs.lemmas.Int.{to_z-of_z}
-use Rattle.kz_spec_machine.specs.Machine.{World, running_ids, turn_pairs, work}
+use Rattle.kz_spec_machine.specs.Machine.{World}
 use Rattle.kz_turns.specs.Pairs.{IsSoundPair}
 use Rattle.kz_world_parts.specs.declared.faults.EventFault.TheVariants as event_fault
 use Rattle.kz_world_parts.specs.Disks.{disks_in}
 use Rattle.kz_world_parts.specs.Turns.{IsTurned}
 use Rattle.kz_world_parts.specs.Worlds.{world_of_parts, world_of}
-use Rattle.kz_world_parts.proofs.Stops.{still_failure, read_failure, later_leaves}
+use Rattle.kz_world_parts.proofs.Stops.{still_failure, read_failure, turn_later, unmade_turn}
 use Rattle.kz_world_parts.proofs.Views.{read_keeps}
 use Rattle.kz_world.proofs.turns.prepared_turn.Goals as goal
 
@@ -16,7 +16,7 @@ returns-in_default-clause-stop g c = λ d at_is pair.
     let p = c.args.parts.now in
     let w = world_of g.T.ZTree.tree g.L.MetaLog.log p in
     let disks = disks_in g.T.ZTree.disk g.L.MetaLog.disk (world_of_parts p) in
-    still_failure w w (turn_pairs (work w.shared d) w.shared (running_ids w.drivers) c.args.now d) (Err event_fault.NoMemory) disks disks (g.T.ZTree.left p.tree.inner) (g.L.MetaLog.left p.log.inner) refl refl
+    still_failure w w [] (Err event_fault.NoMemory) disks disks (g.T.ZTree.left p.tree.inner) (g.L.MetaLog.left p.log.inner) refl refl
     (record { tree = g.met.T.ZTree.settled p.tree.inner; log = g.met.L.MetaLog.settled p.log.inner })
 
 pub returns-in-Err-clause-stop : goal.returns-in-Err-clause-stop
@@ -26,8 +26,11 @@ returns-in-Err-clause-stop g c = λ d at_is pair.
     let world = world_of g.T.ZTree.tree g.L.MetaLog.log in
     let w = world p in
     let disks = disks_in g.T.ZTree.disk g.L.MetaLog.disk in
-    read_failure w (world q) (turn_pairs (work w.shared d) w.shared (running_ids w.drivers) c.args.now d) (Err c.in-Err.fault) (disks (world_of_parts p)) (disks (world_of_parts q)) (g.T.ZTree.left q.tree.inner) (g.L.MetaLog.left q.log.inner) tt c.turn_start.ensures.world c.in-Err.ensures.disks
-    (record { tree = g.met.T.ZTree.settled q.tree.inner; log = g.met.L.MetaLog.settled q.log.inner })
+    let tree_left = g.T.ZTree.left q.tree.inner in
+    let log_left = g.L.MetaLog.left q.log.inner in
+    unmade_turn w c.args.now d c.in-Err.fault (disks (world_of_parts p)) tree_left log_left
+    (read_failure w (world q) [] (Err c.in-Err.fault) (disks (world_of_parts p)) (disks (world_of_parts q)) tree_left log_left tt c.turn_start.ensures.world c.in-Err.ensures.disks
+    (record { tree = g.met.T.ZTree.settled q.tree.inner; log = g.met.L.MetaLog.settled q.log.inner }))
 
 pub returns-clause-ok : goal.returns-clause-ok
 returns-clause-ok g c = λ d at_is pair.
@@ -58,6 +61,4 @@ returns-clause-stop g c = λ d at_is pair.
     let there : slice_get q.drivers.items c.args.at ≡ Some d = ap (λ (x : World). slice_get x.drivers c.args.at) c.turn_start.ensures.world ∙ at_is in
     let same = read_keeps (disks (world_of_parts p)) (disks (world_of_parts q)) c.in-Ok-turn_start.ensures.disks.0.1 c.in-Ok-turn_start.ensures.disks.1 in
     let mid_pair = subst (λ x. IsSoundPair m.shared x d) (sym now_is) (subst (λ (x : World). IsSoundPair x.shared now d) (sym c.turn_start.ensures.world) pair) in
-    let pairs = ap (λ (x : World). turn_pairs (work x.shared d) x.shared (running_ids x.drivers) n d) c.turn_start.ensures.world ∙ ap (λ x. turn_pairs (work w.shared d) w.shared (running_ids w.drivers) x d) now_is in
-    later_leaves w m (turn_pairs (work m.shared d) m.shared (running_ids m.drivers) n d) (turn_pairs (work w.shared d) w.shared (running_ids w.drivers) now d) c.turn_at.result (disks (world_of_parts p)) (disks (world_of_parts q)) (g.T.ZTree.left r.tree.inner) (g.L.MetaLog.left r.log.inner)
-    c.turn_start.ensures.world same pairs (c.turn_at.ensures.stop d there mid_pair)
+    turn_later w m now n d c.turn_at.result (disks (world_of_parts p)) (disks (world_of_parts q)) (g.T.ZTree.left r.tree.inner) (g.L.MetaLog.left r.log.inner) c.turn_start.ensures.world same now_is (c.turn_at.ensures.stop d there mid_pair)

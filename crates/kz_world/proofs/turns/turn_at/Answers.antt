@@ -1,4 +1,4 @@
-use Rattle.std.proofs.Common.{◌≡◌, true, Err, Ok, refl, sym, ap, subst, ◌∙◌, w64, to_z, of_z, List, ℕ, ℤ, ◌∷◌}
+use Rattle.std.proofs.Common.{◌≡◌, true, Err, Ok, refl, sym, ap, subst, ◌∙◌, w64, to_z, of_z, List, [], ℤ}
 use Rattle.std.specs.List.{list_any}
 use Rattle.std.proofs.lemmas.Int.{to_z-of_z}
 use Rattle.std.proofs.lemmas.Option.{get_or_from_slice_get}
@@ -7,14 +7,14 @@ use Rattle.kz_types.specs.declared.machine.Answer.TheVariants as answer
 use Rattle.kz_spec_stores.specs.Image.{Image}
 use Rattle.kz_spec_stores.specs.Log.{image_of}
 use Rattle.kz_spec_machine.specs.Driver.{Shared, Driver}
-use Rattle.kz_spec_machine.specs.Machine.{World, running_ids, pair_of, turn_pairs, work}
+use Rattle.kz_spec_machine.specs.Machine.{World, running_ids, work}
 use Rattle.kz_spec_machine.specs.Failures.{is_failed_step}
 use Rattle.kz_driver.specs.Disks.{Disks, disks_of, payloads_of}
 use Rattle.kz_driver.specs.Drivers.{shared_of}
 use Rattle.kz_turns.specs.Disks.{TurnDisks}
 use Rattle.kz_turns.specs.Pairs.{IsSoundPair}
 use Rattle.kz_turns.specs.Steps.{TurnEnds}
-use Rattle.kz_turns.specs.Stops.{AreUp, LeavesOneOf}
+use Rattle.kz_turns.specs.Stops.{AreUp, LeavesOneOf, last_step_pairs}
 use Rattle.kz_work.specs.Starts.{TurnStart, most_from, start_of}
 use Rattle.kz_work.proofs.Starts.{most_is_work}
 use Rattle.kz_world_parts.specs.declared.faults.EventFault.TheVariants as event_fault
@@ -111,15 +111,13 @@ returns-in-Ok-clause-stop g c = λ d at_is pair up fails.
     let left = g.T.ZTree.left c.turn.new.tree.inner in
     let log_left = g.L.MetaLog.left c.turn.new.log.inner in
     let old : List ℤ → Shared = λ is. shared_of (tree p.tree.inner) (log p.log.inner) is in
-    let most = most_from c.args.start.now c.image.result.now in
-    let Leaves : ℕ → List ℤ → List ℤ → ℤ → Driver → Type 0 = λ most is running x f.
-    IsSoundPair (old is) x f → AreUp before → list_any is_failed_step replies ≡ true → LeavesOneOf (pair_of (old is) ∷ turn_pairs most (old is) running x f) left log_left in
-    let by_ids = subst (λ (is : List ℤ). Leaves most is c.args.peers.now.running n first) c.requires.declared c.in-Ok.ensures.stop in
-    let by_running = subst (λ (is : List ℤ). Leaves most p.declared is n first) c.requires.running by_ids in
-    let by_driver = subst (λ (x : Driver). Leaves most p.declared (running_ids ds) n x) first_is by_running in
-    let by_now = subst (λ x. Leaves most p.declared (running_ids ds) x d) (to_z-of_z w64 now c.ranges.now) by_driver in
-    let is = most_told (world_of tree log p).shared d c.args.start.now c.image.result.now (c.requires.start d at_is) (c.image.ensures ∙ c.requires.image) in
-    subst (λ (bound : ℕ). Leaves bound p.declared (running_ids ds) now d) is by_now pair up (ap (list_any is_failed_step) (sym c.from_vec.ensures) ∙ fails)
+    let Leaves : List ℤ → List ℤ → ℤ → Driver → Type 0 = λ is running x f.
+    IsSoundPair (old is) x f → AreUp before → list_any is_failed_step replies ≡ true → LeavesOneOf (last_step_pairs replies (old is) running x f) left log_left in
+    let by_ids = subst (λ (is : List ℤ). Leaves is c.args.peers.now.running n first) c.requires.declared c.in-Ok.ensures.stop in
+    let by_running = subst (λ (is : List ℤ). Leaves p.declared is n first) c.requires.running by_ids in
+    let by_driver = subst (λ (x : Driver). Leaves p.declared (running_ids ds) n x) first_is by_running in
+    let by_now = subst (λ x. Leaves p.declared (running_ids ds) x d) (to_z-of_z w64 now c.ranges.now) by_driver in
+    subst (λ (rs : List Reply). LeavesOneOf (last_step_pairs rs (old p.declared) (running_ids ds) now d) left log_left) (sym c.from_vec.ensures) (by_now pair up (ap (list_any is_failed_step) (sym c.from_vec.ensures) ∙ fails))
 
 pub returns-in-Err-clause-stop : goal.returns-in-Err-clause-stop
 returns-in-Err-clause-stop g c = λ d at_is pair.
@@ -136,5 +134,5 @@ returns-in-Err-clause-stop g c = λ d at_is pair.
     let same_log = c.in-Err.ensures.err.2 in
     let same : new ≡ w = ap (λ x. record { shared = shared_of (tree x.inner) (log l.inner) p.declared; drivers = w.drivers }) same_tree ∙ ap (λ x. record { shared = shared_of (tree p.tree.inner) (log x.inner) p.declared; drivers = w.drivers }) same_log in
     let same_disks : disks ≡ old = ap (λ x. disks_of (g.T.ZTree.disk x.inner) (g.L.MetaLog.disk l.inner)) same_tree ∙ ap (λ x. disks_of (g.T.ZTree.disk p.tree.inner) (g.L.MetaLog.disk x.inner)) same_log in
-    still_failure w new (turn_pairs (work w.shared d) w.shared (running_ids w.drivers) c.args.now d) (Err event_fault.NoMemory) old disks (g.T.ZTree.left t.inner) (g.L.MetaLog.left l.inner) same same_disks
+    still_failure w new [] (Err event_fault.NoMemory) old disks (g.T.ZTree.left t.inner) (g.L.MetaLog.left l.inner) same same_disks
     (record { tree = g.met.T.ZTree.settled t.inner; log = g.met.L.MetaLog.settled l.inner })

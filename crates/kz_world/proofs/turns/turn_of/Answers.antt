@@ -1,11 +1,11 @@
 use Rattle.std.proofs.Common.{◌<◌, length, sym, ap, subst, ◌∙◌, arith, w32, w64, to_z, of_z}
 use Rattle.std.specs.Prelude.{slice_get, IfOk}
 use Rattle.std.proofs.lemmas.Int.{to_z-of_z}
-use Rattle.kz_spec_machine.specs.Machine.{running_refusal, running_ids, driver_of, turn_pairs, work}
+use Rattle.kz_spec_machine.specs.Machine.{running_refusal, driver_of}
 use Rattle.kz_driver.specs.Disks.{payloads_of}
 use Rattle.kz_turns.specs.Pairs.{IsSoundPair}
 use Rattle.kz_world_parts.specs.Disks.{disks_in, DriverTurnDisks}
-use Rattle.kz_world_parts.specs.Stops.{FailureLeaves}
+use Rattle.kz_world_parts.specs.Stops.{TurnLeaves}
 use Rattle.kz_world_parts.specs.Turns.{IsTurned}
 use Rattle.kz_world_parts.specs.Worlds.{world_of_parts, world_of}
 use Rattle.kz_world.proofs.Runs.{turn_outcome, turn_disks, turn_stop, turn_refused, turn_of_none}
@@ -57,7 +57,6 @@ returns-in-Some-place_of-clause-stop g c =
     let at = c.in-Some-place_of.at in
     let id_is = to_z-of_z w32 c.args.id c.ranges.id in
     let now_is = to_z-of_z w64 c.args.now c.ranges.now in
-    let runs = ap (running_refusal w) (sym id_is) ∙ sym c.running_refusal.ensures.refusal ∙ c.in_default.is in
     let len = ap length c.deref.ensures.value in
     let here : at < length ds = omega (arith, c.in-Some-place_of.ensures.0, len) in
     let found = ap (λ i. driver_of i ds) (sym id_is) ∙ ap (driver_of (to_z w32 (of_z w32 c.args.id))) (sym c.deref.ensures.value) ∙ c.in-Some-place_of.ensures.1 ∙ ap (λ xs. slice_get xs at) c.deref.ensures.value in
@@ -66,8 +65,8 @@ returns-in-Some-place_of-clause-stop g c =
     let old = disks_in g.T.ZTree.disk g.L.MetaLog.disk (world_of_parts p) in
     let left = g.T.ZTree.left q.tree.inner in
     let log_left = g.L.MetaLog.left q.log.inner in
-    turn_stop c.prepared_turn.result w c.args.id c.args.now at old left log_left runs here found c.requires.time
-    (λ d is. subst (λ x. IsSoundPair w.shared x d → FailureLeaves w (turn_pairs (work w.shared d) w.shared (running_ids ds) x d) c.prepared_turn.result old left log_left) now_is (c.prepared_turn.ensures.stop d is))
+    turn_stop c.prepared_turn.result w c.args.id c.args.now at old left log_left here found c.requires.time
+    (λ d is. subst (λ x. IsSoundPair w.shared x d → TurnLeaves w x d c.prepared_turn.result old left log_left) now_is (c.prepared_turn.ensures.stop d is))
 
 pub returns-in-None-clause-ok : goal.returns-in-None-clause-ok
 returns-in-None-clause-ok g c = λ sound.

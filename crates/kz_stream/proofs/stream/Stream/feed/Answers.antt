@@ -2,9 +2,10 @@ use Rattle.std.proofs.Common.{ℕ, ◌+◌, List, [], ◌∷◌, ◌++◌, take,
 use Rattle.std.proofs.KnownBytes.{Appends-nil, Appends-trans}
 use Rattle.std.proofs.lemmas.List.{take_more}
 use Rattle.kz_stream.specs.Endings.{Stops}
-use Rattle.kz_stream.specs.Pending.{outcome_to_come, GoesSoundly, state_of}
+use Rattle.kz_spec_runs.specs.Moments.{LeavesMoment}
+use Rattle.kz_stream.specs.Pending.{outcome_to_come, moments_to_come, GoesSoundly, state_of}
 use Rattle.kz_stream.proofs.Quiet.{no_call, stays_up, both_on}
-use Rattle.kz_stream.proofs.Runs.{goes_nowhere_soundly, goes_soundly, stops_soundly, cut_at}
+use Rattle.kz_stream.proofs.Runs.{goes_nowhere_soundly, goes_soundly, stops_soundly, leaves_after, cut_at}
 use Rattle.kz_stream.proofs.stream.Stream.feed.Goals as goal
 
 pub loop-byte-init : goal.loop-byte-init
@@ -24,6 +25,13 @@ returns-in-Err-clause-stop g c =
       λ sound rest.
           subst (λ (t : List ℕ). Stops (outcome_to_come old t) (inv.0 ++ h.0) new c.in-Err.stop) (cut_at piece rest i c.loop-byte-test.true)
           (stops_soundly old (state_of world c.loop-byte.self) (take i piece) (get_or piece i 0 ∷ []) inv.0 h.0 new c.in-Err.stop inv.2 h.2 (drop (i + 1) piece ++ rest) sound),
+      λ sound up rest.
+          let go = inv.2 sound in
+          let machine = c.take.new.self.place.machine in
+          let tree_left = g.M.Machine.tree_left machine in
+          let log_left = g.M.Machine.log_left machine in
+          subst (λ (t : List ℕ). LeavesMoment (moments_to_come old t) (inv.0 ++ h.0) tree_left log_left) (cut_at piece rest i c.loop-byte-test.true)
+          (leaves_after old (state_of world c.loop-byte.self) (take i piece) (get_or piece i 0 ∷ (drop (i + 1) piece ++ rest)) inv.0 h.0 tree_left log_left go.0 (h.3 go.1 (stays_up _ _ (c.loop-byte.invariant.3 sound up)) (drop (i + 1) piece ++ rest))),
     )
 
 pub loop-byte-preserved : goal.loop-byte-preserved

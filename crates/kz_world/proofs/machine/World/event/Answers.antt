@@ -1,9 +1,9 @@
-use Rattle.std.proofs.Common.{◌≡◌, ◌⊎◌, ◌∷◌, true, false, subst}
+use Rattle.std.proofs.Common.{◌≡◌, ◌⊎◌, true, false, subst}
 use Rattle.kz_spec_machine.specs.Failures.{is_failure, IsLeft}
-use Rattle.kz_spec_machine.specs.Machine.{next, pair_of, event_pairs}
+use Rattle.kz_spec_machine.specs.Machine.{next}
 use Rattle.kz_spec_machine.specs.Sound.{Sound}
 use Rattle.kz_driver.specs.Disks.{payloads_of}
-use Rattle.kz_turns.specs.Stops.{AreUp, LeavesOneOf}
+use Rattle.kz_turns.specs.Stops.{AreUp, LeavesOneOf, failure_pairs}
 use Rattle.kz_world_parts.specs.Disks.{disks_in, EventDisks}
 use Rattle.kz_world_parts.specs.Fences.{IsOfFenced, TellsFence}
 use Rattle.kz_world_parts.specs.Worlds.{world_of_parts, plain_world, world_of}
@@ -117,5 +117,5 @@ returns-clause-stop g c =
     let told_is = c.answered.ensures in
     let old = disks (world_of_parts p) in
     let later = disks (world_of_parts q) in
-    subst (λ v. Sound (plain v) → AreUp (disks v) → is_failure told ≡ true → LeavesOneOf (pair_of (plain v).shared ∷ event_pairs (plain v) e) (g.T.ZTree.left q.tree.inner) (g.L.MetaLog.left q.log.inner)) c.self.view_is (λ sound.
+    subst (λ v. Sound (plain v) → AreUp (disks v) → is_failure told ≡ true → LeavesOneOf (failure_pairs (plain v) e told) (g.T.ZTree.left q.tree.inner) (g.L.MetaLog.left q.log.inner)) c.self.view_is (λ sound.
     event_stop w e c.let_happen.result told old (g.T.ZTree.left q.tree.inner) (g.L.MetaLog.left q.log.inner) told_is (c.let_happen.ensures.stop sound))

@@ -1,0 +1,46 @@
+-- What a stop leaves of both files after a run.
+use Rattle.std.specs.Prelude.{◌≡◌, ◌⊎◌, ◌<◌, ◌^◌, true, ℕ, List, length, Option, Some, IfSome, is_some}
+use Rattle.std.specs.Io.KnownBytes.{Appends}
+use Rattle.kz_disk.specs.Disks.{NothingPends}
+use Rattle.kz_spec_stores.specs.Tree.{Tree}
+use Rattle.kz_spec_stores.specs.Log.{Log}
+use Rattle.kz_spec_files.specs.TreeFile.{tree_of}
+use Rattle.kz_spec_files.specs.LogFile.{log_of}
+use Rattle.kz_spec_commands.specs.Files.{StandFor}
+use Rattle.kz_spec_runs.specs.Moments.{Moment, StandsAt, replayed_moments}
+use Rattle.kz_spec_runs.specs.Openings.{opened_world, IsSoundPair}
+use Rattle.kz_commands.specs.Stops.{StandsAtStop}
+
+-- With this much written, two files stand for the tree and the log of a moment that keeps up with it.
+pub record StandAtMoment (ms : List Moment) (sent t l : List ℕ) : Type 0 where
+  pub tree : Tree
+  pub log : Log
+  pub stand : StandFor t l tree log
+  pub moment : StandsAt ms sent (Some tree) (Some log)
+
+-- What a disk tells of its contents, what a stop may leave of them, and how often a sync has succeeded.
+pub record Contents : Type 1 where
+  pub told : Option (List ℕ)
+  pub leaves : List ℕ → Type 0
+  pub syncs : ℕ
+
+abbrev pub contents : {D : Type 0} → (D → Option (List ℕ)) → (D → List ℕ → Type 0) → (D → ℕ) → D → Contents
+contents told leaves syncs disk = record { told = told disk; leaves = leaves disk; syncs = syncs disk }
+
+-- Before a run no write was pending on a disk, or a sync succeeded in the run; and the file had fewer than 2^32 bytes.
+abbrev pub IsStable : List ℕ → Contents → Contents → Type 0
+IsStable file disk now = (NothingPends disk.told disk.leaves ⊎ (disk.syncs < now.syncs)) × (length file < 2 ^ 32)
+
+-- Whatever a stop leaves of both files, they stand for a moment that keeps up with what is written.
+abbrev pub FilesKeepUp : List Moment → List ℕ → Contents → Contents → Type 0
+FilesKeepUp ms sent tree log = (t l : List ℕ) → is_some tree.told ≡ true → is_some log.told ≡ true → tree.leaves t → log.leaves l → StandAtMoment ms sent t l
+
+-- They do after a replay that opened files of a sound pair.
+abbrev pub ReplayStops : Option (List ℕ) → Option (List ℕ) → Option (List ℕ) → Contents → Contents → Contents → Contents → Type 0
+ReplayStops input out out_now tree tree_now log log_now = (t l : List ℕ) (opened_tree : Tree) (opened_log : Log) → tree.told ≡ Some t → log.told ≡ Some l → StandFor t l opened_tree opened_log → IsSoundPair opened_tree opened_log
+    → IsStable t tree tree_now → IsStable l log log_now
+    → IfSome input (λ script. (sent : List ℕ) × Appends out out_now sent × FilesKeepUp (replayed_moments (opened_world opened_tree opened_log) script) sent tree_now log_now)
+
+-- After an upgrade, each stands for what it stood for.
+abbrev pub UpgradeStops : Contents → Contents → Contents → Contents → Type 0
+UpgradeStops tree tree_now log log_now = StandsAtStop tree_of tree.told tree.leaves tree.syncs tree_now.syncs tree_now.leaves × StandsAtStop log_of log.told log.leaves log.syncs log_now.syncs log_now.leaves
