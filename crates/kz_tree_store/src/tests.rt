@@ -1,9 +1,13 @@
-use super::{TreeOpenFault, TreeStore};
+ghost use Rattle.std.specs.Prelude.{◌≡◌, true, IsTrue};
+ghost use Rattle.kz_spec_files.specs.Loads.{is_load};
+
+use super::loads::loaded_tree;
+use super::{LoadLast, TreeOpenFault, TreeStore};
 use kz_disk::MemoryDisk;
 use kz_journal::Journal;
 use kz_session::{SessionFault, ZSessions};
 use kz_tree::{Tree, TreeFault, ZTree};
-use kz_types::{Op, Sequence, ZPath};
+use kz_types::{Op, Row, Sequence, ZPath};
 use std::alloc::Global;
 use std::process::Abort;
 
@@ -238,4 +242,94 @@ fn a_store_is_down_after_a_failed_call(rt: HostRuntime) {
         drop(store);
     }
     assert!(rt; failed == [true; 5]);
+}
+
+// ---- loads
+
+// The end of a load: zxid 4, and two live sessions.
+fn last(rt: &impl Abort, alloc: Global) -> LoadLast {
+    LoadLast {
+        zxid: 4,
+        sessions: Sequence::from_vec(made(rt, [7, 9].to_vec(alloc))),
+    }
+}
+
+// The znodes of a load.
+fn znodes(rt: &impl Abort, alloc: Global) -> Vec<Row> {
+    let mut rows = Vec::new(alloc);
+    let first = Row {
+        path: path_of(rt, alloc, b"/a"),
+        body: body_of(rt, alloc, b"x"),
+        version: 3,
+        owner: None,
+        czxid: 1,
+        mzxid: 2,
+        pzxid: 4,
+    };
+    made(rt, rows.push(first));
+    let second = Row {
+        path: path_of(rt, alloc, b"/a/b"),
+        body: body_of(rt, alloc, b""),
+        version: 0,
+        owner: Some(7),
+        czxid: 4,
+        mzxid: 4,
+        pzxid: 4,
+    };
+    made(rt, rows.push(second));
+    rows
+}
+
+// Whether znodes keep the rules of a load with this end.
+fn keep_rules(alloc: Global, last: &LoadLast, rows: &[Row]) -> bool
+    ensures { IsTrue result → is_load last.now.zxid last.now.sessions rows.now ≡ true }
+{
+    match loaded_tree(alloc, last.zxid, last.sessions.as_slice(), rows) {
+        Ok(_) => true,
+        Err(_) => false,
+    }
+}
+
+// Loads znodes in one call.
+fn load(
+    rt: &impl Abort,
+    alloc: Global,
+    store: &mut TreeStore<MemoryDisk>,
+    rows: &[Row],
+    last: LoadLast,
+) -> Result<(), TreeFault> {
+    assert!(rt; store.fresh);
+    assert!(rt; store.loaded.is_none());
+    assert!(rt; keep_rules(alloc, &last, rows));
+    store.load(rows, Some(last))
+}
+
+// Whether a file stands for the tree of these znodes.
+fn is_loaded(rt: &impl Abort, alloc: Global, disk: MemoryDisk) -> bool {
+    let store = open(rt, alloc, disk);
+    let tree = store.tree();
+    let is = tree.last_zxid() == 4
+        && tree.sessions() == [7, 9].as_slice()
+        && tree.count() == 2
+        && has_row(tree, b"/a", b"x", 3)
+        && has_row(tree, b"/a/b", b"", 0)
+        && !store.is_fresh();
+    drop(store);
+    is
+}
+
+static LOADED: &[u8] =
+    b"KZ-JOURNAL T 02\n\xA5\x00\x00\x00e~\xE4\x01P\x02\x01\x00\x00\x00\x02\x00\x00\x00\x02/a\x00\x00\x00\x01x\x00\x00\x00\x03\x00\x00\x00\x00\x00\x00\x00\x00\x00\x00\x00\x00\x00\x00\x00\x01\x00\x00\x00\x00\x00\x00\x00\x02\x00\x00\x00\x00\x00\x00\x00\x04\x00\x00\x00\x04/a/b\x00\x00\x00\x00\x00\x00\x00\x00\x00\x00\x00\x00\x00\x00\x00\x07\x00\x00\x00\x00\x00\x00\x00\x04\x00\x00\x00\x00\x00\x00\x00\x04\x00\x00\x00\x00\x00\x00\x00\x04\xA5\x00\x00\x00\x1D\x028\x05\xBF\x03\x00\x00\x00\x00\x00\x00\x00\x04\x00\x00\x00\x02\x00\x00\x00\x00\x00\x00\x00\x07\x00\x00\x00\x00\x00\x00\x00\t\x00";
+
+#[test]
+fn a_load_in_one_call(rt: HostRuntime) {
+    let alloc = rt.alloc();
+    let mut store = new_tree(&rt, alloc);
+    let rows = znodes(&rt, alloc);
+    assert!(rt; load(&rt, alloc, &mut store, &rows, last(&rt, alloc)) == Ok(()));
+    assert!(rt; store.tree().count() == 2);
+    let disk = store.into_disk();
+    assert!(rt; disk.bytes() == LOADED);
+    assert!(rt; is_loaded(&rt, alloc, disk));
+    drop(rows);
 }
