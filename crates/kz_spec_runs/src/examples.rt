@@ -1,5 +1,5 @@
 //! Laws by example: what the program writes for worked scripts.
-ghost use Rattle.std.specs.Prelude.{◌≡◌, ℕ, ℤ, List, [], ◌∷◌, map, pos, negsuc, codes};
+ghost use Rattle.std.specs.Prelude.{◌≡◌, ℕ, ℤ, List, [], ◌∷◌, drop, map, pos, negsuc, codes};
 ghost use Rattle.kz_types.specs.declared.outside.Status.TheVariants as status;
 ghost use Rattle.kz_spec_machine.specs.Machine.{empty_world};
 ghost use Rattle.kz_spec_stores.specs.Log.{end_of};
@@ -66,5 +66,21 @@ pub fn moments_of_an_election()
         ∷ (codes "1 done\n2 done\n", [], pos 1)
         ∷ (codes "1 done\n2 done\n", codes "3 elected 1 1\n", pos 1)
         ∷ (codes "1 done\n2 done\n3 elected 1 1\n", codes "end events=3 steps=0 zxid=0 offset=1 recorded=none\n", pos 1)
+        ∷ []) }
+{}
+
+/// What a stop may find in a turn: before each step the lines of the steps before it may stand, whole or in part.
+#[tactic(auto, unfolding(crate::proofs::OnLiterals::runs_on_literals))]
+pub fn moments_of_a_turn()
+    ensures { drop 10 (map {B = List ℕ × List ℕ} (λ m. (m.text, m.reply)) (replayed_moments empty_world (codes "{\"event\":\"quorum\",\"ids\":[3000]}\n{\"event\":\"zk\",\"ops\":[{\"op\":\"create\",\"path\":\"/brokers\"},{\"op\":\"create\",\"path\":\"/brokers/ids\"},{\"op\":\"create\",\"path\":\"/brokers/ids/1\"}]}\n{\"event\":\"start\",\"controller\":3000}\n{\"event\":\"elect\",\"controller\":3000}\n{\"event\":\"turn\",\"controller\":3000}\n")))
+        ≡ ((codes "1 done\n2 done 1\n3 done\n4 elected 1 1\n", [])
+        ∷ (codes "1 done\n2 done 1\n3 done\n4 elected 1 1\n", [])
+        ∷ (codes "1 done\n2 done 1\n3 done\n4 elected 1 1\n", [])
+        ∷ (codes "1 done\n2 done 1\n3 done\n4 elected 1 1\n", codes "5 moved WAIT_FOR_BROKERS\n")
+        ∷ (codes "1 done\n2 done 1\n3 done\n4 elected 1 1\n", codes "5 moved WAIT_FOR_BROKERS\n")
+        ∷ (codes "1 done\n2 done 1\n3 done\n4 elected 1 1\n", codes "5 moved WAIT_FOR_BROKERS\n5 looked\n")
+        ∷ (codes "1 done\n2 done 1\n3 done\n4 elected 1 1\n", codes "5 moved WAIT_FOR_BROKERS\n5 looked\n")
+        ∷ (codes "1 done\n2 done 1\n3 done\n4 elected 1 1\n", codes "5 moved WAIT_FOR_BROKERS\n5 looked\n5 wait-broker 1\n")
+        ∷ (codes "1 done\n2 done 1\n3 done\n4 elected 1 1\n5 moved WAIT_FOR_BROKERS\n5 looked\n5 wait-broker 1\n", codes "end events=5 steps=3 zxid=1 offset=1 recorded=none\n")
         ∷ []) }
 {}
