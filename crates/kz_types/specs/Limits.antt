@@ -17,5 +17,6 @@ number_of_limit limit.LineBytes = 10
 number_of_limit limit.InputBytes = 11
 number_of_limit limit.TreeFileBytes = 12
 number_of_limit limit.LogFileBytes = 13
+number_of_limit limit.Generated = 14
 number_of_limit limit.Epoch = 15
 number_of_limit limit.Long = 17

@@ -81,6 +81,7 @@ pub use limits::MAX_CHUNK_BYTES;
 pub use limits::MAX_CONTROLLERS;
 pub use limits::MAX_EPOCH;
 pub use limits::MAX_FILE_BYTES;
+pub use limits::MAX_GENERATED;
 pub use limits::MAX_INPUT_BYTES;
 pub use limits::MAX_LINE_BYTES;
 pub use limits::MAX_LONG;

@@ -24,6 +24,8 @@ pub const MAX_LINE_BYTES: usize = 2_097_152;
 pub const MAX_INPUT_BYTES: u64 = 4_294_967_296;
 /// The most bytes of a store's file.
 pub const MAX_FILE_BYTES: u64 = 2_147_483_647;
+/// The most changes of a script that is generated.
+pub const MAX_GENERATED: u64 = 100_000;
 /// The greatest KRaft epoch.
 pub const MAX_EPOCH: i32 = 2_147_483_647;
 /// The greatest zxid of a tree, and the greatest offset of a log.
@@ -70,6 +72,8 @@ pub enum Limit {
     TreeFileBytes,
     /// [`MAX_FILE_BYTES`] of the log's file
     LogFileBytes,
+    /// [`MAX_GENERATED`]
+    Generated,
     /// [`MAX_EPOCH`]
     Epoch,
     /// [`MAX_LONG`]
@@ -95,6 +99,7 @@ impl Limit {
             Limit::InputBytes => 11,
             Limit::TreeFileBytes => 12,
             Limit::LogFileBytes => 13,
+            Limit::Generated => 14,
             Limit::Epoch => 15,
             Limit::Long => 17,
         }

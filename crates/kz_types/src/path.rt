@@ -1,5 +1,7 @@
 //! A path of a znode.
-ghost use Rattle.std.specs.Prelude.{◌≡◌, List, ℕ, true, false, MatchResult};
+ghost use Rattle.std.specs.Cmp.{partial_equiv_from_equiv};
+ghost use Rattle.std.specs.Cmp.Lexicographic.{pointwise, nat_list_eq_equiv};
+ghost use Rattle.std.specs.Prelude.{◌≡◌, List, ℕ, nat_eq, true, false, MatchResult};
 ghost use Rattle.kz_types.specs.PathRule.{is_path, IsPathFault};
 
 use crate::path_rule::{fault_place, keeps_rule};
@@ -64,6 +66,16 @@ impl ZPath {
         ensures rule { is_path result.now ≡ true }
     {
         self.text.as_str()
+    }
+}
+
+impl PartialEq for ZPath {
+    ghost eq = { pointwise nat_eq };
+
+    ghost laws = { partial_equiv_from_equiv nat_list_eq_equiv };
+
+    fn eq(&self, other: &ZPath) -> bool {
+        self.bytes() == other.bytes()
     }
 }
 

@@ -1,7 +1,7 @@
 use Rattle.std.proofs.Common.{◌≡◌, ◌-◌, drop, length}
 use Rattle.kz_spec_stores.specs.Log.{batch_ends}
-use Rattle.kz_dump.specs.Agreement.{all_first}
-use Rattle.kz_dump.proofs.comparison.all_marks.Given as goal
+use Rattle.kz_verdict.specs.Agreement.{all_first}
+use Rattle.kz_verdict.proofs.comparison.all_marks.Given as goal
 
 abbrev pub invariant-loop-done : goal.invariant-loop-done
 invariant-loop-done l =

@@ -9,7 +9,7 @@ use Rattle.kz_spec_stores.specs.Tree.{Tree, area as area_of}
 use Rattle.kz_spec_stores.specs.Log.{Log, batch_ends, image_at}
 use Rattle.kz_spec_znodes.specs.Rendering.{body_at, render}
 use Rattle.kz_spec_machine.specs.Verdicts.{same_bodies, agrees_at}
-use Rattle.kz_dump.specs.declared.comparison.Found.{Found}
+use Rattle.kz_verdict.specs.declared.comparison.Found.{Found}
 
 -- whether two lists of znodes agree at a path, absence included
 abbrev pub agrees_in : List Rendered → List Rendered → List ℕ → Bool

@@ -6,9 +6,9 @@ use Rattle.kz_ordered.specs.Ordered.{all_put}
 use Rattle.kz_spec_stores.specs.Tree.{area, path_of_rendered}
 use Rattle.kz_spec_stores.specs.Log.{image_at, batch_ends}
 use Rattle.kz_spec_znodes.specs.Rendering.{render}
-use Rattle.kz_dump.specs.Agreement.{found_at, all_first}
-use Rattle.kz_dump.proofs.Agreements.{found_is}
-use Rattle.kz_dump.proofs.comparison.find_all.Goals as goal
+use Rattle.kz_verdict.specs.Agreement.{found_at, all_first}
+use Rattle.kz_verdict.proofs.Agreements.{found_is}
+use Rattle.kz_verdict.proofs.comparison.find_all.Goals as goal
 
 pub returns : goal.returns
 returns c =

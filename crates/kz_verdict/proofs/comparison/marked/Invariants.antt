@@ -1,6 +1,6 @@
 use Rattle.std.proofs.Common.{◌≡◌, ◌++◌, drop, length}
-use Rattle.kz_dump.specs.Agreement.{marks_at_end}
-use Rattle.kz_dump.proofs.comparison.marked.Given as goal
+use Rattle.kz_verdict.specs.Agreement.{marks_at_end}
+use Rattle.kz_verdict.proofs.comparison.marked.Given as goal
 
 abbrev pub invariant-loop-i : goal.invariant-loop-i
 invariant-loop-i l =

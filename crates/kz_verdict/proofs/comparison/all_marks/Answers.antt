@@ -2,9 +2,9 @@ use Rattle.std.proofs.Common.{rules, ◌≡◌, ◌-◌, ◌<◌, ◌∷◌, len
 use Rattle.std.proofs.lemmas.Int.{to_z-of_z}
 use mir.Val.{SFits}
 use Rattle.kz_spec_stores.specs.Log.{batch_ends}
-use Rattle.kz_dump.specs.Agreement.{all_first}
-use Rattle.kz_dump.proofs.Agreements.{ends_more}
-use Rattle.kz_dump.proofs.comparison.all_marks.Goals as goal
+use Rattle.kz_verdict.specs.Agreement.{all_first}
+use Rattle.kz_verdict.proofs.Agreements.{ends_more}
+use Rattle.kz_verdict.proofs.comparison.all_marks.Goals as goal
 
 pub loop-done-preserved : goal.loop-done-preserved
 loop-done-preserved c =

@@ -8,7 +8,7 @@ ghost use Rattle.kz_spec_stores.specs.Tree.{area as area_of, migration_record, u
 ghost use Rattle.kz_spec_stores.specs.Log.{image_at, batch_ends};
 ghost use Rattle.kz_spec_znodes.specs.Rendering.{body_at, render};
 ghost use Rattle.kz_spec_machine.specs.Verdicts.{paths_at, verdict, verdict_at, verdict_of};
-ghost use Rattle.kz_dump.specs.Agreement.{agrees_in, all_first, marks_at_end, all_found, found_at, is_disagreeing, ahead_of, found_verdict};
+ghost use Rattle.kz_verdict.specs.Agreement.{agrees_in, all_first, marks_at_end, all_found, found_at, is_disagreeing, ahead_of, found_verdict};
 
 use kz_log::LogRows;
 use kz_render::render;
