@@ -303,6 +303,8 @@ refused_by letter refusal tree log new_tree new_log file new status.ReadFault us
 refused_by letter refusal tree log new_tree new_log file new status.WriteFault used go kind h = absurd (kind h.0)
 refused_by letter refusal tree log new_tree new_log file new (status.Limit which number) used go kind h = absurd (kind h.0)
 refused_by letter refusal tree log new_tree new_log file new status.NotEmpty used go kind h = absurd (kind h.0)
+refused_by letter refusal tree log new_tree new_log file new (status.Disagrees path) used go kind h = absurd (kind h.0)
+refused_by letter refusal tree log new_tree new_log file new (status.NoOffset base end) used go kind h = absurd (kind h.0)
 
 pub tree_inits : (tree log new_tree : List ℕ) (s : Status) → s ≢ status.Usage → IsRefusedFor tree_letter tree_refusal tree new_tree s → Inits tree log new_tree log s
 tree_inits tree log new_tree s used h =

@@ -90,6 +90,8 @@ unopened tree tree_now log log_now (status.LogDamaged at why) is = record {
 unopened tree tree_now log log_now status.NoMemory is = record { ran = λ u. absurd (cc); files = λ t l new_t new_l a b c d. tt; tree_disk = is.tree_disk; log_disk = is.log_disk }
 unopened tree tree_now log log_now (status.Limit which number) is = absurd is.told
 unopened tree tree_now log log_now status.NotEmpty is = absurd is.told
+unopened tree tree_now log log_now (status.Disagrees path) is = absurd is.told
+unopened tree tree_now log log_now (status.NoOffset base end) is = absurd is.told
 
 -- Both files were opened, say what they said, and stand for a tree and a log.
 pub record AreOpen (tree tree_open log log_open : Outside) : Type 0 where

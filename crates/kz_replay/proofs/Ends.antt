@@ -28,6 +28,8 @@ quiet_end (status.LogDamaged at why) old new a b d h = h
 quiet_end status.NoMemory old new a b d h = h
 quiet_end (status.Limit which number) old new a b d h = h
 quiet_end status.NotEmpty old new a b d h = h
+quiet_end (status.Disagrees path) old new a b d h = h
+quiet_end (status.NoOffset base end) old new a b d h = h
 
 pub stop_end : (s : Stop) (old new : Disks) → StopDisks s old new → RunDisks (stop_status s) old new
 stop_end (stop.Ends e) old new h = quiet_end (status_of e) old new (λ is. cc (stop_tree (stop.Ends e) is)) (λ is. cc (stop_log (stop.Ends e) is)) (λ is. cc (stop_write (stop.Ends e) is)) h
@@ -66,6 +68,8 @@ run_on (status.LogDamaged at why) a b c quiet h = both_on a b c quiet h
 run_on status.NoMemory a b c quiet h = both_on a b c quiet h
 run_on (status.Limit which number) a b c quiet h = both_on a b c quiet h
 run_on status.NotEmpty a b c quiet h = both_on a b c quiet h
+run_on (status.Disagrees path) a b c quiet h = both_on a b c quiet h
+run_on (status.NoOffset base end) a b c quiet h = both_on a b c quiet h
 
 -- ---- the sink
 

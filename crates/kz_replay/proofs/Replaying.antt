@@ -96,6 +96,8 @@ at_damage (Some s) status.ReadFault input out ends h = absurd ends
 at_damage (Some s) status.WriteFault input out ends h = absurd ends
 at_damage (Some s) (status.Limit which number) input out ends h = absurd ends
 at_damage (Some s) status.NotEmpty input out ends h = absurd ends
+at_damage (Some s) (status.Disagrees path) input out ends h = absurd ends
+at_damage (Some s) (status.NoOffset base end) input out ends h = absurd ends
 
 -- A run that reads nothing from files that stand for a tree and a log wrote nothing, as the script asks for.
 unopened_agrees : (first : World) (script : List ℕ) (result : Status) → IsUnopenedStatus result → IsForDamage result None → Agrees first script [] [] first result
@@ -111,6 +113,8 @@ unopened_agrees first script status.ReadFault ends h = absurd ends
 unopened_agrees first script status.WriteFault ends h = absurd ends
 unopened_agrees first script (status.Limit which number) ends h = absurd ends
 unopened_agrees first script status.NotEmpty ends h = absurd ends
+unopened_agrees first script (status.Disagrees path) ends h = absurd ends
+unopened_agrees first script (status.NoOffset base end) ends h = absurd ends
 
 same_tree : (t new : List ℕ) (tree : Tree) → tree_of t ≡ Ok tree → SayTheSame tree_letter t new → tree_of new ≡ Ok tree
 same_tree t new tree is same = ap (λ (j : Journal). tree_of_stored (stored_in j)) same ∙ is
@@ -141,6 +145,8 @@ unopened_leaves status.ReadFault tree tree_now log log_now t l new_t new_l held_
 unopened_leaves status.WriteFault tree tree_now log log_now t l new_t new_l held_tree held_log ends h stand = absurd ends
 unopened_leaves (status.Limit which number) tree tree_now log log_now t l new_t new_l held_tree held_log ends h stand = absurd ends
 unopened_leaves status.NotEmpty tree tree_now log log_now t l new_t new_l held_tree held_log ends h stand = absurd ends
+unopened_leaves (status.Disagrees path) tree tree_now log log_now t l new_t new_l held_tree held_log ends h stand = absurd ends
+unopened_leaves (status.NoOffset base end) tree tree_now log log_now t l new_t new_l held_tree held_log ends h stand = absurd ends
 
 -- files that weren't opened stand for the first moment of the replay
 unopened_keeps_up : (result : Status) (t l new_t new_l : List ℕ) (held_tree : Tree) (held_log : Log) (script : List ℕ) → IsUnopenedStatus result → LeavesUnopened result t l new_t new_l → StandFor t l held_tree held_log
@@ -157,6 +163,8 @@ unopened_keeps_up status.ReadFault t l new_t new_l held_tree held_log script end
 unopened_keeps_up status.WriteFault t l new_t new_l held_tree held_log script ends h stand = absurd ends
 unopened_keeps_up (status.Limit which number) t l new_t new_l held_tree held_log script ends h stand = absurd ends
 unopened_keeps_up status.NotEmpty t l new_t new_l held_tree held_log script ends h stand = absurd ends
+unopened_keeps_up (status.Disagrees path) t l new_t new_l held_tree held_log script ends h stand = absurd ends
+unopened_keeps_up (status.NoOffset base end) t l new_t new_l held_tree held_log script ends h stand = absurd ends
 
 -- whatever a stop leaves of files that weren't opened
 pub unopened_stops : (input out : Option (List ℕ)) (tree tree_now log log_now : Contents) → StandsAtStop tree_of tree.told tree.leaves tree.syncs tree_now.syncs tree_now.leaves → StandsAtStop log_of log.told log.leaves log.syncs log_now.syncs log_now.leaves
@@ -245,6 +253,8 @@ run_leaves (status.LogDamaged at why) old new tree tree_now log log_now t l last
 run_leaves status.NoMemory old new tree tree_now log log_now t l last faults h stand = stand (after_quiet old new h)
 run_leaves (status.Limit which number) old new tree tree_now log log_now t l last faults h stand = stand (after_quiet old new h)
 run_leaves status.NotEmpty old new tree tree_now log log_now t l last faults h stand = stand (after_quiet old new h)
+run_leaves (status.Disagrees path) old new tree tree_now log log_now t l last faults h stand = stand (after_quiet old new h)
+run_leaves (status.NoOffset base end) old new tree tree_now log log_now t l last faults h stand = stand (after_quiet old new h)
 
 -- the count of a disk that didn't fail
 calm_count : (a b c d : ℕ) → a ≡ c → b ≡ d → b ≡ a → d ≡ c
@@ -263,6 +273,8 @@ tree_calm (status.LogDamaged at why) old new other sink h = h.tree.calm
 tree_calm status.NoMemory old new other sink h = h.tree.calm
 tree_calm (status.Limit which number) old new other sink h = h.tree.calm
 tree_calm status.NotEmpty old new other sink h = h.tree.calm
+tree_calm (status.Disagrees path) old new other sink h = h.tree.calm
+tree_calm (status.NoOffset base end) old new other sink h = h.tree.calm
 
 log_calm : (s : Status) (old new : Disks) → s ≢ status.LogFault → s ≢ status.WriteFault → RunDisks s old new → new.log.faults ≡ old.log.faults
 log_calm status.TreeFault old new other sink h = h.1.calm
@@ -277,6 +289,8 @@ log_calm (status.LogDamaged at why) old new other sink h = h.log.calm
 log_calm status.NoMemory old new other sink h = h.log.calm
 log_calm (status.Limit which number) old new other sink h = h.log.calm
 log_calm status.NotEmpty old new other sink h = h.log.calm
+log_calm (status.Disagrees path) old new other sink h = h.log.calm
+log_calm (status.NoOffset base end) old new other sink h = h.log.calm
 
 tree_ends : (s : Status) (old new : Disks) (tree tree_now log log_now : Outside) → Faults old new tree tree_now log log_now → RunDisks s old new → EndsAtDisk status.TreeFault s tree.faults tree_now.faults
 tree_ends s old new tree tree_now log log_now f h = record {
@@ -336,6 +350,8 @@ keeps_up_at (status.LogDamaged at why) ms sent t l h = h
 keeps_up_at status.NoMemory ms sent t l h = h
 keeps_up_at (status.Limit which number) ms sent t l h = h
 keeps_up_at status.NotEmpty ms sent t l h = h
+keeps_up_at (status.Disagrees path) ms sent t l h = h
+keeps_up_at (status.NoOffset base end) ms sent t l h = h
 
 -- A run over stores that were opened: what its files stood for, and stand for while no store is down, and what it did to its disks.
 pub record Opened (held_tree : Tree) (held_log : Log) (last : World) (old new : Disks) (input input_now out out_now tree tree_now log log_now : Outside) (tree_left log_left : Contents) (result : Status) : Type 0 where

@@ -19,9 +19,11 @@ pub fn status_code(status: &Status) -> u8
         Status::LogFault => 6,
         Status::TreeDamaged { .. } => 7,
         Status::LogDamaged { .. } => 8,
+        Status::Disagrees { .. } => 9,
         Status::NoMemory => 10,
         Status::Limit { .. } => 11,
         Status::NotEmpty => 12,
+        Status::NoOffset { .. } => 13,
     }
 }
 

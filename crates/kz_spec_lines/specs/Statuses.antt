@@ -8,6 +8,7 @@ use Rattle.kz_types.specs.declared.record.BatchFault.{BatchFault}
 use Rattle.kz_types.specs.declared.record.BatchFault.TheVariants.{BadCrc}
 use Rattle.kz_types.specs.declared.outside.Status.{Status}
 use Rattle.kz_types.specs.declared.outside.Status.TheVariants as status
+use Rattle.kz_spec_lines.specs.Replies.{word_and_text, numbers}
 
 -- the exit code of the process
 abbrev pub status_code : Status → ℕ
@@ -20,9 +21,11 @@ status_code status.TreeFault = 5
 status_code status.LogFault = 6
 status_code (status.TreeDamaged at) = 7
 status_code (status.LogDamaged at why) = 8
+status_code (status.Disagrees path) = 9
 status_code status.NoMemory = 10
 status_code (status.Limit which number) = 11
 status_code status.NotEmpty = 12
+status_code (status.NoOffset base end) = 13
 
 -- ---- why a log's file is damaged
 
@@ -59,6 +62,8 @@ status_text status.TreeFault = codes "tree fault"
 status_text status.LogFault = codes "log fault"
 status_text (status.TreeDamaged at) = codes "tree damaged at " ++ decimal at
 status_text (status.LogDamaged at why) = codes "log damaged at " ++ (decimal at ++ (codes " " ++ log_why_text why))
+status_text (status.Disagrees path) = word_and_text (codes "disagrees") path
 status_text status.NoMemory = codes "no memory"
 status_text (status.Limit which number) = codes "limit " ++ decimal which
 status_text status.NotEmpty = codes "not empty"
+status_text (status.NoOffset base end) = numbers (codes "no offset") base end

@@ -34,9 +34,11 @@ EndsAs o p sent w status.TreeFault = IsFront sent o.text
 EndsAs o p sent w status.LogFault = IsFront sent o.text
 EndsAs o p sent w (status.TreeDamaged at) = ⊥
 EndsAs o p sent w (status.LogDamaged at why) = ⊥
+EndsAs o p sent w (status.Disagrees path) = ⊥
 EndsAs o p sent w status.NoMemory = IsFront sent o.text
 EndsAs o p sent w (status.Limit which number) = EndsAtLimit (is_file_limit which) o sent w (status.Limit which number)
 EndsAs o p sent w status.NotEmpty = ⊥
+EndsAs o p sent w (status.NoOffset base end) = ⊥
 
 -- A run on this script, from a world on, that has taken these bytes of it and written so much ended as the script asks for, in
 -- another world and with this status.

@@ -87,6 +87,8 @@ EndsAs-after o p sent more w (status.LogDamaged at why) h = h
 EndsAs-after o p sent more w status.NoMemory h = front_after o sent more h
 EndsAs-after o p sent more w (status.Limit which number) h = at_limit (is_file_limit which) o sent more w (status.Limit which number) h
 EndsAs-after o p sent more w status.NotEmpty h = h
+EndsAs-after o p sent more w (status.Disagrees path) h = h
+EndsAs-after o p sent more w (status.NoOffset base end) h = h
 
 -- at the end of the input
 pub ends_after : (a b : State) (bytes sent more : List ℕ) (w : World) (s : Status) → GoesOn a b bytes sent → ((p : Progress) → EndsAs (outcome_to_come b []) p more w s)

@@ -61,6 +61,8 @@ IsInner (status.LogDamaged at why) = ⊥
 IsInner status.NoMemory = Unit {0}
 IsInner (status.Limit which number) = Unit {0}
 IsInner status.NotEmpty = ⊥
+IsInner (status.Disagrees path) = ⊥
+IsInner (status.NoOffset base end) = ⊥
 
 limit_inner : (s : Status) → IsLimit s → IsInner s
 limit_inner _ (limit which number) = tt
@@ -79,6 +81,8 @@ IsOfStop status.ReadFault = ⊥
 IsOfStop (status.TreeDamaged at) = ⊥
 IsOfStop (status.LogDamaged at why) = ⊥
 IsOfStop status.NotEmpty = ⊥
+IsOfStop (status.Disagrees path) = ⊥
+IsOfStop (status.NoOffset base end) = ⊥
 IsOfStop s = Unit {0}
 
 inner_of_stop : (s : Status) → IsInner s → IsOfStop s
@@ -94,6 +98,8 @@ inner_of_stop status.LogFault h = tt
 inner_of_stop (status.TreeDamaged at) h = h
 inner_of_stop (status.LogDamaged at why) h = h
 inner_of_stop status.NotEmpty h = h
+inner_of_stop (status.Disagrees path) h = h
+inner_of_stop (status.NoOffset base end) h = h
 
 of_stop : (s : Stop) → IsOfStop (stop_status s)
 of_stop (stop.Ends e) = inner_of_stop (status_of e) (ending_inner e)
