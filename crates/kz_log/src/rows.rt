@@ -92,6 +92,13 @@ impl LogRows {
         offset_after(self.base, self.count)
     }
 
+    /// The batches after the base, in the order of their offsets.
+    pub fn batches(&self) -> &[BatchRow]
+        ensures { result.now ≡ self.now.batches }
+    {
+        &self.batches
+    }
+
     /// The base and the last offset of each batch, which rise.
     pub fn batch_ends(&self, alloc: Global) -> Result<Vec<i64>, NoMemory>
         ensures { IfOk result (λ ends. ends.items ≡ batch_ends self.now) }

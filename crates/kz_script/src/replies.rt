@@ -25,8 +25,8 @@ fn state_name(state: DriverState) -> &'static str
     }
 }
 
-// A text as a JSON string.
-fn quoted(alloc: Global, text: &str) -> Result<String, NoMemory>
+/// A text as a JSON string.
+pub(crate) fn quoted(alloc: Global, text: &str) -> Result<String, NoMemory>
     ensures { IfOk result (λ made. string_bytes made ≡ quoted text.now) }
 {
     Ok(Value::try_from_str(alloc, text)?.to_string(alloc)?)

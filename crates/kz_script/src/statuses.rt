@@ -2,6 +2,7 @@
 ghost use Rattle.std.specs.Prelude.{◌≡◌, ◌<◌, IfOk};
 ghost use Rattle.kz_spec_lines.specs.Statuses.{hex_digit, hex_sum, log_why_text, status_code, status_text};
 
+use crate::replies::quoted;
 use kz_types::{BatchFault, LogWhy, NoMemory, Status};
 use std::alloc::Global;
 
@@ -96,9 +97,14 @@ pub fn status_text(alloc: Global, status: &Status) -> Result<Vec<u8>, NoMemory>
         Status::LogFault => format!(in alloc; "log fault"),
         Status::TreeDamaged { at } => format!(in alloc; "tree damaged at {at}"),
         Status::LogDamaged { at, why } => return damaged_text(alloc, *at, *why),
+        Status::Disagrees { path } => {
+            let path = quoted(alloc, path.as_str())?;
+            format!(in alloc; "disagrees {path}")
+        }
         Status::NoMemory => format!(in alloc; "no memory"),
         Status::Limit { which, .. } => format!(in alloc; "limit {which}"),
         Status::NotEmpty => format!(in alloc; "not empty"),
+        Status::NoOffset { base, end } => format!(in alloc; "no offset {base} {end}"),
     };
     Ok(text?.into_bytes())
 }
