@@ -1,0 +1,4 @@
+pub mod Dumps
+pub mod LoadLines
+pub mod Loading
+pub mod Generator
