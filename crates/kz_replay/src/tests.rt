@@ -130,7 +130,7 @@ fn replays(
     alloc: Global,
     script: String,
     failures: &Failures,
-    status: Status,
+    status: &Status,
     replies: String,
 ) {
     let (reads, writes, none) = failures;
@@ -141,7 +141,7 @@ fn replays(
     let words = words_of(rt, alloc, &["replay"]);
     let (tree, log) = empty_files(rt, alloc);
     let (ended, tree, log) = run(alloc, &words, &mut input, &mut out, tree, log);
-    assert!(rt; ended == status);
+    assert!(rt; ended == *status);
     assert!(rt; out.taken() == replies.as_bytes());
     drop(words);
     drop(input);
@@ -151,7 +151,7 @@ fn replays(
 }
 
 // Scripts, how their runs end, and the replies.
-static SCRIPTS: [(&[Part], Status, &[Part]); 7] = [
+const SCRIPTS: [(&[Part], Status, &[Part]); 7] = [
     (
         &[(MIGRATION, 1), (CHECK, 1)],
         Status::Done,
@@ -219,10 +219,11 @@ static SCRIPTS: [(&[Part], Status, &[Part]); 7] = [
 #[test]
 fn scripts_have_their_replies(rt: HostRuntime) {
     let alloc = rt.alloc();
-    for (script, status, replies) in &SCRIPTS {
+    let scripts = SCRIPTS;
+    for (script, status, replies) in &scripts {
         let script = joined(&rt, alloc, script);
         let replies = joined(&rt, alloc, replies);
-        replays(&rt, alloc, script, &NONE, *status, replies);
+        replays(&rt, alloc, script, &NONE, status, replies);
     }
 }
 
@@ -266,7 +267,7 @@ fn a_body_has_at_most_1048575_bytes(rt: HostRuntime) {
         ];
         let script = joined(&rt, alloc, &script);
         let replies = joined(&rt, alloc, &[(MIGRATED, 1), (*replies, 1)]);
-        replays(&rt, alloc, script, &NONE, Status::Done, replies);
+        replays(&rt, alloc, script, &NONE, &Status::Done, replies);
     }
 }
 
@@ -286,7 +287,7 @@ const FIRST: &[Part] = &[(MIGRATED, 1), ("5 closed 4\n", 1)];
 
 const SECOND: &[Part] = &[(MIGRATED, 1), ("5 closed 4\n7 closed 4\n", 1)];
 
-static FAILING: [(Failures, Status, &[Part]); 8] = [
+const FAILING: [(Failures, Status, &[Part]); 8] = [
     ((&[0], &[], &[]), Status::ReadFault, &[]),
     ((&[1], &[], &[]), Status::ReadFault, FIRST),
     ((&[2], &[], &[]), Status::ReadFault, SECOND),
@@ -300,10 +301,11 @@ static FAILING: [(Failures, Status, &[Part]); 8] = [
 #[test]
 fn a_side_that_fails_ends_the_run(rt: HostRuntime) {
     let alloc = rt.alloc();
-    for (failures, status, replies) in &FAILING {
+    let failing = FAILING;
+    for (failures, status, replies) in &failing {
         let script = joined(&rt, alloc, &PIECES);
         let replies = joined(&rt, alloc, replies);
-        replays(&rt, alloc, script, failures, *status, replies);
+        replays(&rt, alloc, script, failures, status, replies);
     }
 }
 
@@ -365,7 +367,7 @@ fn at_a_failed_read_whole_lines_have_their_replies(rt: HostRuntime) {
     let failures: Failures = (&[1], &[], &[]);
     let script = joined(&rt, alloc, &SINGLE);
     let replies = joined(&rt, alloc, &WHOLE_REPLIES);
-    replays(&rt, alloc, script, &failures, Status::ReadFault, replies);
+    replays(&rt, alloc, script, &failures, &Status::ReadFault, replies);
 }
 
 #[test]
@@ -373,7 +375,7 @@ fn pieces_of_one_byte_change_nothing(rt: HostRuntime) {
     let alloc = rt.alloc();
     let script = joined(&rt, alloc, &SINGLE);
     let replies = joined(&rt, alloc, &SINGLE_REPLIES);
-    replays(&rt, alloc, script, &NONE, Status::Done, replies);
+    replays(&rt, alloc, script, &NONE, &Status::Done, replies);
     let mut input = SingleBytes {
         bytes: joined(&rt, alloc, &SINGLE).into_bytes(),
         at: 0,
@@ -432,7 +434,7 @@ const LIMIT: Status = Status::Limit {
     number: 2_097_152,
 };
 
-static LONG_LINES: [(usize, &str, Status, &str); 4] = [
+const LONG_LINES: [(usize, &str, Status, &str); 4] = [
     (
         2_097_151,
         "\n{\"event\":\"check\"}\n",
@@ -457,14 +459,15 @@ static LONG_LINES: [(usize, &str, Status, &str); 4] = [
 #[test]
 fn a_line_has_at_most_2097152_bytes(rt: HostRuntime) {
     let alloc = rt.alloc();
-    for (size, rest, status, replies) in &LONG_LINES {
+    let lines = LONG_LINES;
+    for (size, rest, status, replies) in &lines {
         let script = joined(
             &rt,
             alloc,
             &[(CHECK, 1), ("#", 1), ("x", *size), (*rest, 1)],
         );
         let replies = joined(&rt, alloc, &[(*replies, 1)]);
-        replays(&rt, alloc, script, &NONE, *status, replies);
+        replays(&rt, alloc, script, &NONE, status, replies);
     }
 }
 
@@ -507,7 +510,7 @@ fn writes_go_in_chunks_and_reads_in_pages(rt: HostRuntime) {
     let alloc = rt.alloc();
     let script = made(&rt, many_changes(alloc, 300));
     let replies = made(&rt, many_replies(alloc, 300));
-    replays(&rt, alloc, script, &NONE, Status::Done, replies);
+    replays(&rt, alloc, script, &NONE, &Status::Done, replies);
 }
 
 const CHECKED: &str = "1 closed 4\nend events=1 steps=0 zxid=2 offset=4 recorded=4\n";

@@ -1,7 +1,8 @@
 -- What a proof unfolds to compute the definitions of this crate on a literal.
 use Rattle.std.specs.Prelude.{⊤}
+use Rattle.kz_types.proofs.OnLiterals.{values_on_literals}
 use Rattle.kz_spec_files.proofs.FilesOnLiterals.{files_on_literals}
 
 unfoldable pub commands_on_literals : ⊤
-unfolding files_on_literals
+unfolding values_on_literals files_on_literals
 commands_on_literals = tt

@@ -1,4 +1,6 @@
 pub mod Words
 pub mod Files
 pub mod Init
+pub mod Load
 pub mod Upgrade
+pub mod Reports

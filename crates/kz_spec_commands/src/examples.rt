@@ -3,18 +3,40 @@ ghost use Rattle.std.specs.Prelude.{◌≡◌, [], ◌∷◌, ◌++◌, Some, No
 ghost use Rattle.kz_types.specs.declared.outside.Status.TheVariants as status;
 ghost use Rattle.kz_types.specs.declared.fault.LogWhy.TheVariants as why;
 ghost use Rattle.kz_spec_files.specs.Frames.{tree_letter, log_letter, new_file};
-ghost use Rattle.kz_spec_commands.specs.Words.{Init, Replay, Upgrade, command_of_words};
+ghost use Rattle.kz_spec_commands.specs.Words.{Init, Load, Replay, Upgrade, Tell, Generate, DumpTree, DumpLog, Render, RenderAt, Check, Figures, command_of_words};
 ghost use Rattle.kz_spec_commands.specs.Files.{damage};
 ghost use Rattle.kz_spec_commands.specs.Init.{init_refusal};
 
 /// The words of each command, and words that name none.
+#[tactic(auto, unfolding(crate::proofs::OnLiterals::commands_on_literals))]
 pub fn words()
     ensures init { command_of_words (codes "init" ∷ []) ≡ Some Init }
+    ensures load { command_of_words (codes "load" ∷ []) ≡ Some Load }
     ensures replay { command_of_words (codes "replay" ∷ []) ≡ Some Replay }
     ensures upgrade { command_of_words (codes "upgrade" ∷ []) ≡ Some Upgrade }
+    ensures dump_tree { command_of_words (codes "dump-tree" ∷ []) ≡ Some (Tell DumpTree) }
+    ensures dump_log { command_of_words (codes "dump-log" ∷ []) ≡ Some (Tell DumpLog) }
+    ensures render { command_of_words (codes "render" ∷ []) ≡ Some (Tell Render) }
+    ensures check { command_of_words (codes "check" ∷ []) ≡ Some (Tell Check) }
+    ensures figures { command_of_words (codes "status" ∷ []) ≡ Some (Tell Figures) }
     ensures none { command_of_words [] ≡ None }
     ensures two { command_of_words (codes "init" ∷ codes "x" ∷ []) ≡ None }
     ensures other { command_of_words (codes "inits" ∷ []) ≡ None }
+{}
+
+/// A command and a number: an offset is a canonical decimal, and a count has no leading zero.
+#[tactic(auto, unfolding(crate::proofs::OnLiterals::commands_on_literals))]
+pub fn words_with_a_number()
+    ensures offset { command_of_words (codes "render" ∷ codes "0" ∷ []) ≡ Some (Tell (RenderAt 0)) }
+    ensures greatest { command_of_words (codes "render" ∷ codes "2147483647" ∷ []) ≡ Some (Tell (RenderAt 2147483647)) }
+    ensures above { command_of_words (codes "render" ∷ codes "2147483648" ∷ []) ≡ None }
+    ensures negative { command_of_words (codes "render" ∷ codes "-1" ∷ []) ≡ None }
+    ensures count { command_of_words (codes "generate" ∷ codes "100000" ∷ []) ≡ Some (Generate (Some 100000)) }
+    ensures too_many { command_of_words (codes "generate" ∷ codes "100001" ∷ []) ≡ Some (Generate None) }
+    ensures far_too_many { command_of_words (codes "generate" ∷ codes "99999999999999999999999" ∷ []) ≡ Some (Generate None) }
+    ensures zero { command_of_words (codes "generate" ∷ codes "0" ∷ []) ≡ None }
+    ensures leading { command_of_words (codes "generate" ∷ codes "01" ∷ []) ≡ None }
+    ensures three { command_of_words (codes "render" ∷ codes "1" ∷ codes "1" ∷ []) ≡ None }
 {}
 
 /// Files that are empty, or that were being made when the program was stopped, are taken by `init`, and read by no other command.

@@ -114,6 +114,7 @@ fn feed(
 
 // A run of a script: the answers of its machine, the numbers of writes that fail and of those that take nothing, the status with
 // which it ends, what it writes, and how many events its machine was asked.
+#[derive(Drop)]
 struct Run {
     script: &'static str,
     answers: &'static [Said],
@@ -157,7 +158,7 @@ const CHECKS: &str = "{\"event\":\"check\"}\n{\"event\":\"check\"}\n{\"event\":\
 const TURNS: &str =
     "{\"event\":\"check\"}\n{\"event\":\"turn\",\"controller\":1}\n{\"event\":\"check\"}\n";
 
-static RUNS: [Run; 19] = [
+const RUNS: [Run; 19] = [
     Run {
         script: "",
         answers: &[],
@@ -352,7 +353,8 @@ static RUNS: [Run; 19] = [
 #[test]
 fn a_run_ends_with_its_status_and_its_lines(rt: HostRuntime) {
     let alloc = rt.alloc();
-    for run in &RUNS {
+    let all = RUNS;
+    for run in &all {
         runs(&rt, alloc, run.script.as_bytes(), false, run);
         runs(&rt, alloc, run.script.as_bytes(), true, run);
     }
@@ -369,7 +371,7 @@ fn long_script(rt: &impl Abort, alloc: Global, bytes: usize) -> Vec<u8> {
     script
 }
 
-static LONG_LINES: [(usize, Run); 2] = [
+const LONG_LINES: [(usize, Run); 2] = [
     (
         2_097_152,
         Run {
@@ -402,7 +404,8 @@ static LONG_LINES: [(usize, Run); 2] = [
 #[test]
 fn a_line_has_at_most_2097152_bytes(rt: HostRuntime) {
     let alloc = rt.alloc();
-    for (bytes, run) in &LONG_LINES {
+    let all = LONG_LINES;
+    for (bytes, run) in &all {
         let script = long_script(&rt, alloc, *bytes);
         runs(&rt, alloc, &script, false, run);
         drop(script);

@@ -3,7 +3,7 @@ use crate::made::prints;
 use kz_replay::Status;
 
 // Scripts, how their runs end, and what they print.
-static SCRIPTS: [(&str, Status, &str); 2] = [
+const SCRIPTS: [(&str, Status, &str); 2] = [
     // the shipped example: the migration waits until both brokers are registered as ready
     (
         r#"# A cluster of two brokers in ZooKeeper mode: the migration waits until both are registered as ready for it.
@@ -92,7 +92,8 @@ end events=16 steps=21 zxid=6 offset=10 recorded=10
 
 #[test]
 fn brokers_are_registered(rt: HostRuntime) {
-    for (script, status, lines) in &SCRIPTS {
-        assert!(rt; prints(&rt, rt.alloc(), script, *status, lines));
+    let scripts = SCRIPTS;
+    for (script, status, lines) in &scripts {
+        assert!(rt; prints(&rt, rt.alloc(), script, status, lines));
     }
 }

@@ -3,7 +3,7 @@ use crate::made::prints;
 use kz_replay::Status;
 
 // Scripts, how their runs end, and what they print.
-static SCRIPTS: [(&str, Status, &str); 9] = [
+const SCRIPTS: [(&str, Status, &str); 9] = [
     // all operations are made with one transaction, or none of them
     (
         r#"{"event":"zk","ops":[{"op":"create","path":"/a"},{"op":"create","path":"/a/b"},{"op":"set","path":"/a","version":0},{"op":"check","path":"/a","version":1}]}
@@ -219,7 +219,8 @@ end events=15 steps=16 zxid=8 offset=5 recorded=5
 #[test]
 fn clients_have_their_replies(rt: HostRuntime) {
     let alloc = rt.alloc();
-    for (script, status, lines) in &SCRIPTS {
-        assert!(rt; prints(&rt, alloc, script, *status, lines));
+    let scripts = SCRIPTS;
+    for (script, status, lines) in &scripts {
+        assert!(rt; prints(&rt, alloc, script, status, lines));
     }
 }

@@ -3,7 +3,7 @@ use crate::made::prints;
 use kz_replay::Status;
 
 // Scripts, how their runs end, and what they print.
-static SCRIPTS: [(&str, Status, &str); 3] = [
+const SCRIPTS: [(&str, Status, &str); 3] = [
     // the answer of a write is lost; another controller takes over, loses requests itself, and is stopped
     (
         r#"{"event":"quorum","ids":[1,2]}
@@ -163,7 +163,8 @@ end events=15 steps=27 zxid=4 offset=5 recorded=5
 
 #[test]
 fn controllers_take_over_from_each_other(rt: HostRuntime) {
-    for (script, status, lines) in &SCRIPTS {
-        assert!(rt; prints(&rt, rt.alloc(), script, *status, lines));
+    let scripts = SCRIPTS;
+    for (script, status, lines) in &scripts {
+        assert!(rt; prints(&rt, rt.alloc(), script, status, lines));
     }
 }

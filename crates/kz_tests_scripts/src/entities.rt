@@ -3,7 +3,7 @@ use crate::made::prints;
 use kz_replay::Status;
 
 // Scripts, how their runs end, and what they print.
-static SCRIPTS: [(&str, Status, &str); 3] = [
+const SCRIPTS: [(&str, Status, &str); 3] = [
     // the shipped example: a cluster is migrated, and changes are written back
     (
         r#"# A small cluster in ZooKeeper mode: three brokers, a topic of three partitions with a configuration, a user with a quota
@@ -162,7 +162,8 @@ end events=15 steps=19 zxid=4 offset=7 recorded=7
 
 #[test]
 fn entities_are_migrated_and_changed(rt: HostRuntime) {
-    for (script, status, lines) in &SCRIPTS {
-        assert!(rt; prints(&rt, rt.alloc(), script, *status, lines));
+    let scripts = SCRIPTS;
+    for (script, status, lines) in &scripts {
+        assert!(rt; prints(&rt, rt.alloc(), script, status, lines));
     }
 }

@@ -3,7 +3,7 @@ use crate::made::prints;
 use kz_replay::Status;
 
 // Scripts, how their runs end, and what they print.
-static SCRIPTS: [(&str, Status, &str); 5] = [
+const SCRIPTS: [(&str, Status, &str); 5] = [
     // a migration is taken back once no controller runs and ZooKeeper has all of the metadata; a further one begins with what stands there
     (
         r#"{"event":"quorum","ids":[3000]}
@@ -232,7 +232,8 @@ end events=25 steps=21 zxid=3 offset=8 recorded=5
 
 #[test]
 fn a_migration_is_taken_back_or_finalised(rt: HostRuntime) {
-    for (script, status, lines) in &SCRIPTS {
-        assert!(rt; prints(&rt, rt.alloc(), script, *status, lines));
+    let scripts = SCRIPTS;
+    for (script, status, lines) in &scripts {
+        assert!(rt; prints(&rt, rt.alloc(), script, status, lines));
     }
 }

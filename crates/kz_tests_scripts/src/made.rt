@@ -26,7 +26,7 @@ fn disk(rt: &impl Abort, alloc: Global) -> MemoryDisk {
 }
 
 /// Whether a replay of this script on an empty tree and an empty log ends with this status and prints these lines.
-pub fn prints(rt: &impl Abort, alloc: Global, script: &str, status: Status, lines: &str) -> bool {
+pub fn prints(rt: &impl Abort, alloc: Global, script: &str, status: &Status, lines: &str) -> bool {
     let script = made(rt, script.as_bytes().to_vec(alloc));
     let mut input = MemorySource::new(script, Vec::new(alloc));
     let mut out = MemorySink::new(alloc, Vec::new(alloc), Vec::new(alloc));
@@ -41,7 +41,7 @@ pub fn prints(rt: &impl Abort, alloc: Global, script: &str, status: Status, line
     );
     let replay = words(rt, alloc, "replay");
     let (ended, tree, log) = run(alloc, &replay, &mut input, &mut out, tree, log);
-    let same = made == Status::Done && ended == status && out.taken() == lines.as_bytes();
+    let same = made == Status::Done && ended == *status && out.taken() == lines.as_bytes();
     drop(init);
     drop(replay);
     drop(tree);
