@@ -15,7 +15,7 @@ use crate::open::{open_fault, read_frames};
 use crate::payload::{batch_bytes, reset_bytes};
 use kz_disk::Disk;
 use kz_journal::{Journal, JournalFault};
-use kz_log::{Elected, Feed, LogFault, MetaLog};
+use kz_log::{Elected, Feed, LogFault, LogRows, MetaLog};
 use kz_store_file::{ChangeFault, write_frame, write_seal};
 use kz_types::{BatchRow, Limit, MAX_EPOCH, MetaRecord, NoMemory};
 use std::alloc::Global;
@@ -135,6 +135,14 @@ impl<D: Disk> LogStore<D> {
         ensures { result ≡ is_fresh self.now }
     {
         self.fresh
+    }
+
+    /// A copy of all of the log. It makes no call of the disk.
+    pub fn log_rows(&self) -> Result<LogRows, NoMemory>
+        ensures { IfOk result (λ rows. rows ≡ held_log self.now) }
+    {
+        let feed = self.rows.read_from(self.alloc, -2)?;
+        Ok(LogRows::from_feed(self.rows.epoch(), feed))
     }
 
     /// Appends a seal where frames have no sum, and answers true: from it on frames have one. Where they have, it makes no call,
