@@ -45,6 +45,7 @@ data Stood (path : List ℕ) (before : List Row) (r : Row) : Type 0 where
   before_it : is_some (row_at path before) ≡ true → Stood path before r
   itself : r.path ≡ path → Stood path before r
 
+-- what is found where there is one znode is this one
 is_only : (path : List ℕ) (r : Row) (m : Option Row) → row_at path (r ∷ []) ≡ m → is_some m ≡ true → r.path ≡ path
 is_only path r None is there = absurd (cc)
 is_only path r (Some x) is there = by_test (is_eq (bytes_cmp path r.path)) refl
@@ -60,7 +61,7 @@ stood path before r there = by_old (row_at path before) refl
     by_old (Some x) is = before_it (ap is_some is)
     by_old None is = itself (is_only path r (row_at path (r ∷ [])) refl (sym (ap is_some (at_with path before r ∙ ap (λ m. option_or m (row_at path (r ∷ []))) is)) ∙ there))
 
--- what isn't ephemeral, and is the root or there, doesn't become so
+-- a znode isn't found at the root's path
 never_root : (path : List ℕ) (r : Row) → is_root path ≡ true → IsNotRoot r → row_at path (r ∷ []) ≡ None
 never_root path r root named = by_found (row_at path (r ∷ [])) refl
   where
@@ -68,6 +69,7 @@ never_root path r root named = by_found (row_at path (r ∷ [])) refl
     by_found None is = refl
     by_found (Some x) is = absurd (let same = ap is_root (is_only path r (Some x) is refl) in cc)
 
+-- what is the root or there, and ends with no session, still doesn't with one znode more
 stay_with : (path : List ℕ) (before : List Row) (r : Row) → (is_root path || is_some (row_at path before)) ≡ true → IsNotRoot r → is_ephemeral (row_at path before) ≡ false → is_ephemeral (row_at path (with_last before r)) ≡ false
 stay_with path before r there named stays = by_old (row_at path before) refl
   where
@@ -103,6 +105,7 @@ one_more a b is few = omega arith
 no_more : (a b : ℕ) → a ≡ b + 0 → b ≤ MAX_ZNODES → a ≤ MAX_ZNODES
 no_more a b is few = omega arith
 
+-- the znodes on each side of the border stay within the limit
 few_with : (b : Bool) (before : List Row) (r : Row) → count_beside r.path before < MAX_ZNODES → many (side b) before ≤ MAX_ZNODES → many (side b) (with_last before r) ≤ MAX_ZNODES
 few_with b before r room few = by_side (side b r.path) refl
   where
@@ -142,12 +145,14 @@ no_rows zxid sessions = record {
   few = λ b. none_few;
 }
 
+-- each znode's parent is there
 parents_with : (zxid : ℤ) (sessions : List ℤ) (before : List Row) (r : Row) → AreRows zxid sessions before → IsNext zxid sessions before r → HaveParents (with_last before r)
 parents_with zxid sessions before r old n path there = parent_kept path before r (elim (stood path before r there) [
   | before_it was ↦ old.parents path was
   | itself is ↦ subst (λ q. has_parent q before ≡ true) is n.parent
 ])
 
+-- no znode's parent ends with a session
 stays_with : (zxid : ℤ) (sessions : List ℤ) (before : List Row) (r : Row) → AreRows zxid sessions before → IsNext zxid sessions before r → IsNotRoot r → ParentsStay (with_last before r)
 stays_with zxid sessions before r old n named path there = elim (stood path before r there) [
   | before_it was ↦ stay_with (parent_of path) before r (old.parents path was) named (old.stay path was)

@@ -1,6 +1,6 @@
 -- A path below a control znode is reserved.
 use Rattle.std.proofs.Common.{◌≡◌, ℕ, Bool, true, false, ◌||◌, List, [], ◌∷◌, ◌++◌, None, ◌==◌, refl, ap}
-use Rattle.std.specs.Prelude.{codes}
+use Rattle.std.specs.Prelude.{codes, bytes_eq}
 use Rattle.std.specs.List.{list_any, slice_split}
 use Rattle.kz_types.specs.Paths.{kind_of, key_of, key_of_parts, is_scaffold_of_parts, is_migrated, roots, base_paths, control_paths, is_below}
 use Rattle.kz_spec_files.specs.Loads.{is_reserved}
@@ -8,78 +8,59 @@ use Rattle.kz_laws_trees.proofs.Below.{below_is}
 
 -- ---- no entity, nor a parent of one, is there
 
-no_key_controller : (ps : List (List ℕ)) → key_of_parts (codes "controller" ∷ ps) ≡ None
-no_key_controller [] = refl
-no_key_controller (b ∷ []) = refl
-no_key_controller (b ∷ c ∷ []) = refl
-no_key_controller (b ∷ c ∷ d ∷ []) = refl
-no_key_controller (b ∷ c ∷ d ∷ e ∷ []) = refl
-no_key_controller (b ∷ c ∷ d ∷ e ∷ f ∷ []) = refl
-no_key_controller (b ∷ c ∷ d ∷ e ∷ f ∷ g ∷ more) = refl
+-- no path of an entity begins with this part
+record BeginsNoKey (a : List ℕ) : Type 0 where
+  brokers : bytes_eq a (codes "brokers") ≡ false
+  config : bytes_eq a (codes "config") ≡ false
+  acl : bytes_eq a (codes "kafka-acl") ≡ false
+  extended : bytes_eq a (codes "kafka-acl-extended") ≡ false
+  producer : bytes_eq a (codes "latest_producer_id_block") ≡ false
 
-no_scaffold_controller : (ps : List (List ℕ)) → is_scaffold_of_parts (codes "controller" ∷ ps) ≡ false
-no_scaffold_controller [] = refl
-no_scaffold_controller (b ∷ []) = refl
-no_scaffold_controller (b ∷ c ∷ []) = refl
-no_scaffold_controller (b ∷ c ∷ d ∷ []) = refl
-no_scaffold_controller (b ∷ c ∷ d ∷ e ∷ []) = refl
-no_scaffold_controller (b ∷ c ∷ d ∷ e ∷ f ∷ more) = refl
+no_key : (a : List ℕ) (ps : List (List ℕ)) → BeginsNoKey a → key_of_parts (a ∷ ps) ≡ None
+no_key a [] none = rw (none.producer) refl
+no_key a (b ∷ []) none = refl
+no_key a (b ∷ c ∷ []) none = rw (none.brokers, none.config, none.acl) refl
+no_key a (b ∷ c ∷ d ∷ []) none = rw (none.extended) refl
+no_key a (b ∷ c ∷ d ∷ e ∷ []) none = rw (none.config) refl
+no_key a (b ∷ c ∷ d ∷ e ∷ f ∷ []) none = rw (none.brokers) refl
+no_key a (b ∷ c ∷ d ∷ e ∷ f ∷ g ∷ more) none = refl
 
-no_key_epoch : (ps : List (List ℕ)) → key_of_parts (codes "controller_epoch" ∷ ps) ≡ None
-no_key_epoch [] = refl
-no_key_epoch (b ∷ []) = refl
-no_key_epoch (b ∷ c ∷ []) = refl
-no_key_epoch (b ∷ c ∷ d ∷ []) = refl
-no_key_epoch (b ∷ c ∷ d ∷ e ∷ []) = refl
-no_key_epoch (b ∷ c ∷ d ∷ e ∷ f ∷ []) = refl
-no_key_epoch (b ∷ c ∷ d ∷ e ∷ f ∷ g ∷ more) = refl
-
-no_scaffold_epoch : (ps : List (List ℕ)) → is_scaffold_of_parts (codes "controller_epoch" ∷ ps) ≡ false
-no_scaffold_epoch [] = refl
-no_scaffold_epoch (b ∷ []) = refl
-no_scaffold_epoch (b ∷ c ∷ []) = refl
-no_scaffold_epoch (b ∷ c ∷ d ∷ []) = refl
-no_scaffold_epoch (b ∷ c ∷ d ∷ e ∷ []) = refl
-no_scaffold_epoch (b ∷ c ∷ d ∷ e ∷ f ∷ more) = refl
-
-no_key_migration : (ps : List (List ℕ)) → key_of_parts (codes "migration" ∷ ps) ≡ None
-no_key_migration [] = refl
-no_key_migration (b ∷ []) = refl
-no_key_migration (b ∷ c ∷ []) = refl
-no_key_migration (b ∷ c ∷ d ∷ []) = refl
-no_key_migration (b ∷ c ∷ d ∷ e ∷ []) = refl
-no_key_migration (b ∷ c ∷ d ∷ e ∷ f ∷ []) = refl
-no_key_migration (b ∷ c ∷ d ∷ e ∷ f ∷ g ∷ more) = refl
-
-no_scaffold_migration : (ps : List (List ℕ)) → is_scaffold_of_parts (codes "migration" ∷ ps) ≡ false
-no_scaffold_migration [] = refl
-no_scaffold_migration (b ∷ []) = refl
-no_scaffold_migration (b ∷ c ∷ []) = refl
-no_scaffold_migration (b ∷ c ∷ d ∷ []) = refl
-no_scaffold_migration (b ∷ c ∷ d ∷ e ∷ []) = refl
-no_scaffold_migration (b ∷ c ∷ d ∷ e ∷ f ∷ more) = refl
+no_scaffold : (a : List ℕ) (ps : List (List ℕ)) → BeginsNoKey a → is_scaffold_of_parts (a ∷ ps) ≡ false
+no_scaffold a [] none = refl
+no_scaffold a (b ∷ []) none = refl
+no_scaffold a (b ∷ c ∷ []) none = refl
+no_scaffold a (b ∷ c ∷ d ∷ []) none = rw (none.brokers, none.config) refl
+no_scaffold a (b ∷ c ∷ d ∷ e ∷ []) none = rw (none.brokers) refl
+no_scaffold a (b ∷ c ∷ d ∷ e ∷ f ∷ more) none = refl
 
 -- ---- the kinds
+
+begins_none : BeginsNoKey (codes "controller") × BeginsNoKey (codes "controller_epoch") × BeginsNoKey (codes "migration")
+begins_none = (
+  record { brokers = refl; config = refl; acl = refl; extended = refl; producer = refl },
+  record { brokers = refl; config = refl; acl = refl; extended = refl; producer = refl },
+  record { brokers = refl; config = refl; acl = refl; extended = refl; producer = refl },
+)
 
 below_controller : (x : List ℕ) → is_reserved (kind_of (codes "/controller" ++ 47 ∷ x)) ≡ true
 unfolding kind_of key_of roots base_paths control_paths is_migrated
 below_controller x =
-    let key = no_key_controller (slice_split (λ b. b == 47) x) in
-    let scaffold = no_scaffold_controller (slice_split (λ b. b == 47) x) in
+    let key = no_key (codes "controller") (slice_split (λ b. b == 47) x) begins_none.0 in
+    let scaffold = no_scaffold (codes "controller") (slice_split (λ b. b == 47) x) begins_none.0 in
     rw (key, scaffold) refl
 
 below_epoch : (x : List ℕ) → is_reserved (kind_of (codes "/controller_epoch" ++ 47 ∷ x)) ≡ true
 unfolding kind_of key_of roots base_paths control_paths is_migrated
 below_epoch x =
-    let key = no_key_epoch (slice_split (λ b. b == 47) x) in
-    let scaffold = no_scaffold_epoch (slice_split (λ b. b == 47) x) in
+    let key = no_key (codes "controller_epoch") (slice_split (λ b. b == 47) x) begins_none.1 in
+    let scaffold = no_scaffold (codes "controller_epoch") (slice_split (λ b. b == 47) x) begins_none.1 in
     rw (key, scaffold) refl
 
 below_migration : (x : List ℕ) → is_reserved (kind_of (codes "/migration" ++ 47 ∷ x)) ≡ true
 unfolding kind_of key_of roots base_paths control_paths is_migrated
 below_migration x =
-    let key = no_key_migration (slice_split (λ b. b == 47) x) in
-    let scaffold = no_scaffold_migration (slice_split (λ b. b == 47) x) in
+    let key = no_key (codes "migration") (slice_split (λ b. b == 47) x) begins_none.2 in
+    let scaffold = no_scaffold (codes "migration") (slice_split (λ b. b == 47) x) begins_none.2 in
     rw (key, scaffold) refl
 
 -- ---- a path that isn't reserved
