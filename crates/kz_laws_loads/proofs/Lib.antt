@@ -1,0 +1,7 @@
+pub mod Sessions
+pub mod Reserved
+pub mod Rules
+pub mod Further
+pub mod Pairs
+pub mod Lines
+pub mod Inputs
