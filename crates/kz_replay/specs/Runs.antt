@@ -3,13 +3,16 @@ use Rattle.std.specs.Prelude.{◌≡◌, ◌↔◌, ℕ, List, Option, Some, Non
 use Rattle.std.specs.declared.alloc.Global.{Global}
 use Rattle.kz_types.specs.declared.outside.Status.{Status}
 use Rattle.kz_types.specs.declared.outside.Status.TheVariants as status
-use Rattle.kz_spec_commands.specs.Words.{Init, Replay, Upgrade, command_of}
+use Rattle.kz_spec_commands.specs.Words.{Report, Init, Load, Replay, Upgrade, Tell, Generate, command_of}
 use Rattle.kz_spec_commands.specs.Init.{Inits}
 use Rattle.kz_spec_commands.specs.Upgrade.{Upgrades}
 use Rattle.kz_commands.specs.Outside.{Outside}
 use Rattle.kz_commands.specs.Makes.{MakesFiles}
+use Rattle.kz_load.specs.LoadsFiles.{LoadsFiles}
+use Rattle.kz_reports.specs.Tells.{Tells}
+use Rattle.kz_replay.specs.Generates.{Generates}
 use Rattle.kz_replay.specs.Replays.{Replays}
-use Rattle.kz_replay.specs.Stops.{Contents, ReplayStops, UpgradeStops}
+use Rattle.kz_replay.specs.Stops.{Contents, ReplayStops, StandAsBefore}
 
 -- A command that reads and writes nothing makes this of the files.
 pub record MakesFilesAlone (holds : List ℕ → List ℕ → List ℕ → List ℕ → Status → Type 0) (input input_now out out_now tree tree_now log log_now : Outside) (result : Status) : Type 0 where
@@ -26,9 +29,14 @@ pub record Runs (words : List (String Global)) (input input_now out out_now tree
   pub untouched : result ≡ status.Usage → (input_now ≡ input) × (out_now ≡ out) × (tree_now ≡ tree) × (log_now ≡ log)
   pub init : command_of words ≡ Some Init → MakesFilesAlone Inits input input_now out out_now tree tree_now log log_now result
   pub upgrade : command_of words ≡ Some Upgrade → MakesFilesAlone Upgrades input input_now out out_now tree tree_now log log_now result
+  pub load : command_of words ≡ Some Load → LoadsFiles input input_now tree tree_now log log_now result × (out_now ≡ out)
   pub replay : command_of words ≡ Some Replay → Replays input input_now out out_now tree tree_now log log_now result
+  pub tell : (r : Report) → command_of words ≡ Some (Tell r) → Tells r out out_now tree tree_now log log_now result × (input_now ≡ input)
+  pub generate : (changes : Option ℕ) → command_of words ≡ Some (Generate changes) → Generates changes out out_now result × (input_now ≡ input) × (tree_now ≡ tree) × (log_now ≡ log)
 
 -- What a stop leaves of both files after a run with these words.
 pub record RunStops (words : List (String Global)) (input out out_now : Option (List ℕ)) (tree tree_now log log_now : Contents) : Type 0 where
   pub replay : command_of words ≡ Some Replay → ReplayStops input out out_now tree tree_now log log_now
-  pub upgrade : command_of words ≡ Some Upgrade → UpgradeStops tree tree_now log log_now
+  pub upgrade : command_of words ≡ Some Upgrade → StandAsBefore tree tree_now log log_now
+  pub tell : (r : Report) → command_of words ≡ Some (Tell r) → StandAsBefore tree tree_now log log_now
+  pub generate : (changes : Option ℕ) → command_of words ≡ Some (Generate changes) → (tree_now ≡ tree) × (log_now ≡ log)

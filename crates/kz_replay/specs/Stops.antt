@@ -41,6 +41,6 @@ ReplayStops input out out_now tree tree_now log log_now = (t l : List ℕ) (open
     → IsStable t tree tree_now → IsStable l log log_now
     → IfSome input (λ script. (sent : List ℕ) × Appends out out_now sent × FilesKeepUp (replayed_moments (opened_world opened_tree opened_log) script) sent tree_now log_now)
 
--- After an upgrade, each stands for what it stood for.
-abbrev pub UpgradeStops : Contents → Contents → Contents → Contents → Type 0
-UpgradeStops tree tree_now log log_now = StandsAtStop tree_of tree.told tree.leaves tree.syncs tree_now.syncs tree_now.leaves × StandsAtStop log_of log.told log.leaves log.syncs log_now.syncs log_now.leaves
+-- Whatever a stop leaves of both files, each stands for what it stood for.
+abbrev pub StandAsBefore : Contents → Contents → Contents → Contents → Type 0
+StandAsBefore tree tree_now log log_now = StandsAtStop tree_of tree.told tree.leaves tree.syncs tree_now.syncs tree_now.leaves × StandsAtStop log_of log.told log.leaves log.syncs log_now.syncs log_now.leaves

@@ -1,26 +1,32 @@
 //! The top call: the commands that the program has.
-ghost use Rattle.std.specs.Prelude.{◌≡◌, option_map};
-ghost use Rattle.kz_spec_commands.specs.Words.{command_of};
 ghost use Rattle.kz_commands.specs.Outside.{outside};
-ghost use Rattle.kz_replay.specs.Commands.{defined_command};
 ghost use Rattle.kz_replay.specs.Runs.{Runs, RunStops};
 ghost use Rattle.kz_replay.specs.Stops.{contents};
 
 use crate::program::replay;
+use crate::script::write_script;
+use crate::words::{Command, command_of};
 use kz_commands::{init, upgrade};
 use kz_disk::Disk;
 use kz_io::{Sink, Source};
+use kz_load::load;
+use kz_reports::tell;
 use kz_types::Status;
 use std::alloc::Global;
 
-/// Runs the command that the words name, over the file of a tree and that of a log. Each command is one word:
+/// Runs the command that the words name, over the file of a tree and that of a log:
 ///
 /// - `init` makes both files journals that stand for an empty tree and an empty log. A file of at most 17 bytes is made, unless it is
 ///   such a journal already; a longer one is left as it is.
+/// - `load` makes both files, and loads the tree whose lines it reads from `input`.
 /// - `replay` reads a script from `input`, lets each of its events happen on the tree and the log of the files, and writes the
 ///   replies to `out` in the order of the events. After the last line it writes one with the numbers of the run. Empty lines and
 ///   those that begin with `#` are passed over, and count as lines.
 /// - `upgrade` seals both files, so that each further frame has a sum.
+/// - `dump-tree` and `dump-log` print what stands in the files. `render` prints the znodes that the metadata at the log's end is rendered
+///   as, and `render OFFSET` those at an offset, which is a canonical decimal. `check` prints how the tree and the log agree, and
+///   `status` their figures. They change nothing in the files but the bytes after the last frame.
+/// - `generate N` prints a script with N changes, a decimal from 1 without leading zeros. It touches neither file.
 ///
 /// The status says what ended the run, which is the first of these that was met:
 ///
@@ -29,12 +35,15 @@ use std::alloc::Global;
 /// - `TreeFault`, `LogFault`: the last call of that disk failed.
 /// - `TreeDamaged`, `LogDamaged`: the file is damaged at this place. No file is made, and no frame changed. The tree's file is tested
 ///   first.
-/// - `NotEmpty`: for `init`, a file holds a tree or a log. No file is made.
-/// - `Script`: this line is no event. The lines before it have their replies.
+/// - `NotEmpty`: for `init` and `load`, a file holds a tree or a log. No file is made.
+/// - `Disagrees`: for `check`, this is the first path that disagrees with the log.
+/// - `NoOffset`: for `render OFFSET`, the offset isn't one from the log's base to its end.
+/// - `Script`: this line is no event, and the lines before it have their replies; for `load`, it is no line of a tree, or breaks a rule
+///   of a load, and no znode stands.
 /// - `Limit`: number 10, a line has more than 2,097,152 bytes without its end; 11, the input has more than
 ///   4,294,967,296 bytes; 7 and 17, a step of a driver would bring the log past its most records, or its last offset; 17, also, a
 ///   rollback's multi would be past the last transaction; 12 and 13, the tree's file or the log's would have more than
-///   2,147,483,647 bytes.
+///   2,147,483,647 bytes; 2, 3 and 4, for `load`, a body or the znodes would be too many; 14, more than 100,000 changes are asked for.
 /// - `ReadFault`: the last read failed. The lines that were read whole have their replies.
 /// - `WriteFault`: the last write failed, or took nothing of a text.
 /// - `NoMemory`: memory ran out.
@@ -61,30 +70,10 @@ pub fn run<S: Source, K: Sink, D: Disk, E: Disk>(
     match command_of(words) {
         None => (Status::Usage, tree, log),
         Some(Command::Init) => init(alloc, tree, log),
+        Some(Command::Load) => load(alloc, input, tree, log),
         Some(Command::Replay) => replay(alloc, input, out, tree, log),
         Some(Command::Upgrade) => upgrade(alloc, tree, log),
-    }
-}
-
-/// A command of the program.
-#[derive(Clone, Copy, Debug, PartialEq, Eq)]
-enum Command {
-    Init,
-    Replay,
-    Upgrade,
-}
-
-// The command that these words name.
-fn command_of(words: &[String]) -> Option<Command>
-    ensures { option_map defined_command result ≡ command_of words.now }
-{
-    match words {
-        [word] => match word.as_str() {
-            "init" => Some(Command::Init),
-            "replay" => Some(Command::Replay),
-            "upgrade" => Some(Command::Upgrade),
-            _ => None,
-        },
-        _ => None,
+        Some(Command::Tell(report)) => tell(alloc, report, out, tree, log),
+        Some(Command::Generate(changes)) => (write_script(alloc, changes, out), tree, log),
     }
 }

@@ -7,7 +7,8 @@ use kz_types::{NoMemory, Status};
 use std::alloc::Global;
 
 /// The exit code of the process: 0 where the run is done, 1 `Usage`, 2 `Script`, 3 `ReadFault`, 4 `WriteFault`, 5
-/// `TreeFault`, 6 `LogFault`, 7 `TreeDamaged`, 8 `LogDamaged`, 10 `NoMemory`, 11 `Limit`, 12 `NotEmpty`.
+/// `TreeFault`, 6 `LogFault`, 7 `TreeDamaged`, 8 `LogDamaged`, 9 `Disagrees`, 10 `NoMemory`, 11 `Limit`, 12 `NotEmpty`, 13
+/// `NoOffset`.
 pub fn code(status: &Status) -> u8
     ensures { result ≡ status_code status.now }
 {

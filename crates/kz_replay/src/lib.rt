@@ -6,6 +6,8 @@ mod exit;
 mod machine;
 mod program;
 mod pump;
+mod script;
+mod words;
 
 pub use command::run;
 pub use exit::{code, text};
