@@ -7,6 +7,7 @@ use Rattle.kz_output.specs.declared.output.OutputFault.{OutputFault}
 use Rattle.kz_output.specs.declared.output.OutputFault.TheVariants as fault
 use Rattle.kz_spec_commands.specs.Words as words
 use Rattle.kz_spec_commands.specs.Reports.{Printed}
+use Rattle.kz_output.specs.Outputs.{WritesFront}
 use Rattle.kz_reports.specs.declared.report.Report.{Report}
 use Rattle.kz_reports.specs.declared.report.Report.TheVariants as report
 
@@ -21,6 +22,11 @@ defined_report report.Figures = words.Figures
 -- All of what is to be printed was written, and this is its status.
 abbrev pub IsPrinted : Printed → Option (List ℕ) → Option (List ℕ) → Status → Type 0
 IsPrinted p taken taken_now status = Appends taken taken_now p.text × (p.status ≡ status)
+
+-- How printing ends: all was written, or, where the sink failed or memory ran out, a front.
+abbrev pub PrintEnds : Printed → Result Status OutputFault → Option (List ℕ) → Option (List ℕ) → Type 0
+PrintEnds p (Ok s) taken taken_now = IsPrinted p taken taken_now s
+PrintEnds p (Err e) taken taken_now = WritesFront taken taken_now p.text
 
 -- the status of a command that printed, or why it stopped
 abbrev pub status_of : Result Status OutputFault → Status

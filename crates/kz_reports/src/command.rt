@@ -8,7 +8,7 @@ ghost use Rattle.kz_tree_store.specs.Stores as trees;
 ghost use Rattle.kz_log_store.specs.Stores as logs;
 ghost use Rattle.kz_commands.specs.Outside.{outside};
 ghost use Rattle.kz_commands.specs.Stops.{StandsAtStop};
-ghost use Rattle.kz_reports.specs.Reports.{defined_report, IsPrinted, status_of};
+ghost use Rattle.kz_reports.specs.Reports.{defined_report, PrintEnds, status_of};
 ghost use Rattle.kz_reports.specs.Tells.{Tells};
 
 use crate::report::{Report, print};
@@ -41,8 +41,7 @@ fn told<K: Sink, D: Disk, E: Disk>(
     log: &LogStore<E>,
     out: &mut K,
 ) -> Result<Status, OutputFault>
-    ensures ok { IfOk result (IsPrinted (report_of (defined_report report) (trees.held_tree tree.now) (logs.held_log log.now)) (K.taken out.old) (K.taken out.new)) }
-    ensures err { OnErr result (WritesFront (K.taken out.old) (K.taken out.new) (report_of (defined_report report) (trees.held_tree tree.now) (logs.held_log log.now)).text) }
+    ensures printed { PrintEnds (report_of (defined_report report) (trees.held_tree tree.now) (logs.held_log log.now)) result (K.taken out.old) (K.taken out.new) }
     ensures sink { EndsAtSink result (K.faults out.old) (K.faults out.new) (K.last_failed out.old) (K.last_failed out.new) }
 {
     let Ok(rows) = log.log_rows() else {

@@ -13,5 +13,3 @@ mod texts;
 pub use command::tell;
 pub use report::Report;
 
-#[cfg(test)]
-mod tests;

@@ -4,7 +4,7 @@ ghost use Rattle.std.specs.Io.KnownBytes.{Appends};
 ghost use Rattle.kz_output.specs.Outputs.{WritesFront, EndsAtSink};
 ghost use Rattle.kz_spec_dumps.specs.Dumps.{figures_of, figure_lines};
 ghost use Rattle.kz_spec_commands.specs.Reports.{check_printed, rendering_printed, report_of};
-ghost use Rattle.kz_reports.specs.Reports.{defined_report, IsPrinted};
+ghost use Rattle.kz_reports.specs.Reports.{defined_report, PrintEnds};
 
 use crate::figures::figures;
 use crate::texts::{print_log, print_rendering, print_text, print_tree};
@@ -40,8 +40,7 @@ fn print_rendering_at<K: Sink>(
     offset: i64,
     out: &mut K,
 ) -> Result<Status, OutputFault>
-    ensures ok { IfOk result (IsPrinted (rendering_printed log.now offset) (K.taken out.old) (K.taken out.new)) }
-    ensures err { OnErr result (WritesFront (K.taken out.old) (K.taken out.new) (rendering_printed log.now offset).text) }
+    ensures printed { PrintEnds (rendering_printed log.now offset) result (K.taken out.old) (K.taken out.new) }
     ensures sink { EndsAtSink result (K.faults out.old) (K.faults out.new) (K.last_failed out.old) (K.last_failed out.new) }
 {
     let (base, end) = (log.base(), log.end());
@@ -60,8 +59,7 @@ fn print_verdict<K: Sink>(
     verdict: Verdict,
     out: &mut K,
 ) -> Result<Status, OutputFault>
-    ensures ok { IfOk result (IsPrinted (check_printed verdict) (K.taken out.old) (K.taken out.new)) }
-    ensures err { OnErr result (WritesFront (K.taken out.old) (K.taken out.new) (check_printed verdict).text) }
+    ensures printed { PrintEnds (check_printed verdict) result (K.taken out.old) (K.taken out.new) }
     ensures sink { EndsAtSink result (K.faults out.old) (K.faults out.new) (K.last_failed out.old) (K.last_failed out.new) }
 {
     let Ok(lines) = check_lines(alloc, &verdict) else {
@@ -104,8 +102,7 @@ pub(crate) fn print<K: Sink>(
     log: &LogRows,
     out: &mut K,
 ) -> Result<Status, OutputFault>
-    ensures ok { IfOk result (IsPrinted (report_of (defined_report report) tree.now log.now) (K.taken out.old) (K.taken out.new)) }
-    ensures err { OnErr result (WritesFront (K.taken out.old) (K.taken out.new) (report_of (defined_report report) tree.now log.now).text) }
+    ensures printed { PrintEnds (report_of (defined_report report) tree.now log.now) result (K.taken out.old) (K.taken out.new) }
     ensures sink { EndsAtSink result (K.faults out.old) (K.faults out.new) (K.last_failed out.old) (K.last_failed out.new) }
 {
     let told = match report {
