@@ -1,0 +1,40 @@
+//! A tree and a log of different clusters.
+use crate::made::{Ended, disk, ended};
+
+static MIGRATION: &str = r#"{"event":"quorum","ids":[3000]}
+{"event":"start","controller":3000}
+{"event":"elect","controller":3000}
+{"event":"turn","controller":3000}
+"#;
+
+static BROKER: &str = r#"{"zxid":9}
+{"path":"/config"}
+{"path":"/config/brokers"}
+{"path":"/config/brokers/1","text":"{\"version\":1,\"config\":{\"a\":\"1\"}}"}
+"#;
+
+// The tree of a cluster with a broker's configuration disagrees with the log of an empty one at that broker.
+#[test]
+fn a_path_that_disagrees_ends_a_check(rt: HostRuntime) {
+    let alloc = rt.alloc();
+    let script = MIGRATION.as_bytes();
+    let empty = ended(&rt, alloc, &["init"], b"", disk(&rt, alloc), disk(&rt, alloc));
+    let Ended { tree, log, .. } = empty;
+    let migrated = ended(&rt, alloc, &["replay"], script, tree, log);
+    let Ended { tree: _, log: other, .. } = migrated;
+    let loaded = ended(
+        &rt,
+        alloc,
+        &["load"],
+        BROKER.as_bytes(),
+        disk(&rt, alloc),
+        disk(&rt, alloc),
+    );
+    let Ended { tree, log, .. } = loaded;
+    let migrated = ended(&rt, alloc, &["replay"], script, tree, log);
+    let Ended { tree, log: _, .. } = migrated;
+    let checked = ended(&rt, alloc, &["check"], b"", tree, other);
+    assert!(rt; checked.code == 9);
+    assert!(rt; checked.told.as_slice() == b"disagrees \"/config/brokers/1\"".as_slice());
+    assert!(rt; checked.out.is_empty());
+}
