@@ -19,9 +19,13 @@ joined h i j a b s r first next = sym (append_assoc h a b) ∙ ap (λ x. x ++ b)
 pub one_more : (t u v : Option (List ℕ)) (h i j a b : List ℕ) → Puts t h u i a → Puts u i v j b → Puts t h v j (a ++ b)
 one_more t u v h i j a b first next = (first.0 ++ next.0, Appends-trans t u v first.0 next.0 first.1 next.1, joined h i j a b first.0 next.0 first.2 next.2)
 
--- a flush at the end
-pub flushed : (t u v : Option (List ℕ)) (i a : List ℕ) → Puts t [] u i a → Appends u v i → Appends t v a
-flushed t u v i a first last = subst (λ x. Appends t v x) (sym first.2) (Appends-trans t u v first.0 i first.1 last)
+-- a flush at the end, of an output that was new
+pub flushed : (t u v : Option (List ℕ)) (h i a : List ℕ) → h ≡ [] → Puts t h u i a → Appends u v i → Appends t v a
+flushed t u v h i a none first last = subst (λ x. Appends t v x) (sym (ap (λ x. x ++ a) (sym none) ∙ first.2)) (Appends-trans t u v first.0 i first.1 last)
+
+-- a front of what is put to a new output
+pub from_nothing : (t u : Option (List ℕ)) (h a : List ℕ) → h ≡ [] → WritesFront t u (h ++ a) → WritesFront t u a
+from_nothing t u h a none w = subst (λ x. WritesFront t u x) (ap (λ x. x ++ a) none) w
 
 -- a front of a text is a front of each that goes on from there
 pub front_of_more : (t u : Option (List ℕ)) (a b : List ℕ) → WritesFront t u a → WritesFront t u (a ++ b)
@@ -47,10 +51,6 @@ front_then t u v h i a b first w = (
 pub front_of_flush : (t u v : Option (List ℕ)) (h i a : List ℕ) → Puts t h u i a → WritesFront u v i → WritesFront t v (h ++ a)
 front_of_flush t u v h i a first w = subst (λ x. WritesFront t v (h ++ x)) (append-nil a)
     (front_then t u v h i a [] first (subst (λ x. WritesFront u v x) (sym (append-nil i)) w))
-
--- The same, of a whole text that goes on.
-pub front_of_whole : (t u v : Option (List ℕ)) (i a b rest whole : List ℕ) → Puts t [] u i a → WritesFront u v (i ++ b) → whole ≡ (a ++ b) ++ rest → WritesFront t v whole
-front_of_whole t u v i a b rest whole first w is = subst (λ x. WritesFront t v x) (sym is) (front_of_more t v (a ++ b) rest (front_then t u v [] i a b first w))
 
 -- no call yet
 pub no_call : (f : ℕ) (b : Bool) → HasNotFailed f f b b
