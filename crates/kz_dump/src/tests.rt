@@ -54,7 +54,14 @@ fn a_tree_begins_with_its_sessions(rt: HostRuntime) {
 }
 
 // A znode of a table: its path and body, its version, its owner or 0 for none, its czxid, mzxid and pzxid, and its line.
-type Znode = (&'static str, &'static [u8], i32, i64, [i64; 3], &'static str);
+type Znode = (
+    &'static str,
+    &'static [u8],
+    i32,
+    i64,
+    [i64; 3],
+    &'static str,
+);
 
 static ZNODES: [Znode; 4] = [
     (
@@ -122,7 +129,12 @@ fn znodes_have_their_lines(rt: HostRuntime) {
 static LOGS: [(i64, i64, i32, &str); 3] = [
     (-1, -1, 0, "{\"base\":-1,\"end\":-1,\"epoch\":0}\n"),
     (-1, 4, 1, "{\"base\":-1,\"end\":4,\"epoch\":1}\n"),
-    (3, 70, 2147483647, "{\"base\":3,\"end\":70,\"epoch\":2147483647}\n"),
+    (
+        3,
+        70,
+        2147483647,
+        "{\"base\":3,\"end\":70,\"epoch\":2147483647}\n",
+    ),
 ];
 
 #[test]
@@ -148,7 +160,8 @@ fn a_batch_has_its_records(rt: HostRuntime) {
         items,
     };
     let line = made(&rt, batch_line(alloc, &batch));
-    let wanted = "{\"epoch\":2,\"first\":5,\"records\":[{\"kind\":\"NoOp\"},{\"kind\":\"ZkMigrationState\",\"state\":1}],\"time\":8}\n";
+    let wanted =
+        "{\"epoch\":2,\"first\":5,\"records\":[{\"kind\":\"NoOp\"},{\"kind\":\"ZkMigrationState\",\"state\":1}],\"time\":8}\n";
     assert!(rt; line.as_slice() == wanted.as_bytes());
     drop(line);
     drop(batch);
@@ -225,12 +238,14 @@ fn verdicts_have_their_lines(rt: HostRuntime) {
         offset: 4,
         paths: paths_ahead(&rt, alloc),
     };
-    assert!(rt; is_printed(
-        &rt,
-        alloc,
-        two,
-        "ahead 4 2\n\"/config/brokers/1\" 69\n\"/config/\\\"\" 5\n",
-    ));
+    assert!(rt;
+        is_printed(
+            &rt,
+            alloc,
+            two,
+            "ahead 4 2\n\"/config/brokers/1\" 69\n\"/config/\\\"\" 5\n",
+        )
+    );
     let path = path_of(&rt, alloc, "/config/brokers/1");
     assert!(rt; is_printed(&rt, alloc, Verdict::Disagrees { path }, ""));
 }
@@ -291,10 +306,7 @@ static LINES: [(&[u8], &str); 19] = [
         b"{\"zxid\":9,\"sessions\":[1,5]}",
         "{\"sessions\":[1,5],\"zxid\":9}\n",
     ),
-    (
-        b" { \"sessions\" : [] } ",
-        "{\"sessions\":[],\"zxid\":1}\n",
-    ),
+    (b" { \"sessions\" : [] } ", "{\"sessions\":[],\"zxid\":1}\n"),
     (
         b"{\"path\":\"/a\"}",
         "{\"bytes\":\"\",\"czxid\":1,\"mzxid\":1,\"path\":\"/a\",\"pzxid\":1,\"version\":0}\n",
