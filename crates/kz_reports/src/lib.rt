@@ -13,3 +13,6 @@ mod texts;
 pub use command::tell;
 pub use report::Report;
 
+
+#[cfg(test)]
+mod tests;
