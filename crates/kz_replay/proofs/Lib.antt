@@ -1,2 +1,3 @@
 pub mod Ends
 pub mod Replaying
+pub mod Running
