@@ -69,7 +69,7 @@ fn head_of(alloc: Global, value: &Value) -> Result<Option<LoadLine>, NoMemory>
     ensures { IfOk result (λ said. said ≡ head_of (view value.now)) }
 {
     let others = tagged_count(value, "sessions", 0);
-    if member_count(value) != tagged_count(value, "zxid", others) {
+    if !value.is_object() || member_count(value) != tagged_count(value, "zxid", others) {
         return Ok(None);
     }
     let Some(zxid) = tagged_int64(value, "zxid", 1) else {

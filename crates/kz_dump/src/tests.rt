@@ -300,7 +300,7 @@ fn said(rt: &impl Abort, alloc: Global, line: &[u8]) -> Vec<u8> {
     }
 }
 
-static LINES: [(&[u8], &str); 19] = [
+static LINES: [(&[u8], &str); 20] = [
     (b"{}", "{\"sessions\":[],\"zxid\":1}\n"),
     (
         b"{\"zxid\":9,\"sessions\":[1,5]}",
@@ -325,6 +325,7 @@ static LINES: [(&[u8], &str); 19] = [
     ),
     (b"", "bad"),
     (b"# a comment", "bad"),
+    (b"[]", "bad"),
     (b"{\"path\":\"/a\"", "bad"),
     (b"{\"zxid\":1.0}", "bad"),
     (b"{\"zxid\":1,\"version\":1}", "bad"),

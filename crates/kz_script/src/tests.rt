@@ -661,7 +661,7 @@ fn a_run_ends_with_its_numbers(rt: HostRuntime) {
     assert!(rt; some.as_slice() == SOME.as_bytes());
 }
 
-static STATUSES: [(Status, u8, &str); 7] = [
+const STATUSES: [(Status, u8, &str); 8] = [
     (Status::Done, 0, ""),
     (Status::Usage, 1, "usage"),
     (Status::Script { line: 5 }, 2, "script line 5"),
@@ -676,11 +676,26 @@ static STATUSES: [(Status, u8, &str); 7] = [
         11,
         "limit 10",
     ),
+    (
+        Status::NoOffset { base: -1, end: 4 },
+        13,
+        "no offset -1 4",
+    ),
 ];
 
 #[test]
+fn a_path_that_disagrees_is_told(rt: HostRuntime) {
+    let path = made(&rt, ZPath::new(rt.alloc(), b"/a\"b"));
+    let status = Status::Disagrees { path };
+    assert!(rt; status_code(&status) == 9);
+    let printed = made(&rt, status_text(rt.alloc(), &status));
+    assert!(rt; printed.as_slice() == b"disagrees \"/a\\\"b\"".as_slice());
+}
+
+#[test]
 fn a_status_has_a_code_and_a_text(rt: HostRuntime) {
-    for (status, code, text) in &STATUSES {
+    let statuses = STATUSES;
+    for (status, code, text) in &statuses {
         assert!(rt; status_code(status) == *code);
         let printed = made(&rt, status_text(rt.alloc(), status));
         assert!(rt; printed.as_slice() == text.as_bytes());

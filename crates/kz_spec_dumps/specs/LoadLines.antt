@@ -1,7 +1,7 @@
 -- What a line of a tree that is loaded says: a JSON object with exactly these members, of which some may be absent.
-use Rattle.std.specs.Prelude.{ℕ, ◌==◌, ℤ, pos, List, [], ◌∷◌, Option, Some, None, option_map, option_and_then, if◌then◌else◌, codes}
+use Rattle.std.specs.Prelude.{ℕ, ◌==◌, ◌&&◌, ℤ, pos, List, [], ◌∷◌, Option, Some, None, is_some, option_map, option_and_then, if◌then◌else◌, codes}
 use Rattle.serde_json.specs.Data.{Data}
-use Rattle.serde_json.specs.Find.{get}
+use Rattle.serde_json.specs.Find.{get, as_object}
 use Rattle.kz_types.specs.declared.tree.Row.{Row}
 use Rattle.kz_spec_lines.specs.Json.{json_of, member_count, count_with}
 use Rattle.kz_spec_lines.specs.Fields.{◌>>=◌, int32, int64, list_of, value_or, tagged_member, tagged_count}
@@ -16,7 +16,7 @@ abbrev pub head_fields : Data → Option LoadLine
 head_fields d = tagged_member (codes "zxid") (pos 1) int64 d >>= λ zxid. option_map (λ sessions. Head zxid sessions) (tagged_member (codes "sessions") [] (list_of int64) d)
 
 abbrev pub head_of : Data → Option LoadLine
-head_of d = if member_count d == tagged_count (codes "zxid") d (tagged_count (codes "sessions") d 0) then head_fields d else None
+head_of d = if is_some (as_object d) && member_count d == tagged_count (codes "zxid") d (tagged_count (codes "sessions") d 0) then head_fields d else None
 
 -- ---- a znode
 

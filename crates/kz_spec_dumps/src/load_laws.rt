@@ -19,6 +19,7 @@ pub fn lines()
     ensures both { load_line (codes "{\"path\":\"/a\",\"text\":\"\",\"bytes\":\"\"}") ≡ None }
     ensures no_path { load_line (codes "{\"path\":\"a\"}") ≡ None }
     ensures version_only { load_line (codes "{\"version\":1}") ≡ None }
+    ensures no_object { load_line (codes "[]") ≡ None }
     ensures empty { load_line [] ≡ None }
     ensures comment { load_line (codes "# a") ≡ None }
 {}
