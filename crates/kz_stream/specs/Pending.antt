@@ -1,7 +1,7 @@
 -- What a run that stands in the middle of its input is still to write.
-use Rattle.std.specs.Prelude.{◌≡◌, ℕ, ◌+◌, ◌-◌, List, [], ◌++◌, length, Contains, if◌then◌else◌}
-use Rattle.kz_types.specs.declared.limits.TheConstants.{MAX_INPUT_BYTES, MAX_LINE_BYTES}
-use Rattle.kz_spec_lines.specs.Lines.{Item, with_front, items_from}
+use Rattle.std.specs.Prelude.{◌≡◌, ℕ, ◌+◌, List, [], ◌++◌, length, Contains, if◌then◌else◌}
+use Rattle.kz_spec_lines.specs.Lines.{Item}
+use Rattle.kz_laws_cut.specs.Coming.{lines_after}
 use Rattle.kz_spec_machine.specs.Machine.{World}
 use Rattle.kz_spec_machine.specs.Sound.{Sound}
 use Rattle.kz_spec_runs.specs.Output.{Outcome, Place, Progress, outcome, has_line_end, whole_lines, no_further, progress_after, progress_of}
@@ -21,7 +21,7 @@ pub record State : Type 0 where
 
 -- the lines that come where these bytes follow
 abbrev pub lines_to_come : State → List ℕ → List Item
-lines_to_come s rest = with_front s.line (items_from (MAX_LINE_BYTES - length s.line) (MAX_INPUT_BYTES - s.taken) rest)
+lines_to_come s rest = lines_after s.line s.taken rest
 
 -- the outcome where these bytes follow, and then the end of the input
 abbrev pub outcome_to_come : State → List ℕ → Outcome

@@ -8,7 +8,7 @@ use Rattle.kz_stream.specs.declared.ending.Printed.{Printed}
 use Rattle.kz_stream.specs.Machines.{plain_place}
 use Rattle.kz_stream.specs.Endings.{Begins}
 use Rattle.kz_stream.specs.Moments.{KeepsUp, text_of}
-use Rattle.kz_stream.proofs.Cut.{last_item, no_item, some_bytes, no_bytes}
+use Rattle.kz_laws_cut.proofs.Cut.{last_item, no_item, some_bytes, no_bytes}
 use Rattle.kz_stream.proofs.Moments.{keeps_up_here, line_goes}
 use Rattle.kz_stream.proofs.Outcomes.{begins_line}
 use Rattle.kz_stream.proofs.stream.last_line.Goals as goal
