@@ -1,6 +1,9 @@
 //! Loading a tree into two files.
+ghost use Rattle.std.specs.Prelude.{◌≡◌, true, false, None, IfOk, IfErr};
 ghost use Rattle.kz_commands.specs.Outside.{outside};
+ghost use Rattle.kz_tree_store.specs.Stores.{IsOpened, held_tree, is_fresh, loaded, store_disk, store_down, store_state};
 ghost use Rattle.kz_load.specs.LoadsFiles.{LoadsFiles};
+ghost use Rattle.kz_load.specs.LoadsTrees.{IsUnopenedTree, FillsStore, LoadsTree, CanFailLoad, status_of_open_fault, status_of_load_fault};
 
 use kz_commands::init;
 use kz_disk::Disk;
@@ -10,35 +13,85 @@ use kz_tree_store::{LoadLast, TreeOpenFault, TreeStore};
 use kz_types::{Limit, MAX_FILE_BYTES, Status, TreeFault};
 use std::alloc::Global;
 
-// Loads the tree of an input into the file of a tree that was just made.
-fn load_tree<S: Source, D: Disk>(alloc: Global, input: &mut S, tree: D) -> (Status, D) {
-    let mut store = match TreeStore::attach(alloc, tree) {
-        Ok(store) => store,
-        Err((tree, TreeOpenFault::DiskFault)) => return (Status::TreeFault, tree),
-        Err((tree, TreeOpenFault::Damaged { at })) => return (Status::TreeDamaged { at }, tree),
-        Err((tree, TreeOpenFault::NoMemory)) => return (Status::NoMemory, tree),
-    };
-    if !store.is_fresh() {
-        return (Status::NotEmpty, store.into_disk());
+// The status of a load whose tree's file isn't opened.
+fn open_status(fault: TreeOpenFault) -> Status
+    ensures { result ≡ status_of_open_fault fault }
+{
+    match fault {
+        TreeOpenFault::DiskFault => Status::TreeFault,
+        TreeOpenFault::Damaged { at } => Status::TreeDamaged { at },
+        TreeOpenFault::NoMemory => Status::NoMemory,
     }
+}
+
+// The status of a load whose frames aren't written.
+fn load_status(fault: TreeFault) -> Status
+    requires { CanFailLoad fault }
+    ensures { result ≡ status_of_load_fault fault }
+{
+    match fault {
+        TreeFault::Refused { .. } => unreachable!(),
+        TreeFault::Limit { .. } => unreachable!(),
+        TreeFault::NoMemory => Status::NoMemory,
+        TreeFault::Device => Status::TreeFault,
+        TreeFault::Down => unreachable!(),
+        TreeFault::Full { .. } => Status::Limit {
+            which: Limit::TreeFileBytes.number(),
+            number: MAX_FILE_BYTES,
+        },
+    }
+}
+
+// Opens the file of a tree that was just made. `NotEmpty` says that it has a frame of a tree: the disk then doesn't tell its contents.
+fn open_new<D: Disk>(alloc: Global, tree: D) -> Result<TreeStore<D>, (Status, D)>
+    ensures opened { IfOk result (λ s. IsOpened s (D.told tree) (D.told (store_disk s))) }
+    ensures fresh { IfOk result (λ s. is_fresh s ≡ true) }
+    ensures calm { IfOk result (λ s. D.faults (store_disk s) ≡ D.faults tree) }
+    ensures refused { IfErr result (λ e. IsUnopenedTree (outside D.told D.faults D.last_failed tree) (outside D.told D.faults D.last_failed e.1) e.0) }
+{
+    let store = match TreeStore::attach(alloc, tree) {
+        Ok(store) => store,
+        Err((tree, fault)) => return Err((open_status(fault), tree)),
+    };
+    if store.is_fresh() {
+        Ok(store)
+    } else {
+        Err((Status::NotEmpty, store.into_disk()))
+    }
+}
+
+// Reads the tree of an input, and loads it into a store in one call.
+fn fill<S: Source, D: Disk>(alloc: Global, input: &mut S, store: &mut TreeStore<D>) -> Status
+    requires up { store_down store.old ≡ false }
+    requires fresh { is_fresh store.old ≡ true }
+    requires unloaded { loaded store.old ≡ None }
+    ensures { FillsStore (held_tree store.old) (outside S.left S.faults S.last_failed input.old) (outside S.left S.faults S.last_failed input.new)
+        (outside D.told D.faults D.last_failed (store_disk store.old)) (outside D.told D.faults D.last_failed (store_disk store.new)) result }
+{
     let Loaded {
         zxid,
         sessions,
         rows,
     } = match read_tree(alloc, input) {
         Ok(loaded) => loaded,
-        Err(stop) => return (stop_status(stop), store.into_disk()),
+        Err(stop) => return stop_status(stop),
     };
-    let status = match store.load(&rows, Some(LoadLast { zxid, sessions })) {
+    match store.load(rows.as_slice(), Some(LoadLast { zxid, sessions })) {
         Ok(()) => Status::Done,
-        Err(TreeFault::Device) => Status::TreeFault,
-        Err(TreeFault::Full { .. }) => Status::Limit {
-            which: Limit::TreeFileBytes.number(),
-            number: MAX_FILE_BYTES,
-        },
-        Err(TreeFault::NoMemory) => Status::NoMemory,
-        Err(_) => unreachable!(),
+        Err(fault) => load_status(fault),
+    }
+}
+
+// Loads the tree of an input into the file of a tree that was just made.
+fn load_tree<S: Source, D: Disk>(alloc: Global, input: &mut S, tree: D) -> (Status, D)
+    ensures { LoadsTree (outside S.left S.faults S.last_failed input.old) (outside S.left S.faults S.last_failed input.new)
+        (outside D.told D.faults D.last_failed tree) (outside D.told D.faults D.last_failed result.1) result.0 }
+{
+    let mut store = match open_new(alloc, tree) {
+        Ok(store) => store,
+        Err(refused) => return refused,
     };
+    let status = fill(alloc, input, &mut store);
     (status, store.into_disk())
 }
 
@@ -55,15 +108,16 @@ pub fn load<S: Source, D: Disk, E: Disk>(
     tree: D,
     log: E,
 ) -> (Status, D, E)
-    ensures loads { LoadsFiles (outside S.left S.faults S.last_failed input.old) (outside S.left S.faults S.last_failed input.new)
+    ensures { LoadsFiles (outside S.left S.faults S.last_failed input.old) (outside S.left S.faults S.last_failed input.new)
         (outside D.told D.faults D.last_failed tree) (outside D.told D.faults D.last_failed result.1)
         (outside E.told E.faults E.last_failed log) (outside E.told E.faults E.last_failed result.2) result.0 }
 {
-    let (status, tree, log) = init(alloc, tree, log);
-    match status {
-        Status::Done => {}
-        other => return (other, tree, log),
+    let (made, tree, log) = init(alloc, tree, log);
+    match made {
+        Status::Done => {
+            let (status, tree) = load_tree(alloc, input, tree);
+            (status, tree, log)
+        }
+        refused => (refused, tree, log),
     }
-    let (status, tree) = load_tree(alloc, input, tree);
-    (status, tree, log)
 }
