@@ -1,5 +1,5 @@
 -- What `init` finds in two files, and what it makes of them.
-use Rattle.std.proofs.Common.{◌≡◌, ◌≢◌, ◌⊎◌, inl, inr, ℕ, ◌+◌, ◌≤◌, ◌<◌, nat_le, Bool, true, false, not, ◌&&◌, ◌||◌, cond, List, [], ◌∷◌, ◌++◌, length, take, drop, Option, Some, None, Result, Ok, Err, refl, sym, ap, ◌∙◌, subst, arith, append-nil}
+use Rattle.std.proofs.Common.{◌≡◌, ◌≢◌, ◌⊎◌, inl, inr, ℕ, ◌+◌, ◌≤◌, ◌<◌, nat_le, Bool, true, false, not, ◌&&◌, ◌||◌, cond, List, [], ◌∷◌, ◌++◌, length, take, drop, Option, Some, None, is_some, Result, Ok, Err, refl, sym, ap, ◌∙◌, subst, arith, append-nil}
 use Rattle.std.specs.Prelude.{⊤, option_map, bytes_eq}
 use Rattle.std.proofs.lemmas.Slice.Eq.{bytes_eq-Decides}
 use Rattle.std.proofs.lemmas.List.{drop_all}
@@ -48,7 +48,7 @@ whole_by : (P : List ℕ → Type 0) (file summed plain : List ℕ) → (bytes_e
 whole_by P file summed plain (inl is) in_summed in_plain = subst P (sym ((bytes_eq-Decides file summed).0 is)) in_summed
 whole_by P file summed plain (inr is) in_summed in_plain = subst P (sym ((bytes_eq-Decides file plain).0 is)) in_plain
 
-whole_stands : (letter : ℕ) (P : List ℕ → Type 0) (file : List ℕ) → is_whole_and_empty letter file ≡ true → P (new_file letter) → P (plain_header letter ++ closed_gate ∷ []) → P file
+pub whole_stands : (letter : ℕ) (P : List ℕ → Type 0) (file : List ℕ) → is_whole_and_empty letter file ≡ true → P (new_file letter) → P (plain_header letter ++ closed_gate ∷ []) → P file
 whole_stands letter P file whole summed plain = whole_by P file (new_file letter) (plain_header letter ++ closed_gate ∷ []) (either _ _ whole) summed plain
 
 short_unmade : (letter : ℕ) (file : List ℕ) → is_short file ≡ true → IsUnmade letter file file
@@ -290,29 +290,29 @@ log_refusal_damage : (file : List ℕ) (s : Status) → log_refusal file ≡ Som
 log_refusal_damage file s is = subst SomeDamage is (short_or (is_short file) (log_damage (log_of file)) (damage_of_log (log_of file)))
 
 refused_by : (letter : ℕ) (refusal : List ℕ → Option Status) (tree log new_tree new_log file new : List ℕ) (s : Status) → s ≢ status.Usage
-    → ((reason : Status) → refusal file ≡ Some reason → IsUnmade letter file new → AreRefused reason tree log new_tree new_log) → (refusal file ≡ Some s → IsDamage s) → IsRefusedFor letter refusal file new s → Inits tree log new_tree new_log s
-refused_by letter refusal tree log new_tree new_log file new status.TreeFault used go kind h = tt
-refused_by letter refusal tree log new_tree new_log file new status.LogFault used go kind h = tt
-refused_by letter refusal tree log new_tree new_log file new status.NoMemory used go kind h = tt
-refused_by letter refusal tree log new_tree new_log file new (status.TreeDamaged at) used go kind h = go (status.TreeDamaged at) h.0 h.1
-refused_by letter refusal tree log new_tree new_log file new (status.LogDamaged at why) used go kind h = go (status.LogDamaged at why) h.0 h.1
-refused_by letter refusal tree log new_tree new_log file new status.Done used go kind h = absurd (kind h.0)
-refused_by letter refusal tree log new_tree new_log file new status.Usage used go kind h = absurd (used refl)
-refused_by letter refusal tree log new_tree new_log file new (status.Script line) used go kind h = absurd (kind h.0)
-refused_by letter refusal tree log new_tree new_log file new status.ReadFault used go kind h = absurd (kind h.0)
-refused_by letter refusal tree log new_tree new_log file new status.WriteFault used go kind h = absurd (kind h.0)
-refused_by letter refusal tree log new_tree new_log file new (status.Limit which number) used go kind h = absurd (kind h.0)
-refused_by letter refusal tree log new_tree new_log file new status.NotEmpty used go kind h = absurd (kind h.0)
-refused_by letter refusal tree log new_tree new_log file new (status.Disagrees path) used go kind h = absurd (kind h.0)
-refused_by letter refusal tree log new_tree new_log file new (status.NoOffset base end) used go kind h = absurd (kind h.0)
+    → ((reason : Status) → refusal file ≡ Some reason → IsUnmade letter file new → AreRefused reason tree log new_tree new_log) → (refusal file ≡ Some s → IsDamage s) → (IsUnmade letter file new → IsUnmade tree_letter tree new_tree × IsUnmade log_letter log new_log) → IsRefusedFor letter refusal file new s → Inits tree log new_tree new_log s
+refused_by letter refusal tree log new_tree new_log file new status.TreeFault used go kind left h = tt
+refused_by letter refusal tree log new_tree new_log file new status.LogFault used go kind left h = tt
+refused_by letter refusal tree log new_tree new_log file new status.NoMemory used go kind left h = left h
+refused_by letter refusal tree log new_tree new_log file new (status.TreeDamaged at) used go kind left h = go (status.TreeDamaged at) h.0 h.1
+refused_by letter refusal tree log new_tree new_log file new (status.LogDamaged at why) used go kind left h = go (status.LogDamaged at why) h.0 h.1
+refused_by letter refusal tree log new_tree new_log file new status.Done used go kind left h = absurd (kind h.0)
+refused_by letter refusal tree log new_tree new_log file new status.Usage used go kind left h = absurd (used refl)
+refused_by letter refusal tree log new_tree new_log file new (status.Script line) used go kind left h = absurd (kind h.0)
+refused_by letter refusal tree log new_tree new_log file new status.ReadFault used go kind left h = absurd (kind h.0)
+refused_by letter refusal tree log new_tree new_log file new status.WriteFault used go kind left h = absurd (kind h.0)
+refused_by letter refusal tree log new_tree new_log file new (status.Limit which number) used go kind left h = absurd (kind h.0)
+refused_by letter refusal tree log new_tree new_log file new status.NotEmpty used go kind left h = absurd (kind h.0)
+refused_by letter refusal tree log new_tree new_log file new (status.Disagrees path) used go kind left h = absurd (kind h.0)
+refused_by letter refusal tree log new_tree new_log file new (status.NoOffset base end) used go kind left h = absurd (kind h.0)
 
 pub tree_inits : (tree log new_tree : List ℕ) (s : Status) → s ≢ status.Usage → IsRefusedFor tree_letter tree_refusal tree new_tree s → Inits tree log new_tree log s
 tree_inits tree log new_tree s used h =
-    refused_by tree_letter tree_refusal tree log new_tree log tree new_tree s used (λ reason is kept. tree_refused tree log new_tree reason is kept) (tree_refusal_damage tree s) h
+    refused_by tree_letter tree_refusal tree log new_tree log tree new_tree s used (λ reason is kept. tree_refused tree log new_tree reason is kept) (tree_refusal_damage tree s) (λ kept. (kept, record { left = λ _. refl; kept = λ _. refl })) h
 
 pub log_inits : (tree log new_tree new_log : List ℕ) (f : Found) (s : Status) → IsTreeFound tree new_tree f → s ≢ status.Usage → IsRefusedFor log_letter log_refusal log new_log s → Inits tree log new_tree new_log s
 log_inits tree log new_tree new_log f s found used h =
-    refused_by log_letter log_refusal tree log new_tree new_log log new_log s used (λ reason is kept. log_refused tree log new_tree new_log f reason found is kept) (log_refusal_damage log s) h
+    refused_by log_letter log_refusal tree log new_tree new_log log new_log s used (λ reason is kept. log_refused tree log new_tree new_log f reason found is kept) (log_refusal_damage log s) (λ kept. ((tree_unmade tree new_tree f found).1, kept)) h
 
 pub taken_inits : (tree log new_tree new_log : List ℕ) (f g : Found) → IsTreeFound tree new_tree f → IsLogFound log new_log g → (is_taken f || is_taken g) ≡ true → Inits tree log new_tree new_log status.NotEmpty
 taken_inits tree log new_tree new_log f g tree_found log_found is = record {
@@ -372,3 +372,10 @@ done_inits tree log new_tree new_log tree_mid tree_now log_mid log_now f g tree_
 
 pub taken_either : (a b x y z : Bool) → a ≡ x → b ≡ y → (a || b) ≡ z → (x || y) ≡ z
 taken_either a b x y z p q h = ap (λ t. t || y) (sym p) ∙ ap (λ t. a || t) (sym q) ∙ h
+
+-- a file that is made tells its contents where it told them before
+pub made_told : (letter : ℕ) (f : Found) (before mid now : Option (List ℕ)) → is_some mid ≡ is_some before → MakesFile letter f mid now → is_some now ≡ is_some before
+made_told letter found.Unmade before None now same makes = ap is_some makes ∙ same
+made_told letter found.Unmade before (Some x) now same makes = ap is_some makes ∙ same
+made_told letter found.Empty before mid now same makes = ap is_some makes ∙ same
+made_told letter found.Taken before mid now same makes = ap is_some makes ∙ same

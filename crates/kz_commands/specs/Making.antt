@@ -32,11 +32,12 @@ IsTreeFound file new f = IsFound tree_letter tree_refusal has_tree (λ bytes. tr
 abbrev pub IsLogFound : List ℕ → List ℕ → Found → Type 0
 IsLogFound file new f = IsFound log_letter log_refusal has_log (λ bytes. log_of bytes ≡ Ok empty_log) file new f
 
--- Why a file isn't looked through: it is refused for this reason, unless its disk failed or memory ran out.
+-- Why a file isn't looked through: it is refused for this reason, unless its disk failed or memory ran out. Unless its disk failed
+-- it is left.
 abbrev pub IsRefusedFor : ℕ → (List ℕ → Option Status) → List ℕ → List ℕ → Status → Type 0
 IsRefusedFor letter refusal file new status.TreeFault = ⊤
 IsRefusedFor letter refusal file new status.LogFault = ⊤
-IsRefusedFor letter refusal file new status.NoMemory = ⊤
+IsRefusedFor letter refusal file new status.NoMemory = IsUnmade letter file new
 IsRefusedFor letter refusal file new s = (refusal file ≡ Some s) × IsUnmade letter file new
 
 -- What was found holds of what the disk tells before and now.

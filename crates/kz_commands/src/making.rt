@@ -1,6 +1,7 @@
 //! The command that makes both files.
 ghost use Rattle.std.specs.Prelude.{◌≡◌, ◌≢◌, ◌||◌, bytes_eq, false, List, ℕ, Some, IfOk, IfErr};
 ghost use Rattle.kz_types.specs.Causes.{HasCause, Rose};
+ghost use Rattle.kz_disk.specs.Disks.{StaysTold};
 ghost use Rattle.kz_spec_files.specs.Frames.{tree_letter, log_letter, new_file, journal_of};
 ghost use Rattle.kz_spec_commands.specs.Files.{EndsAtDisk};
 ghost use Rattle.kz_spec_commands.specs.Init.{is_short, tree_refusal, log_refusal, Inits};
@@ -68,10 +69,11 @@ fn look<D: Disk>(disk: &mut D, plain: &[u8], summed: &[u8]) -> Result<Option<Fou
 fn look_through_tree<D: Disk>(alloc: Global, disk: D) -> Result<(D, Found), (D, Status)>
     requires { (file : List ℕ) → D.told disk ≡ Some file → is_short file ≡ false }
     ensures found { IfOk result (λ f. OfFile (D.told disk) (D.told f.0) IsTreeFound f.1) }
+    ensures told { IfOk result (λ f. StaysTold (D.told disk) (D.told f.0)) }
     ensures calm { IfOk result (λ f. D.faults f.0 ≡ D.faults disk) }
     ensures refused { IfErr result (λ e. OfFile (D.told disk) (D.told e.0) (IsRefusedFor tree_letter tree_refusal) e.1) }
     ensures cause { IfErr result (λ e. EndsAtDisk Status.TreeFault e.1 (D.faults disk) (D.faults e.0)) }
-    ensures other { IfErr result (λ e. (e.1 ≢ Status.LogFault) × (e.1 ≢ Status.Usage)) }
+    ensures other { IfErr result (λ e. (e.1 ≢ Status.LogFault) × (e.1 ≢ Status.Usage) × (e.1 ≢ Status.ReadFault)) }
 {
     match TreeStore::attach(alloc, disk) {
         Ok(tree) => {
@@ -85,10 +87,11 @@ fn look_through_tree<D: Disk>(alloc: Global, disk: D) -> Result<(D, Found), (D, 
 // What stands in the tree's file.
 fn find_tree<D: Disk>(alloc: Global, mut disk: D) -> Result<(D, Found), (D, Status)>
     ensures found { IfOk result (λ f. OfFile (D.told disk) (D.told f.0) IsTreeFound f.1) }
+    ensures told { IfOk result (λ f. StaysTold (D.told disk) (D.told f.0)) }
     ensures calm { IfOk result (λ f. D.faults f.0 ≡ D.faults disk) }
     ensures refused { IfErr result (λ e. OfFile (D.told disk) (D.told e.0) (IsRefusedFor tree_letter tree_refusal) e.1) }
     ensures cause { IfErr result (λ e. EndsAtDisk Status.TreeFault e.1 (D.faults disk) (D.faults e.0)) }
-    ensures other { IfErr result (λ e. (e.1 ≢ Status.LogFault) × (e.1 ≢ Status.Usage)) }
+    ensures other { IfErr result (λ e. (e.1 ≢ Status.LogFault) × (e.1 ≢ Status.Usage) × (e.1 ≢ Status.ReadFault)) }
 {
     match look(
         &mut disk,
@@ -108,7 +111,7 @@ fn look_through_log<E: Disk>(alloc: Global, disk: E) -> Result<(E, Found), (E, S
     ensures calm { IfOk result (λ f. E.faults f.0 ≡ E.faults disk) }
     ensures refused { IfErr result (λ e. OfFile (E.told disk) (E.told e.0) (IsRefusedFor log_letter log_refusal) e.1) }
     ensures cause { IfErr result (λ e. EndsAtDisk Status.LogFault e.1 (E.faults disk) (E.faults e.0)) }
-    ensures other { IfErr result (λ e. (e.1 ≢ Status.TreeFault) × (e.1 ≢ Status.Usage)) }
+    ensures other { IfErr result (λ e. (e.1 ≢ Status.TreeFault) × (e.1 ≢ Status.Usage) × (e.1 ≢ Status.ReadFault)) }
 {
     match LogStore::attach(alloc, disk) {
         Ok(log) => {
@@ -125,7 +128,7 @@ fn find_log<E: Disk>(alloc: Global, mut disk: E) -> Result<(E, Found), (E, Statu
     ensures calm { IfOk result (λ f. E.faults f.0 ≡ E.faults disk) }
     ensures refused { IfErr result (λ e. OfFile (E.told disk) (E.told e.0) (IsRefusedFor log_letter log_refusal) e.1) }
     ensures cause { IfErr result (λ e. EndsAtDisk Status.LogFault e.1 (E.faults disk) (E.faults e.0)) }
-    ensures other { IfErr result (λ e. (e.1 ≢ Status.TreeFault) × (e.1 ≢ Status.Usage)) }
+    ensures other { IfErr result (λ e. (e.1 ≢ Status.TreeFault) × (e.1 ≢ Status.Usage) × (e.1 ≢ Status.ReadFault)) }
 {
     match look(
         &mut disk,
@@ -171,6 +174,8 @@ fn make<D: Disk>(alloc: Global, disk: D, letter: u8, found: Found) -> Result<D, 
 pub fn init<D: Disk, E: Disk>(alloc: Global, tree: D, log: E) -> (Status, D, E)
     ensures made { MakesFiles Inits (outside D.told D.faults D.last_failed tree) (outside D.told D.faults D.last_failed result.1)
         (outside E.told E.faults E.last_failed log) (outside E.told E.faults E.last_failed result.2) result.0 }
+    ensures told { result.0 ≡ Status.Done → StaysTold (D.told tree) (D.told result.1) }
+    ensures unread { result.0 ≢ Status.ReadFault }
 {
     let (tree, in_tree) = match find_tree(alloc, tree) {
         Ok(found) => found,

@@ -73,7 +73,7 @@ pub record AreRefused (reason : Status) (tree log new_tree new_log : List ℕ) :
   pub tree_kept : IsUnmade tree_letter tree new_tree
   pub log_kept : IsUnmade log_letter log new_log
 
--- What `init` makes of two files, by its status. Where a disk fails or memory runs out, each file is as it was or made.
+-- What `init` makes of two files, by its status. Where memory runs out neither is made. Where a disk fails nothing is said here.
 abbrev pub Inits : List ℕ → List ℕ → List ℕ → List ℕ → Status → Type 0
 Inits tree log new_tree new_log status.Done = AreMade tree log new_tree new_log
 Inits tree log new_tree new_log status.Usage = ⊥
@@ -85,7 +85,7 @@ Inits tree log new_tree new_log status.LogFault = ⊤
 Inits tree log new_tree new_log (status.TreeDamaged at) = AreRefused (status.TreeDamaged at) tree log new_tree new_log
 Inits tree log new_tree new_log (status.LogDamaged at why) = AreRefused (status.LogDamaged at why) tree log new_tree new_log
 Inits tree log new_tree new_log (status.Disagrees path) = ⊥
-Inits tree log new_tree new_log status.NoMemory = ⊤
+Inits tree log new_tree new_log status.NoMemory = IsUnmade tree_letter tree new_tree × IsUnmade log_letter log new_log
 Inits tree log new_tree new_log (status.Limit which number) = ⊥
 Inits tree log new_tree new_log status.NotEmpty = AreRefused status.NotEmpty tree log new_tree new_log
 Inits tree log new_tree new_log (status.NoOffset base end) = ⊥

@@ -1,36 +1,34 @@
 use Rattle.std.proofs.Common.{◌∙◌}
-use Rattle.kz_commands.proofs.Made.{log_inits, taken_inits, done_inits, taken_either}
+use Rattle.kz_spec_files.specs.Frames.{tree_letter}
+use Rattle.kz_commands.proofs.Made.{log_inits, taken_inits, done_inits, taken_either, made_told}
 use Rattle.kz_commands.proofs.making.init.Goals as goal
 
-pub returns-in-Err-find_log : goal.returns-in-Err-find_log
-returns-in-Err-find_log g c = record {
-  made = record {
-    ran = c.in-Err-find_log.ensures.other.1;
-    files = λ t l new_t new_l is_t is_l is_new_t is_new_l. log_inits t l new_t new_l c.in-Ok.found.1 c.in-Err-find_log.status (c.in-Ok.ensures.found t new_t is_t is_new_t) c.in-Err-find_log.ensures.other.1 (c.in-Err-find_log.ensures.refused l new_l is_l is_new_l);
-    tree_disk = record { cause = λ is. absurd (c.in-Err-find_log.ensures.other.0 is); calm = λ _ _. c.in-Ok.ensures.calm };
-    log_disk = c.in-Err-find_log.ensures.cause;
-  };
+pub returns-in-Err-find_log-clause-made : goal.returns-in-Err-find_log-clause-made
+returns-in-Err-find_log-clause-made g c = record {
+  ran = c.in-Err-find_log.ensures.other.1;
+  files = λ t l new_t new_l is_t is_l is_new_t is_new_l. log_inits t l new_t new_l c.in-Ok.found.1 c.in-Err-find_log.status (c.in-Ok.ensures.found t new_t is_t is_new_t) c.in-Err-find_log.ensures.other.1 (c.in-Err-find_log.ensures.refused l new_l is_l is_new_l);
+  tree_disk = record { cause = λ is. absurd (c.in-Err-find_log.ensures.other.0 is); calm = λ _ _. c.in-Ok.ensures.calm };
+  log_disk = c.in-Err-find_log.ensures.cause;
 }
 
-pub returns-then-taken : goal.returns-then-taken
-returns-then-taken g c = record {
-  made = record {
-    ran = λ e. cc;
-    files = λ t l new_t new_l is_t is_l is_new_t is_new_l. taken_inits t l new_t new_l c.in-Ok.found.1 c.in-Ok-find_log.found.1 (c.in-Ok.ensures.found t new_t is_t is_new_t) (c.in-Ok-find_log.ensures.found l new_l is_l is_new_l)
-        (taken_either c.is_taken.result c.is_taken-2.result _ _ _ c.is_taken.ensures c.is_taken-2.ensures c.if-taken.true);
-    tree_disk = record { cause = λ e. cc; calm = λ _ _. c.in-Ok.ensures.calm };
-    log_disk = record { cause = λ e. cc; calm = λ _ _. c.in-Ok-find_log.ensures.calm };
-  };
+pub returns-then-taken-clause-made : goal.returns-then-taken-clause-made
+returns-then-taken-clause-made g c = record {
+  ran = λ e. cc;
+  files = λ t l new_t new_l is_t is_l is_new_t is_new_l. taken_inits t l new_t new_l c.in-Ok.found.1 c.in-Ok-find_log.found.1 (c.in-Ok.ensures.found t new_t is_t is_new_t) (c.in-Ok-find_log.ensures.found l new_l is_l is_new_l)
+      (taken_either c.is_taken.result c.is_taken-2.result _ _ _ c.is_taken.ensures c.is_taken-2.ensures c.if-taken.true);
+  tree_disk = record { cause = λ e. cc; calm = λ _ _. c.in-Ok.ensures.calm };
+  log_disk = record { cause = λ e. cc; calm = λ _ _. c.in-Ok-find_log.ensures.calm };
 }
 
-pub returns-in-Ok-make-2 : goal.returns-in-Ok-make-2
-returns-in-Ok-make-2 g c = record {
-  made = record {
-    ran = λ e. cc;
-    files = λ t l new_t new_l is_t is_l is_new_t is_new_l. done_inits t l new_t new_l _ _ _ _ c.in-Ok.found.1 c.in-Ok-find_log.found.1 (λ x told. c.in-Ok.ensures.found t x is_t told) (λ x told. c.in-Ok-find_log.ensures.found l x is_l told)
-        (taken_either c.is_taken.result c.is_taken-2.result _ _ _ c.is_taken.ensures c.is_taken-2.ensures c.if-taken.false)
-        c.in-Ok-make.ensures.made c.in-Ok-make-2.ensures.made is_new_t is_new_l;
-    tree_disk = record { cause = λ e. cc; calm = λ _ _. c.in-Ok-make.ensures.calm ∙ c.in-Ok.ensures.calm };
-    log_disk = record { cause = λ e. cc; calm = λ _ _. c.in-Ok-make-2.ensures.calm ∙ c.in-Ok-find_log.ensures.calm };
-  };
+pub returns-in-Ok-make-2-clause-made : goal.returns-in-Ok-make-2-clause-made
+returns-in-Ok-make-2-clause-made g c = record {
+  ran = λ e. cc;
+  files = λ t l new_t new_l is_t is_l is_new_t is_new_l. done_inits t l new_t new_l _ _ _ _ c.in-Ok.found.1 c.in-Ok-find_log.found.1 (λ x told. c.in-Ok.ensures.found t x is_t told) (λ x told. c.in-Ok-find_log.ensures.found l x is_l told)
+      (taken_either c.is_taken.result c.is_taken-2.result _ _ _ c.is_taken.ensures c.is_taken-2.ensures c.if-taken.false)
+      c.in-Ok-make.ensures.made c.in-Ok-make-2.ensures.made is_new_t is_new_l;
+  tree_disk = record { cause = λ e. cc; calm = λ _ _. c.in-Ok-make.ensures.calm ∙ c.in-Ok.ensures.calm };
+  log_disk = record { cause = λ e. cc; calm = λ _ _. c.in-Ok-make-2.ensures.calm ∙ c.in-Ok-find_log.ensures.calm };
 }
+
+pub returns-in-Ok-make-2-clause-told : goal.returns-in-Ok-make-2-clause-told
+returns-in-Ok-make-2-clause-told g c = λ _. made_told tree_letter c.in-Ok.found.1 _ _ _ c.in-Ok.ensures.told c.in-Ok-make.ensures.made

@@ -1,0 +1,75 @@
+-- What an input makes of an open store.
+use Rattle.std.proofs.Common.{◌≡◌, ◌≢◌, inl, inr, ℕ, Bool, true, false, List, Option, Some, None, IfSome, is_some, Result, Ok, Err, refl, ap, sym, ◌∙◌, subst}
+use Rattle.kz_types.specs.Causes.{Rose}
+use Rattle.kz_types.specs.declared.fault.TreeFault.{TreeFault}
+use Rattle.kz_types.specs.declared.fault.TreeFault.TheVariants as tree_fault
+use Rattle.kz_types.specs.declared.outside.Status.{Status}
+use Rattle.kz_types.specs.declared.outside.Status.TheVariants as status
+use Rattle.kz_spec_stores.specs.Tree.{Tree}
+use Rattle.kz_spec_stores.specs.Requests.{Disk, answer_of_tree_fault}
+use Rattle.kz_spec_files.specs.Frames.{tree_letter, journal_of}
+use Rattle.kz_spec_files.specs.TreeFile.{stored_in, tree_of}
+use Rattle.kz_spec_dumps.specs.Loading.{loaded}
+use Rattle.kz_spec_runs.specs.Endings.{EndsAtFailure}
+use Rattle.kz_tree_store.specs.Opened.{Known, IsTreeFile, tree_known}
+use Rattle.kz_commands.specs.Outside.{Outside}
+use Rattle.kz_commands.proofs.Disks.{failed, quiet}
+use Rattle.kz_load.specs.LoadsTrees.{Fills, FillsStore, status_of_load_fault}
+use Rattle.kz_load.proofs.Frames.{Wrote}
+
+-- what holds of what is told
+pub map_some : {A : Type 0} (P Q : A → Type 0) (o : Option A) → ((a : A) → P a → Q a) → IfSome o P → IfSome o Q
+map_some P Q None go h = tt
+map_some P Q (Some a) go h = go a h
+
+pub every_some : {A : Type 0} (Q : A → Type 0) (o : Option A) → ((a : A) → Q a) → IfSome o Q
+every_some Q None go = tt
+every_some Q (Some a) go = go a
+
+-- the tree of a file, by what a store knows of it
+pub stands : (told : Option (List ℕ)) (k : Known) (t : Tree) → k.tree ≡ t → ((file : List ℕ) → told ≡ Some file → IsTreeFile file k) → (new : List ℕ) → told ≡ Some new → tree_of new ≡ Ok t
+stands told k t tree_is same = λ new is. tree_known (is_some k.loaded) (stored_in (journal_of tree_letter new)) k (same new is) ∙ ap Ok tree_is
+
+-- a source that didn't fail
+pub source_quiet : {A : Type 0} (own result : A) (s : Status) (faults faults_now : ℕ) (last last_now : Bool) → result ≢ own → s ≢ status.ReadFault → EndsAtFailure own result faults faults_now last last_now
+    → EndsAtFailure status.ReadFault s faults faults_now last last_now
+source_quiet own result s faults faults_now last last_now other unread h = record {
+  cause = λ is. absurd (unread is);
+  last = λ is. absurd (unread is);
+  calm = λ _. h.calm other;
+  none = λ _. h.none other;
+}
+
+-- ---- an input that is a tree, whose frames aren't all written
+
+rose_between : (a b c d : ℕ) → a ≡ b → c ≡ d → Rose a c → Rose b d
+rose_between a b c d was now rose = subst (λ n. Rose n d) was (subst (λ n. Rose a n) now rose)
+
+pub fault_fills : {A : Type 0} (own read : A) (fault : TreeFault) (before root : Tree) (input input_now tree tree_now : Outside) (old new : Disk) → old.faults ≡ tree.faults → new.faults ≡ tree_now.faults
+    → Wrote (answer_of_tree_fault fault) old new → (new.down ≡ false → (file : List ℕ) → tree_now.bytes ≡ Some file → tree_of file ≡ Ok before) → IfSome input.bytes (λ script. loaded script ≡ Ok root)
+    → read ≢ own → EndsAtFailure own read input.faults input_now.faults input.last_failed input_now.last_failed → FillsStore before input input_now tree tree_now (status_of_load_fault fault)
+fault_fills own read (tree_fault.Refused index code) before root input input_now tree tree_now old new was now wrote kept is other source = absurd wrote
+fault_fills own read (tree_fault.Limit index number) before root input input_now tree tree_now old new was now wrote kept is other source = absurd wrote
+fault_fills own read tree_fault.Down before root input input_now tree tree_now old new was now wrote kept is other source = absurd wrote
+fault_fills own read tree_fault.NoMemory before root input input_now tree tree_now old new was now wrote kept is other source = record {
+  told = tt;
+  filled = every_some (λ script. (file : List ℕ) → tree_now.bytes ≡ Some file → Fills before (loaded script) file status.NoMemory) input.bytes (λ script file told. kept wrote.0 file told);
+  whole = λ is. absurd (cc);
+  tree_disk = quiet status.TreeFault status.NoMemory tree.faults tree_now.faults (λ is. absurd (cc)) (sym now ∙ (wrote.1 ∙ was));
+  source = source_quiet own read status.NoMemory input.faults input_now.faults input.last_failed input_now.last_failed other (λ is. absurd (cc)) source;
+}
+fault_fills own read tree_fault.Device before root input input_now tree tree_now old new was now wrote kept is other source = record {
+  told = tt;
+  filled = every_some (λ script. (file : List ℕ) → tree_now.bytes ≡ Some file → Fills before (loaded script) file status.TreeFault) input.bytes (λ script file told. tt);
+  whole = λ is. absurd (cc);
+  tree_disk = failed status.TreeFault status.TreeFault tree.faults tree_now.faults refl (rose_between old.faults tree.faults new.faults tree_now.faults was now wrote);
+  source = source_quiet own read status.TreeFault input.faults input_now.faults input.last_failed input_now.last_failed other (λ is. absurd (cc)) source;
+}
+fault_fills own read (tree_fault.Full length) before root input input_now tree tree_now old new was now wrote kept is other source = record {
+  told = tt;
+  filled = map_some (λ script. loaded script ≡ Ok root) (λ script. (file : List ℕ) → tree_now.bytes ≡ Some file → Fills before (loaded script) file (status_of_load_fault (tree_fault.Full length))) input.bytes
+      (λ script root_is file told. (inr (refl, refl, (root, root_is)), kept wrote.0 file told)) is;
+  whole = λ is. absurd (cc);
+  tree_disk = quiet status.TreeFault (status_of_load_fault (tree_fault.Full length)) tree.faults tree_now.faults (λ is. absurd (cc)) (sym now ∙ (wrote.1 ∙ was));
+  source = source_quiet own read (status_of_load_fault (tree_fault.Full length)) input.faults input_now.faults input.last_failed input_now.last_failed other (λ is. absurd (cc)) source;
+}

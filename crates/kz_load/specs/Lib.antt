@@ -1,0 +1,2 @@
+pub mod LoadsFiles
+pub mod LoadsTrees
