@@ -1,8 +1,8 @@
 -- The path of a znode that a line gives keeps the rule of paths.
-use Rattle.std.proofs.Common.{◌≡◌, ℕ, ◌==◌, ℤ, pos, true, if◌then◌else◌, List, [], Option, Some, None}
+use Rattle.std.proofs.Common.{◌≡◌, ℕ, ◌==◌, ◌&&◌, ℤ, pos, true, if◌then◌else◌, List, [], Option, Some, None, is_some}
 use Rattle.std.specs.Prelude.{⊤, codes}
 use Rattle.serde_json.specs.Data.{Data}
-use Rattle.serde_json.specs.Find.{get}
+use Rattle.serde_json.specs.Find.{get, as_object}
 use Rattle.kz_types.specs.Paths.{is_path}
 use Rattle.kz_spec_lines.specs.Json.{json_of, member_count, text_member}
 use Rattle.kz_spec_lines.specs.Fields.{int32, int64, list_of, tagged_member, tagged_count}
@@ -45,7 +45,7 @@ fields_named d =
     made_named path body owner czxid d kept))))
 
 head_named : (d : Data) → OfSome IsNamed (head_of d)
-head_named d = where_true IsNamed (member_count d == tagged_count (codes "zxid") d (tagged_count (codes "sessions") d 0)) (head_fields d) (λ few.
+head_named d = where_true IsNamed (is_some (as_object d) && member_count d == tagged_count (codes "zxid") d (tagged_count (codes "sessions") d 0)) (head_fields d) (λ few.
     after Any IsNamed _ (tagged_member (codes "zxid") (pos 1) int64 d) (anything (tagged_member (codes "zxid") (pos 1) int64 d)) (λ zxid t.
     mapped Any IsNamed _ (tagged_member (codes "sessions") [] (list_of int64) d) (anything (tagged_member (codes "sessions") [] (list_of int64) d)) (λ sessions u. tt)))
 
