@@ -6,12 +6,13 @@ ghost use Rattle.kz_spec_lines.specs.Json.{count_with};
 ghost use Rattle.kz_spec_lines.specs.Events.{controller_of, now_of, timed_count, ids_in, distinct_ids, quorum_of, start_of, stop_by, stop_of, elect_of, turn_of, plan_named, plan_by, step_of, records_in, change_of, register_of, finalise_of, rollback_of, check_of, session_of, open_of, expire_of, ops_in, zk_of, event_of, line_event};
 
 use crate::numbers::{id_of, time_of};
-use crate::ops::{op_of, session_in};
+use crate::ops::op_of;
 use kz_members::read_json;
 use kz_record_fields::{member_count, text_member};
 use kz_record_json::{LineFault, record_of};
 use kz_replicas::are_distinct;
 use kz_types::{Event, MetaRecord, NoMemory, Op, Plan, Sequence};
+use kz_znode_fields::session_in;
 use serde_json::Value;
 use std::alloc::Global;
 

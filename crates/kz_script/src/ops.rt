@@ -1,38 +1,13 @@
 //! Operations of a ZooKeeper multi, as a script writes them.
-ghost use Rattle.std.specs.Prelude.{◌≡◌, IfOk, Some, None, option_map};
+ghost use Rattle.std.specs.Prelude.{◌≡◌, IfOk, option_map};
 ghost use Rattle.serde_json.specs.View.{view};
-ghost use Rattle.kz_spec_lines.specs.Ops.{session_in, path_in, version_in, body_by, body_in, owner_by, bodied_count, create_of, set_of, delete_of, check_of, op_of};
+ghost use Rattle.kz_spec_lines.specs.Ops.{version_in, owner_by, create_of, set_of, delete_of, check_of, op_of};
 
-use kz_record_fields::{bytes, member_count, text_member};
-use kz_types::{MAX_LONG, MAX_VERSION, NoMemory, Op, PathFault, Sequence, ZPath};
+use kz_record_fields::{member_count, text_member};
+use kz_types::{MAX_VERSION, NoMemory, Op};
+use kz_znode_fields::{bodied_count, body_in, path_in, session_in};
 use serde_json::Value;
 use std::alloc::Global;
-
-/// A session: a whole number from 1 to the greatest of 64 bits.
-pub fn session_in(value: &Value) -> Option<i64>
-    ensures { result ≡ session_in (view value.now) }
-{
-    let number = value.as_u64()?;
-    if 1 <= number && number <= MAX_LONG as u64 {
-        Some(number as i64)
-    } else {
-        None
-    }
-}
-
-// The member `path`.
-fn path_in(alloc: Global, value: &Value) -> Result<Option<ZPath>, NoMemory>
-    ensures { IfOk result (λ path. path ≡ path_in (view value.now)) }
-{
-    let Some(text) = text_member(value, "path") else {
-        return Ok(None);
-    };
-    match ZPath::new(alloc, text.as_bytes()) {
-        Ok(path) => Ok(Some(path)),
-        Err(PathFault::BadName { .. }) => Ok(None),
-        Err(PathFault::NoMemory) => Err(NoMemory),
-    }
-}
 
 // The member `version`: -1 is any.
 fn version_in(value: &Value) -> Option<i32>
@@ -43,27 +18,6 @@ fn version_in(value: &Value) -> Option<i32>
         Some(version as i32)
     } else {
         None
-    }
-}
-
-fn text_body(alloc: Global, value: &Value) -> Result<Option<Sequence<u8>>, NoMemory>
-    ensures { IfOk result (λ body. body ≡ body_by (Some (view value.now)) None) }
-{
-    let Some(text) = value.as_str() else {
-        return Ok(None);
-    };
-    Ok(Some(Sequence::from_vec(Vec::from_slice(alloc, text.as_bytes())?)))
-}
-
-// The body: `text`, or `bytes` in base64 with its padding, or nothing.
-fn body_in(alloc: Global, value: &Value) -> Result<Option<Sequence<u8>>, NoMemory>
-    ensures { IfOk result (λ body. body ≡ body_in (view value.now)) }
-{
-    match (value.get("text"), value.get("bytes")) {
-        (None, None) => Ok(Some(Sequence::new(alloc))),
-        (Some(text), None) => text_body(alloc, text),
-        (None, Some(coded)) => bytes(alloc, coded),
-        (Some(_), Some(_)) => Ok(None),
     }
 }
 
@@ -78,20 +32,6 @@ fn owner_by(value: Option<&Value>) -> Option<Option<i64>>
             None => None,
         },
     }
-}
-
-// How many members there are with a body, where there are so many others.
-fn bodied_count(others: u8, value: &Value) -> usize
-    ensures { result ≡ bodied_count others (view value.now) }
-{
-    let mut count = others as usize;
-    if value.get("bytes").is_some() {
-        count += 1;
-    }
-    if value.get("text").is_some() {
-        count += 1;
-    }
-    count
 }
 
 fn create_of(alloc: Global, value: &Value) -> Result<Option<Op>, NoMemory>

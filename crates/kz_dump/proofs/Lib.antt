@@ -1,0 +1,2 @@
+mod PlainLines
+mod RenderedLines
