@@ -73,7 +73,7 @@ fn look_through_tree<D: Disk>(alloc: Global, disk: D) -> Result<(D, Found), (D, 
     ensures calm { IfOk result (λ f. D.faults f.0 ≡ D.faults disk) }
     ensures refused { IfErr result (λ e. OfFile (D.told disk) (D.told e.0) (IsRefusedFor tree_letter tree_refusal) e.1) }
     ensures cause { IfErr result (λ e. EndsAtDisk Status.TreeFault e.1 (D.faults disk) (D.faults e.0)) }
-    ensures other { IfErr result (λ e. (e.1 ≢ Status.LogFault) × (e.1 ≢ Status.Usage) × (e.1 ≢ Status.ReadFault)) }
+    ensures other { IfErr result (λ e. (e.1 ≢ Status.LogFault) × (e.1 ≢ Status.Usage) × (e.1 ≢ Status.ReadFault) × (e.1 ≢ Status.Done)) }
 {
     match TreeStore::attach(alloc, disk) {
         Ok(tree) => {
@@ -91,7 +91,7 @@ fn find_tree<D: Disk>(alloc: Global, mut disk: D) -> Result<(D, Found), (D, Stat
     ensures calm { IfOk result (λ f. D.faults f.0 ≡ D.faults disk) }
     ensures refused { IfErr result (λ e. OfFile (D.told disk) (D.told e.0) (IsRefusedFor tree_letter tree_refusal) e.1) }
     ensures cause { IfErr result (λ e. EndsAtDisk Status.TreeFault e.1 (D.faults disk) (D.faults e.0)) }
-    ensures other { IfErr result (λ e. (e.1 ≢ Status.LogFault) × (e.1 ≢ Status.Usage) × (e.1 ≢ Status.ReadFault)) }
+    ensures other { IfErr result (λ e. (e.1 ≢ Status.LogFault) × (e.1 ≢ Status.Usage) × (e.1 ≢ Status.ReadFault) × (e.1 ≢ Status.Done)) }
 {
     match look(
         &mut disk,

@@ -1,13 +1,10 @@
 -- What writing the frames of a load does to a disk.
-use Rattle.std.proofs.Common.{◌≡◌, ◌⊎◌, inl, inr, ℕ, Bool, true, false, List, [], ◌∷◌, refl, ap, sym, ◌∙◌, subst}
+use Rattle.std.proofs.Common.{◌≡◌, inl, inr, ℕ, false, List, [], ◌∷◌, ap, sym, ◌∙◌, subst}
 use Rattle.std.specs.Prelude.{⊤}
 use Rattle.kz_types.specs.Causes.{Rose}
-use Rattle.kz_types.specs.declared.fault.TreeFault.{TreeFault}
-use Rattle.kz_types.specs.declared.fault.TreeFault.TheVariants as tree_fault
-use Rattle.kz_spec_stores.specs.Requests.{Disk, StoreAnswer, Done, Refused, NoMemory, Failed, Down, Full, ChangesDisk, answer_of_tree_fault}
+use Rattle.kz_spec_stores.specs.Requests.{Disk, StoreAnswer, Done, Refused, NoMemory, Failed, Down, Full, ChangesDisk}
 use Rattle.kz_tree_store.specs.LoadCalls.{IsStop, WritesFrames}
 use Rattle.kz_commands.proofs.Disks.{not_both}
-use Rattle.kz_load.specs.LoadsTrees.{CanFailLoad}
 
 -- The count of failures, and whether the store is down, after frames of a store that was up.
 abbrev pub Wrote : StoreAnswer → Disk → Disk → Type 0
@@ -46,12 +43,3 @@ wrote (p ∷ ps) answer old new up (inr h) =
     let changes = h.1 in
     earlier answer old h.0 new (ap (λ (d : Disk). d.faults) changes.2)
     (wrote ps answer h.0 new (ap (λ (d : Disk). d.down) changes.2 ∙ up) h.2)
-
--- a load can end with this fault
-pub can_fail : (fault : TreeFault) (old new : Disk) → Wrote (answer_of_tree_fault fault) old new → CanFailLoad fault
-can_fail (tree_fault.Refused index code) old new h = h
-can_fail (tree_fault.Limit index number) old new h = h
-can_fail tree_fault.NoMemory old new h = tt
-can_fail tree_fault.Device old new h = tt
-can_fail tree_fault.Down old new h = h
-can_fail (tree_fault.Full length) old new h = tt

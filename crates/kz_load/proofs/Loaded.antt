@@ -1,5 +1,5 @@
 -- What `load` makes of a new file, and of two files.
-use Rattle.std.proofs.Common.{◌≡◌, ◌≢◌, ◌⊎◌, inl, inr, ℕ, Bool, true, false, List, Option, Some, None, IfSome, is_some, Result, Ok, Err, refl, ap, sym, ◌∙◌, subst}
+use Rattle.std.proofs.Common.{◌≡◌, ◌≢◌, inl, inr, ℕ, Bool, List, Option, Some, None, Result, Ok, refl, subst}
 use Rattle.kz_types.specs.declared.outside.Status.{Status}
 use Rattle.kz_types.specs.declared.outside.Status.TheVariants as status
 use Rattle.kz_disk.specs.Disks.{StaysTold}
@@ -12,13 +12,11 @@ use Rattle.kz_spec_runs.specs.Endings.{EndsAtFailure}
 use Rattle.kz_spec_commands.specs.Files.{EndsAtDisk}
 use Rattle.kz_spec_commands.specs.Init.{init_refusal, Inits}
 use Rattle.kz_spec_commands.specs.Load.{AreEmpty, Loads}
-use Rattle.kz_tree_store.specs.declared.store.TreeStore.{TreeStore}
-use Rattle.kz_tree_store.specs.Stores.{IsOpened, held_tree}
 use Rattle.kz_commands.specs.Outside.{Outside}
 use Rattle.kz_commands.specs.Makes.{MakesFiles}
 use Rattle.kz_commands.proofs.Disks.{quiet}
 use Rattle.kz_load.specs.LoadsFiles.{LoadsFiles}
-use Rattle.kz_load.specs.LoadsTrees.{IsNewTree, LeavesNewTree, IsUnopenedStatus, IsUnopenedTree, IsAtLimit, Fills, IsFilledStatus, FillsStore, LoadsTree}
+use Rattle.kz_load.specs.LoadsTrees.{IsNewTree, LeavesNewTree, IsUnopenedStatus, IsUnopenedTree, IsAtLimit, Fills, LoadsTree}
 use Rattle.kz_load.proofs.Filled.{map_some, every_some}
 use Rattle.kz_load.proofs.Made.{made_new}
 
@@ -59,24 +57,6 @@ unopened_loads input tree tree_now s is = record {
   whole = λ same. absurd (subst IsUnopenedStatus same is.told);
   tree_disk = is.tree_disk;
   source = source_uncalled s input.faults input.last_failed (λ same. subst IsUnopenedStatus same is.told);
-}
-
-one_tree : (r : Result Tree ℕ) (a b : Tree) → r ≡ Ok a → r ≡ Ok b → a ≡ b
-one_tree r a b h k = cc
-
--- it is
-pub filled_loads : {D : Type 0} {disk : _} (store : TreeStore D disk) (input input_now tree opened tree_now : Outside) (s : Status) → IsOpened store tree.bytes opened.bytes → opened.faults ≡ tree.faults
-    → FillsStore (held_tree store) input input_now opened tree_now s → LoadsTree input input_now tree tree_now s
-filled_loads store input input_now tree opened tree_now s found calm fills = record {
-  ran = λ same. subst IsFilledStatus same fills.told;
-  other = λ same. subst IsFilledStatus same fills.told;
-  filled = map_some (λ script. (new : List ℕ) → tree_now.bytes ≡ Some new → Fills (held_tree store) (loaded script) new s)
-      (λ script. (file new : List ℕ) → tree.bytes ≡ Some file → tree_now.bytes ≡ Some new → IsNewTree file → Fills empty_tree (loaded script) new s) input.bytes
-      (λ script filled file new was now made.
-          subst (λ t. Fills t (loaded script) new s) (one_tree (tree_of file) (held_tree store) empty_tree (found.tree file was) made.empty) (filled new now)) fills.filled;
-  whole = fills.whole;
-  tree_disk = subst (λ n. EndsAtDisk status.TreeFault s n tree_now.faults) calm fills.tree_disk;
-  source = fills.source;
 }
 
 -- ---- two files
@@ -144,9 +124,9 @@ made_loads input input_now tree tree_mid tree_now log log_now s makes told loads
   made = map_some (λ script. (file new : List ℕ) → tree_mid.bytes ≡ Some file → tree_now.bytes ≡ Some new → IsNewTree file → Fills empty_tree (loaded script) new s)
       (λ script. (t l new_t new_l : List ℕ) → tree.bytes ≡ Some t → log.bytes ≡ Some l → tree_now.bytes ≡ Some new_t → log_now.bytes ≡ Some new_l → Loads script t l new_t new_l s) input.bytes
       (λ script filled t l new_t new_l is_t is_l now_t now_l.
-          let mid = still_told tree.bytes tree_mid.bytes t told is_t in
-          let are = makes.files t l mid.0 new_l is_t is_l mid.1 now_l in
-          by_filling s script t l new_t new_l are.taken are.stand.log_is (filled mid.0 new_t mid.1 now_t (made_new t l mid.0 new_l are))) loads.filled;
+      let mid = still_told tree.bytes tree_mid.bytes t told is_t in
+      let are = makes.files t l mid.0 new_l is_t is_l mid.1 now_l in
+      by_filling s script t l new_t new_l are.taken are.stand.log_is (filled mid.0 new_t mid.1 now_t (made_new t l mid.0 new_l are))) loads.filled;
   whole = loads.whole;
   tree_disk = subst (λ n. EndsAtDisk status.TreeFault s n tree_now.faults) (makes.tree_disk.calm (λ is. absurd (cc)) (λ is. absurd (cc))) loads.tree_disk;
   log_disk = quiet status.LogFault s log.faults log_now.faults loads.other (makes.log_disk.calm (λ is. absurd (cc)) (λ is. absurd (cc)));

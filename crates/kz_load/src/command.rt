@@ -42,7 +42,7 @@ fn load_status(fault: TreeFault) -> Status
     }
 }
 
-// Opens the file of a tree that was just made. `NotEmpty` says that it has a frame of a tree: the disk then doesn't tell its contents.
+// Opens the file of a tree that was just made. `NotEmpty`: it holds a tree all the same, which isn't so where the disk tells the file.
 fn open_new<D: Disk>(alloc: Global, tree: D) -> Result<TreeStore<D>, (Status, D)>
     ensures opened { IfOk result (λ s. IsOpened s (D.told tree) (D.told (store_disk s))) }
     ensures fresh { IfOk result (λ s. is_fresh s ≡ true) }

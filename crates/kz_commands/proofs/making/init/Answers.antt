@@ -3,6 +3,9 @@ use Rattle.kz_spec_files.specs.Frames.{tree_letter}
 use Rattle.kz_commands.proofs.Made.{log_inits, taken_inits, done_inits, taken_either, made_told}
 use Rattle.kz_commands.proofs.making.init.Goals as goal
 
+pub returns-in-Err-clause-told : goal.returns-in-Err-clause-told
+returns-in-Err-clause-told g c = λ is. absurd (c.in-Err.ensures.other.3 is)
+
 pub returns-in-Err-find_log-clause-made : goal.returns-in-Err-find_log-clause-made
 returns-in-Err-find_log-clause-made g c = record {
   ran = c.in-Err-find_log.ensures.other.1;

@@ -1,4 +1,4 @@
-use Rattle.std.proofs.Common.{sym, subst}
+use Rattle.std.proofs.Common.{subst}
 use Rattle.kz_spec_commands.specs.Init.{Inits}
 use Rattle.kz_commands.specs.Outside.{outside}
 use Rattle.kz_commands.specs.Makes.{MakesFiles}
