@@ -1,5 +1,5 @@
 -- What disks tell, how often they failed, and what a stop leaves of them.
-use Rattle.std.proofs.Common.{◌≡◌, ◌<◌, ◌⊎◌, ℕ, Bool, true, false, List, Option, Some, ap, sym, subst, ⊎_elim, arith}
+use Rattle.std.proofs.Common.{◌≡◌, ◌<◌, ℕ, Bool, true, false, List, Option, Some, ap, sym, subst, ⊎_elim, arith}
 use Rattle.kz_types.specs.Causes.{Rose}
 use Rattle.kz_types.specs.declared.outside.Status.{Status}
 use Rattle.kz_disk.specs.Disks.{NothingPends}

@@ -1,5 +1,5 @@
 -- What `init` finds in two files, and what it makes of them.
-use Rattle.std.proofs.Common.{◌≡◌, ◌≢◌, ◌⊎◌, inl, inr, ℕ, ◌+◌, ◌≤◌, ◌<◌, nat_le, Bool, true, false, not, ◌&&◌, ◌||◌, cond, List, [], ◌∷◌, ◌++◌, length, take, drop, Option, Some, None, is_some, Result, Ok, Err, refl, sym, ap, ◌∙◌, subst, arith, append-nil}
+use Rattle.std.proofs.Common.{◌≡◌, ◌≢◌, ◌⊎◌, inl, inr, ℕ, ◌+◌, ◌≤◌, nat_le, Bool, true, false, not, ◌&&◌, ◌||◌, cond, List, [], ◌∷◌, ◌++◌, length, take, drop, Option, Some, None, is_some, Result, Ok, Err, refl, sym, ap, ◌∙◌, subst, append-nil}
 use Rattle.std.specs.Prelude.{⊤, option_map, bytes_eq}
 use Rattle.std.proofs.lemmas.Slice.Eq.{bytes_eq-Decides}
 use Rattle.std.proofs.lemmas.List.{drop_all}
@@ -14,8 +14,8 @@ use Rattle.kz_spec_stores.specs.Log.{Log, empty_log}
 use Rattle.kz_spec_files.specs.Frames.{Framed, Journal, tree_letter, log_letter, plain_header, closed_gate, new_file, journal_of}
 use Rattle.kz_spec_files.specs.TreeFile.{Stored, stored_in, tree_of_stored, tree_of}
 use Rattle.kz_spec_files.specs.LogFile.{log_in, log_of, after_frames, why_at, whole_or_damaged}
-use Rattle.kz_spec_commands.specs.Files.{tree_damage, log_damage, first_reason, StandFor, SayTheSame}
-use Rattle.kz_spec_commands.specs.Init.{is_short, is_whole_and_empty, holds_tree, holds_frames, tree_refusal, has_tree, log_refusal, has_log, init_refusal, IsMade, IsUnmade, AreMade, AreRefused, Inits}
+use Rattle.kz_spec_commands.specs.Files.{tree_damage, log_damage, first_reason, SayTheSame}
+use Rattle.kz_spec_commands.specs.Init.{is_short, is_whole_and_empty, holds_tree, holds_frames, tree_refusal, has_tree, log_refusal, has_log, init_refusal, IsMade, IsUnmade, AreRefused, Inits}
 use Rattle.kz_spec_files.proofs.FilesOnLiterals.{files_on_literals}
 use Rattle.kz_tree_store.specs.declared.store.TreeStore.{TreeStore}
 use Rattle.kz_tree_store.specs.Stores.{is_fresh_file, held_tree}
