@@ -3,14 +3,14 @@ use crate::made::{Ended, disk, ended, made};
 use std::alloc::Global;
 use std::process::Abort;
 
-// A generated script with 500 changes is replayed, and the tree is in step with the log after it.
+// A generated script with 120 changes is replayed, and the tree is in step with the log after it.
 #[test]
 fn a_generated_script_is_replayed(rt: HostRuntime) {
     let alloc = rt.alloc();
     let written = ended(
         &rt,
         alloc,
-        &["generate", "500"],
+        &["generate", "120"],
         b"",
         disk(&rt, alloc),
         disk(&rt, alloc),
@@ -20,7 +20,7 @@ fn a_generated_script_is_replayed(rt: HostRuntime) {
     let Ended { tree, log, .. } = ended(&rt, alloc, &["init"], b"", tree, log);
     let replayed = ended(&rt, alloc, &["replay"], &out, tree, log);
     assert!(rt; replayed.code == 0);
-    let last = b"562 closed 509\nend events=562 steps=191 zxid=58 offset=509 recorded=509\n";
+    let last = b"140 closed 125\nend events=140 steps=55 zxid=15 offset=125 recorded=125\n";
     assert!(rt; replayed.out.as_slice().ends_with(last.as_slice()));
 }
 

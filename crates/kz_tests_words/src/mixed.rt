@@ -13,7 +13,7 @@ static BROKER: &str = r#"{"zxid":9}
 {"path":"/config/brokers/1","text":"{\"version\":1,\"config\":{\"a\":\"1\"}}"}
 "#;
 
-// The tree of a cluster with a broker's configuration disagrees with the log of an empty one at that broker.
+// The tree of a cluster with a broker's configuration records offset 5. The log of an empty cluster ends at 4, so it agrees at no path.
 #[test]
 fn a_path_that_disagrees_ends_a_check(rt: HostRuntime) {
     let alloc = rt.alloc();
@@ -35,6 +35,6 @@ fn a_path_that_disagrees_ends_a_check(rt: HostRuntime) {
     let Ended { tree, log: _, .. } = migrated;
     let checked = ended(&rt, alloc, &["check"], b"", tree, other);
     assert!(rt; checked.code == 9);
-    assert!(rt; checked.told.as_slice() == b"disagrees \"/config/brokers/1\"".as_slice());
+    assert!(rt; checked.told.as_slice() == b"disagrees \"/brokers/topics\"".as_slice());
     assert!(rt; checked.out.is_empty());
 }
