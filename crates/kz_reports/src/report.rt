@@ -2,8 +2,8 @@
 ghost use Rattle.std.specs.Prelude.{◌≡◌, IfOk, OnOk, OnErr};
 ghost use Rattle.std.specs.Io.KnownBytes.{Appends};
 ghost use Rattle.kz_output.specs.Outputs.{WritesFront, EndsAtSink};
-ghost use Rattle.kz_spec_dumps.specs.Dumps.{figures_of, figure_lines};
-ghost use Rattle.kz_spec_commands.specs.Reports.{check_printed, rendering_printed, report_of};
+ghost use Rattle.kz_spec_dumps.specs.Dumps.{check_lines, figures_of, figure_lines};
+ghost use Rattle.kz_spec_commands.specs.Reports.{printed, check_printed, rendering_printed, report_of};
 ghost use Rattle.kz_reports.specs.Reports.{defined_report, PrintEnds};
 
 use crate::figures::figures;
@@ -53,6 +53,24 @@ fn print_rendering_at<K: Sink>(
     }
 }
 
+// The lines of a verdict.
+fn print_lines<K: Sink>(
+    alloc: Global,
+    verdict: &Verdict,
+    out: &mut K,
+) -> Result<Status, OutputFault>
+    ensures printed { PrintEnds (printed (check_lines verdict.now)) result (K.taken out.old) (K.taken out.new) }
+    ensures sink { EndsAtSink result (K.faults out.old) (K.faults out.new) (K.last_failed out.old) (K.last_failed out.new) }
+{
+    let Ok(lines) = check_lines(alloc, verdict) else {
+        return Err(OutputFault::NoMemory);
+    };
+    match print_text(&lines, out) {
+        Ok(()) => Ok(Status::Done),
+        Err(fault) => Err(fault),
+    }
+}
+
 // The lines of a verdict, or the refusal of a path that disagrees.
 fn print_verdict<K: Sink>(
     alloc: Global,
@@ -62,15 +80,14 @@ fn print_verdict<K: Sink>(
     ensures printed { PrintEnds (check_printed verdict) result (K.taken out.old) (K.taken out.new) }
     ensures sink { EndsAtSink result (K.faults out.old) (K.faults out.new) (K.last_failed out.old) (K.last_failed out.new) }
 {
-    let Ok(lines) = check_lines(alloc, &verdict) else {
-        return Err(OutputFault::NoMemory);
-    };
-    if let Verdict::Disagrees { path } = verdict {
-        return Ok(Status::Disagrees { path });
-    }
-    match print_text(&lines, out) {
-        Ok(()) => Ok(Status::Done),
-        Err(fault) => Err(fault),
+    match verdict {
+        Verdict::Unmigrated => print_lines(alloc, &Verdict::Unmigrated, out),
+        Verdict::Unrecorded => print_lines(alloc, &Verdict::Unrecorded, out),
+        Verdict::Closed { offset } => print_lines(alloc, &Verdict::Closed { offset }, out),
+        Verdict::Ahead { offset, paths } => {
+            print_lines(alloc, &Verdict::Ahead { offset, paths }, out)
+        }
+        Verdict::Disagrees { path } => Ok(Status::Disagrees { path }),
     }
 }
 
