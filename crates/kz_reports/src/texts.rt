@@ -2,9 +2,9 @@
 ghost use Rattle.std.specs.Prelude.{◌≡◌, IfOk, OnOk, OnErr};
 ghost use Rattle.std.specs.Io.KnownBytes.{Appends};
 ghost use Rattle.kz_output.specs.Outputs.{WritesFront, EndsAtSink};
-ghost use Rattle.kz_spec_stores.specs.Log.{image_at};
+ghost use Rattle.kz_spec_stores.specs.Log.{end_of, image_at};
 ghost use Rattle.kz_spec_znodes.specs.Rendering.{render};
-ghost use Rattle.kz_spec_dumps.specs.Dumps.{tree_text, log_text, rendering_text};
+ghost use Rattle.kz_spec_dumps.specs.Dumps.{log_head_line, tree_text, log_text, rendering_text};
 
 use crate::lines::{put_all, put_rows};
 use kz_dump::{log_head, tree_head};
@@ -35,9 +35,20 @@ pub(crate) fn print_tree<K: Sink>(
         Err(fault) => return Err(fault),
     }
     match put_rows(alloc, tree, &mut output, out) {
-        Ok(()) => output.flush(out),
+        Ok(()) => {}
+        Err(fault) => return Err(fault),
+    }
+    match output.flush(out) {
+        Ok(()) => Ok(()),
         Err(fault) => Err(fault),
     }
+}
+
+// The first line of a log.
+fn head_of(alloc: Global, log: &LogRows) -> Result<Vec<u8>, NoMemory>
+    ensures { IfOk result (λ line. line.items ≡ log_head_line log.now.base (end_of log.now) log.now.epoch) }
+{
+    log_head(alloc, log.base(), log.end(), log.epoch())
 }
 
 /// Prints the lines of a log.
@@ -50,7 +61,7 @@ pub(crate) fn print_log<K: Sink>(
     ensures err { OnErr result (WritesFront (K.taken out.old) (K.taken out.new) (log_text log.now)) }
     ensures sink { EndsAtSink result (K.faults out.old) (K.faults out.new) (K.last_failed out.old) (K.last_failed out.new) }
 {
-    let Ok(head) = log_head(alloc, log.base(), log.end(), log.epoch()) else {
+    let Ok(head) = head_of(alloc, log) else {
         return Err(OutputFault::NoMemory);
     };
     let mut output = Output::new(alloc);
@@ -59,7 +70,11 @@ pub(crate) fn print_log<K: Sink>(
         Err(fault) => return Err(fault),
     }
     match put_all(alloc, log.batches(), &mut output, out) {
-        Ok(()) => output.flush(out),
+        Ok(()) => {}
+        Err(fault) => return Err(fault),
+    }
+    match output.flush(out) {
+        Ok(()) => Ok(()),
         Err(fault) => Err(fault),
     }
 }
@@ -88,7 +103,11 @@ pub(crate) fn print_rendering<K: Sink>(
     };
     let mut output = Output::new(alloc);
     match put_all(alloc, &znodes, &mut output, out) {
-        Ok(()) => output.flush(out),
+        Ok(()) => {}
+        Err(fault) => return Err(fault),
+    }
+    match output.flush(out) {
+        Ok(()) => Ok(()),
         Err(fault) => Err(fault),
     }
 }
