@@ -58,10 +58,21 @@ printed_ends : (p : Printed) (s : Status) → IsOwn s → p.status ≡ s → End
 printed_ends p status.Done own is = (refl, is)
 printed_ends p (status.Disagrees path) own is = (refl, is)
 printed_ends p (status.NoOffset base end) own is = (refl, is)
+printed_ends p status.Usage own is = absurd own
+printed_ends p (status.Script line) own is = absurd own
+printed_ends p status.ReadFault own is = absurd own
+printed_ends p status.WriteFault own is = absurd own
+printed_ends p status.TreeFault own is = absurd own
+printed_ends p status.LogFault own is = absurd own
+printed_ends p (status.TreeDamaged at) own is = absurd own
+printed_ends p (status.LogDamaged at why) own is = absurd own
+printed_ends p status.NoMemory own is = absurd own
+printed_ends p (status.Limit which number) own is = absurd own
+printed_ends p status.NotEmpty own is = absurd own
 
 -- a status of a report isn't one of the outside, nor `Usage`
 own_differs : (s other : Status) → IsOwn s → (IsOwn other → ⊥) → s ≢ other
-own_differs s other own no is = no (subst IsOwn is own)
+own_differs s other own differ is = differ (subst IsOwn is own)
 
 -- ---- how printing ends
 
@@ -84,6 +95,17 @@ own_told : (s : Status) → IsOwn s → IsTold s
 own_told status.Done own = tt
 own_told (status.Disagrees path) own = tt
 own_told (status.NoOffset base end) own = tt
+own_told status.Usage own = absurd own
+own_told (status.Script line) own = absurd own
+own_told status.ReadFault own = absurd own
+own_told status.WriteFault own = absurd own
+own_told status.TreeFault own = absurd own
+own_told status.LogFault own = absurd own
+own_told (status.TreeDamaged at) own = absurd own
+own_told (status.LogDamaged at why) own = absurd own
+own_told status.NoMemory own = absurd own
+own_told (status.Limit which number) own = absurd own
+own_told status.NotEmpty own = absurd own
 
 -- a status that is printed is a report's own
 abbrev IsOwnWhereOk : Result Status OutputFault → Type 0
@@ -100,7 +122,7 @@ told_status (Err fault.SinkFailed) own = tt
 told_status (Err fault.NoMemory) own = tt
 
 told_differs : (s other : Status) → IsTold s → (IsTold other → ⊥) → s ≢ other
-told_differs s other told no is = no (subst IsTold is told)
+told_differs s other told differ is = differ (subst IsTold is told)
 
 sink_told : (ended : Result Status OutputFault) (f g : ℕ) (b d : Bool) → IsOwnWhereOk ended → EndsAtSink ended f g b d → EndsAtFailure status.WriteFault (status_of ended) f g b d
 sink_told (Ok s) f g b d own e = record {
@@ -130,13 +152,22 @@ unopened_told p status.LogFault taken is why = ([], Appends-nil taken, refl)
 unopened_told p status.NoMemory taken is why = ([], Appends-nil taken, (p.text, refl))
 unopened_told p (status.TreeDamaged at) taken is why = absurd (cc why)
 unopened_told p (status.LogDamaged at cause) taken is why = absurd (cc why)
+unopened_told p status.Done taken is cause = absurd is
+unopened_told p status.Usage taken is cause = absurd is
+unopened_told p (status.Script line) taken is cause = absurd is
+unopened_told p status.ReadFault taken is cause = absurd is
+unopened_told p status.WriteFault taken is cause = absurd is
+unopened_told p (status.Disagrees path) taken is cause = absurd is
+unopened_told p (status.Limit which number) taken is cause = absurd is
+unopened_told p status.NotEmpty taken is cause = absurd is
+unopened_told p (status.NoOffset base end) taken is cause = absurd is
 
 tells_damage : (d : Option Status) (result : Status) (out : Outside) → IsForDamage result d → TellsDamage d result out out
 tells_damage None result out why = tt
 tells_damage (Some s) result out why = (why, refl)
 
 unopened_differs : (s other : Status) → IsUnopenedStatus s → (IsUnopenedStatus other → ⊥) → s ≢ other
-unopened_differs s other is no same = no (subst IsUnopenedStatus same is)
+unopened_differs s other is differ same = differ (subst IsUnopenedStatus same is)
 
 pub unopened_tells : (r : Report) (out tree tree_now log log_now : Outside) (result : Status) → AreUnopened tree tree_now log log_now result → Tells r out out tree tree_now log log_now result
 unopened_tells r out tree tree_now log log_now result is = record {
@@ -163,6 +194,15 @@ leaves_told (status.Disagrees path) t l new_t new_l told h = h
 leaves_told (status.NoOffset base end) t l new_t new_l told h = h
 leaves_told status.WriteFault t l new_t new_l told h = h
 leaves_told status.NoMemory t l new_t new_l told h = h
+leaves_told status.Usage t l new_t new_l told h = absurd told
+leaves_told (status.Script line) t l new_t new_l told h = absurd told
+leaves_told status.ReadFault t l new_t new_l told h = absurd told
+leaves_told status.TreeFault t l new_t new_l told h = absurd told
+leaves_told status.LogFault t l new_t new_l told h = absurd told
+leaves_told (status.TreeDamaged at) t l new_t new_l told h = absurd told
+leaves_told (status.LogDamaged at why) t l new_t new_l told h = absurd told
+leaves_told (status.Limit which number) t l new_t new_l told h = absurd told
+leaves_told status.NotEmpty t l new_t new_l told h = absurd told
 
 ok_same : {A E : Type 0} (r : Result A E) (a b : A) → r ≡ Ok a → r ≡ Ok b → a ≡ b
 ok_same r a b is_a is_b = cc (is_a, is_b)

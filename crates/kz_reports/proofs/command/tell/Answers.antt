@@ -25,12 +25,12 @@ returns-clause-tells g c =
     let tree = outside g.D.Disk.told g.D.Disk.faults g.D.Disk.last_failed in
     let log = outside g.E.Disk.told g.E.Disk.faults g.E.Disk.last_failed in
     let out = outside g.K.Sink.taken g.K.Sink.faults g.K.Sink.last_failed c.args.out.now in
-    let out_now = outside g.K.Sink.taken g.K.Sink.faults g.K.Sink.last_failed c.told.new.out in
+    let out_now = outside g.K.Sink.taken g.K.Sink.faults g.K.Sink.last_failed c.told-ended.new.out in
     of_both (λ d e. Tells (defined_report c.args.report) out out_now (tree c.args.tree) (tree d) (log c.args.log) (log e) c.status_of.result)
     (trees.store_disk t) c.into_disk.result (logs.store_disk l) c.into_disk-2.result c.into_disk.ensures c.into_disk-2.ensures
     (subst (λ s. Tells (defined_report c.args.report) out out_now (tree c.args.tree) (tree (trees.store_disk t)) (log c.args.log) (log (logs.store_disk l)) s) (sym c.status_of.ensures)
-    (opened_tells (defined_report c.args.report) c.told.result out out_now (tree c.args.tree) (tree (trees.store_disk t)) (log c.args.log) (log (logs.store_disk l))
-    (are_open t l (tree c.args.tree) (tree (trees.store_disk t)) (log c.args.log) (log (logs.store_disk l)) c.in-Ok.ensures.opened) c.told.ensures.printed c.told.ensures.sink))
+    (opened_tells (defined_report c.args.report) c.told-ended.result out out_now (tree c.args.tree) (tree (trees.store_disk t)) (log c.args.log) (log (logs.store_disk l))
+    (are_open t l (tree c.args.tree) (tree (trees.store_disk t)) (log c.args.log) (log (logs.store_disk l)) c.in-Ok.ensures.opened) c.told-ended.ensures.printed c.told-ended.ensures.sink))
 
 pub returns-clause-tree_stop : goal.returns-clause-tree_stop
 returns-clause-tree_stop g c =
