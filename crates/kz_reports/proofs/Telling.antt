@@ -20,7 +20,11 @@ use Rattle.kz_output.specs.declared.output.OutputFault.{OutputFault}
 use Rattle.kz_output.specs.declared.output.OutputFault.TheVariants as fault
 use Rattle.kz_output.specs.Outputs.{WritesFront, EndsAtSink}
 use Rattle.kz_commands.specs.Outside.{Outside, OfFiles}
-use Rattle.kz_commands.specs.Opening.{AreUnopened, IsUnopenedStatus, IsForDamage, LeavesUnopened}
+use Rattle.kz_tree_store.specs.declared.store.TreeStore.{TreeStore}
+use Rattle.kz_tree_store.specs.Stores as trees
+use Rattle.kz_log_store.specs.declared.store.LogStore.{LogStore}
+use Rattle.kz_log_store.specs.Stores as logs
+use Rattle.kz_commands.specs.Opening.{AreOpened, AreUnopened, IsUnopenedStatus, IsForDamage, LeavesUnopened}
 use Rattle.kz_commands.proofs.Opened.{both_whole}
 use Rattle.kz_commands.proofs.Disks.{says}
 use Rattle.kz_commands.proofs.Sealed.{AreOpen}
@@ -225,3 +229,17 @@ opened_tells r ended out out_now tree tree_now log log_now are prints ends =
   log_disk = record { cause = λ same. absurd (told_differs (status_of ended) status.LogFault told (λ h. h) same); calm = λ _ _. are.log_calm };
   sink = sink_told ended out.faults out_now.faults out.last_failed out_now.last_failed own ends;
 }
+
+-- the same of two stores that were opened
+pub opened_stores_tell : {D E : Type 0} {tree_disk : _} {log_disk : _} (r : Report) (t : TreeStore D tree_disk) (l : LogStore E log_disk) (ended : Result Status OutputFault) (out out_now tree tree_now log log_now : Outside) → AreOpened t l tree tree_now log log_now
+    → PrintEnds (report_of r (trees.held_tree t) (logs.held_log l)) ended out.bytes out_now.bytes → EndsAtSink ended out.faults out_now.faults out.last_failed out_now.last_failed → Tells r out out_now tree tree_now log log_now (status_of ended)
+opened_stores_tell r t l ended out out_now tree tree_now log log_now is prints ends = opened_tells r ended out out_now tree tree_now log log_now (record {
+  tree_same = is.tree_opened.same;
+  log_same = is.log_opened.same;
+  found = trees.held_tree t;
+  held = logs.held_log l;
+  tree_stands = is.tree_opened.tree;
+  log_stands = λ file told. (is.log_opened.log file told).log;
+  tree_calm = is.tree_calm;
+  log_calm = is.log_calm;
+}) prints ends

@@ -6,10 +6,9 @@ use Rattle.kz_log_store.specs.Stores as logs
 use Rattle.kz_commands.specs.Outside.{outside}
 use Rattle.kz_commands.specs.Stops.{StandsAtStop}
 use Rattle.kz_commands.proofs.Disks.{of_both}
-use Rattle.kz_commands.proofs.Sealed.{are_open}
 use Rattle.kz_reports.specs.Reports.{defined_report}
 use Rattle.kz_reports.specs.Tells.{Tells}
-use Rattle.kz_reports.proofs.Telling.{unopened_tells, opened_tells}
+use Rattle.kz_reports.proofs.Telling.{unopened_tells, opened_stores_tell}
 use Rattle.kz_reports.proofs.command.tell.Goals as goal
 
 pub returns-in-Err-clause-tells : goal.returns-in-Err-clause-tells
@@ -26,11 +25,11 @@ returns-clause-tells g c =
     let log = outside g.E.Disk.told g.E.Disk.faults g.E.Disk.last_failed in
     let out = outside g.K.Sink.taken g.K.Sink.faults g.K.Sink.last_failed c.args.out.now in
     let out_now = outside g.K.Sink.taken g.K.Sink.faults g.K.Sink.last_failed c.told-ended.new.out in
-    of_both (λ d e. Tells (defined_report c.args.report) out out_now (tree c.args.tree) (tree d) (log c.args.log) (log e) c.status_of.result)
+    of_both (λ d e. Tells (defined_report c.args.report) out out_now (tree c.args.tree) (tree d) (log c.args.log) (log e) c.status_of-status.result)
     (trees.store_disk t) c.into_disk.result (logs.store_disk l) c.into_disk-2.result c.into_disk.ensures c.into_disk-2.ensures
-    (subst (λ s. Tells (defined_report c.args.report) out out_now (tree c.args.tree) (tree (trees.store_disk t)) (log c.args.log) (log (logs.store_disk l)) s) (sym c.status_of.ensures)
-    (opened_tells (defined_report c.args.report) c.told-ended.result out out_now (tree c.args.tree) (tree (trees.store_disk t)) (log c.args.log) (log (logs.store_disk l))
-    (are_open t l (tree c.args.tree) (tree (trees.store_disk t)) (log c.args.log) (log (logs.store_disk l)) c.in-Ok.ensures.opened) c.told-ended.ensures.printed c.told-ended.ensures.sink))
+    (subst (λ s. Tells (defined_report c.args.report) out out_now (tree c.args.tree) (tree (trees.store_disk t)) (log c.args.log) (log (logs.store_disk l)) s) (sym c.status_of-status.ensures)
+    (opened_stores_tell (defined_report c.args.report) t l c.told-ended.result out out_now (tree c.args.tree) (tree (trees.store_disk t)) (log c.args.log) (log (logs.store_disk l))
+    c.in-Ok.ensures.opened c.told-ended.ensures.printed c.told-ended.ensures.sink))
 
 pub returns-clause-tree_stop : goal.returns-clause-tree_stop
 returns-clause-tree_stop g c =
