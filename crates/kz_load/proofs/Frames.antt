@@ -1,8 +1,9 @@
 -- What writing the frames of a load does to a disk.
-use Rattle.std.proofs.Common.{◌≡◌, inl, inr, ℕ, false, List, [], ◌∷◌, ap, sym, ◌∙◌, subst}
+use Rattle.std.proofs.Common.{◌≡◌, inl, inr, ℕ, ◌+◌, ◌<◌, max, false, List, [], ◌∷◌, Option, Some, None, option_map, ap, sym, ◌∙◌, subst}
 use Rattle.std.specs.Prelude.{⊤}
 use Rattle.kz_types.specs.Causes.{Rose}
-use Rattle.kz_spec_stores.specs.Requests.{Disk, StoreAnswer, Done, Refused, NoMemory, Failed, Down, Full, ChangesDisk}
+use Rattle.kz_types.specs.declared.limits.TheConstants.{MAX_FILE_BYTES}
+use Rattle.kz_spec_stores.specs.Requests.{StoreFile, Disk, StoreAnswer, Done, Refused, NoMemory, Failed, Down, Full, with_frame, IsTooLong, ChangesDisk}
 use Rattle.kz_tree_store.specs.LoadCalls.{IsStop, WritesFrames}
 use Rattle.kz_commands.proofs.Disks.{not_both}
 
@@ -43,3 +44,43 @@ wrote (p ∷ ps) answer old new up (inr h) =
     let changes = h.1 in
     earlier answer old h.0 new (ap (λ (d : Disk). d.faults) changes.2)
     (wrote ps answer h.0 new (ap (λ (d : Disk). d.down) changes.2 ∙ up) h.2)
+
+-- ---- a file that would be too long
+
+length_in : Option StoreFile → ℕ
+length_in None = 0
+length_in (Some file) = file.length
+
+-- a file with other bytes after its frames
+abbrev pub left_as : ℕ → StoreFile → StoreFile
+left_as size file = record file { length = size }
+
+-- these frames would make a file too long, whose bytes are those that are left
+abbrev pub AreTooLong : ℕ → ℕ → StoreFile → StoreFile → Type 0
+AreTooLong p q was now = MAX_FILE_BYTES < (with_frame q (with_frame p (left_as now.length was))).length
+
+first_longer : (most size now end p q : ℕ) → now ≡ size → most < max size (end + p) → most < max (max now (end + p)) (end + p + q)
+first_longer most size now end p q same h = grind (arith)
+
+second_longer : (most size now end p q : ℕ) → now ≡ max size (end + p) → most < max (max size (end + p)) (end + p + q) → most < max (max now (end + p)) (end + p + q)
+second_longer most size now end p q same h = grind (arith)
+
+-- the first of two frames isn't written
+first_full : (p q n : ℕ) (old new : Disk) (was now : StoreFile) → old.file ≡ Some was → new.file ≡ Some now → ChangesDisk ⊤ p (Full n) old new → AreTooLong p q was now
+first_full p q n old new was now is_was is_now changes =
+    let long = subst (λ o. IsTooLong (option_map (with_frame p) o) n) is_was changes.2 in
+    let same = ap length_in (sym is_now ∙ (ap (λ (d : Disk). d.file) changes.3 ∙ is_was)) in
+    first_longer MAX_FILE_BYTES was.length now.length was.end (p + was.around) (q + was.around) same long.1
+
+-- the second isn't
+second_full : (p q n : ℕ) (old mid new : Disk) (was now : StoreFile) → old.file ≡ Some was → new.file ≡ Some now → ChangesDisk ⊤ p Done old mid → ChangesDisk ⊤ q (Full n) mid new → AreTooLong p q was now
+second_full p q n old mid new was now is_was is_now first changes =
+    let is_mid : mid.file ≡ Some (with_frame p was) = ap (λ (d : Disk). d.file) first.2 ∙ ap (option_map (with_frame p)) is_was in
+    let long = subst (λ o. IsTooLong (option_map (with_frame q) o) n) is_mid changes.2 in
+    let same = ap length_in (sym is_now ∙ (ap (λ (d : Disk). d.file) changes.3 ∙ is_mid)) in
+    second_longer MAX_FILE_BYTES was.length now.length was.end (p + was.around) (q + was.around) same long.1
+
+pub too_long : (p q n : ℕ) (old new : Disk) (was now : StoreFile) → old.file ≡ Some was → new.file ≡ Some now → WritesFrames (p ∷ q ∷ []) (Full n) old new → AreTooLong p q was now
+too_long p q n old new was now is_was is_now (inl h) = first_full p q n old new was now is_was is_now h.1
+too_long p q n old new was now is_was is_now (inr (mid, first, inl h)) = second_full p q n old mid new was now is_was is_now first h.1
+too_long p q n old new was now is_was is_now (inr (mid, first, inr (last, written, done, same))) = absurd (cc)

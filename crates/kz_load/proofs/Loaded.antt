@@ -5,12 +5,13 @@ use Rattle.kz_types.specs.declared.outside.Status.TheVariants as status
 use Rattle.kz_disk.specs.Disks.{StaysTold}
 use Rattle.kz_spec_stores.specs.Tree.{Tree, empty_tree}
 use Rattle.kz_spec_stores.specs.Log.{empty_log}
+use Rattle.kz_spec_files.specs.Frames.{Journal, tree_letter, journal_of}
 use Rattle.kz_spec_files.specs.TreeFile.{tree_of}
 use Rattle.kz_spec_files.specs.LogFile.{log_of}
 use Rattle.kz_spec_dumps.specs.Loading.{loaded}
 use Rattle.kz_spec_runs.specs.Endings.{EndsAtFailure}
 use Rattle.kz_spec_commands.specs.Files.{EndsAtDisk}
-use Rattle.kz_spec_commands.specs.Init.{init_refusal, Inits}
+use Rattle.kz_spec_commands.specs.Init.{init_refusal, IsMade, Inits}
 use Rattle.kz_spec_commands.specs.Load.{AreEmpty, Loads}
 use Rattle.kz_commands.specs.Outside.{Outside}
 use Rattle.kz_commands.specs.Makes.{MakesFiles}
@@ -31,29 +32,29 @@ source_uncalled s faults last unread = record {
 
 -- ---- a new file
 
-unopened_fills : (s : Status) (load : Result Tree Status) (new : List ℕ) → LeavesNewTree new s → Fills empty_tree load new s
-unopened_fills status.TreeFault load new left = tt
-unopened_fills status.NoMemory load new left = left
-unopened_fills status.Done load new left = absurd left
-unopened_fills status.Usage load new left = absurd left
-unopened_fills (status.Script line) load new left = absurd left
-unopened_fills status.ReadFault load new left = absurd left
-unopened_fills status.WriteFault load new left = absurd left
-unopened_fills status.LogFault load new left = absurd left
-unopened_fills (status.TreeDamaged at) load new left = absurd left
-unopened_fills (status.LogDamaged at why) load new left = absurd left
-unopened_fills (status.Disagrees path) load new left = absurd left
-unopened_fills (status.Limit which number) load new left = absurd left
-unopened_fills status.NotEmpty load new left = absurd left
-unopened_fills (status.NoOffset base end) load new left = absurd left
+unopened_fills : (s : Status) (load : Result Tree Status) (file : Journal) (new : List ℕ) → LeavesNewTree new s → Fills empty_tree load file new s
+unopened_fills status.TreeFault load file new left = tt
+unopened_fills status.NoMemory load file new left = left
+unopened_fills status.Done load file new left = absurd left
+unopened_fills status.Usage load file new left = absurd left
+unopened_fills (status.Script line) load file new left = absurd left
+unopened_fills status.ReadFault load file new left = absurd left
+unopened_fills status.WriteFault load file new left = absurd left
+unopened_fills status.LogFault load file new left = absurd left
+unopened_fills (status.TreeDamaged at) load file new left = absurd left
+unopened_fills (status.LogDamaged at why) load file new left = absurd left
+unopened_fills (status.Disagrees path) load file new left = absurd left
+unopened_fills (status.Limit which number) load file new left = absurd left
+unopened_fills status.NotEmpty load file new left = absurd left
+unopened_fills (status.NoOffset base end) load file new left = absurd left
 
 -- it isn't opened
 pub unopened_loads : (input tree tree_now : Outside) (s : Status) → IsUnopenedTree tree tree_now s → LoadsTree input input tree tree_now s
 unopened_loads input tree tree_now s is = record {
   ran = λ same. subst IsUnopenedStatus same is.told;
   other = λ same. subst IsUnopenedStatus same is.told;
-  filled = every_some (λ script. (file new : List ℕ) → tree.bytes ≡ Some file → tree_now.bytes ≡ Some new → IsNewTree file → Fills empty_tree (loaded script) new s) input.bytes
-      (λ script file new was now made. unopened_fills s (loaded script) new (is.left file new was now made));
+  filled = every_some (λ script. (file new : List ℕ) → tree.bytes ≡ Some file → tree_now.bytes ≡ Some new → IsNewTree file → Fills empty_tree (loaded script) (journal_of tree_letter file) new s) input.bytes
+      (λ script file new was now made. unopened_fills s (loaded script) (journal_of tree_letter file) new (is.left file new was now made));
   whole = λ same. absurd (subst IsUnopenedStatus same is.told);
   tree_disk = is.tree_disk;
   source = source_uncalled s input.faults input.last_failed (λ same. subst IsUnopenedStatus same is.told);
@@ -89,29 +90,38 @@ refused_loads input tree tree_now log log_now s other unread makes = record {
   source = source_uncalled s input.faults input.last_failed unread;
 }
 
-at_limit : (which number : ℕ) (script t l new_t new_l : List ℕ) → AreEmpty t l new_t new_l → IsAtLimit (loaded script) which number → Loads script t l new_t new_l (status.Limit which number)
-at_limit which number script t l new_t new_l are (inl is) = inl (is, are)
-at_limit which number script t l new_t new_l are (inr is) = inr (is.0, is.1, is.2, are)
+at_limit : (which number : ℕ) (script t l new_t new_l made : List ℕ) → IsMade tree_letter t made → AreEmpty t l new_t new_l → IsAtLimit (loaded script) (journal_of tree_letter made) new_t which number → Loads script t l new_t new_l (status.Limit which number)
+at_limit which number script t l new_t new_l made is_made are (inl is) = inl (is, are)
+at_limit which number script t l new_t new_l made is_made are (inr is) = inr (record {
+  which_is = is.0;
+  number_is = is.1;
+  root = is.2.0;
+  loaded_is = is.2.1;
+  made = made;
+  is_made = is_made;
+  too_long = is.2.2;
+  empty = are;
+})
 
 empty : (t l new_t new_l : List ℕ) → init_refusal t l ≡ None → tree_of new_t ≡ Ok empty_tree → log_of new_l ≡ Ok empty_log → AreEmpty t l new_t new_l
 empty t l new_t new_l taken tree_is log_is = record { taken = taken; stand = record { tree_is = tree_is; log_is = log_is } }
 
 -- they were made, and the tree's file was filled
-by_filling : (s : Status) (script t l new_t new_l : List ℕ) → init_refusal t l ≡ None → log_of new_l ≡ Ok empty_log → Fills empty_tree (loaded script) new_t s → Loads script t l new_t new_l s
-by_filling status.Done script t l new_t new_l taken log_is is = record { taken = taken; root = is.0; loaded_is = is.1; stand = record { tree_is = is.2; log_is = log_is } }
-by_filling (status.Script line) script t l new_t new_l taken log_is is = (is.0, empty t l new_t new_l taken is.1 log_is)
-by_filling status.ReadFault script t l new_t new_l taken log_is is = empty t l new_t new_l taken is log_is
-by_filling status.TreeFault script t l new_t new_l taken log_is is = tt
-by_filling status.NoMemory script t l new_t new_l taken log_is is = (inr is, inr log_is)
-by_filling (status.Limit which number) script t l new_t new_l taken log_is is = at_limit which number script t l new_t new_l (empty t l new_t new_l taken is.1 log_is) is.0
-by_filling status.Usage script t l new_t new_l taken log_is is = absurd is
-by_filling status.WriteFault script t l new_t new_l taken log_is is = absurd is
-by_filling status.LogFault script t l new_t new_l taken log_is is = absurd is
-by_filling (status.TreeDamaged at) script t l new_t new_l taken log_is is = absurd is
-by_filling (status.LogDamaged at why) script t l new_t new_l taken log_is is = absurd is
-by_filling (status.Disagrees path) script t l new_t new_l taken log_is is = absurd is
-by_filling status.NotEmpty script t l new_t new_l taken log_is is = absurd is
-by_filling (status.NoOffset base end) script t l new_t new_l taken log_is is = absurd is
+by_filling : (s : Status) (script t l new_t new_l made : List ℕ) → init_refusal t l ≡ None → log_of new_l ≡ Ok empty_log → IsMade tree_letter t made → Fills empty_tree (loaded script) (journal_of tree_letter made) new_t s → Loads script t l new_t new_l s
+by_filling status.Done script t l new_t new_l made taken log_is is_made is = record { taken = taken; root = is.0; loaded_is = is.1; stand = record { tree_is = is.2; log_is = log_is } }
+by_filling (status.Script line) script t l new_t new_l made taken log_is is_made is = (is.0, empty t l new_t new_l taken is.1 log_is)
+by_filling status.ReadFault script t l new_t new_l made taken log_is is_made is = empty t l new_t new_l taken is log_is
+by_filling status.TreeFault script t l new_t new_l made taken log_is is_made is = tt
+by_filling status.NoMemory script t l new_t new_l made taken log_is is_made is = (inr is, inr log_is)
+by_filling (status.Limit which number) script t l new_t new_l made taken log_is is_made is = at_limit which number script t l new_t new_l made is_made (empty t l new_t new_l taken is.1 log_is) is.0
+by_filling status.Usage script t l new_t new_l made taken log_is is_made is = absurd is
+by_filling status.WriteFault script t l new_t new_l made taken log_is is_made is = absurd is
+by_filling status.LogFault script t l new_t new_l made taken log_is is_made is = absurd is
+by_filling (status.TreeDamaged at) script t l new_t new_l made taken log_is is_made is = absurd is
+by_filling (status.LogDamaged at why) script t l new_t new_l made taken log_is is_made is = absurd is
+by_filling (status.Disagrees path) script t l new_t new_l made taken log_is is_made is = absurd is
+by_filling status.NotEmpty script t l new_t new_l made taken log_is is_made is = absurd is
+by_filling (status.NoOffset base end) script t l new_t new_l made taken log_is is_made is = absurd is
 
 still_told : (before now : Option (List ℕ)) (file : List ℕ) → StaysTold before now → before ≡ Some file → (new : List ℕ) × (now ≡ Some new)
 still_told before None file same is = absurd (cc)
@@ -121,12 +131,12 @@ pub made_loads : (input input_now tree tree_mid tree_now log log_now : Outside) 
     → LoadsTree input input_now tree_mid tree_now s → LoadsFiles input input_now tree tree_now log log_now s
 made_loads input input_now tree tree_mid tree_now log log_now s makes told loads = record {
   ran = loads.ran;
-  made = map_some (λ script. (file new : List ℕ) → tree_mid.bytes ≡ Some file → tree_now.bytes ≡ Some new → IsNewTree file → Fills empty_tree (loaded script) new s)
+  made = map_some (λ script. (file new : List ℕ) → tree_mid.bytes ≡ Some file → tree_now.bytes ≡ Some new → IsNewTree file → Fills empty_tree (loaded script) (journal_of tree_letter file) new s)
       (λ script. (t l new_t new_l : List ℕ) → tree.bytes ≡ Some t → log.bytes ≡ Some l → tree_now.bytes ≡ Some new_t → log_now.bytes ≡ Some new_l → Loads script t l new_t new_l s) input.bytes
       (λ script filled t l new_t new_l is_t is_l now_t now_l.
       let mid = still_told tree.bytes tree_mid.bytes t told is_t in
       let are = makes.files t l mid.0 new_l is_t is_l mid.1 now_l in
-      by_filling s script t l new_t new_l are.taken are.stand.log_is (filled mid.0 new_t mid.1 now_t (made_new t l mid.0 new_l are))) loads.filled;
+      by_filling s script t l new_t new_l mid.0 are.taken are.stand.log_is are.tree_made (filled mid.0 new_t mid.1 now_t (made_new t l mid.0 new_l are))) loads.filled;
   whole = loads.whole;
   tree_disk = subst (λ n. EndsAtDisk status.TreeFault s n tree_now.faults) (makes.tree_disk.calm (λ is. absurd (cc)) (λ is. absurd (cc))) loads.tree_disk;
   log_disk = quiet status.LogFault s log.faults log_now.faults loads.other (makes.log_disk.calm (λ is. absurd (cc)) (λ is. absurd (cc)));

@@ -1,5 +1,5 @@
 -- What loading a tree does with the file of a tree that was just made.
-use Rattle.std.specs.Prelude.{◌≡◌, ◌≢◌, ◌⊎◌, ⊤, ℕ, true, List, Some, IfSome, Result, Ok, Err}
+use Rattle.std.specs.Prelude.{◌≡◌, ◌≢◌, ◌⊎◌, ◌<◌, ⊤, ℕ, true, List, length, Some, IfSome, Result, Ok, Err}
 use Rattle.std.specs.Io.KnownBytes.{IsAtEnd}
 use Rattle.kz_types.specs.declared.fault.TreeFault.{TreeFault}
 use Rattle.kz_types.specs.declared.fault.TreeFault.TheVariants as tree_fault
@@ -9,11 +9,12 @@ use Rattle.kz_types.specs.declared.limits.TheConstants.{MAX_FILE_BYTES}
 use Rattle.kz_types.specs.declared.outside.Status.{Status}
 use Rattle.kz_types.specs.declared.outside.Status.TheVariants as status
 use Rattle.kz_spec_stores.specs.Tree.{Tree, empty_tree}
-use Rattle.kz_spec_files.specs.Frames.{tree_letter, journal_of}
+use Rattle.kz_spec_files.specs.Frames.{Journal, tree_letter, journal_of}
 use Rattle.kz_spec_files.specs.TreeFile.{stored_in, tree_of}
 use Rattle.kz_spec_dumps.specs.Loading.{loaded}
 use Rattle.kz_spec_runs.specs.Endings.{EndsAtFailure}
 use Rattle.kz_spec_commands.specs.Files.{EndsAtDisk}
+use Rattle.kz_spec_commands.specs.Load.{file_with_load}
 use Rattle.kz_tree_store.specs.Stores.{is_fresh_file}
 use Rattle.kz_tree_store.specs.declared.fault.TreeOpenFault.{TreeOpenFault}
 use Rattle.kz_tree_store.specs.declared.fault.TreeOpenFault.TheVariants as open_fault
@@ -69,19 +70,24 @@ status_of_load_fault tree_fault.NoMemory = status.NoMemory
 status_of_load_fault (tree_fault.Full length) = status.Limit (number_of_limit limits.TreeFileBytes) MAX_FILE_BYTES
 status_of_load_fault fault = status.TreeFault
 
--- Why an input isn't loaded at a limit: it passes the limit, or it is a tree whose frames would make the file too long.
-abbrev pub IsAtLimit : Result Tree Status → ℕ → ℕ → Type 0
-IsAtLimit load which number = (load ≡ Err (status.Limit which number)) ⊎ ((which ≡ number_of_limit limits.TreeFileBytes) × (number ≡ MAX_FILE_BYTES) × ((root : Tree) × (load ≡ Ok root)))
+-- An input is a tree whose frames would make this file too long, of which these bytes are left.
+abbrev pub HasNoRoomForLoad : Result Tree Status → Journal → List ℕ → Type 0
+HasNoRoomForLoad load file new = (root : Tree) × (load ≡ Ok root) × (MAX_FILE_BYTES < (file_with_load root file (length new)).length)
 
--- What loading makes of a file that stood for this tree before, by its status.
-abbrev pub Fills : Tree → Result Tree Status → List ℕ → Status → Type 0
-Fills before load new status.Done = (root : Tree) × (load ≡ Ok root) × (tree_of new ≡ Ok root)
-Fills before load new (status.Script line) = (load ≡ Err (status.Script line)) × (tree_of new ≡ Ok before)
-Fills before load new status.ReadFault = tree_of new ≡ Ok before
-Fills before load new status.TreeFault = ⊤
-Fills before load new status.NoMemory = tree_of new ≡ Ok before
-Fills before load new (status.Limit which number) = IsAtLimit load which number × (tree_of new ≡ Ok before)
-Fills before load new s = ⊥
+-- Why an input isn't loaded at a limit: it passes the limit, or the file would be too long.
+abbrev pub IsAtLimit : Result Tree Status → Journal → List ℕ → ℕ → ℕ → Type 0
+IsAtLimit load file new which number =
+    (load ≡ Err (status.Limit which number)) ⊎ ((which ≡ number_of_limit limits.TreeFileBytes) × (number ≡ MAX_FILE_BYTES) × HasNoRoomForLoad load file new)
+
+-- What loading makes of a file that had these frames and stood for this tree before, by its status.
+abbrev pub Fills : Tree → Result Tree Status → Journal → List ℕ → Status → Type 0
+Fills before load file new status.Done = (root : Tree) × (load ≡ Ok root) × (tree_of new ≡ Ok root)
+Fills before load file new (status.Script line) = (load ≡ Err (status.Script line)) × (tree_of new ≡ Ok before)
+Fills before load file new status.ReadFault = tree_of new ≡ Ok before
+Fills before load file new status.TreeFault = ⊤
+Fills before load file new status.NoMemory = tree_of new ≡ Ok before
+Fills before load file new (status.Limit which number) = IsAtLimit load file new which number × (tree_of new ≡ Ok before)
+Fills before load file new s = ⊥
 
 -- the statuses of a load into a file that was opened
 abbrev pub IsFilledStatus : Status → Type 0
@@ -96,7 +102,7 @@ IsFilledStatus s = ⊥
 -- What loading the tree of an input makes of an open store that held this tree.
 pub record FillsStore (before : Tree) (input input_now tree tree_now : Outside) (result : Status) : Type 0 where
   pub told : IsFilledStatus result
-  pub filled : IfSome input.bytes (λ script. (new : List ℕ) → tree_now.bytes ≡ Some new → Fills before (loaded script) new result)
+  pub filled : IfSome input.bytes (λ script. (file new : List ℕ) → tree.bytes ≡ Some file → tree_now.bytes ≡ Some new → Fills before (loaded script) (journal_of tree_letter file) new result)
   pub whole : result ≡ status.Done → IsAtEnd input_now.bytes
   pub tree_disk : EndsAtDisk status.TreeFault result tree.faults tree_now.faults
   pub source : EndsAtFailure status.ReadFault result input.faults input_now.faults input.last_failed input_now.last_failed
@@ -105,7 +111,8 @@ pub record FillsStore (before : Tree) (input input_now tree tree_now : Outside) 
 pub record LoadsTree (input input_now tree tree_now : Outside) (result : Status) : Type 0 where
   pub ran : result ≢ status.Usage
   pub other : result ≢ status.LogFault
-  pub filled : IfSome input.bytes (λ script. (file new : List ℕ) → tree.bytes ≡ Some file → tree_now.bytes ≡ Some new → IsNewTree file → Fills empty_tree (loaded script) new result)
+  pub filled : IfSome input.bytes (λ script. (file new : List ℕ) → tree.bytes ≡ Some file → tree_now.bytes ≡ Some new → IsNewTree file
+      → Fills empty_tree (loaded script) (journal_of tree_letter file) new result)
   pub whole : result ≡ status.Done → IsAtEnd input_now.bytes
   pub tree_disk : EndsAtDisk status.TreeFault result tree.faults tree_now.faults
   pub source : EndsAtFailure status.ReadFault result input.faults input_now.faults input.last_failed input_now.last_failed

@@ -1,5 +1,5 @@
 -- The command `load`: both files are made journals that stand for the tree of an input and an empty log.
-use Rattle.std.specs.Prelude.{◌≡◌, ◌⊎◌, ⊤, ℕ, true, false, List, Option, Some, None, Result, Ok, Err}
+use Rattle.std.specs.Prelude.{◌≡◌, ◌⊎◌, ⊤, ℕ, ◌+◌, ◌<◌, true, List, length, Option, Some, None, Result, Ok, Err}
 use Rattle.kz_types.specs.declared.limits.Limit.TheVariants as limits
 use Rattle.kz_types.specs.Limits.{number_of_limit}
 use Rattle.kz_types.specs.declared.limits.TheConstants.{MAX_FILE_BYTES}
@@ -7,12 +7,15 @@ use Rattle.kz_types.specs.declared.outside.Status.{Status}
 use Rattle.kz_types.specs.declared.outside.Status.TheVariants as status
 use Rattle.kz_spec_stores.specs.Tree.{Tree, empty_tree}
 use Rattle.kz_spec_stores.specs.Log.{empty_log}
-use Rattle.kz_spec_files.specs.Frames.{tree_letter, log_letter}
+use Rattle.kz_spec_stores.specs.Requests.{StoreFile, with_frame}
+use Rattle.kz_spec_files.specs.Frames.{Journal, tree_letter, log_letter, size_before, journal_of}
+use Rattle.kz_spec_files.specs.declared.files.Txn.TheVariants.{LoadRows, LoadEnd}
+use Rattle.kz_spec_files.specs.Transactions.{txn_written}
 use Rattle.kz_spec_files.specs.TreeFile.{tree_of}
 use Rattle.kz_spec_files.specs.LogFile.{log_of}
 use Rattle.kz_spec_dumps.specs.Loading.{loaded}
 use Rattle.kz_spec_commands.specs.Files.{StandFor}
-use Rattle.kz_spec_commands.specs.Init.{init_refusal, AreRefused, IsUnmade}
+use Rattle.kz_spec_commands.specs.Init.{init_refusal, IsMade, AreRefused, IsUnmade}
 
 -- The files stand for the tree of the input.
 pub record AreLoaded (input tree log new_tree new_log : List ℕ) : Type 0 where
@@ -38,10 +41,23 @@ HoldsNoTree file new = IsUnmade tree_letter file new ⊎ (tree_of new ≡ Ok emp
 abbrev pub HoldsNoLog : List ℕ → List ℕ → Type 0
 HoldsNoLog file new = IsUnmade log_letter file new ⊎ (log_of new ≡ Ok empty_log)
 
--- The frames of the tree would make its file too long: then, too, no znode is loaded.
-abbrev pub TreeIsTooLong : ℕ → ℕ → List ℕ → List ℕ → List ℕ → List ℕ → List ℕ → Type 0
-TreeIsTooLong which number input tree log new_tree new_log =
-    (which ≡ number_of_limit limits.TreeFileBytes) × (number ≡ MAX_FILE_BYTES) × ((root : Tree) × (loaded input ≡ Ok root)) × AreEmpty tree log new_tree new_log
+-- A tree's file that has these frames, and so many bytes, after the two frames that a load writes: the znodes, and the end.
+abbrev pub file_with_load : Tree → Journal → ℕ → StoreFile
+file_with_load root j size =
+    with_frame (length (txn_written (LoadEnd root.zxid root.sessions)))
+    (with_frame (length (txn_written (LoadRows true root.rows))) (record { length = size; end = j.end + 1; around = size_before j.summed }))
+
+-- The frames of the tree would make its file, as it was made, too long. The file's bytes are those that are left. Then, too, no znode
+-- is loaded.
+pub record TreeIsTooLong (which number : ℕ) (input tree log new_tree new_log : List ℕ) : Type 0 where
+  pub which_is : which ≡ number_of_limit limits.TreeFileBytes
+  pub number_is : number ≡ MAX_FILE_BYTES
+  pub root : Tree
+  pub loaded_is : loaded input ≡ Ok root
+  pub made : List ℕ
+  pub is_made : IsMade tree_letter tree made
+  pub too_long : MAX_FILE_BYTES < (file_with_load root (journal_of tree_letter made) (length new_tree)).length
+  pub empty : AreEmpty tree log new_tree new_log
 
 -- What `load` makes of two files, by its status. Files that hold a tree or a log, or are damaged, are refused as by `init`. Where a
 -- disk fails nothing is said here.
