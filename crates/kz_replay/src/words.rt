@@ -1,5 +1,7 @@
 //! The commands by their words.
+ghost use Rattle.std.specs.List.{list_all};
 ghost use Rattle.std.specs.Prelude.{◌≡◌, ℕ, option_map};
+ghost use Rattle.kz_types.specs.Numbers.{is_digit};
 ghost use Rattle.kz_spec_commands.specs.Words.{is_count, command_of_word, command_of_two, command_of};
 ghost use Rattle.kz_replay.specs.Commands.{defined_command, HasAllowed};
 
@@ -36,14 +38,18 @@ fn command_of_word(word: &str) -> Option<Command>
     }
 }
 
+fn are_digits(text: &[u8]) -> bool
+    ensures { result ≡ list_all is_digit text.now }
+{
+    text.iter().all(|byte| matches!(byte, b'0'..=b'9'))
+}
+
 // Whether these bytes are digits, of which the first isn't 0.
 fn is_count(text: &[u8]) -> bool
     ensures { result ≡ is_count text.now }
 {
     match text {
-        [first, rest @ ..] => {
-            b'1' <= *first && *first <= b'9' && rest.iter().all(|byte| b'0' <= *byte && *byte <= b'9')
-        }
+        [first, rest @ ..] => matches!(first, b'1'..=b'9') && are_digits(rest),
         [] => false,
     }
 }
