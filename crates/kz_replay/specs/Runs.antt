@@ -12,7 +12,7 @@ use Rattle.kz_load.specs.LoadsFiles.{LoadsFiles}
 use Rattle.kz_reports.specs.Tells.{Tells}
 use Rattle.kz_replay.specs.Generates.{Generates}
 use Rattle.kz_replay.specs.Replays.{Replays}
-use Rattle.kz_replay.specs.Stops.{Contents, ReplayStops, StandAsBefore}
+use Rattle.kz_replay.specs.Stops.{Contents, ReplayStops, StandAsBefore, IsUntouched}
 
 -- A command that reads and writes nothing makes this of the files.
 pub record MakesFilesAlone (holds : List ℕ → List ℕ → List ℕ → List ℕ → Status → Type 0) (input input_now out out_now tree tree_now log log_now : Outside) (result : Status) : Type 0 where
@@ -39,4 +39,4 @@ pub record RunStops (words : List (String Global)) (input out out_now : Option (
   pub replay : command_of words ≡ Some Replay → ReplayStops input out out_now tree tree_now log log_now
   pub upgrade : command_of words ≡ Some Upgrade → StandAsBefore tree tree_now log log_now
   pub tell : (r : Report) → command_of words ≡ Some (Tell r) → StandAsBefore tree tree_now log log_now
-  pub generate : (changes : Option ℕ) → command_of words ≡ Some (Generate changes) → (tree_now ≡ tree) × (log_now ≡ log)
+  pub generate : (changes : Option ℕ) → command_of words ≡ Some (Generate changes) → IsUntouched tree tree_now × IsUntouched log log_now

@@ -44,3 +44,7 @@ ReplayStops input out out_now tree tree_now log log_now = (t l : List ℕ) (open
 -- Whatever a stop leaves of both files, each stands for what it stood for.
 abbrev pub StandAsBefore : Contents → Contents → Contents → Contents → Type 0
 StandAsBefore tree tree_now log log_now = StandsAtStop tree_of tree.told tree.leaves tree.syncs tree_now.syncs tree_now.leaves × StandsAtStop log_of log.told log.leaves log.syncs log_now.syncs log_now.leaves
+
+-- A stop leaves of a disk what it would have left before.
+abbrev pub IsUntouched : Contents → Contents → Type 0
+IsUntouched disk now = (now.told ≡ disk.told) × ((bytes : List ℕ) → now.leaves bytes → disk.leaves bytes)
