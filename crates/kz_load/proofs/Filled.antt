@@ -17,9 +17,7 @@ use Rattle.kz_spec_dumps.specs.Loading.{loaded}
 use Rattle.kz_spec_runs.specs.Endings.{EndsAtFailure}
 use Rattle.kz_spec_commands.specs.Load.{file_with_load}
 use Rattle.kz_tree_store.specs.Opened.{Known, IsTreeFile, tree_known}
-use Rattle.kz_journal.specs.declared.place.Place.{Place}
-use Rattle.kz_journal.specs.Journals.{IsReadTo, HasClosedGate, file_at, file_of}
-use Rattle.kz_journal.proofs.Steps.{held_closed}
+use Rattle.kz_journal.specs.Journals.{file_of}
 use Rattle.kz_tree_store.specs.LoadCalls.{WritesFrames}
 use Rattle.kz_commands.specs.Outside.{Outside}
 use Rattle.kz_commands.proofs.Disks.{failed, quiet}
@@ -54,10 +52,6 @@ source_quiet own result s faults faults_now last last_now other unread h = recor
 rose_between : (a b c d : ℕ) → a ≡ b → c ≡ d → Rose a c → Rose b d
 rose_between a b c d was now rose = subst (λ n. Rose n d) was (subst (λ n. Rose a n) now rose)
 
--- a tree's file, as its store tells it
-pub file_known : (letter : ℕ) (place : Place) (file : List ℕ) → letter ≡ tree_letter → IsReadTo letter place file → HasClosedGate place file → place.gate < place.length → Some (file_at place) ≡ Some (file_of tree_letter file)
-file_known letter place file is read closed stands = ap Some (held_closed letter place file read closed stands ∙ ap (λ l. file_of l file) is)
-
 -- Where a file would be too long, the frames of the tree would make it so.
 abbrev pub HasNoRoom : TreeFault → Tree → Option (List ℕ) → Option (List ℕ) → Type 0
 HasNoRoom (tree_fault.Full length_told) root was now = (file new : List ℕ) → was ≡ Some file → now ≡ Some new → MAX_FILE_BYTES < (file_with_load root (journal_of tree_letter file) (length new)).length
@@ -72,8 +66,10 @@ pub no_room : (fault : TreeFault) (root : Tree) (old new : Disk) (was now : Opti
     → ((file : List ℕ) → was ≡ Some file → old.file ≡ Some (file_of tree_letter file)) → (new.down ≡ false → (file : List ℕ) → now ≡ Some file → new.file ≡ Some (file_of tree_letter file))
     → HasNoRoom fault root was now
 no_room (tree_fault.Full size) root old new was now up frames before after = λ file left was_is now_is.
-    let still = wrote _ (Full size) old new up frames in
-    too_long _ _ size old new (file_of tree_letter file) (file_of tree_letter left) (before file was_is) (after still.0 left now_is) frames
+    let rows = length (txn_written (LoadRows true root.rows)) in
+    let last = length (txn_written (LoadEnd root.zxid root.sessions)) in
+    let still = wrote (rows ∷ last ∷ []) (Full size) old new up frames in
+    too_long rows last size old new (file_of tree_letter file) (file_of tree_letter left) (before file was_is) (after still.0 left now_is) frames
 no_room (tree_fault.Refused index code) root old new was now up frames before after = tt
 no_room (tree_fault.Limit index number) root old new was now up frames before after = tt
 no_room tree_fault.NoMemory root old new was now up frames before after = tt

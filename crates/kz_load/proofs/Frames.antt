@@ -1,5 +1,5 @@
 -- What writing the frames of a load does to a disk.
-use Rattle.std.proofs.Common.{◌≡◌, inl, inr, ℕ, ◌+◌, ◌<◌, max, false, List, [], ◌∷◌, Option, Some, None, option_map, ap, sym, ◌∙◌, subst}
+use Rattle.std.proofs.Common.{◌≡◌, inl, inr, ℕ, ◌+◌, ◌<◌, max, false, List, [], ◌∷◌, Option, Some, None, option_map, ap, sym, ◌∙◌, subst, arith}
 use Rattle.std.specs.Prelude.{⊤}
 use Rattle.kz_types.specs.Causes.{Rose}
 use Rattle.kz_types.specs.declared.limits.TheConstants.{MAX_FILE_BYTES}
@@ -67,6 +67,7 @@ second_longer most size now end p q same h = grind (arith)
 
 -- the first of two frames isn't written
 first_full : (p q n : ℕ) (old new : Disk) (was now : StoreFile) → old.file ≡ Some was → new.file ≡ Some now → ChangesDisk ⊤ p (Full n) old new → AreTooLong p q was now
+unfolding length_in
 first_full p q n old new was now is_was is_now changes =
     let long = subst (λ o. IsTooLong (option_map (with_frame p) o) n) is_was changes.2 in
     let same = ap length_in (sym is_now ∙ (ap (λ (d : Disk). d.file) changes.3 ∙ is_was)) in
@@ -74,6 +75,7 @@ first_full p q n old new was now is_was is_now changes =
 
 -- the second isn't
 second_full : (p q n : ℕ) (old mid new : Disk) (was now : StoreFile) → old.file ≡ Some was → new.file ≡ Some now → ChangesDisk ⊤ p Done old mid → ChangesDisk ⊤ q (Full n) mid new → AreTooLong p q was now
+unfolding length_in
 second_full p q n old mid new was now is_was is_now first changes =
     let is_mid : mid.file ≡ Some (with_frame p was) = ap (λ (d : Disk). d.file) first.2 ∙ ap (option_map (with_frame p)) is_was in
     let long = subst (λ o. IsTooLong (option_map (with_frame q) o) n) is_mid changes.2 in
@@ -83,4 +85,4 @@ second_full p q n old mid new was now is_was is_now first changes =
 pub too_long : (p q n : ℕ) (old new : Disk) (was now : StoreFile) → old.file ≡ Some was → new.file ≡ Some now → WritesFrames (p ∷ q ∷ []) (Full n) old new → AreTooLong p q was now
 too_long p q n old new was now is_was is_now (inl h) = first_full p q n old new was now is_was is_now h.1
 too_long p q n old new was now is_was is_now (inr (mid, first, inl h)) = second_full p q n old mid new was now is_was is_now first h.1
-too_long p q n old new was now is_was is_now (inr (mid, first, inr (last, written, done, same))) = absurd (cc)
+too_long p q n old new was now is_was is_now (inr (mid, first, inr (last, written, ended))) = absurd (cc ended.0)

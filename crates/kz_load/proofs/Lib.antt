@@ -1,3 +1,4 @@
+pub mod Closed
 pub mod Made
 pub mod Frames
 pub mod Filled

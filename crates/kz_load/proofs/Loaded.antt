@@ -13,11 +13,13 @@ use Rattle.kz_spec_runs.specs.Endings.{EndsAtFailure}
 use Rattle.kz_spec_commands.specs.Files.{EndsAtDisk}
 use Rattle.kz_spec_commands.specs.Init.{init_refusal, IsMade, Inits}
 use Rattle.kz_spec_commands.specs.Load.{AreEmpty, Loads}
+use Rattle.kz_tree_store.specs.declared.store.TreeStore.{TreeStore}
+use Rattle.kz_tree_store.specs.Stores as trees
 use Rattle.kz_commands.specs.Outside.{Outside}
 use Rattle.kz_commands.specs.Makes.{MakesFiles}
 use Rattle.kz_commands.proofs.Disks.{quiet}
 use Rattle.kz_load.specs.LoadsFiles.{LoadsFiles}
-use Rattle.kz_load.specs.LoadsTrees.{IsNewTree, LeavesNewTree, IsUnopenedStatus, IsUnopenedTree, IsAtLimit, Fills, LoadsTree}
+use Rattle.kz_load.specs.LoadsTrees.{IsNewTree, LeavesNewTree, IsUnopenedStatus, IsUnopenedTree, IsAtLimit, Fills, IsFilledStatus, FillsStore, LoadsTree}
 use Rattle.kz_load.proofs.Filled.{map_some, every_some}
 use Rattle.kz_load.proofs.Made.{made_new}
 
@@ -58,6 +60,30 @@ unopened_loads input tree tree_now s is = record {
   whole = λ same. absurd (subst IsUnopenedStatus same is.told);
   tree_disk = is.tree_disk;
   source = source_uncalled s input.faults input.last_failed (λ same. subst IsUnopenedStatus same is.told);
+}
+
+-- what a file is filled with that says what another one said
+fills_same : (load : Result Tree Status) (file same : List ℕ) (new : List ℕ) (s : Status) → journal_of tree_letter same ≡ journal_of tree_letter file → Fills empty_tree load (journal_of tree_letter same) new s → Fills empty_tree load (journal_of tree_letter file) new s
+fills_same load file same new s is h = subst (λ j. Fills empty_tree load j new s) is h
+
+one_tree : (r : Result Tree ℕ) (a b : Tree) → r ≡ Ok a → r ≡ Ok b → a ≡ b
+one_tree r a b is_a is_b = cc (is_a, is_b)
+
+-- a store was opened and filled
+pub opened_loads : {D : Type 0} {disk : _} (store : TreeStore D disk) (input input_now tree tree_mid tree_now : Outside) (s : Status) → trees.IsOpened store tree.bytes tree_mid.bytes → tree_mid.faults ≡ tree.faults
+    → FillsStore (trees.held_tree store) input input_now tree_mid tree_now s → LoadsTree input input_now tree tree_now s
+opened_loads store input input_now tree tree_mid tree_now s opened calm fills = record {
+  ran = λ same. subst IsFilledStatus same fills.told;
+  other = λ same. subst IsFilledStatus same fills.told;
+  filled = map_some (λ script. (file new : List ℕ) → tree_mid.bytes ≡ Some file → tree_now.bytes ≡ Some new → Fills (trees.held_tree store) (loaded script) (journal_of tree_letter file) new s)
+      (λ script. (file new : List ℕ) → tree.bytes ≡ Some file → tree_now.bytes ≡ Some new → IsNewTree file → Fills empty_tree (loaded script) (journal_of tree_letter file) new s) input.bytes
+      (λ script filled file new was now made.
+      let says = opened.same file was in
+      fills_same (loaded script) file says.0 new s says.2
+      (subst (λ t. Fills t (loaded script) (journal_of tree_letter says.0) new s) (one_tree (tree_of file) (trees.held_tree store) empty_tree (opened.tree file was) made.empty) (filled says.0 new says.1 now))) fills.filled;
+  whole = fills.whole;
+  tree_disk = subst (λ n. EndsAtDisk status.TreeFault s n tree_now.faults) calm fills.tree_disk;
+  source = fills.source;
 }
 
 -- ---- two files

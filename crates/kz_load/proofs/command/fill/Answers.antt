@@ -1,4 +1,5 @@
-use Rattle.std.proofs.Common.{◌≡◌, false, Some, is_none, refl, sym, ap, ◌∙◌, subst, to_z, of_z, w64}
+use Rattle.std.proofs.Common.{◌≡◌, ℕ, ℤ, true, false, List, Some, is_none, refl, sym, ap, ◌∙◌, subst, to_z, of_z, to_z-of_z, SFits, rules, w64}
+use Rattle.kz_spec_stores.specs.Requests.{answer_of_tree_fault}
 use Rattle.kz_spec_dumps.specs.Loading.{tree_with}
 use Rattle.kz_tree_store.specs.Opened.{Known}
 use Rattle.kz_tree_store.specs.declared.last.LoadLast.{LoadLast}
@@ -7,7 +8,8 @@ use Rattle.kz_tree_store.specs.Stores.{held_tree, known, store_disk, store_state
 use Rattle.kz_commands.specs.Outside.{outside}
 use Rattle.kz_load.specs.LoadsTrees.{FillsStore}
 use Rattle.kz_load.proofs.Frames.{wrote}
-use Rattle.kz_load.proofs.Filled.{stands, no_room, file_known, fault_fills}
+use Rattle.kz_load.proofs.Closed.{told_file}
+use Rattle.kz_load.proofs.Filled.{stands, no_room, fault_fills}
 use Rattle.kz_load.proofs.command.fill.Goals as goal
 
 pub returns : goal.returns
@@ -25,10 +27,17 @@ returns g c =
     let last : LoadLast = record { zxid = to_z w64 (of_z w64 read.zxid); sessions = read.sessions } in
     let up : old.down ≡ false = sym s.down_is ∙ c.requires.up in
     let root = tree_with read.zxid read.sessions read.rows in
-    let written = subst (λ f. WritesFrames (load_payloads f root.rows (Some last)) _ old new) (ap is_none c.requires.unloaded) c.in-Err-load.ensures.disk in
+    let fits : SFits w64 read.zxid = search rules in
+    let answer = answer_of_tree_fault c.in-Err-load.fault in
+    let disk : WritesFrames (load_payloads (is_none s.loaded) c.as_slice.result.now (Some last)) answer old new = c.in-Err-load.ensures.disk in
+    let ends : LoadLast → List ℕ = λ l. load_payloads true root.rows (Some l) in
+    let written : WritesFrames (ends (record { zxid = read.zxid; sessions = read.sessions })) answer old new =
+        subst (λ (z : ℤ). WritesFrames (ends (record { zxid = z; sessions = read.sessions })) answer old new) (to_z-of_z fits)
+        (subst (λ f. WritesFrames (load_payloads f root.rows (Some last)) answer old new) (ap is_none c.requires.unloaded)
+        (subst (λ rows. WritesFrames (load_payloads (is_none s.loaded) rows (Some last)) answer old new) c.as_slice.ensures disk)) in
     let room = no_room c.in-Err-load.fault root old new (told (store_disk s)) (told (store_disk t)) up written
-        (λ file is. file_known s.journal.letter s.journal.place file s.letter (s.journal.read up file is) (s.journal.closed up (s.ended up) file is) (s.journal.stands (s.ended up)))
-        (λ still file is. file_known t.journal.letter t.journal.place file t.letter (t.journal.read still file is) (t.journal.closed still (t.ended still) file is) (t.journal.stands (t.ended still))) in
+        (λ file is. told_file s.journal.letter s.journal.place file (s.journal.read up file is) (s.journal.closed up (s.ended up) file is) (s.journal.stands (s.ended up)) s.letter)
+        (λ still file is. told_file t.journal.letter t.journal.place file (t.journal.read still file is) (t.journal.closed still (t.ended still) file is) (t.journal.stands (t.ended still)) t.letter) in
     subst (λ r. FillsStore (held_tree s) input input_now tree tree_now r) (sym c.load_status.ensures)
-    (fault_fills _ _ c.in-Err-load.fault (held_tree s) root input input_now tree tree_now old new refl refl (wrote _ _ old new up written)
+    (fault_fills _ _ c.in-Err-load.fault (held_tree s) root input input_now tree tree_now old new refl refl (wrote (ends (record { zxid = read.zxid; sessions = read.sessions })) answer old new up written)
     (λ still. stands (told (store_disk t)) (known t) (held_tree s) (ap (λ (k : Known). k.tree) c.in-Err-load.ensures.same) (t.same still)) room c.in-Ok.ensures.loaded (λ is. absurd (cc)) c.in-Ok.ensures.source)
