@@ -217,18 +217,18 @@ opened_tells r ended out out_now tree tree_now log log_now are prints ends =
     let own = own_where_ok r are.found are.held ended out.bytes out_now.bytes prints in
     let told = told_status ended own in
     record {
-  ran = told_differs (status_of ended) status.Usage told (λ h. h);
-  damaged = λ t l is_t is_l. subst (λ d. TellsDamage d (status_of ended) out out_now) (sym (both_whole t l are.found are.held (are.tree_stands t is_t) (are.log_stands l is_l))) tt;
-  told = λ t l a b is_t is_l stand.
-      subst (λ x. (sent : List ℕ) × Appends out.bytes out_now.bytes sent × EndsAsPrinted (report_of r x b) sent (status_of ended)) (ok_same (tree_of t) are.found a (are.tree_stands t is_t) stand.tree_is)
-      (subst (λ x. (sent : List ℕ) × Appends out.bytes out_now.bytes sent × EndsAsPrinted (report_of r are.found x) sent (status_of ended)) (ok_same (log_of l) are.held b (are.log_stands l is_l) stand.log_is)
-      (told_ends r are.found are.held ended out.bytes out_now.bytes prints));
-  files = λ t l new_t new_l is_t is_l is_new_t is_new_l. leaves_told (status_of ended) t l new_t new_l told
-      (says tree_letter t new_t tree_now.bytes (are.tree_same t is_t) is_new_t, says log_letter l new_l log_now.bytes (are.log_same l is_l) is_new_l);
-  tree_disk = record { cause = λ same. absurd (told_differs (status_of ended) status.TreeFault told (λ h. h) same); calm = λ _ _. are.tree_calm };
-  log_disk = record { cause = λ same. absurd (told_differs (status_of ended) status.LogFault told (λ h. h) same); calm = λ _ _. are.log_calm };
-  sink = sink_told ended out.faults out_now.faults out.last_failed out_now.last_failed own ends;
-}
+      ran = told_differs (status_of ended) status.Usage told (λ h. h);
+      damaged = λ t l is_t is_l. subst (λ d. TellsDamage d (status_of ended) out out_now) (sym (both_whole t l are.found are.held (are.tree_stands t is_t) (are.log_stands l is_l))) tt;
+      told = λ t l a b is_t is_l stand.
+          subst (λ x. (sent : List ℕ) × Appends out.bytes out_now.bytes sent × EndsAsPrinted (report_of r x b) sent (status_of ended)) (ok_same (tree_of t) are.found a (are.tree_stands t is_t) stand.tree_is)
+          (subst (λ x. (sent : List ℕ) × Appends out.bytes out_now.bytes sent × EndsAsPrinted (report_of r are.found x) sent (status_of ended)) (ok_same (log_of l) are.held b (are.log_stands l is_l) stand.log_is)
+          (told_ends r are.found are.held ended out.bytes out_now.bytes prints));
+      files = λ t l new_t new_l is_t is_l is_new_t is_new_l. leaves_told (status_of ended) t l new_t new_l told
+          (says tree_letter t new_t tree_now.bytes (are.tree_same t is_t) is_new_t, says log_letter l new_l log_now.bytes (are.log_same l is_l) is_new_l);
+      tree_disk = record { cause = λ same. absurd (told_differs (status_of ended) status.TreeFault told (λ h. h) same); calm = λ _ _. are.tree_calm };
+      log_disk = record { cause = λ same. absurd (told_differs (status_of ended) status.LogFault told (λ h. h) same); calm = λ _ _. are.log_calm };
+      sink = sink_told ended out.faults out_now.faults out.last_failed out_now.last_failed own ends;
+    }
 
 -- the same of two stores that were opened
 pub opened_stores_tell : {D E : Type 0} {tree_disk : _} {log_disk : _} (r : Report) (t : TreeStore D tree_disk) (l : LogStore E log_disk) (ended : Result Status OutputFault) (out out_now tree tree_now log log_now : Outside) → AreOpened t l tree tree_now log log_now

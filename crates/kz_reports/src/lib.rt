@@ -13,6 +13,5 @@ mod texts;
 pub use command::tell;
 pub use report::Report;
 
-
 #[cfg(test)]
 mod tests;

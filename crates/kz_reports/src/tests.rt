@@ -110,12 +110,28 @@ fn an_offset_after_the_end_is_refused(rt: HostRuntime) {
 fn a_failed_write_ends_a_report(rt: HostRuntime) {
     let alloc = rt.alloc();
     for (report, _) in &REPORTS {
-        tells(&rt, alloc, *report, (TREE, LOG), &[0], &Status::WriteFault, "");
+        tells(
+            &rt,
+            alloc,
+            *report,
+            (TREE, LOG),
+            &[0],
+            &Status::WriteFault,
+            "",
+        );
     }
 }
 
 #[test]
 fn a_damaged_file_is_told(rt: HostRuntime) {
     let damaged = Status::TreeDamaged { at: 0 };
-    tells(&rt, rt.alloc(), Report::Figures, (b"", LOG), &[], &damaged, "");
+    tells(
+        &rt,
+        rt.alloc(),
+        Report::Figures,
+        (b"", LOG),
+        &[],
+        &damaged,
+        "",
+    );
 }

@@ -676,11 +676,7 @@ const STATUSES: [(Status, u8, &str); 8] = [
         11,
         "limit 10",
     ),
-    (
-        Status::NoOffset { base: -1, end: 4 },
-        13,
-        "no offset -1 4",
-    ),
+    (Status::NoOffset { base: -1, end: 4 }, 13, "no offset -1 4"),
 ];
 
 #[test]

@@ -102,8 +102,13 @@ check_lines (Disagrees path) = []
 
 abbrev pub figures_of : Tree → Log → Figures
 figures_of t l = record {
-  zxid = t.zxid; znodes = length t.rows; epoch = l.epoch; base = l.base; end = end_of l;
-  migration = (image_at l (end_of l)).state; recorded = option_map (λ (r : Recorded). r.offset) (migration_record t)
+  zxid = t.zxid;
+  znodes = length t.rows;
+  epoch = l.epoch;
+  base = l.base;
+  end = end_of l;
+  migration = (image_at l (end_of l)).state;
+  recorded = option_map (λ (r : Recorded). r.offset) (migration_record t);
 }
 
 -- a word and a number, as a line

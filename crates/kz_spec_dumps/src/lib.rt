@@ -3,10 +3,9 @@
 //! The definitions stand in specs/. A law is the contract of a function that does nothing.
 #![tactic(auto)]
 
-mod dumps;
 mod dump_laws;
+mod dumps;
 mod load_laws;
 mod script_laws;
 
-pub use dumps::Figures;
-pub use dumps::LoadLine;
+pub use dumps::{Figures, LoadLine};

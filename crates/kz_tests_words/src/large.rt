@@ -26,7 +26,10 @@ fn a_generated_script_is_replayed(rt: HostRuntime) {
 
 // A line of a load.
 fn push_line(rt: &impl Abort, alloc: Global, lines: &mut Vec<u8>, path: &str, text: &str) {
-    let line = made(rt, format!(in alloc; "{{\"path\":\"{path}\",\"text\":\"{text}\"}}\n"));
+    let line = made(
+        rt,
+        format!(in alloc; "{{\"path\":\"{path}\",\"text\":\"{text}\"}}\n"),
+    );
     made(rt, lines.extend_from_slice(line.as_bytes()));
 }
 
@@ -40,7 +43,9 @@ fn cluster(rt: &impl Abort, alloc: Global, topics: u16) -> Vec<u8> {
         let path = made(rt, format!(in alloc; "/brokers/topics/t{number}"));
         let body = made(
             rt,
-            format!(in alloc; "{{\\\"version\\\":3,\\\"partitions\\\":{{\\\"0\\\":[1]}},\\\"topic_id\\\":\\\"AAAAAAAAAA{number}AAAAAAAAA\\\"}}"),
+            format!(in alloc;
+                "{{\\\"version\\\":3,\\\"partitions\\\":{{\\\"0\\\":[1]}},\\\"topic_id\\\":\\\"AAAAAAAAAA{number}AAAAAAAAA\\\"}}"
+            ),
         );
         push_line(rt, alloc, &mut lines, path.as_str(), body.as_str());
     }
@@ -59,7 +64,14 @@ static MIGRATION: &str = r#"{"event":"quorum","ids":[3000]}
 fn a_dump_is_loaded_again(rt: HostRuntime) {
     let alloc = rt.alloc();
     let lines = cluster(&rt, alloc, 200);
-    let loaded = ended(&rt, alloc, &["load"], &lines, disk(&rt, alloc), disk(&rt, alloc));
+    let loaded = ended(
+        &rt,
+        alloc,
+        &["load"],
+        &lines,
+        disk(&rt, alloc),
+        disk(&rt, alloc),
+    );
     assert!(rt; loaded.code == 0);
     let Ended { tree, log, .. } = loaded;
     let migrated = ended(&rt, alloc, &["replay"], MIGRATION.as_bytes(), tree, log);
@@ -67,7 +79,14 @@ fn a_dump_is_loaded_again(rt: HostRuntime) {
     let Ended { tree, log, .. } = migrated;
     let dumped = ended(&rt, alloc, &["dump-tree"], b"", tree, log);
     assert!(rt; dumped.code == 0);
-    let again = ended(&rt, alloc, &["load"], &dumped.out, disk(&rt, alloc), disk(&rt, alloc));
+    let again = ended(
+        &rt,
+        alloc,
+        &["load"],
+        &dumped.out,
+        disk(&rt, alloc),
+        disk(&rt, alloc),
+    );
     assert!(rt; again.code == 0);
     let Ended { tree, log, .. } = again;
     let same = ended(&rt, alloc, &["dump-tree"], b"", tree, log);

@@ -18,10 +18,21 @@ static BROKER: &str = r#"{"zxid":9}
 fn a_path_that_disagrees_ends_a_check(rt: HostRuntime) {
     let alloc = rt.alloc();
     let script = MIGRATION.as_bytes();
-    let empty = ended(&rt, alloc, &["init"], b"", disk(&rt, alloc), disk(&rt, alloc));
+    let empty = ended(
+        &rt,
+        alloc,
+        &["init"],
+        b"",
+        disk(&rt, alloc),
+        disk(&rt, alloc),
+    );
     let Ended { tree, log, .. } = empty;
     let migrated = ended(&rt, alloc, &["replay"], script, tree, log);
-    let Ended { tree: _, log: other, .. } = migrated;
+    let Ended {
+        tree: _,
+        log: other,
+        ..
+    } = migrated;
     let loaded = ended(
         &rt,
         alloc,

@@ -7,10 +7,10 @@ ghost use Rattle.kz_world_parts.specs.Disks.{disks_in};
 ghost use Rattle.kz_world_parts.specs.Stops.{EventLeaves};
 ghost use Rattle.kz_world_parts.specs.Worlds.{world_of, world_of_parts, IsDone, AreKept};
 
-use kz_verdict::verdict;
 use kz_log::MetaLog;
 use kz_tree::{Tree, ZTree};
 use kz_types::{Answer, NoMemory, Verdict};
+use kz_verdict::verdict;
 use kz_work::read_whole;
 use kz_world_parts::{EventFault, Parts, read};
 use std::alloc::Global;

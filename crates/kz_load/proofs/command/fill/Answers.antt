@@ -32,12 +32,12 @@ returns g c =
     let disk : WritesFrames (load_payloads (is_none s.loaded) c.as_slice.result.now (Some last)) answer old new = c.in-Err-load.ensures.disk in
     let ends : LoadLast → List ℕ = λ l. load_payloads true root.rows (Some l) in
     let written : WritesFrames (ends (record { zxid = read.zxid; sessions = read.sessions })) answer old new =
-        subst (λ (z : ℤ). WritesFrames (ends (record { zxid = z; sessions = read.sessions })) answer old new) (to_z-of_z fits)
-        (subst (λ f. WritesFrames (load_payloads f root.rows (Some last)) answer old new) (ap is_none c.requires.unloaded)
-        (subst (λ rows. WritesFrames (load_payloads (is_none s.loaded) rows (Some last)) answer old new) c.as_slice.ensures disk)) in
+    subst (λ (z : ℤ). WritesFrames (ends (record { zxid = z; sessions = read.sessions })) answer old new) (to_z-of_z fits)
+    (subst (λ f. WritesFrames (load_payloads f root.rows (Some last)) answer old new) (ap is_none c.requires.unloaded)
+    (subst (λ rows. WritesFrames (load_payloads (is_none s.loaded) rows (Some last)) answer old new) c.as_slice.ensures disk)) in
     let room = no_room c.in-Err-load.fault root old new (told (store_disk s)) (told (store_disk t)) up written
-        (λ file is. told_file s.journal.letter s.journal.place file (s.journal.read up file is) (s.journal.closed up (s.ended up) file is) (s.journal.stands (s.ended up)) s.letter)
-        (λ still file is. told_file t.journal.letter t.journal.place file (t.journal.read still file is) (t.journal.closed still (t.ended still) file is) (t.journal.stands (t.ended still)) t.letter) in
+    (λ file is. told_file s.journal.letter s.journal.place file (s.journal.read up file is) (s.journal.closed up (s.ended up) file is) (s.journal.stands (s.ended up)) s.letter)
+    (λ still file is. told_file t.journal.letter t.journal.place file (t.journal.read still file is) (t.journal.closed still (t.ended still) file is) (t.journal.stands (t.ended still)) t.letter) in
     subst (λ r. FillsStore (held_tree s) input input_now tree tree_now r) (sym c.load_status.ensures)
     (fault_fills _ _ c.in-Err-load.fault (held_tree s) root input input_now tree tree_now old new refl refl (wrote (ends (record { zxid = read.zxid; sessions = read.sessions })) answer old new up written)
     (λ still. stands (told (store_disk t)) (known t) (held_tree s) (ap (λ (k : Known). k.tree) c.in-Err-load.ensures.same) (t.same still)) room c.in-Ok.ensures.loaded (λ is. absurd (cc)) c.in-Ok.ensures.source)
