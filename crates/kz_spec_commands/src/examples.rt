@@ -1,11 +1,15 @@
-//! Laws by example: words, and what `init` refuses.
-ghost use Rattle.std.specs.Prelude.{◌≡◌, [], ◌∷◌, ◌++◌, Some, None, true, false, codes};
+//! Laws by example: words, what `init` refuses, what is told, and how long a file is after a load.
+ghost use Rattle.std.specs.Prelude.{◌≡◌, [], ◌∷◌, ◌++◌, Some, None, true, false, pos, negsuc, codes};
 ghost use Rattle.kz_types.specs.declared.outside.Status.TheVariants as status;
 ghost use Rattle.kz_types.specs.declared.fault.LogWhy.TheVariants as why;
-ghost use Rattle.kz_spec_files.specs.Frames.{tree_letter, log_letter, new_file};
+ghost use Rattle.kz_spec_stores.specs.Tree.{empty_tree};
+ghost use Rattle.kz_spec_stores.specs.Log.{empty_log};
+ghost use Rattle.kz_spec_files.specs.Frames.{tree_letter, log_letter, new_file, journal_of};
 ghost use Rattle.kz_spec_commands.specs.Words.{Init, Load, Replay, Upgrade, Tell, Generate, DumpTree, DumpLog, Render, RenderAt, Check, Figures, command_of_words};
 ghost use Rattle.kz_spec_commands.specs.Files.{damage};
 ghost use Rattle.kz_spec_commands.specs.Init.{init_refusal};
+ghost use Rattle.kz_spec_commands.specs.Load.{file_with_load};
+ghost use Rattle.kz_spec_commands.specs.Reports.{printed, refused, report_of, script_of};
 
 /// The words of each command, and words that name none.
 #[tactic(auto, unfolding(crate::proofs::OnLiterals::commands_on_literals))]
@@ -50,4 +54,21 @@ pub fn files()
     ensures read { damage (new_file tree_letter) (new_file log_letter) ≡ None }
     ensures swapped { init_refusal (new_file log_letter ++ 0 ∷ []) [] ≡ Some (status.TreeDamaged 0) }
     ensures reset { init_refusal [] (codes "KZ-JOURNAL L 01\n" ++ 0xa5 ∷ 0 ∷ 0 ∷ 0 ∷ 5 ∷ 2 ∷ 0 ∷ 0 ∷ 0 ∷ 0 ∷ 0 ∷ []) ≡ Some status.NotEmpty }
+{}
+
+/// What is told of an empty tree and an empty log, and of a script that is too long.
+#[tactic(auto, unfolding(crate::proofs::OnLiterals::commands_on_literals))]
+pub fn reports()
+    ensures tree { report_of DumpTree empty_tree empty_log ≡ printed (codes "{\"sessions\":[],\"zxid\":0}\n") }
+    ensures log { report_of DumpLog empty_tree empty_log ≡ printed (codes "{\"base\":-1,\"end\":-1,\"epoch\":0}\n") }
+    ensures no_offset { report_of (RenderAt 0) empty_tree empty_log ≡ refused (status.NoOffset (negsuc 0) (negsuc 0)) }
+    ensures check { report_of Check empty_tree empty_log ≡ printed (codes "unmigrated\n") }
+    ensures figures { report_of Figures empty_tree empty_log ≡ printed (codes "zxid 0\nznodes 0\nepoch 0\nbase -1\nend -1\nmigration 0\nrecorded none\n") }
+    ensures too_long { script_of None ≡ refused (status.Limit 14 100000) }
+{}
+
+/// A tree without znodes makes a new file 37 bytes longer: frames with 6 and 13 bytes, and 9 bytes around each.
+#[tactic(auto, unfolding(crate::proofs::OnLiterals::commands_on_literals))]
+pub fn loads()
+    ensures length { (file_with_load empty_tree (journal_of tree_letter (new_file tree_letter)) 17).length ≡ 54 }
 {}
