@@ -1,9 +1,8 @@
 -- Lines of a list that are put one after another.
-use Rattle.std.proofs.Common.{◌≡◌, ℕ, List, [], ◌∷◌, ◌++◌, Option, refl, sym, ap, ◌∙◌, subst, append_assoc, append-nil}
+use Rattle.std.proofs.Common.{◌≡◌, ℕ, List, [], ◌∷◌, ◌++◌, Option, refl, sym, ap, ◌∙◌, subst, append_assoc}
 use Rattle.std.specs.List.{flat_map}
 use Rattle.kz_output.specs.Outputs.{Puts, WritesFront}
-use Rattle.std.specs.Io.KnownBytes.{Appends}
-use Rattle.kz_output.proofs.Chains.{nothing_put, one_more, flushed, from_nothing, front_then, front_of_more, front_of_flush}
+use Rattle.kz_output.proofs.Chains.{nothing_put, one_more, from_nothing, front_then, front_of_more, front_of_flush}
 
 -- Of a text, a front was put, and this rest is still to come.
 pub record IsPutUpTo (taken : Option (List ℕ)) (held : List ℕ) (taken_now : Option (List ℕ)) (held_now : List ℕ) (whole rest : List ℕ) : Type 0 where
@@ -21,9 +20,6 @@ with_line t u v h i j line rest whole so more = record {
   whole_is = so.whole_is ∙ sym (append_assoc so.front line rest);
 }
 
-pub at_end : (t u : Option (List ℕ)) (h i whole : List ℕ) → IsPutUpTo t h u i whole [] → Puts t h u i whole
-at_end t u h i whole so = subst (λ x. Puts t h u i x) (sym (so.whole_is ∙ append-nil so.front)) so.puts
-
 pub at_fault : (t u v : Option (List ℕ)) (h i line rest whole : List ℕ) → IsPutUpTo t h u i whole (line ++ rest) → WritesFront u v (i ++ line) → WritesFront t v (h ++ whole)
 at_fault t u v h i line rest whole so front =
     subst (λ x. WritesFront t v (h ++ x)) (append_assoc so.front line rest ∙ sym so.whole_is)
@@ -40,9 +36,6 @@ module _ (h head rest : List ℕ) (none : h ≡ []) where
 
   pub flush_fault : (t u v x : Option (List ℕ)) (i j : List ℕ) → Puts t h u i head → Puts u i v j rest → WritesFront v x j → WritesFront t x (head ++ rest)
   flush_fault t u v x i j first next w = from_nothing t x h (head ++ rest) none (front_of_flush t v x h j (head ++ rest) (one_more t u v h i j head rest first next) w)
-
-  pub all_flushed : (t u v x : Option (List ℕ)) (i j : List ℕ) → Puts t h u i head → Puts u i v j rest → Appends v x j → Appends t x (head ++ rest)
-  all_flushed t u v x i j first next last = flushed t v x h j (head ++ rest) none (one_more t u v h i j head rest first next) last
 
 -- ---- a text in one part
 
