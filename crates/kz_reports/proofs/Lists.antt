@@ -1,6 +1,5 @@
 -- Lines of a list that are put one after another.
 use Rattle.std.proofs.Common.{◌≡◌, ℕ, List, [], ◌∷◌, ◌++◌, Option, refl, sym, ap, ◌∙◌, subst, append_assoc}
-use Rattle.std.specs.List.{flat_map}
 use Rattle.kz_output.specs.Outputs.{Puts, WritesFront}
 use Rattle.kz_output.proofs.Chains.{nothing_put, one_more, from_nothing, front_then, front_of_more, front_of_flush}
 
