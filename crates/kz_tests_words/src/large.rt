@@ -1,5 +1,5 @@
 //! Long scripts and large trees.
-use crate::made::{Ended, disk, ended, made};
+use crate::made::{Outcome, disk, ended, made};
 use std::alloc::Global;
 use std::process::Abort;
 
@@ -16,8 +16,8 @@ fn a_generated_script_is_replayed(rt: HostRuntime) {
         disk(&rt, alloc),
     );
     assert!(rt; written.code == 0);
-    let Ended { out, tree, log, .. } = written;
-    let Ended { tree, log, .. } = ended(&rt, alloc, &["init"], b"", tree, log);
+    let Outcome { out, tree, log, .. } = written;
+    let Outcome { tree, log, .. } = ended(&rt, alloc, &["init"], b"", tree, log);
     let replayed = ended(&rt, alloc, &["replay"], &out, tree, log);
     assert!(rt; replayed.code == 0);
     let last = b"140 closed 125\nend events=140 steps=55 zxid=15 offset=125 recorded=125\n";
@@ -73,10 +73,10 @@ fn a_dump_is_loaded_again(rt: HostRuntime) {
         disk(&rt, alloc),
     );
     assert!(rt; loaded.code == 0);
-    let Ended { tree, log, .. } = loaded;
+    let Outcome { tree, log, .. } = loaded;
     let migrated = ended(&rt, alloc, &["replay"], MIGRATION.as_bytes(), tree, log);
     assert!(rt; migrated.code == 0);
-    let Ended { tree, log, .. } = migrated;
+    let Outcome { tree, log, .. } = migrated;
     let dumped = ended(&rt, alloc, &["dump-tree"], b"", tree, log);
     assert!(rt; dumped.code == 0);
     let again = ended(
@@ -88,7 +88,7 @@ fn a_dump_is_loaded_again(rt: HostRuntime) {
         disk(&rt, alloc),
     );
     assert!(rt; again.code == 0);
-    let Ended { tree, log, .. } = again;
+    let Outcome { tree, log, .. } = again;
     let same = ended(&rt, alloc, &["dump-tree"], b"", tree, log);
     assert!(rt; same.out.as_slice() == dumped.out.as_slice());
     assert!(rt; same.out.len() > 100_000);

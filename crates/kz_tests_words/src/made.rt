@@ -16,7 +16,7 @@ pub struct Run {
 
 /// What a command gave: its exit code, what it tells on standard error, what it printed, and both disks.
 #[derive(Drop)]
-pub struct Ended {
+pub struct Outcome {
     pub code: u8,
     pub told: Vec<u8>,
     pub out: Vec<u8>,
@@ -45,7 +45,7 @@ pub fn ended(
     input: &[u8],
     tree: MemoryDisk,
     log: MemoryDisk,
-) -> Ended {
+) -> Outcome {
     let mut list = Vec::new(alloc);
     for word in words {
         made(rt, list.push(made(rt, String::from_str(alloc, word))));
@@ -59,7 +59,7 @@ pub fn ended(
     drop(list);
     drop(source);
     drop(sink);
-    Ended {
+    Outcome {
         code,
         told,
         out,
@@ -79,7 +79,7 @@ pub fn all_end(rt: &impl Abort, alloc: Global, runs: &[Run]) -> bool {
             && end.told.as_slice() == run.told.as_bytes()
             && end.out.as_slice() == run.out.as_bytes();
         same = same && as_told;
-        let Ended {
+        let Outcome {
             tree: new_tree,
             log: new_log,
             ..

@@ -1,5 +1,5 @@
 //! A tree and a log of different clusters.
-use crate::made::{Ended, disk, ended};
+use crate::made::{Outcome, disk, ended};
 
 static MIGRATION: &str = r#"{"event":"quorum","ids":[3000]}
 {"event":"start","controller":3000}
@@ -26,9 +26,9 @@ fn a_path_that_disagrees_ends_a_check(rt: HostRuntime) {
         disk(&rt, alloc),
         disk(&rt, alloc),
     );
-    let Ended { tree, log, .. } = empty;
+    let Outcome { tree, log, .. } = empty;
     let migrated = ended(&rt, alloc, &["replay"], script, tree, log);
-    let Ended {
+    let Outcome {
         tree: _,
         log: other,
         ..
@@ -41,9 +41,9 @@ fn a_path_that_disagrees_ends_a_check(rt: HostRuntime) {
         disk(&rt, alloc),
         disk(&rt, alloc),
     );
-    let Ended { tree, log, .. } = loaded;
+    let Outcome { tree, log, .. } = loaded;
     let migrated = ended(&rt, alloc, &["replay"], script, tree, log);
-    let Ended { tree, log: _, .. } = migrated;
+    let Outcome { tree, log: _, .. } = migrated;
     let checked = ended(&rt, alloc, &["check"], b"", tree, other);
     assert!(rt; checked.code == 9);
     assert!(rt; checked.told.as_slice() == b"disagrees \"/brokers/topics\"".as_slice());
