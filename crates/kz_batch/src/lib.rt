@@ -8,6 +8,3 @@ mod write;
 pub use batch::{Batch, Values};
 pub use kz_types::BatchFault;
 pub use write::{batch_size, write_batch};
-
-#[cfg(test)]
-mod tests;

@@ -12,6 +12,3 @@ mod shared;
 pub use blocks::Blocks;
 pub use items::Items;
 pub use limits::MAX_BLOCK_ITEMS;
-
-#[cfg(test)]
-mod tests;

@@ -3,6 +3,3 @@
 
 pub use kz_codec_read::read_value;
 pub use kz_codec_write::{value_size, write_value};
-
-#[cfg(test)]
-mod tests;

@@ -11,6 +11,3 @@ mod sealing;
 pub use making::init;
 pub use opening::open;
 pub use sealing::upgrade;
-
-#[cfg(test)]
-mod tests;

@@ -63,6 +63,3 @@ pub fn crc32c_add(sum: u32, bytes: &[u8]) -> u32
 {
     with_bytes(sum ^ 0xFFFFFFFF, bytes) ^ 0xFFFFFFFF
 }
-
-#[cfg(test)]
-mod tests;

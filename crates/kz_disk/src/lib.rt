@@ -23,6 +23,3 @@ pub use file::FileDisk;
 pub use kz_types::Failed;
 pub use memory::MemoryDisk;
 pub use stop::StopDisk;
-
-#[cfg(test)]
-mod tests;

@@ -12,6 +12,3 @@ pub use kz_verdict::verdict;
 pub use lines::{batch_line, log_head, render_line, row_line, tree_head};
 pub use load_lines::read_row_line;
 pub use verdicts::{check_lines, status_lines};
-
-#[cfg(test)]
-mod tests;

@@ -10,6 +10,3 @@ mod taking_back;
 pub use faults::ExitFault;
 pub use rest::may_finalise;
 pub use taking_back::rollback;
-
-#[cfg(test)]
-mod tests;

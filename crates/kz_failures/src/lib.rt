@@ -4,6 +4,3 @@
 mod failure;
 
 pub use failure::{Failure, failure_of};
-
-#[cfg(test)]
-mod tests;

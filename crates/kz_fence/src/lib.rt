@@ -11,6 +11,3 @@ pub use checks::{ClaimFault, check_claim};
 pub use claimer::Claimer;
 pub use claims::{claim_ops, claimed_number, claimed_version};
 pub use writes::write_ops;
-
-#[cfg(test)]
-mod tests;

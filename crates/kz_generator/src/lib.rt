@@ -6,6 +6,3 @@ mod events;
 mod script;
 
 pub use script::generate;
-
-#[cfg(test)]
-mod tests;

@@ -10,6 +10,3 @@ mod values;
 pub use feed::Feed;
 pub use image::{Brokers, Image, Pairs, Quotas, valid};
 pub use kz_types::{BatchRow, Configuration, ImageFault, ImageRule};
-
-#[cfg(test)]
-mod tests;

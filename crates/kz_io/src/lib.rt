@@ -16,6 +16,3 @@ pub use memory::{MemorySink, MemorySource};
 pub use sink::{Sink, send};
 pub use source::Source;
 pub use standard::{StdSink, StdSource};
-
-#[cfg(test)]
-mod tests;

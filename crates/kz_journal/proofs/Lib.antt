@@ -9,4 +9,4 @@ mod Heads
 mod Reading
 mod Sealed
 mod Shutting
-mod Steps
+pub mod Steps

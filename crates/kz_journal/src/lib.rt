@@ -20,6 +20,3 @@ mod seal;
 
 pub use fault::JournalFault;
 pub use journal::{Frame, Journal};
-
-#[cfg(test)]
-mod tests;

@@ -17,6 +17,3 @@ pub use acls::Resource;
 pub use body::{read_body, write_body};
 pub use reading::{read_acls, read_config, read_producer, read_state, read_topic};
 pub use written::{PartitionState, acls_text, config_text, producer_text, state_text, topic_text};
-
-#[cfg(test)]
-mod tests;

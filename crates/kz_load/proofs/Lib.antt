@@ -1,4 +1,3 @@
-pub mod Closed
 pub mod Made
 pub mod Frames
 pub mod Filled

@@ -4,6 +4,3 @@
 mod command;
 
 pub use command::load;
-
-#[cfg(test)]
-mod tests;

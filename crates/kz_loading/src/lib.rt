@@ -10,6 +10,3 @@ mod stop;
 pub use load::read_tree;
 pub use part::Loaded;
 pub use stop::{LoadStop, stop_status};
-
-#[cfg(test)]
-mod tests;

@@ -23,8 +23,3 @@ pub use rows::LogRows;
 pub use store::{Elected, MetaLog};
 pub use view::View;
 pub use wire::{LogWire, LogWireFault};
-
-#[cfg(test)]
-mod tests;
-#[cfg(test)]
-mod view_tests;

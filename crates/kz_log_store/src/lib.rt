@@ -11,6 +11,3 @@ mod take;
 pub use fault::LogOpenFault;
 pub use kz_types::LogWhy;
 pub use store::LogStore;
-
-#[cfg(test)]
-mod tests;

@@ -7,6 +7,3 @@
 mod output;
 
 pub use output::{HELD_BYTES, Output, OutputFault};
-
-#[cfg(test)]
-mod tests;

@@ -13,5 +13,3 @@ mod entities;
 mod keys;
 mod kinds;
 mod paths;
-#[cfg(test)]
-mod tests;

@@ -273,6 +273,3 @@ pub fn has_path(key: &EntityKey) -> bool
     let mut path = PathBuffer::new();
     path.push_key(key) && keeps_rule(path.bytes())
 }
-
-#[cfg(test)]
-mod tests;

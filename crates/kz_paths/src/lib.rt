@@ -18,6 +18,3 @@ pub use texts::{
     BROKER_IDS_TEXT, CONTROL_TEXT, EPOCH_TEXT, MIGRATION_TEXT, PRODUCER_TEXT, TOPICS_TEXT,
     base_texts, control_texts, root_texts,
 };
-
-#[cfg(test)]
-mod tests;

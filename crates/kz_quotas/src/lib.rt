@@ -433,6 +433,3 @@ impl QuotaText for QuotaValue {
         Ok(Text::from_string(format!(in alloc; "{whole}.{decimals}")?))
     }
 }
-
-#[cfg(test)]
-mod tests;

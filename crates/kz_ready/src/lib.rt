@@ -4,6 +4,3 @@
 mod missing;
 
 pub use missing::{missing_broker, missing_controller};
-
-#[cfg(test)]
-mod tests;

@@ -12,6 +12,3 @@ mod words;
 pub use command::run;
 pub use exit::{code, text};
 pub use kz_types::Status;
-
-#[cfg(test)]
-mod tests;

@@ -12,6 +12,3 @@ mod texts;
 
 pub use command::tell;
 pub use report::Report;
-
-#[cfg(test)]
-mod tests;

@@ -10,6 +10,3 @@ mod tree_requests;
 pub use fault::StepFault;
 pub use log_requests::{append, read};
 pub use tree_requests::{broker_ids, multi, page, path_at, path_of_op, rows_at};
-
-#[cfg(test)]
-mod tests;

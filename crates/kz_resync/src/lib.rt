@@ -9,6 +9,3 @@ mod scan;
 pub use remaining::Remaining;
 pub use rest::Rest;
 pub use scan::Scan;
-
-#[cfg(test)]
-mod tests;

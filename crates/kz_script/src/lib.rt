@@ -14,6 +14,3 @@ pub use kz_types::{Answer, Event};
 pub use replies::{body_text, summary, write_answer};
 pub use statuses::{status_code, status_text};
 pub use written::write_event;
-
-#[cfg(test)]
-mod tests;

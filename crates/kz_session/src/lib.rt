@@ -6,6 +6,3 @@ mod sessions;
 
 pub use memory::MemoryTree;
 pub use sessions::{SessionFault, ZSessions};
-
-#[cfg(test)]
-mod tests;

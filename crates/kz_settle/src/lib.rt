@@ -11,6 +11,3 @@ pub use kz_types::Entry;
 pub use marks::{closes, is_abort, is_begin, is_end};
 pub use settled::Settled;
 pub use settler::Settler;
-
-#[cfg(test)]
-mod tests;

@@ -7,6 +7,3 @@ mod writing;
 pub use kz_types::{BodyFault, DriverState, Recorded, Reply};
 pub use reading::{read_control, read_epoch, read_migration};
 pub use writing::{write_control, write_epoch, write_migration};
-
-#[cfg(test)]
-mod tests;

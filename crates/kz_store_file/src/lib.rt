@@ -8,6 +8,3 @@ mod seal;
 pub use change::write_frame;
 pub use fault::ChangeFault;
 pub use seal::write_seal;
-
-#[cfg(test)]
-mod tests;

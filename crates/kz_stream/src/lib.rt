@@ -10,6 +10,3 @@ mod stream;
 pub use ending::{Stop, stop_status};
 pub use machine::Machine;
 pub use stream::Stream;
-
-#[cfg(test)]
-mod tests;

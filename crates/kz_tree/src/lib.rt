@@ -20,8 +20,3 @@ pub use prepared::Prepared;
 pub use store::ZTree;
 pub use tree::Tree;
 pub use wire::{Wire, WireFault};
-
-#[cfg(test)]
-mod load_tests;
-#[cfg(test)]
-mod tests;

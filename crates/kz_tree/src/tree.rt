@@ -319,22 +319,3 @@ impl Tree {
         reads::unclosed(self.alloc, &self.rows)
     }
 }
-
-#[cfg(test)]
-impl Tree {
-    /// The tree of one znode, with one session, after so many transactions.
-    pub fn with_parts(alloc: Global, zxid: i64, session: i64, row: Row) -> Result<Tree, NoMemory>
-        requires { pos 0 ≤ℤ zxid }
-    {
-        let mut sessions = Vec::new(alloc);
-        sessions.push(session)?;
-        let mut rows = Rows::new(alloc);
-        rows.put(row)?;
-        Ok(Tree {
-            alloc,
-            zxid,
-            sessions,
-            rows,
-        })
-    }
-}

@@ -12,6 +12,3 @@ pub use kz_blocks::Items;
 pub use migrated::is_migrated;
 pub use names::{name_of, parent_of};
 pub use rows::Rows;
-
-#[cfg(test)]
-mod tests;

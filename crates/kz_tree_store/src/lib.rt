@@ -18,6 +18,3 @@ mod txns;
 pub use fault::TreeOpenFault;
 pub use last::LoadLast;
 pub use store::TreeStore;
-
-#[cfg(test)]
-mod tests;

@@ -9,6 +9,3 @@ mod steps;
 
 pub use single_step::step;
 pub use steps::turn;
-
-#[cfg(test)]
-mod tests;

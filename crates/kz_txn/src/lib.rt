@@ -14,6 +14,3 @@ pub use laws::written_is_read;
 pub use read::read_txn;
 pub use size::txn_size;
 pub use write::write_txn;
-
-#[cfg(test)]
-mod tests;

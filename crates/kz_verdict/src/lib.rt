@@ -4,6 +4,3 @@
 mod comparison;
 
 pub use comparison::verdict;
-
-#[cfg(test)]
-mod tests;

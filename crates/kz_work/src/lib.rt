@@ -7,6 +7,3 @@ mod reading;
 
 pub use bound::{TurnStart, work};
 pub use reading::read_whole;
-
-#[cfg(test)]
-mod tests;

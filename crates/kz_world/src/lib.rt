@@ -16,6 +16,3 @@ mod turns;
 
 pub use bound::WorkFault;
 pub use machine::World;
-
-#[cfg(test)]
-mod tests;

@@ -7,6 +7,3 @@ mod znode;
 
 pub use chunks::chunk;
 pub use diff::{diff_ops, diff_renderings};
-
-#[cfg(test)]
-mod tests;

@@ -1,6 +1,10 @@
-use Rattle.std.proofs.Common.{◌≡◌, ℕ, ℤ, true, false, List, Some, is_none, refl, sym, ap, ◌∙◌, subst, to_z, of_z, to_z-of_z, SFits, rules, w64}
+use Rattle.std.proofs.Common.{◌≡◌, ◌<◌, ℕ, ℤ, true, false, List, Some, is_none, refl, sym, ap, ◌∙◌, subst, to_z, of_z, to_z-of_z, SFits, rules, w64}
 use Rattle.kz_spec_stores.specs.Requests.{answer_of_tree_fault}
 use Rattle.kz_spec_dumps.specs.Loading.{tree_with}
+use Rattle.kz_spec_files.specs.Frames.{tree_letter}
+use Rattle.kz_journal.specs.declared.place.Place.{Place}
+use Rattle.kz_journal.specs.Journals.{IsReadTo, HasClosedGate, file_at, file_of}
+use Rattle.kz_journal.proofs.Steps.{held_closed}
 use Rattle.kz_tree_store.specs.Opened.{Known}
 use Rattle.kz_tree_store.specs.declared.last.LoadLast.{LoadLast}
 use Rattle.kz_tree_store.specs.LoadCalls.{load_payloads, WritesFrames}
@@ -8,9 +12,12 @@ use Rattle.kz_tree_store.specs.Stores.{held_tree, known, store_disk, store_state
 use Rattle.kz_commands.specs.Outside.{outside}
 use Rattle.kz_load.specs.LoadsTrees.{FillsStore}
 use Rattle.kz_load.proofs.Frames.{wrote}
-use Rattle.kz_load.proofs.Closed.{told_file}
 use Rattle.kz_load.proofs.Filled.{stands, no_room, fault_fills}
 use Rattle.kz_load.proofs.command.fill.Goals as goal
+
+-- what a store tells of a tree's file whose frames end at a closed gate
+told_file : (letter : ℕ) (place : Place) (file : List ℕ) → IsReadTo letter place file → HasClosedGate place file → place.gate < place.length → letter ≡ tree_letter → Some (file_at place) ≡ Some (file_of tree_letter file)
+told_file letter place file read closed stands is = ap (λ f. Some f) (held_closed letter place file read closed stands ∙ ap (λ (l : ℕ). file_of l file) is)
 
 pub returns : goal.returns
 returns g c =

@@ -1,9 +1,0 @@
-use Rattle.std.proofs.Common.{sym, subst}
-use Rattle.kz_spec_stores.specs.Log.{View, IsViewOf}
-use Rattle.kz_log.proofs.Views.{new_is_view}
-use Rattle.kz_requests.proofs.tests.started.Goals as goal
-
-pub returns : goal.returns
-returns c =
-    let log = c.new-2.result.inner in
-    subst (λ (v : View). IsViewOf log.rows v) (sym c.new-3.ensures) (new_is_view log.rows log.is_log)
