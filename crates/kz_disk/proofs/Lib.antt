@@ -1,2 +1,3 @@
 mod Past
 pub mod Moments
+mod Images

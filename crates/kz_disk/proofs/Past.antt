@@ -1,9 +1,9 @@
 -- What a sync of a disk in memory leaves.
-use Rattle.std.proofs.Common.{◌≡◌, ℕ, Bool, true, List, ◌∷◌, ◌++◌, [], reverse, refl, sym, ap, subst, ◌∙◌}
+use Rattle.std.proofs.Common.{◌≡◌, ℕ, true, List, ◌∷◌, ◌++◌, [], reverse, sym, ap, subst, ◌∙◌}
 use Rattle.std.proofs.lemmas.List.{reverse-append}
 use Rattle.kz_disk.specs.declared.changes.Change.{Change}
 use Rattle.kz_disk.specs.declared.changes.Change.TheVariants.{Synced}
-use Rattle.kz_disk.specs.Changes.{contents_after, are_within, MayLeave}
+use Rattle.kz_disk.specs.Changes.{are_within, MayLeave}
 use Rattle.kz_disk.specs.Past.{contents_stay}
 
 -- after a sync a stop leaves the contents, which it might have left before

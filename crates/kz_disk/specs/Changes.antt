@@ -1,5 +1,5 @@
 -- The changes of a disk since it was made, the newest first: its contents, and what a stop may leave.
-use Rattle.std.specs.Prelude.{◌≡◌, ◌⊎◌, ℕ, suc, ◌+◌, ◌≤◌, max, nat_le, Bool, true, ◌&&◌, List, [], ◌∷◌, ◌++◌, length, take, drop, Option, Some}
+use Rattle.std.specs.Prelude.{◌≡◌, ◌⊎◌, ℕ, ◌≤◌, nat_le, Bool, true, ◌&&◌, List, [], ◌∷◌, length, replicate, Option, Some, None}
 use Rattle.kz_disk.specs.declared.changes.Change.{Change}
 use Rattle.kz_disk.specs.declared.changes.Change.TheVariants.{Wrote, Synced}
 use Rattle.kz_disk.specs.Disks.{with_piece, Torn}
@@ -9,6 +9,17 @@ abbrev pub contents_after : List ℕ → List Change → List ℕ
 contents_after start [] = start
 contents_after start (Wrote at piece ∷ older) = with_piece at piece.items (contents_after start older)
 contents_after start (Synced ∷ older) = contents_after start older
+
+-- a piece as a stop leaves it: as it was written, or with this byte throughout
+abbrev pub filled : Option ℕ → List ℕ → List ℕ
+filled None piece = piece
+filled (Some byte) piece = replicate (length piece) byte
+
+-- What a stop after these changes leaves of the contents where what was written since the last sync is filled so.
+abbrev pub crash_image : Option ℕ → List ℕ → List Change → List ℕ
+crash_image fill start [] = start
+crash_image fill start (Wrote at piece ∷ older) = with_piece at (filled fill piece.items) (crash_image fill start older)
+crash_image fill start (Synced ∷ older) = contents_after start older
 
 -- each write began within the contents or at their end
 abbrev pub are_within : List ℕ → List Change → Bool

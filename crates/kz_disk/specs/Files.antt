@@ -1,5 +1,5 @@
 -- Disks that tell nothing: a file, and one that fails every call.
-use Rattle.std.specs.Prelude.{◌≡◌, ℕ, Bool, List, Option, Some, None}
+use Rattle.std.specs.Prelude.{◌≡◌, ℕ, Bool, List, Some, None}
 use Rattle.kz_disk.specs.Disks.{LeavesNothing}
 use Rattle.kz_disk.specs.declared.file.FileDisk.{FileDisk}
 use Rattle.kz_disk.specs.declared.fail.FailDisk.{FailDisk}

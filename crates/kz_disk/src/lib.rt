@@ -14,6 +14,7 @@ mod changes;
 mod disk;
 mod fail;
 mod file;
+mod image;
 mod memory;
 mod stop;
 

@@ -6,6 +6,7 @@ use crate::Disk;
 use crate::calls::Calls;
 use crate::changes::{Change, put_piece};
 use crate::disk::MAX_LENGTH;
+use crate::image::crash_image;
 use kz_types::{Failed, NoMemory};
 use std::alloc::Global;
 
@@ -24,8 +25,9 @@ pub struct MemoryDisk {
 }
 
 impl MemoryDisk {
-    ghost use Rattle.std.specs.Prelude.{◌≡◌, [], IfOk, false};
-    ghost use Rattle.kz_disk.specs.Memory.{memory_bytes, memory_changes, memory_call, memory_plan, memory_faults, memory_failed, memory_syncs};
+    ghost use Rattle.std.specs.Prelude.{◌≡◌, [], length, IfOk, false};
+    ghost use Rattle.kz_disk.specs.Changes.{MayLeave, crash_image};
+    ghost use Rattle.kz_disk.specs.Memory.{memory_bytes, memory_start, memory_changes, memory_call, memory_plan, memory_faults, memory_failed, memory_syncs};
 
     /// A disk that holds these bytes, all of them synced. The calls whose numbers are in `fail` fail.
     pub fn new(alloc: Global, bytes: Vec<u8>, fail: Vec<u64>) -> Result<Self, NoMemory>
@@ -51,6 +53,16 @@ impl MemoryDisk {
                 failed: false,
             },
         })
+    }
+
+    /// What a stop leaves of it, in one of the ways that it may: as many bytes as it holds, of which each that was written
+    /// since the last sync is as it was written for `None`, and else this byte. `NoMemory` is the only error.
+    pub fn image(&self, fill: Option<u8>) -> Result<Vec<u8>, NoMemory>
+        ensures image { IfOk result (λ image. image.items ≡ crash_image fill (memory_start self.now) (memory_changes self.now)) }
+        ensures left { IfOk result (λ image. MayLeave (memory_start self.now) (memory_changes self.now) image.items) }
+        ensures length { IfOk result (λ image. length image.items ≡ length (memory_bytes self.now)) }
+    {
+        crash_image(self.alloc, fill, &self.start, &self.changes)
     }
 
     /// What it holds.

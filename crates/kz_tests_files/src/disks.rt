@@ -53,6 +53,22 @@ fn a_disk_in_memory_keeps_what_is_written(rt: HostRuntime) -> Result<(), Fail> {
     Ok(())
 }
 
+// What a stop leaves: what was synced stays, and what was written since then may be any bytes.
+#[test]
+fn an_image_fills_what_is_not_synced(rt: HostRuntime) -> Result<(), Fail> {
+    let alloc = rt.alloc();
+    let mut disk = MemoryDisk::new(alloc, b"abcde".to_vec(alloc)?, Vec::new(alloc))?;
+    assert_eq!(rt; write(&mut disk, 1, b"XY"), Ok(()));
+    assert!(rt; disk.image(None)?.as_slice() == b"aXYde".as_slice());
+    assert!(rt; disk.image(Some(b'.'))?.as_slice() == b"a..de".as_slice());
+    assert_eq!(rt; disk.sync(), Ok(()));
+    assert!(rt; disk.image(Some(b'.'))?.as_slice() == b"aXYde".as_slice());
+    assert_eq!(rt; write(&mut disk, 4, b"123"), Ok(()));
+    assert!(rt; disk.image(None)?.as_slice() == b"aXYd123".as_slice());
+    assert!(rt; disk.image(Some(0))?.as_slice() == b"aXYd\0\0\0".as_slice());
+    Ok(())
+}
+
 #[test]
 fn a_disk_in_memory_fails_by_its_list_and_changes_nothing(rt: HostRuntime) -> Result<(), Fail> {
     let alloc = rt.alloc();
