@@ -36,7 +36,7 @@ same_bytes told a b h k = cc
 
 -- where nothing pends, a stop leaves the file
 pub settles : (told : Option (List ℕ)) (leaves left : List ℕ → Type 0) (syncs now : ℕ) → Settles told leaves syncs now left → LeftByOpening told leaves syncs now left
-settles told leaves left syncs now h begun file is few bytes may = ap log_of (same_bytes told file bytes is (h begun bytes may))
+settles told leaves left syncs now h begun file is few bytes may = ap (journal_of log_letter) (same_bytes told file bytes is (h begun bytes may))
 
 -- ---- after the journal is open
 
@@ -52,4 +52,4 @@ read_refused open_fault.NoMemory before now h = λ file told. (file, h file told
 
 pub read_left : (before : Option (List ℕ)) (leaves left : List ℕ → Type 0) (syncs now : ℕ)
     → ((file : List ℕ) → before ≡ Some file → length file < 2 ^ 32 → (bytes : List ℕ) → left bytes → journal_of log_letter bytes ≡ journal_of log_letter file) → LeftByOpening before leaves syncs now left
-read_left before leaves left syncs now h = λ begun file told few bytes may. ap log_in (h file told few bytes may)
+read_left before leaves left syncs now h = λ begun file told few bytes may. h file told few bytes may

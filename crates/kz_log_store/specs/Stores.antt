@@ -6,7 +6,7 @@ use Rattle.kz_types.specs.declared.fault.LogFault.TheVariants as log_fault
 use Rattle.kz_disk.specs.Disks.{NothingPends}
 use Rattle.kz_spec_stores.specs.Log.{Log}
 use Rattle.kz_spec_stores.specs.Requests.{Disk, Fits, IsTooLong}
-use Rattle.kz_spec_files.specs.Frames.{HasNoRoomForSeal}
+use Rattle.kz_spec_files.specs.Frames.{log_letter, journal_of, HasNoRoomForSeal}
 use Rattle.kz_spec_files.specs.LogFile.{log_of}
 use Rattle.kz_journal.specs.Held.{disk_of, disk_state, IsSealed}
 use Rattle.kz_journal.specs.Journals.{sealed_file}
@@ -65,11 +65,11 @@ HasOpenCause fault.DiskFault before now failed = Rose before now × (failed ≡ 
 HasOpenCause (fault.Damaged at why) before now failed = now ≡ before
 HasOpenCause fault.NoMemory before now failed = now ≡ before
 
--- Where no write was pending before, or a sync has succeeded since, a stop leaves bytes that stand for what the file stood for. The
--- file has fewer than 2^32 bytes.
+-- Where no write was pending before, or a sync has succeeded since, a stop leaves bytes that say what the file said. The file has
+-- fewer than 2^32 bytes.
 abbrev pub LeftByOpening : Option (List ℕ) → (List ℕ → Type 0) → ℕ → ℕ → (List ℕ → Type 0) → Type 0
 LeftByOpening before leaves syncs syncs_now left = (NothingPends before leaves ⊎ (syncs < syncs_now)) → (file : List ℕ) → before ≡ Some file → length file < 2 ^ 32
-    → (bytes : List ℕ) → left bytes → log_of bytes ≡ log_of file
+    → (bytes : List ℕ) → left bytes → journal_of log_letter bytes ≡ journal_of log_letter file
 
 -- ---- a seal
 

@@ -75,8 +75,8 @@ HasOpenCause fault.DiskFault before now failed = Rose before now × (failed ≡ 
 HasOpenCause (fault.Damaged at) before now failed = now ≡ before
 HasOpenCause fault.NoMemory before now failed = now ≡ before
 
--- Where no write was pending before, or a sync has succeeded since, a stop leaves bytes that stand for what the file stood for. The
--- file has fewer than 2^32 bytes.
+-- Where no write was pending before, or a sync has succeeded since, a stop leaves bytes that say what the file said. The file has
+-- fewer than 2^32 bytes.
 abbrev pub LeftByOpening : Option (List ℕ) → (List ℕ → Type 0) → ℕ → ℕ → (List ℕ → Type 0) → Type 0
 LeftByOpening before leaves syncs syncs_now left = (NothingPends before leaves ⊎ (syncs < syncs_now)) → (file : List ℕ) → before ≡ Some file → length file < 2 ^ 32
-    → (bytes : List ℕ) → left bytes → tree_of bytes ≡ tree_of file
+    → (bytes : List ℕ) → left bytes → journal_of tree_letter bytes ≡ journal_of tree_letter file
