@@ -13,7 +13,7 @@ const BEGINNING: &str = r#"{"event":"quorum","ids":[3000]}
 {"event":"check"}
 "#;
 
-const ENDING: &str = r#"{"event":"turn","controller":3000}
+const LAST_LINES: &str = r#"{"event":"turn","controller":3000}
 {"event":"stop"}
 {"event":"rollback"}
 "#;
@@ -71,7 +71,7 @@ fn script(rt: &impl Abort, alloc: Global) -> String {
         add(rt, &mut script, &record);
     }
     add(rt, &mut script, "]}\n");
-    add(rt, &mut script, ENDING);
+    add(rt, &mut script, LAST_LINES);
     script
 }
 
@@ -84,7 +84,7 @@ fn disk_of(rt: &impl Abort, alloc: Global, bytes: &[u8]) -> MemoryDisk {
 
 // How a command ended, what it printed, and both disks.
 #[derive(Drop)]
-struct Ended<D, E> {
+struct Ending<D, E> {
     status: Status,
     out: Vec<u8>,
     tree: D,
@@ -98,7 +98,7 @@ fn ended<D: Disk + Drop, E: Disk + Drop>(
     input: &str,
     tree: D,
     log: E,
-) -> Ended<D, E> {
+) -> Ending<D, E> {
     let mut words = Vec::new(alloc);
     made(rt, words.push(made(rt, String::from_str(alloc, word))));
     let bytes = made(rt, input.as_bytes().to_vec(alloc));
@@ -109,7 +109,7 @@ fn ended<D: Disk + Drop, E: Disk + Drop>(
     drop(words);
     drop(source);
     drop(sink);
-    Ended {
+    Ending {
         status,
         out,
         tree,
@@ -134,7 +134,7 @@ fn told(
         disk_of(rt, alloc, tree),
         disk_of(rt, alloc, log),
     );
-    let Ended {
+    let Ending {
         status,
         out,
         tree,
@@ -196,7 +196,7 @@ fn stopped(
     let tree = StopDisk::new(disk_of(rt, alloc, NEW_TREE), tree_calls);
     let log = StopDisk::new(disk_of(rt, alloc, NEW_LOG), log_calls);
     let end = ended(rt, alloc, "replay", &script, tree, log);
-    let Ended {
+    let Ending {
         status: ending,
         out,
         tree,
