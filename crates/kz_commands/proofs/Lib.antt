@@ -3,3 +3,4 @@ pub mod Opened
 pub mod Sealed
 pub mod Fresh
 pub mod Made
+pub mod Left

@@ -4,7 +4,7 @@ use Rattle.kz_types.specs.declared.outside.Status.{Status}
 use Rattle.kz_types.specs.declared.outside.Status.TheVariants as status
 use Rattle.kz_spec_stores.specs.Tree.{empty_tree}
 use Rattle.kz_spec_stores.specs.Log.{empty_log}
-use Rattle.kz_disk.specs.Disks.{with_piece}
+use Rattle.kz_disk.specs.Disks.{with_piece, LeavesNoMore, LeavesTorn}
 use Rattle.kz_spec_files.specs.Frames.{tree_letter, log_letter, new_file}
 use Rattle.kz_spec_files.specs.TreeFile.{tree_of}
 use Rattle.kz_spec_files.specs.LogFile.{log_of}
@@ -49,6 +49,12 @@ abbrev pub MakesFile : ℕ → Found → Option (List ℕ) → Option (List ℕ)
 MakesFile letter found.Unmade before now = now ≡ option_map (with_piece 0 (new_file letter)) before
 MakesFile letter found.Empty before now = now ≡ before
 MakesFile letter found.Taken before now = now ≡ before
+
+-- and what a stop leaves of it
+abbrev pub MakingLeaves : Found → (List ℕ → Type 0) → (List ℕ → Type 0) → Type 0
+MakingLeaves found.Unmade before now = LeavesTorn 0 17 before now
+MakingLeaves found.Empty before now = LeavesNoMore before now
+MakingLeaves found.Taken before now = LeavesNoMore before now
 
 abbrev pub is_taken : Found → Bool
 is_taken found.Unmade = false

@@ -1,13 +1,14 @@
 //! The command that makes both files.
-ghost use Rattle.std.specs.Prelude.{◌≡◌, ◌≢◌, ◌||◌, bytes_eq, false, List, ℕ, Some, IfOk, IfErr};
+ghost use Rattle.std.specs.Prelude.{◌≡◌, ◌≢◌, ◌||◌, bytes_eq, false, List, ℕ, Some, IfOk, IfErr, MatchResult};
 ghost use Rattle.kz_types.specs.Causes.{HasCause, Rose};
-ghost use Rattle.kz_disk.specs.Disks.{StaysTold};
+ghost use Rattle.kz_disk.specs.Disks.{StaysTold, LeavesNoMore, NothingPends};
 ghost use Rattle.kz_spec_files.specs.Frames.{tree_letter, log_letter, new_file, journal_of};
 ghost use Rattle.kz_spec_commands.specs.Files.{EndsAtDisk};
 ghost use Rattle.kz_spec_commands.specs.Init.{is_short, tree_refusal, log_refusal, Inits};
 ghost use Rattle.kz_commands.specs.Outside.{outside};
 ghost use Rattle.kz_commands.specs.Makes.{MakesFiles};
-ghost use Rattle.kz_commands.specs.Making.{IsShortFound, IsTreeFound, IsLogFound, IsRefusedFor, OfFile, MakesFile, is_taken, found_by};
+ghost use Rattle.kz_commands.specs.Making.{IsShortFound, IsTreeFound, IsLogFound, IsRefusedFor, OfFile, MakesFile, MakingLeaves, is_taken, found_by};
+ghost use Rattle.kz_commands.specs.Stops.{LeavesByInit, StaysSettled};
 
 use crate::opening::{log_status, tree_status};
 use kz_disk::Disk;
@@ -49,6 +50,7 @@ fn is_either(bytes: &[u8], first: &[u8], second: &[u8]) -> bool
 fn look<D: Disk>(disk: &mut D, plain: &[u8], summed: &[u8]) -> Result<Option<Found>, Failed>
     ensures found { IfOk result (λ found. (file : List ℕ) → D.told disk.old ≡ Some file → IsShortFound plain.now summed.now file found) }
     ensures same { D.told disk.new ≡ D.told disk.old }
+    ensures left { LeavesNoMore (D.may_leave disk.old) (D.may_leave disk.new) }
     ensures cause { HasCause (D.faults disk.old) (D.faults disk.new) result }
 {
     let length = disk.len()?;
@@ -74,6 +76,8 @@ fn look_through_tree<D: Disk>(alloc: Global, disk: D) -> Result<(D, Found), (D, 
     ensures refused { IfErr result (λ e. OfFile (D.told disk) (D.told e.0) (IsRefusedFor tree_letter tree_refusal) e.1) }
     ensures cause { IfErr result (λ e. EndsAtDisk Status.TreeFault e.1 (D.faults disk) (D.faults e.0)) }
     ensures other { IfErr result (λ e. (e.1 ≢ Status.LogFault) × (e.1 ≢ Status.Usage) × (e.1 ≢ Status.ReadFault) × (e.1 ≢ Status.Done)) }
+    ensures settled { IfOk result (λ f. NothingPends (D.told f.0) (D.may_leave f.0)) }
+    ensures left { MatchResult result (λ f. LeavesByInit tree_letter (D.told disk) (D.may_leave disk) (D.may_leave f.0)) (λ e. LeavesByInit tree_letter (D.told disk) (D.may_leave disk) (D.may_leave e.0)) }
 {
     match TreeStore::attach(alloc, disk) {
         Ok(tree) => {
@@ -92,6 +96,8 @@ fn find_tree<D: Disk>(alloc: Global, mut disk: D) -> Result<(D, Found), (D, Stat
     ensures refused { IfErr result (λ e. OfFile (D.told disk) (D.told e.0) (IsRefusedFor tree_letter tree_refusal) e.1) }
     ensures cause { IfErr result (λ e. EndsAtDisk Status.TreeFault e.1 (D.faults disk) (D.faults e.0)) }
     ensures other { IfErr result (λ e. (e.1 ≢ Status.LogFault) × (e.1 ≢ Status.Usage) × (e.1 ≢ Status.ReadFault) × (e.1 ≢ Status.Done)) }
+    ensures settled { IfOk result (λ f. StaysSettled (D.told disk) (D.may_leave disk) (D.told f.0) (D.may_leave f.0)) }
+    ensures left { MatchResult result (λ f. LeavesByInit tree_letter (D.told disk) (D.may_leave disk) (D.may_leave f.0)) (λ e. LeavesByInit tree_letter (D.told disk) (D.may_leave disk) (D.may_leave e.0)) }
 {
     match look(
         &mut disk,
@@ -111,7 +117,9 @@ fn look_through_log<E: Disk>(alloc: Global, disk: E) -> Result<(E, Found), (E, S
     ensures calm { IfOk result (λ f. E.faults f.0 ≡ E.faults disk) }
     ensures refused { IfErr result (λ e. OfFile (E.told disk) (E.told e.0) (IsRefusedFor log_letter log_refusal) e.1) }
     ensures cause { IfErr result (λ e. EndsAtDisk Status.LogFault e.1 (E.faults disk) (E.faults e.0)) }
-    ensures other { IfErr result (λ e. (e.1 ≢ Status.TreeFault) × (e.1 ≢ Status.Usage) × (e.1 ≢ Status.ReadFault)) }
+    ensures other { IfErr result (λ e. (e.1 ≢ Status.TreeFault) × (e.1 ≢ Status.Usage) × (e.1 ≢ Status.ReadFault) × (e.1 ≢ Status.Done)) }
+    ensures settled { IfOk result (λ f. NothingPends (E.told f.0) (E.may_leave f.0)) }
+    ensures left { MatchResult result (λ f. LeavesByInit log_letter (E.told disk) (E.may_leave disk) (E.may_leave f.0)) (λ e. LeavesByInit log_letter (E.told disk) (E.may_leave disk) (E.may_leave e.0)) }
 {
     match LogStore::attach(alloc, disk) {
         Ok(log) => {
@@ -128,7 +136,9 @@ fn find_log<E: Disk>(alloc: Global, mut disk: E) -> Result<(E, Found), (E, Statu
     ensures calm { IfOk result (λ f. E.faults f.0 ≡ E.faults disk) }
     ensures refused { IfErr result (λ e. OfFile (E.told disk) (E.told e.0) (IsRefusedFor log_letter log_refusal) e.1) }
     ensures cause { IfErr result (λ e. EndsAtDisk Status.LogFault e.1 (E.faults disk) (E.faults e.0)) }
-    ensures other { IfErr result (λ e. (e.1 ≢ Status.TreeFault) × (e.1 ≢ Status.Usage) × (e.1 ≢ Status.ReadFault)) }
+    ensures other { IfErr result (λ e. (e.1 ≢ Status.TreeFault) × (e.1 ≢ Status.Usage) × (e.1 ≢ Status.ReadFault) × (e.1 ≢ Status.Done)) }
+    ensures settled { IfOk result (λ f. StaysSettled (E.told disk) (E.may_leave disk) (E.told f.0) (E.may_leave f.0)) }
+    ensures left { MatchResult result (λ f. LeavesByInit log_letter (E.told disk) (E.may_leave disk) (E.may_leave f.0)) (λ e. LeavesByInit log_letter (E.told disk) (E.may_leave disk) (E.may_leave e.0)) }
 {
     match look(
         &mut disk,
@@ -156,6 +166,8 @@ fn make<D: Disk>(alloc: Global, disk: D, letter: u8, found: Found) -> Result<D, 
     ensures made { IfOk result (λ d. MakesFile letter found (D.told disk) (D.told d)) }
     ensures calm { IfOk result (λ d. D.faults d ≡ D.faults disk) }
     ensures failed { IfErr result (λ d. Rose (D.faults disk) (D.faults d)) }
+    ensures settled { IfOk result (λ d. StaysSettled (D.told disk) (D.may_leave disk) (D.told d) (D.may_leave d)) }
+    ensures left { MatchResult result (λ d. MakingLeaves found (D.may_leave disk) (D.may_leave d)) (λ d. MakingLeaves found (D.may_leave disk) (D.may_leave d)) }
 {
     match found {
         Found::Unmade => match Journal::create(alloc, disk, letter) {
@@ -167,7 +179,8 @@ fn make<D: Disk>(alloc: Global, disk: D, letter: u8, found: Found) -> Result<D, 
 }
 
 /// Makes both files journals without a tree and a log. A file of at most 17 bytes is made, unless it is such a journal already;
-/// a longer one is left as it is. Both are tested before either is made, the tree's first.
+/// a longer one is left as it is. Both are tested before either is made, the tree's first. A stop at any moment leaves a short file
+/// short, and a longer one with what it says; once both are made, it leaves an empty tree and an empty log.
 ///
 /// `TreeFault`, `LogFault`: a call of that disk failed. `TreeDamaged`, `LogDamaged`: the file is longer, and damaged first at this
 /// place. `NotEmpty`: one holds a tree or a log. `NoMemory`.
@@ -176,6 +189,9 @@ pub fn init<D: Disk, E: Disk>(alloc: Global, tree: D, log: E) -> (Status, D, E)
         (outside E.told E.faults E.last_failed log) (outside E.told E.faults E.last_failed result.2) result.0 }
     ensures told { result.0 ≡ Status.Done → StaysTold (D.told tree) (D.told result.1) }
     ensures unread { result.0 ≢ Status.ReadFault }
+    ensures settled { result.0 ≡ Status.Done → StaysSettled (D.told tree) (D.may_leave tree) (D.told result.1) (D.may_leave result.1) × StaysSettled (E.told log) (E.may_leave log) (E.told result.2) (E.may_leave result.2) }
+    ensures tree_left { LeavesByInit tree_letter (D.told tree) (D.may_leave tree) (D.may_leave result.1) }
+    ensures log_left { LeavesByInit log_letter (E.told log) (E.may_leave log) (E.may_leave result.2) }
 {
     let (tree, in_tree) = match find_tree(alloc, tree) {
         Ok(found) => found,

@@ -1,6 +1,8 @@
 use Rattle.std.proofs.Common.{◌∙◌}
-use Rattle.kz_spec_files.specs.Frames.{tree_letter}
-use Rattle.kz_commands.proofs.Made.{log_inits, taken_inits, done_inits, taken_either, made_told}
+use Rattle.kz_spec_files.specs.Frames.{tree_letter, log_letter}
+use Rattle.kz_spec_commands.specs.Init.{tree_refusal, has_tree, log_refusal, has_log}
+use Rattle.kz_commands.proofs.Made.{EmptyTree, EmptyLog, log_inits, taken_inits, done_inits, taken_either, made_told}
+use Rattle.kz_commands.proofs.Left.{made_leaves}
 use Rattle.kz_commands.proofs.making.init.Goals as goal
 
 pub returns-in-Err-clause-told : goal.returns-in-Err-clause-told
@@ -35,3 +37,31 @@ returns-in-Ok-make-2-clause-made g c = record {
 
 pub returns-in-Ok-make-2-clause-told : goal.returns-in-Ok-make-2-clause-told
 returns-in-Ok-make-2-clause-told g c = λ _. made_told tree_letter c.in-Ok.found.1 _ _ _ c.in-Ok.ensures.told c.in-Ok-make.ensures.made
+
+pub returns-in-Err-find_log-clause-settled : goal.returns-in-Err-find_log-clause-settled
+returns-in-Err-find_log-clause-settled g c = λ is. absurd (c.in-Err-find_log.ensures.other.3 is)
+
+pub returns-in-Err-make-clause-tree_left : goal.returns-in-Err-make-clause-tree_left
+returns-in-Err-make-clause-tree_left g c =
+    made_leaves tree_letter tree_refusal has_tree EmptyTree (g.D.Disk.told c.args.tree) (g.D.Disk.told c.in-Ok.found.0) (g.D.Disk.may_leave c.args.tree) (g.D.Disk.may_leave c.in-Ok.found.0) (g.D.Disk.may_leave c.in-Err-make.tree) c.in-Ok.found.1
+    c.in-Ok.ensures.settled c.in-Ok.ensures.left c.in-Ok.ensures.found c.in-Err-make.ensures.left
+
+pub returns-in-Ok-make-2-clause-tree_left : goal.returns-in-Ok-make-2-clause-tree_left
+returns-in-Ok-make-2-clause-tree_left g c =
+    made_leaves tree_letter tree_refusal has_tree EmptyTree (g.D.Disk.told c.args.tree) (g.D.Disk.told c.in-Ok.found.0) (g.D.Disk.may_leave c.args.tree) (g.D.Disk.may_leave c.in-Ok.found.0) (g.D.Disk.may_leave c.in-Ok-make.tree) c.in-Ok.found.1
+    c.in-Ok.ensures.settled c.in-Ok.ensures.left c.in-Ok.ensures.found c.in-Ok-make.ensures.left
+
+pub returns-in-Ok-make-2-clause-log_left : goal.returns-in-Ok-make-2-clause-log_left
+returns-in-Ok-make-2-clause-log_left g c =
+    made_leaves log_letter log_refusal has_log EmptyLog (g.E.Disk.told c.args.log) (g.E.Disk.told c.in-Ok-find_log.found.0) (g.E.Disk.may_leave c.args.log) (g.E.Disk.may_leave c.in-Ok-find_log.found.0) (g.E.Disk.may_leave c.in-Ok-make-2.log) c.in-Ok-find_log.found.1
+    c.in-Ok-find_log.ensures.settled c.in-Ok-find_log.ensures.left c.in-Ok-find_log.ensures.found c.in-Ok-make-2.ensures.left
+
+pub returns-in-Err-make-2-clause-tree_left : goal.returns-in-Err-make-2-clause-tree_left
+returns-in-Err-make-2-clause-tree_left g c =
+    made_leaves tree_letter tree_refusal has_tree EmptyTree (g.D.Disk.told c.args.tree) (g.D.Disk.told c.in-Ok.found.0) (g.D.Disk.may_leave c.args.tree) (g.D.Disk.may_leave c.in-Ok.found.0) (g.D.Disk.may_leave c.in-Ok-make.tree) c.in-Ok.found.1
+    c.in-Ok.ensures.settled c.in-Ok.ensures.left c.in-Ok.ensures.found c.in-Ok-make.ensures.left
+
+pub returns-in-Err-make-2-clause-log_left : goal.returns-in-Err-make-2-clause-log_left
+returns-in-Err-make-2-clause-log_left g c =
+    made_leaves log_letter log_refusal has_log EmptyLog (g.E.Disk.told c.args.log) (g.E.Disk.told c.in-Ok-find_log.found.0) (g.E.Disk.may_leave c.args.log) (g.E.Disk.may_leave c.in-Ok-find_log.found.0) (g.E.Disk.may_leave c.in-Err-make-2.log) c.in-Ok-find_log.found.1
+    c.in-Ok-find_log.ensures.settled c.in-Ok-find_log.ensures.left c.in-Ok-find_log.ensures.found c.in-Err-make-2.ensures.left

@@ -1,4 +1,4 @@
-use Rattle.std.proofs.Common.{sym, ◌∙◌, subst}
+use Rattle.std.proofs.Common.{ap, sym, ◌∙◌, subst}
 use Rattle.kz_spec_files.specs.Frames.{tree_letter, log_letter}
 use Rattle.kz_spec_files.specs.TreeFile.{tree_of, tree_of_stored, stored_in}
 use Rattle.kz_spec_files.specs.LogFile.{log_in}
@@ -47,3 +47,6 @@ returns-in-Err-attach-clause-refused g c =
     subst (λ d. AreUnopened tree (outside g.D.Disk.told g.D.Disk.faults g.D.Disk.last_failed d) log log_now c.log_status.result) (sym c.into_disk.ensures)
     (subst (λ r. AreUnopened tree tree_open log log_now r) (sym c.log_status.ensures)
     (log_unopened c.in-Err-attach.fault tree tree_open log log_now (trees.held_tree s) (g.E.Disk.last_failed c.in-Err-attach.log) opened.same opened.tree c.in-Ok.ensures.calm c.in-Err-attach.ensures.refused c.in-Err-attach.ensures.cause))
+
+pub returns-in-Err-attach-clause-log_stop : goal.returns-in-Err-attach-clause-log_stop
+returns-in-Err-attach-clause-log_stop g c = λ begun file told few bytes may. ap log_in (c.in-Err-attach.ensures.stop begun file told few bytes may)
