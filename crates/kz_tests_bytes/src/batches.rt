@@ -1,4 +1,5 @@
 use kz_batch::{Batch, BatchFault, batch_size, write_batch};
+use kz_crc::crc32c;
 use std::test::Fail;
 
 // The first batch of a migration: two records, `01140000` and `0115000100`, at offset 0, of epoch 1 and time 0.
@@ -69,6 +70,18 @@ fn every_truncation(rt: HostRuntime) -> Result<(), Fail> {
     let mut longer = FIRST.to_vec(rt.alloc())?;
     longer.push(0)?;
     assert_eq!(rt; Batch::read(&longer).err(), Some(BatchFault::BadCount));
+    Ok(())
+}
+
+// A batch that says that it has more records than it has bytes, with the right sum.
+#[test]
+fn a_count_past_the_bytes(rt: HostRuntime) -> Result<(), Fail> {
+    let mut batch = FIRST;
+    batch[23..27].copy_from_slice(&[0x7F, 0xFF, 0xFF, 0xFE]);
+    batch[57..61].copy_from_slice(&[0x7F, 0xFF, 0xFF, 0xFF]);
+    let sum = crc32c(&batch[21..]).to_be_bytes();
+    batch[17..21].copy_from_slice(&sum);
+    assert_eq!(rt; Batch::read(&batch).err(), Some(BatchFault::BadCount));
     Ok(())
 }
 
