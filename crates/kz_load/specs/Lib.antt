@@ -1,2 +1,3 @@
 pub mod LoadsFiles
 pub mod LoadsTrees
+pub mod Leaves

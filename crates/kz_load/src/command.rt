@@ -1,7 +1,10 @@
 //! Loading a tree into two files.
 ghost use Rattle.std.specs.Prelude.{◌≡◌, true, false, None, IfOk, IfErr};
+ghost use Rattle.kz_disk.specs.Disks.{NothingPends};
 ghost use Rattle.kz_commands.specs.Outside.{outside};
+ghost use Rattle.kz_commands.specs.Stops.{contents};
 ghost use Rattle.kz_tree_store.specs.Stores.{IsOpened, held_tree, is_fresh, loaded, store_disk, store_down, store_state};
+ghost use Rattle.kz_load.specs.Leaves.{LeavesUnopened, LeavesEither, LeavesNewOrLoaded, LoadStops};
 ghost use Rattle.kz_load.specs.LoadsFiles.{LoadsFiles};
 ghost use Rattle.kz_load.specs.LoadsTrees.{IsUnopenedTree, FillsStore, LoadsTree, CanFailLoad, status_of_open_fault, status_of_load_fault};
 
@@ -48,6 +51,7 @@ fn open_new<D: Disk>(alloc: Global, tree: D) -> Result<TreeStore<D>, (Status, D)
     ensures fresh { IfOk result (λ s. is_fresh s ≡ true) }
     ensures calm { IfOk result (λ s. D.faults (store_disk s) ≡ D.faults tree) }
     ensures refused { IfErr result (λ e. IsUnopenedTree (outside D.told D.faults D.last_failed tree) (outside D.told D.faults D.last_failed e.1) e.0) }
+    ensures left { IfErr result (λ e. LeavesUnopened (D.told tree) (D.may_leave tree) (D.may_leave e.1)) }
 {
     let store = match TreeStore::attach(alloc, tree) {
         Ok(store) => store,
@@ -65,8 +69,10 @@ fn fill<S: Source, D: Disk>(alloc: Global, input: &mut S, store: &mut TreeStore<
     requires up { store_down store.old ≡ false }
     requires fresh { is_fresh store.old ≡ true }
     requires unloaded { loaded store.old ≡ None }
-    ensures { FillsStore (held_tree store.old) (outside S.left S.faults S.last_failed input.old) (outside S.left S.faults S.last_failed input.new)
+    ensures fills { FillsStore (held_tree store.old) (outside S.left S.faults S.last_failed input.old) (outside S.left S.faults S.last_failed input.new)
         (outside D.told D.faults D.last_failed (store_disk store.old)) (outside D.told D.faults D.last_failed (store_disk store.new)) result }
+    ensures left { LeavesEither (S.left input.old) (held_tree store.old) (D.told (store_disk store.new)) (D.may_leave (store_disk store.new)) }
+    ensures settled { result ≡ Status.Done → NothingPends (D.told (store_disk store.new)) (D.may_leave (store_disk store.new)) }
 {
     let Loaded {
         zxid,
@@ -84,8 +90,10 @@ fn fill<S: Source, D: Disk>(alloc: Global, input: &mut S, store: &mut TreeStore<
 
 // Loads the tree of an input into the file of a tree that was just made.
 fn load_tree<S: Source, D: Disk>(alloc: Global, input: &mut S, tree: D) -> (Status, D)
-    ensures { LoadsTree (outside S.left S.faults S.last_failed input.old) (outside S.left S.faults S.last_failed input.new)
+    ensures loads { LoadsTree (outside S.left S.faults S.last_failed input.old) (outside S.left S.faults S.last_failed input.new)
         (outside D.told D.faults D.last_failed tree) (outside D.told D.faults D.last_failed result.1) result.0 }
+    ensures left { LeavesNewOrLoaded (S.left input.old) (D.told tree) (D.may_leave tree) (D.told result.1) (D.may_leave result.1) }
+    ensures settled { result.0 ≡ Status.Done → NothingPends (D.told result.1) (D.may_leave result.1) }
 {
     let mut store = match open_new(alloc, tree) {
         Ok(store) => store,
@@ -96,7 +104,8 @@ fn load_tree<S: Source, D: Disk>(alloc: Global, input: &mut S, tree: D) -> (Stat
 }
 
 /// Makes both files, as `init`, and loads the tree of an input into them: its lines are a header and znodes, by rising path. The tree
-/// stands once the last line was read and written; until then the files stand for an empty tree and an empty log.
+/// stands once the last line was read and written; until then the files stand for an empty tree and an empty log, and a stop leaves one
+/// of the two, or what `init` leaves.
 ///
 /// `TreeFault`, `LogFault`: a call of that disk failed. `TreeDamaged`, `LogDamaged`, `NotEmpty`: as of `init`; no frame is changed.
 /// `Script`: this line is none of a tree, or breaks a rule of a load. `Limit`: number 2, a znode's body would have more than 1,048,575
@@ -108,9 +117,11 @@ pub fn load<S: Source, D: Disk, E: Disk>(
     tree: D,
     log: E,
 ) -> (Status, D, E)
-    ensures { LoadsFiles (outside S.left S.faults S.last_failed input.old) (outside S.left S.faults S.last_failed input.new)
+    ensures loads { LoadsFiles (outside S.left S.faults S.last_failed input.old) (outside S.left S.faults S.last_failed input.new)
         (outside D.told D.faults D.last_failed tree) (outside D.told D.faults D.last_failed result.1)
         (outside E.told E.faults E.last_failed log) (outside E.told E.faults E.last_failed result.2) result.0 }
+    ensures stop { LoadStops (S.left input.old) (contents D.told D.may_leave D.syncs tree) (contents D.told D.may_leave D.syncs result.1)
+        (contents E.told E.may_leave E.syncs log) (contents E.told E.may_leave E.syncs result.2) result.0 }
 {
     let (made, tree, log) = init(alloc, tree, log);
     match made {
