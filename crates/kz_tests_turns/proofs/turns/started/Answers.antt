@@ -2,7 +2,7 @@ use Rattle.std.proofs.Common.{sym, ap, subst}
 use Rattle.kz_spec_stores.specs.Log.{View, IsViewOf}
 use Rattle.kz_spec_machine.specs.Driver.{Driver}
 use Rattle.kz_log.proofs.Views.{new_is_view}
-use Rattle.kz_tests_steps.proofs.turns.started.Goals as goal
+use Rattle.kz_tests_turns.proofs.turns.started.Goals as goal
 
 pub returns-clause-view : goal.returns-clause-view
 returns-clause-view c =
