@@ -48,8 +48,8 @@ use Rattle.kz_stream.proofs.Moments.{leaves_here}
 use Rattle.kz_commands.specs.Outside.{Outside}
 use Rattle.kz_commands.specs.Opening.{IsUnopenedStatus, IsForDamage, LeavesUnopened, AreUnopened}
 use Rattle.kz_replay.specs.Disks.{RunDisks}
-use Rattle.kz_commands.specs.Stops.{StandsAtStop}
-use Rattle.kz_replay.specs.Stops.{StandAtMoment, Contents, FilesKeepUp, ReplayStops}
+use Rattle.kz_commands.specs.Stops.{Contents, StandsAtStop}
+use Rattle.kz_replay.specs.Stops.{StandAtMoment, FilesKeepUp, ReplayStops}
 use Rattle.kz_replay.specs.Replays.{EndsAtDamage, LeavesWorld, KeepsUpAt, Replayed, ScriptTurnsEnd, ReplaysSoundly, Replays}
 
 -- ---- what holds of every script

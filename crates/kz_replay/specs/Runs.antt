@@ -12,7 +12,9 @@ use Rattle.kz_load.specs.LoadsFiles.{LoadsFiles}
 use Rattle.kz_reports.specs.Tells.{Tells}
 use Rattle.kz_replay.specs.Generates.{Generates}
 use Rattle.kz_replay.specs.Replays.{Replays}
-use Rattle.kz_replay.specs.Stops.{Contents, ReplayStops, StandAsBefore, IsUntouched}
+use Rattle.kz_commands.specs.Stops.{Contents}
+use Rattle.kz_load.specs.Leaves.{LoadStops}
+use Rattle.kz_replay.specs.Stops.{ReplayStops, InitStops, StandAsBefore, IsUntouched}
 
 -- A command that reads and writes nothing makes this of the files.
 pub record MakesFilesAlone (holds : List ℕ → List ℕ → List ℕ → List ℕ → Status → Type 0) (input input_now out out_now tree tree_now log log_now : Outside) (result : Status) : Type 0 where
@@ -35,7 +37,9 @@ pub record Runs (words : List (String Global)) (input input_now out out_now tree
   pub generate : (changes : Option ℕ) → command_of words ≡ Some (Generate changes) → Generates changes out out_now result × (input_now ≡ input) × (tree_now ≡ tree) × (log_now ≡ log)
 
 -- What a stop leaves of both files after a run with these words.
-pub record RunStops (words : List (String Global)) (input out out_now : Option (List ℕ)) (tree tree_now log log_now : Contents) : Type 0 where
+pub record RunStops (words : List (String Global)) (input out out_now : Option (List ℕ)) (tree tree_now log log_now : Contents) (result : Status) : Type 0 where
+  pub init : command_of words ≡ Some Init → InitStops tree tree_now log log_now result
+  pub load : command_of words ≡ Some Load → LoadStops input tree tree_now log log_now result
   pub replay : command_of words ≡ Some Replay → ReplayStops input out out_now tree tree_now log log_now
   pub upgrade : command_of words ≡ Some Upgrade → StandAsBefore tree tree_now log log_now
   pub tell : (r : Report) → command_of words ≡ Some (Tell r) → StandAsBefore tree tree_now log log_now

@@ -1,7 +1,10 @@
 -- What a stop leaves of both files after a run.
 use Rattle.std.specs.Prelude.{◌≡◌, ◌⊎◌, ◌<◌, ◌^◌, true, ℕ, List, length, Option, Some, IfSome, is_some}
 use Rattle.std.specs.Io.KnownBytes.{Appends}
+use Rattle.kz_types.specs.declared.outside.Status.{Status}
+use Rattle.kz_types.specs.declared.outside.Status.TheVariants as status
 use Rattle.kz_disk.specs.Disks.{NothingPends}
+use Rattle.kz_spec_files.specs.Frames.{tree_letter, log_letter}
 use Rattle.kz_spec_stores.specs.Tree.{Tree}
 use Rattle.kz_spec_stores.specs.Log.{Log}
 use Rattle.kz_spec_files.specs.TreeFile.{tree_of}
@@ -9,7 +12,7 @@ use Rattle.kz_spec_files.specs.LogFile.{log_of}
 use Rattle.kz_spec_commands.specs.Files.{StandFor}
 use Rattle.kz_spec_runs.specs.Moments.{Moment, StandsAt, replayed_moments}
 use Rattle.kz_spec_runs.specs.Openings.{opened_world, IsSoundPair}
-use Rattle.kz_commands.specs.Stops.{StandsAtStop}
+use Rattle.kz_commands.specs.Stops.{Contents, StandsAtStop, LeavesByInit, StaysSettled}
 
 -- With this much written, two files stand for the tree and the log of a moment that keeps up with it.
 pub record StandAtMoment (ms : List Moment) (sent t l : List ℕ) : Type 0 where
@@ -17,15 +20,6 @@ pub record StandAtMoment (ms : List Moment) (sent t l : List ℕ) : Type 0 where
   pub log : Log
   pub stand : StandFor t l tree log
   pub moment : StandsAt ms sent (Some tree) (Some log)
-
--- What a disk tells of its contents, what a stop may leave of them, and how often a sync has succeeded.
-pub record Contents : Type 1 where
-  pub told : Option (List ℕ)
-  pub leaves : List ℕ → Type 0
-  pub syncs : ℕ
-
-abbrev pub contents : {D : Type 0} → (D → Option (List ℕ)) → (D → List ℕ → Type 0) → (D → ℕ) → D → Contents
-contents told leaves syncs disk = record { told = told disk; leaves = leaves disk; syncs = syncs disk }
 
 -- Before a run no write was pending on a disk, or a sync succeeded in the run; and the file had fewer than 2^32 bytes.
 abbrev pub IsStable : List ℕ → Contents → Contents → Type 0
@@ -48,3 +42,10 @@ StandAsBefore tree tree_now log log_now = StandsAtStop tree_of tree.told tree.le
 -- A stop leaves of a disk what it would have left before.
 abbrev pub IsUntouched : Contents → Contents → Type 0
 IsUntouched disk now = (now.told ≡ disk.told) × ((bytes : List ℕ) → now.leaves bytes → disk.leaves bytes)
+
+-- Whatever a stop leaves of both files after `init`: a short file is short, and a longer one says the same. Once both are made, no
+-- write is pending, so that they stand for an empty tree and an empty log.
+pub record InitStops (tree tree_now log log_now : Contents) (result : Status) : Type 0 where
+  pub tree_left : LeavesByInit tree_letter tree.told tree.leaves tree_now.leaves
+  pub log_left : LeavesByInit log_letter log.told log.leaves log_now.leaves
+  pub settled : result ≡ status.Done → StaysSettled tree.told tree.leaves tree_now.told tree_now.leaves × StaysSettled log.told log.leaves log_now.told log_now.leaves

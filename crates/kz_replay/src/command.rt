@@ -1,7 +1,7 @@
 //! The top call: the commands that the program has.
 ghost use Rattle.kz_commands.specs.Outside.{outside};
 ghost use Rattle.kz_replay.specs.Runs.{Runs, RunStops};
-ghost use Rattle.kz_replay.specs.Stops.{contents};
+ghost use Rattle.kz_commands.specs.Stops.{contents};
 
 use crate::program::replay;
 use crate::script::write_script;
@@ -65,7 +65,7 @@ pub fn run<S: Source, K: Sink, D: Disk, E: Disk>(
         (outside D.told D.faults D.last_failed tree) (outside D.told D.faults D.last_failed result.1)
         (outside E.told E.faults E.last_failed log) (outside E.told E.faults E.last_failed result.2) result.0 }
     ensures stop { RunStops words.now (S.left input.old) (K.taken out.old) (K.taken out.new) (contents D.told D.may_leave D.syncs tree) (contents D.told D.may_leave D.syncs result.1)
-        (contents E.told E.may_leave E.syncs log) (contents E.told E.may_leave E.syncs result.2) }
+        (contents E.told E.may_leave E.syncs log) (contents E.told E.may_leave E.syncs result.2) result.0 }
 {
     match command_of(words) {
         None => (Status::Usage, tree, log),

@@ -2,7 +2,8 @@
 ghost use Rattle.std.specs.Prelude.{◌≢◌};
 ghost use Rattle.kz_commands.specs.Outside.{outside};
 ghost use Rattle.kz_replay.specs.Replays.{Replays};
-ghost use Rattle.kz_replay.specs.Stops.{ReplayStops, contents};
+ghost use Rattle.kz_commands.specs.Stops.{contents};
+ghost use Rattle.kz_replay.specs.Stops.{ReplayStops};
 
 use crate::machine::Replayer;
 use crate::pump::pump;

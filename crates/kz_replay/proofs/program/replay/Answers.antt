@@ -14,7 +14,8 @@ use Rattle.kz_spec_runs.specs.Moments.{LeavesMoment}
 use Rattle.kz_stream.specs.Pending.{state_of, outcome_to_come, moments_to_come, pending_lines}
 use Rattle.kz_commands.specs.Outside.{outside}
 use Rattle.kz_replay.specs.Disks.{RunDisks}
-use Rattle.kz_replay.specs.Stops.{contents, ReplayStops}
+use Rattle.kz_commands.specs.Stops.{contents}
+use Rattle.kz_replay.specs.Stops.{ReplayStops}
 use Rattle.kz_replay.proofs.Replaying.{Told, not_opened, opened, unopened_stops, opened_stops, tree_stands, log_stands_for}
 use Rattle.kz_replay.proofs.program.replay.Goals as goal
 
