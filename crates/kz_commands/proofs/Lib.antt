@@ -4,3 +4,4 @@ pub mod Sealed
 pub mod Fresh
 pub mod Made
 pub mod Left
+pub mod Grown

@@ -1,5 +1,5 @@
 -- What a stop leaves of a file.
-use Rattle.std.specs.Prelude.{◌≡◌, ◌⊎◌, ◌<◌, ◌^◌, ℕ, true, false, List, length, Option, Some}
+use Rattle.std.specs.Prelude.{◌≡◌, ◌⊎◌, ◌+◌, ◌<◌, ◌≤◌, ◌^◌, ℕ, true, false, List, length, Option, Some}
 use Rattle.kz_disk.specs.Disks.{NothingPends}
 use Rattle.kz_spec_commands.specs.Files.{SayTheSame}
 use Rattle.kz_spec_commands.specs.Init.{is_short}
@@ -34,3 +34,7 @@ LeavesByInit letter told leaves left = NothingPends told leaves → (file : List
 -- Where no write was pending on a disk before, none is now.
 abbrev pub StaysSettled : Option (List ℕ) → (List ℕ → Type 0) → Option (List ℕ) → (List ℕ → Type 0) → Type 0
 StaysSettled told leaves now left = NothingPends told leaves → NothingPends now left
+
+-- A file of more than 17 bytes has at most one byte more now.
+abbrev pub LongGrowsByOne : Option (List ℕ) → Option (List ℕ) → Type 0
+LongGrowsByOne told now = (file new : List ℕ) → told ≡ Some file → now ≡ Some new → is_short file ≡ false → length new ≤ length file + 1

@@ -4,11 +4,12 @@ ghost use Rattle.kz_types.specs.Causes.{HasCause, Rose};
 ghost use Rattle.kz_disk.specs.Disks.{StaysTold, LeavesNoMore, NothingPends};
 ghost use Rattle.kz_spec_files.specs.Frames.{tree_letter, log_letter, new_file, journal_of};
 ghost use Rattle.kz_spec_commands.specs.Files.{EndsAtDisk};
+ghost use Rattle.kz_tree_store.specs.Opened.{GrowsByOne};
 ghost use Rattle.kz_spec_commands.specs.Init.{is_short, tree_refusal, log_refusal, Inits};
 ghost use Rattle.kz_commands.specs.Outside.{outside};
 ghost use Rattle.kz_commands.specs.Makes.{MakesFiles};
 ghost use Rattle.kz_commands.specs.Making.{IsShortFound, IsTreeFound, IsLogFound, IsRefusedFor, OfFile, MakesFile, MakingLeaves, is_taken, found_by};
-ghost use Rattle.kz_commands.specs.Stops.{LeavesByInit, StaysSettled};
+ghost use Rattle.kz_commands.specs.Stops.{LeavesByInit, LongGrowsByOne, StaysSettled};
 
 use crate::opening::{log_status, tree_status};
 use kz_disk::Disk;
@@ -71,7 +72,7 @@ fn look<D: Disk>(disk: &mut D, plain: &[u8], summed: &[u8]) -> Result<Option<Fou
 fn look_through_tree<D: Disk>(alloc: Global, disk: D) -> Result<(D, Found), (D, Status)>
     requires { (file : List ℕ) → D.told disk ≡ Some file → is_short file ≡ false }
     ensures found { IfOk result (λ f. OfFile (D.told disk) (D.told f.0) IsTreeFound f.1) }
-    ensures told { IfOk result (λ f. StaysTold (D.told disk) (D.told f.0)) }
+    ensures told { IfOk result (λ f. StaysTold (D.told disk) (D.told f.0) × GrowsByOne (D.told disk) (D.told f.0)) }
     ensures calm { IfOk result (λ f. D.faults f.0 ≡ D.faults disk) }
     ensures refused { IfErr result (λ e. OfFile (D.told disk) (D.told e.0) (IsRefusedFor tree_letter tree_refusal) e.1) }
     ensures cause { IfErr result (λ e. EndsAtDisk Status.TreeFault e.1 (D.faults disk) (D.faults e.0)) }
@@ -91,7 +92,7 @@ fn look_through_tree<D: Disk>(alloc: Global, disk: D) -> Result<(D, Found), (D, 
 // What stands in the tree's file.
 fn find_tree<D: Disk>(alloc: Global, mut disk: D) -> Result<(D, Found), (D, Status)>
     ensures found { IfOk result (λ f. OfFile (D.told disk) (D.told f.0) IsTreeFound f.1) }
-    ensures told { IfOk result (λ f. StaysTold (D.told disk) (D.told f.0)) }
+    ensures told { IfOk result (λ f. StaysTold (D.told disk) (D.told f.0) × GrowsByOne (D.told disk) (D.told f.0)) }
     ensures calm { IfOk result (λ f. D.faults f.0 ≡ D.faults disk) }
     ensures refused { IfErr result (λ e. OfFile (D.told disk) (D.told e.0) (IsRefusedFor tree_letter tree_refusal) e.1) }
     ensures cause { IfErr result (λ e. EndsAtDisk Status.TreeFault e.1 (D.faults disk) (D.faults e.0)) }
@@ -188,6 +189,7 @@ pub fn init<D: Disk, E: Disk>(alloc: Global, tree: D, log: E) -> (Status, D, E)
     ensures made { MakesFiles Inits (outside D.told D.faults D.last_failed tree) (outside D.told D.faults D.last_failed result.1)
         (outside E.told E.faults E.last_failed log) (outside E.told E.faults E.last_failed result.2) result.0 }
     ensures told { result.0 ≡ Status.Done → StaysTold (D.told tree) (D.told result.1) }
+    ensures grown { result.0 ≡ Status.Done → LongGrowsByOne (D.told tree) (D.told result.1) }
     ensures unread { result.0 ≢ Status.ReadFault }
     ensures settled { result.0 ≡ Status.Done → StaysSettled (D.told tree) (D.may_leave tree) (D.told result.1) (D.may_leave result.1) × StaysSettled (E.told log) (E.may_leave log) (E.told result.2) (E.may_leave result.2) }
     ensures tree_left { LeavesByInit tree_letter (D.told tree) (D.may_leave tree) (D.may_leave result.1) }

@@ -158,7 +158,11 @@ read_whole letter place further file told read room is c gate_is sums sum long =
       journal = ends_there letter place file read room c.new (closed_ends letter place file read room told c) ∙ sym (ends_here letter place file read room is);
       read = read_closed letter place file read room further told c gate_is sums sum long;
       closed = ap (λ (k : ℕ). get_or c.new k 0) gate_is ∙ c.closed;
+      grown = one_more (length c.new) (length file) place.gate place.length read.measured.long room c.long;
     }
+  where
+    one_more : (new long gate n : ℕ) → n ≡ long → gate ≤ n → new ≡ max long (gate + 1) → new ≤ long + 1
+    one_more new long gate n same room is = omega (arith, same, room, is)
 
 -- what still ends there says the same
 pub still_says : (letter : ℕ) (place : Place) (file left : List ℕ) → IsReadTo letter place file → place.gate ≤ place.length → End ≡ found_at place.summed (take place.gate file) (drop place.gate file)
@@ -188,11 +192,11 @@ ended_says letter place file told read closed stands is =
     let at : place.gate < length file = omega arith in
     let all = unread_end letter place file read (omega arith) (sym (closed_found place file closed at)) in (
       record { none = ap (λ (j : Journal). j.frames) all; whole = ap (λ (j : Journal). j.damaged) all },
-      record { new = file; is = is; journal = refl; held_is = held_closed letter place file read closed stands },
+      record { new = file; is = is; journal = refl; held_is = held_closed letter place file read closed stands; grown = omega arith },
     )
 
 pub whole_says : (letter : ℕ) (place further : Place) (file : List ℕ) (told : Option (List ℕ)) → IsReadWhole letter file place further told → further.gate < further.length → IsAllRead (journal_at place file) × SaysTheSame letter file told (file_at further)
 whole_says letter place further file told whole stands = (
   whole.all,
-  record { new = whole.new; is = whole.is; journal = whole.journal; held_is = held_closed letter further whole.new whole.read whole.closed stands },
+  record { new = whole.new; is = whole.is; journal = whole.journal; held_is = held_closed letter further whole.new whole.read whole.closed stands; grown = whole.grown },
 )

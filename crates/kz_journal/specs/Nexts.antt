@@ -1,5 +1,5 @@
 -- What comes next in a file that has been read up to a gate.
-use Rattle.std.specs.Prelude.{◌≡◌, ◌^◌, ◌<◌, ◌≤◌, ℕ, true, false, ⊤, List, [], Option, Some, Result, Ok, Err}
+use Rattle.std.specs.Prelude.{◌≡◌, ◌+◌, ◌^◌, ◌<◌, ◌≤◌, ℕ, true, false, ⊤, List, [], length, Option, Some, Result, Ok, Err}
 use Rattle.kz_spec_stores.specs.Requests.{StoreFile}
 use Rattle.kz_spec_files.specs.Frames.{Journal, after_frame, journal_of}
 use Rattle.kz_journal.specs.declared.next.Next.{Next}
@@ -20,12 +20,13 @@ pub record IsDamagedAt (left : Journal) (at : ℕ) : Type 0 where
   pub damaged : left.damaged ≡ true
   pub place : left.end ≡ at
 
--- The file that is told now still says what a file said, and its frames end at a closed gate.
+-- The file that is told now still says what a file said, and its frames end at a closed gate, which may be one byte more.
 pub record SaysTheSame (letter : ℕ) (file : List ℕ) (told : Option (List ℕ)) (held : StoreFile) : Type 0 where
   pub new : List ℕ
   pub is : told ≡ Some new
   pub journal : journal_of letter new ≡ journal_of letter file
   pub held_is : held ≡ file_of letter new
+  pub grown : length new ≤ length file + 1
 
 -- The file that is told is the same, and has been read up to a further gate, after this frame.
 pub record IsReadPast (letter : ℕ) (file : List ℕ) (place : Place) (at : ℕ) (payload : List ℕ) (further : Place) (told : Option (List ℕ)) : Type 0 where
@@ -33,7 +34,8 @@ pub record IsReadPast (letter : ℕ) (file : List ℕ) (place : Place) (at : ℕ
   pub read : IsReadTo letter further file
   pub frame : journal_at place file ≡ after_frame (record { at = at; payload = payload }) (journal_at further file)
 
--- No frame is left, and the file that is told now says the same. It has been read up to the gate at its end, which is closed.
+-- No frame is left, and the file that is told now says the same. It has been read up to the gate at its end, which is closed, and
+-- may be one byte more.
 pub record IsReadWhole (letter : ℕ) (file : List ℕ) (place further : Place) (told : Option (List ℕ)) : Type 0 where
   pub all : IsAllRead (journal_at place file)
   pub new : List ℕ
@@ -41,6 +43,7 @@ pub record IsReadWhole (letter : ℕ) (file : List ℕ) (place further : Place) 
   pub journal : journal_of letter new ≡ journal_of letter file
   pub read : IsReadTo letter further new
   pub closed : HasClosedGate further new
+  pub grown : length new ≤ length file + 1
 
 -- This comes next in a file that has been read up to a place.
 abbrev pub ComesNext : ℕ → List ℕ → Place → Next → Option (List ℕ) → Type 0

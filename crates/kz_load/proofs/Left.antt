@@ -1,5 +1,5 @@
 -- What a stop leaves of the files of a load.
-use Rattle.std.proofs.Common.{◌≡◌, ◌⊎◌, ◌≢◌, inl, inr, ⊎_elim, ℕ, ◌<◌, ◌≤◌, ◌^◌, Bool, true, false, List, length, Option, Some, None, IfSome, is_some, Result, Ok, Err, refl, sym, ap, ◌∙◌, subst, arith}
+use Rattle.std.proofs.Common.{◌≡◌, ◌⊎◌, ◌≢◌, inl, inr, ⊎_elim, ℕ, ◌+◌, ◌<◌, ◌≤◌, ◌^◌, Bool, true, false, List, length, Option, Some, None, IfSome, is_some, Result, Ok, Err, refl, sym, ap, ◌∙◌, subst, arith}
 use Rattle.std.proofs.lemmas.Bool.{leb-true}
 use Rattle.kz_types.specs.declared.outside.Status.{Status}
 use Rattle.kz_types.specs.declared.outside.Status.TheVariants as status
@@ -15,7 +15,7 @@ use Rattle.kz_spec_commands.specs.Files.{SayTheSame}
 use Rattle.kz_spec_commands.specs.Init.{is_short, is_whole_and_empty, IsMade, AreMade, Inits}
 use Rattle.kz_commands.specs.Outside.{Outside}
 use Rattle.kz_commands.specs.Makes.{MakesFiles}
-use Rattle.kz_commands.specs.Stops.{Contents, LeavesByInit, StaysSettled}
+use Rattle.kz_commands.specs.Stops.{Contents, LeavesByInit, LongGrowsByOne, StaysSettled}
 use Rattle.kz_commands.proofs.Disks.{one_file}
 use Rattle.kz_spec_dumps.specs.Loading.{loaded}
 use Rattle.kz_tree_store.specs.Opened.{Known, IsTreeFile, LeavesTree, tree_found, tree_in_file}
@@ -101,6 +101,12 @@ few_of n short = omega (arith, short)
 short_few : (file : List ℕ) → is_short file ≡ true → length file < 2 ^ 32
 short_few file short = few_of (length file) (leb-true (length file) 17 short)
 
+one_less : (n : ℕ) → n + 1 < 2 ^ 32 → n < 2 ^ 32
+one_less n few = omega (arith, few)
+
+few_more : (n m : ℕ) → m ≤ n + 1 → n + 1 < 2 ^ 32 → m < 2 ^ 32
+few_more n m grown few = omega (arith, grown, few)
+
 either_way : (b : Bool) → (b ≡ true) ⊎ (b ≡ false)
 either_way true = inl refl
 either_way false = inr refl
@@ -108,27 +114,31 @@ either_way false = inr refl
 new_short : is_short (new_file tree_letter) ≡ true
 new_short = refl
 
-made_few : (file new : List ℕ) → is_short file ≡ true → IsMade tree_letter file new → (is_whole_and_empty tree_letter file ≡ true) ⊎ (is_whole_and_empty tree_letter file ≡ false) → length new < 2 ^ 32
-made_few file new short made (inl whole) = subst (λ (b : List ℕ). length b < 2 ^ 32) (sym (made.left short whole)) (short_few file short)
-made_few file new short made (inr torn) = subst (λ (b : List ℕ). length b < 2 ^ 32) (sym (made.anew short torn)) (short_few (new_file tree_letter) new_short)
+short_made : (file new : List ℕ) → is_short file ≡ true → IsMade tree_letter file new → (is_whole_and_empty tree_letter file ≡ true) ⊎ (is_whole_and_empty tree_letter file ≡ false) → length new < 2 ^ 32
+short_made file new short made (inl whole) = subst (λ (b : List ℕ). length b < 2 ^ 32) (sym (made.left short whole)) (short_few file short)
+short_made file new short made (inr torn) = subst (λ (b : List ℕ). length b < 2 ^ 32) (sym (made.anew short torn)) (short_few (new_file tree_letter) new_short)
+
+made_few : (file new : List ℕ) → IsMade tree_letter file new → (is_short file ≡ false → length new ≤ length file + 1) → length file + 1 < 2 ^ 32 → (is_short file ≡ true) ⊎ (is_short file ≡ false) → length new < 2 ^ 32
+made_few file new made grown few (inl short) = short_made file new short made (either_way (is_whole_and_empty tree_letter file))
+made_few file new made grown few (inr long) = few_more (length file) (length new) (grown long) few
 
 -- they weren't made
 pub unmade_stops : (input : Option (List ℕ)) (tree tree_now log log_now : Contents) (s : Status) → s ≢ status.Done → LeavesByInit tree_letter tree.told tree.leaves tree_now.leaves → LeavesByInit log_letter log.told log.leaves log_now.leaves
     → LoadStops input tree tree_now log log_now s
 unmade_stops input tree tree_now log log_now s other tree_left log_left = record {
-  left = λ none_t none_l t l is_t is_l short few tells_t tells_l.
+  left = λ none_t none_l t l is_t is_l few_t few tells_t tells_l.
       every_some (λ script. (x y : List ℕ) → tree_now.leaves x → log_now.leaves y → AreLeftByLoad script t l x y) input
-      (λ script x y left_x left_y. inl (tree_left none_t t is_t (short_few t short) x left_x, log_left none_l l is_l few y left_y));
+      (λ script x y left_x left_y. inl (tree_left none_t t is_t (one_less (length t) few_t) x left_x, log_left none_l l is_l few y left_y));
   settled = λ is. absurd (other is);
 }
 
 -- they were made, and the tree's file was filled
 pub made_stops : (input : Option (List ℕ)) (tree tree_mid tree_now log log_now : Contents) (s : Status) (t_out mid_out l_out now_out : Outside) → t_out.bytes ≡ tree.told → mid_out.bytes ≡ tree_mid.told → l_out.bytes ≡ log.told → now_out.bytes ≡ log_now.told
-    → MakesFiles Inits t_out mid_out l_out now_out status.Done → StaysTold tree.told tree_mid.told
+    → MakesFiles Inits t_out mid_out l_out now_out status.Done → StaysTold tree.told tree_mid.told → LongGrowsByOne tree.told tree_mid.told
     → StaysSettled tree.told tree.leaves tree_mid.told tree_mid.leaves × StaysSettled log.told log.leaves log_now.told log_now.leaves
     → LeavesNewOrLoaded input tree_mid.told tree_mid.leaves tree_now.told tree_now.leaves → (s ≡ status.Done → NothingPends tree_now.told tree_now.leaves) → LoadStops input tree tree_now log log_now s
-made_stops input tree tree_mid tree_now log log_now s t_out mid_out l_out now_out is_tree is_mid is_log is_now makes told settled filled done = record {
-  left = λ none_t none_l t l is_t is_l short few tells_t tells_l.
+made_stops input tree tree_mid tree_now log log_now s t_out mid_out l_out now_out is_tree is_mid is_log is_now makes told grown settled filled done = record {
+  left = λ none_t none_l t l is_t is_l few_t few tells_t tells_l.
       let mid = still_told tree.told tree_mid.told t told is_t in
       let new_log = some_told log_now.told tells_l in
       let are : AreMade t l mid.0 new_log.0 = makes.files t l mid.0 new_log.0 (is_tree ∙ is_t) (is_log ∙ is_l) (is_mid ∙ mid.1) (is_now ∙ new_log.1) in
@@ -136,6 +146,6 @@ made_stops input tree tree_mid tree_now log log_now s t_out mid_out l_out now_ou
       (λ script. (x y : List ℕ) → tree_now.leaves x → log_now.leaves y → AreLeftByLoad script t l x y) input
       (λ script h x y left_x left_y.
       inr (h tells_t x left_x, ap log_of (one_file log_now.told new_log.0 y new_log.1 (settled.1 none_l y left_y)) ∙ are.stand.log_is))
-      (filled (settled.0 none_t) mid.0 mid.1 (made_few t mid.0 short are.tree_made (either_way (is_whole_and_empty tree_letter t))) (made_new t l mid.0 new_log.0 are));
+      (filled (settled.0 none_t) mid.0 mid.1 (made_few t mid.0 are.tree_made (grown t mid.0 is_t mid.1) few_t (either_way (is_short t))) (made_new t l mid.0 new_log.0 are));
   settled = λ is none_t none_l. (done is, settled.1 none_l);
 }

@@ -1,5 +1,5 @@
 -- What a stop leaves of the two files of a load.
-use Rattle.std.specs.Prelude.{◌≡◌, ◌⊎◌, ◌<◌, ◌^◌, ℕ, true, List, length, Option, Some, is_some, IfSome, Result, Ok}
+use Rattle.std.specs.Prelude.{◌≡◌, ◌⊎◌, ◌+◌, ◌<◌, ◌^◌, ℕ, true, List, length, Option, Some, is_some, IfSome, Result, Ok}
 use Rattle.kz_types.specs.declared.outside.Status.{Status}
 use Rattle.kz_types.specs.declared.outside.Status.TheVariants as status
 use Rattle.kz_disk.specs.Disks.{NothingPends}
@@ -10,7 +10,6 @@ use Rattle.kz_spec_files.specs.TreeFile.{tree_of}
 use Rattle.kz_spec_files.specs.LogFile.{log_of}
 use Rattle.kz_spec_dumps.specs.Loading.{loaded}
 use Rattle.kz_spec_commands.specs.Files.{SayTheSame}
-use Rattle.kz_spec_commands.specs.Init.{is_short}
 use Rattle.kz_commands.specs.Stops.{Contents, LeftByInit}
 use Rattle.kz_load.specs.LoadsTrees.{IsNewTree}
 
@@ -34,9 +33,9 @@ LeavesNewOrLoaded input told leaves now left = NothingPends told leaves → (fil
 abbrev pub AreLeftByLoad : List ℕ → List ℕ → List ℕ → List ℕ → List ℕ → Type 0
 AreLeftByLoad script t l x y = (LeftByInit tree_letter t x × LeftByInit log_letter l y) ⊎ (StandsForEither (loaded script) empty_tree x × (log_of y ≡ Ok empty_log))
 
--- Whatever a stop leaves of both files, it is that, where no write was pending on their disks before and the tree's file had at most 17
--- bytes. Once the load is done, no write is pending.
+-- Whatever a stop leaves of both files, it is that, where no write was pending on their disks before; the tree's file has fewer than
+-- 2^32 - 1 bytes, the log's fewer than 2^32. Once the load is done, no write is pending.
 pub record LoadStops (input : Option (List ℕ)) (tree tree_now log log_now : Contents) (result : Status) : Type 0 where
-  pub left : NothingPends tree.told tree.leaves → NothingPends log.told log.leaves → (t l : List ℕ) → tree.told ≡ Some t → log.told ≡ Some l → is_short t ≡ true → length l < 2 ^ 32
+  pub left : NothingPends tree.told tree.leaves → NothingPends log.told log.leaves → (t l : List ℕ) → tree.told ≡ Some t → log.told ≡ Some l → length t + 1 < 2 ^ 32 → length l < 2 ^ 32
       → is_some tree_now.told ≡ true → is_some log_now.told ≡ true → IfSome input (λ script. (x y : List ℕ) → tree_now.leaves x → log_now.leaves y → AreLeftByLoad script t l x y)
   pub settled : result ≡ status.Done → NothingPends tree.told tree.leaves → NothingPends log.told log.leaves → NothingPends tree_now.told tree_now.leaves × NothingPends log_now.told log_now.leaves

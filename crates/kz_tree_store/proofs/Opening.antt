@@ -1,11 +1,11 @@
 -- How a file is opened as a tree, or why it isn't.
-use Rattle.std.proofs.Common.{◌≡◌, ℕ, false, List, Option, Some, None, is_some, Err, refl, sym, ap, ◌∙◌, subst}
+use Rattle.std.proofs.Common.{◌≡◌, ◌+◌, ◌≤◌, ℕ, false, List, length, Option, Some, None, is_some, Err, refl, sym, ap, ◌∙◌, subst, arith}
 use Rattle.kz_spec_files.specs.Frames.{tree_letter}
 use Rattle.kz_spec_files.specs.TreeFile.{after_frames, stored_in, tree_of_stored}
 use Rattle.kz_journal.specs.declared.fault.JournalFault.{JournalFault}
 use Rattle.kz_journal.specs.declared.fault.JournalFault.TheVariants.{DiskFault, Damaged, Full, NoMemory, Down}
 use Rattle.kz_journal.specs.Openings.{no_journal, IsRefused}
-use Rattle.kz_tree_store.specs.Opened.{Known, known_in, IsTreeFile, open_fault_of, SaysTheSame, Reads}
+use Rattle.kz_tree_store.specs.Opened.{Known, known_in, IsTreeFile, open_fault_of, SaysTheSame, GrowsByOne, Reads}
 use Rattle.kz_tree_store.specs.declared.fault.TreeOpenFault.{TreeOpenFault}
 use Rattle.kz_tree_store.specs.declared.fault.TreeOpenFault.TheVariants as open_fault
 use Rattle.kz_tree_store.specs.Stores.{IsUnopened}
@@ -29,6 +29,19 @@ unread open_fault.NoMemory before opened now same reads = λ file told. (file, r
 
 same_bytes : (told : Option (List ℕ)) (a b : List ℕ) → told ≡ Some a → told ≡ Some b → b ≡ a
 same_bytes told a b h k = cc
+
+-- ---- how long a file is that was read
+
+-- the bytes that are told are no more than these
+pub grown_to : (told : Option (List ℕ)) (file last new : List ℕ) → told ≡ Some last → length last ≤ length file + 1 → told ≡ Some new → length new ≤ length file + 1
+grown_to told file last new is_last long is_new = subst (λ (b : List ℕ). length b ≤ length file + 1) (sym (same_bytes told last new is_last is_new)) long
+
+-- the bytes that are told are the same
+pub grown_by_none : (told : Option (List ℕ)) (file new : List ℕ) → told ≡ Some file → told ≡ Some new → length new ≤ length file + 1
+grown_by_none told file new is_file is_new = grown_to told file file new is_file (omega arith) is_new
+
+pub grown_once : (before opened now : Option (List ℕ)) → opened ≡ before → GrowsByOne opened now → GrowsByOne before now
+grown_once before opened now same grown = λ file new is_file is_new. grown file new (same ∙ is_file) is_new
 
 -- ---- what is known once it is open
 

@@ -1,5 +1,5 @@
 -- How a tree's file is read, frame after frame, and what it stands for.
-use Rattle.std.specs.Prelude.{◌≡◌, ◌<◌, ℕ, Bool, true, false, ⊤, List, Option, Some, None, is_some, Result, Ok, Err}
+use Rattle.std.specs.Prelude.{◌≡◌, ◌+◌, ◌<◌, ◌≤◌, ℕ, Bool, true, false, ⊤, List, length, Option, Some, None, is_some, Result, Ok, Err}
 use Rattle.std.proofs.Common.{ap}
 use Rattle.kz_types.specs.Causes.{Rose}
 use Rattle.kz_types.specs.declared.tree.Row.{Row}
@@ -91,6 +91,10 @@ HasRead s first now = stored_after s now ≡ stored_after nothing_stored first
 -- the file that is told says what a file said
 abbrev pub SaysTheSame : List ℕ → Option (List ℕ) → Type 0
 SaysTheSame file told = (new : List ℕ) × (told ≡ Some new) × (journal_of tree_letter new ≡ journal_of tree_letter file)
+
+-- The file that is told now has at most one byte more than the one that was told before.
+abbrev pub GrowsByOne : Option (List ℕ) → Option (List ℕ) → Type 0
+GrowsByOne before now = (file new : List ℕ) → before ≡ Some file → now ≡ Some new → length new ≤ length file + 1
 
 -- What taking a frame at this place answers, by what its payload makes of what is stored.
 abbrev pub TakesFrame : {T : Type 0} → Result T TreeOpenFault → ℕ → Option Stored → Stored → Type 0

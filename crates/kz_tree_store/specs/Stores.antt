@@ -12,7 +12,7 @@ use Rattle.kz_journal.specs.Held.{disk_of, disk_state}
 use Rattle.kz_tree_store.specs.declared.fault.TreeOpenFault.{TreeOpenFault}
 use Rattle.kz_tree_store.specs.declared.fault.TreeOpenFault.TheVariants as fault
 use Rattle.kz_tree_store.specs.declared.store.TreeStore.{TreeStore}
-use Rattle.kz_tree_store.specs.Opened.{Known, SaysTheSame, LeavesTree}
+use Rattle.kz_tree_store.specs.Opened.{Known, SaysTheSame, GrowsByOne, LeavesTree}
 
 -- the tree
 abbrev pub held_tree : {D : Type 0} {disk : _} → TreeStore D disk → Tree
@@ -53,12 +53,14 @@ abbrev pub is_fresh_file : Result Stored ℕ → Bool
 is_fresh_file (Ok s) = loads.is_fresh s.load
 is_fresh_file (Err at) = false
 
--- A tree was opened: where the disk tells its contents, they stood for this tree, and still do. No load has begun.
+-- A tree was opened: where the disk tells its contents, they stood for this tree, and still do, with at most one byte more. No load
+-- has begun.
 pub record IsOpened {D : Type 0} {disk : _} (s : TreeStore D disk) (before now : Option (List ℕ)) : Type 0 where
   pub up : store_down s ≡ false
   pub unloaded : loaded s ≡ None
   pub told : is_some now ≡ is_some before
   pub same : (file : List ℕ) → before ≡ Some file → SaysTheSame file now
+  pub grown : GrowsByOne before now
   pub tree : (file : List ℕ) → before ≡ Some file → tree_of file ≡ Ok (held_tree s)
   pub fresh_is : (file : List ℕ) → before ≡ Some file → is_fresh_file (stored_in (journal_of tree_letter file)) ≡ is_fresh s
 

@@ -6,7 +6,7 @@ ghost use Rattle.kz_spec_files.specs.Transactions.{txn_of};
 ghost use Rattle.kz_spec_files.specs.TreeFile.{after_reading};
 ghost use Rattle.kz_journal.specs.Held.{disk_of, letter_of, has_ended, is_down, disk_state, bytes_left, unread};
 ghost use Rattle.kz_tree_store.specs.Held.{stored, ArePositive};
-ghost use Rattle.kz_tree_store.specs.Opened.{open_fault_of, TakesFrame, Steps, EndsFrames, Reads, EndsReading};
+ghost use Rattle.kz_tree_store.specs.Opened.{open_fault_of, GrowsByOne, TakesFrame, Steps, EndsFrames, Reads, EndsReading};
 
 use crate::fault::{FrameFault, TreeOpenFault};
 use crate::held::Held;
@@ -58,6 +58,7 @@ fn read_frame<D: Disk>(
     ensures ended { EndsFrames result (has_ended journal.new) (bytes_left journal.old) (bytes_left journal.new) }
     ensures cause { EndsReading result (disk_state D.faults journal.old) (disk_state D.faults journal.new) (D.last_failed (disk_of journal.new)) }
     ensures told { StaysTold (D.told (disk_of journal.old)) (D.told (disk_of journal.new)) }
+    ensures grown { OnOk result (GrowsByOne (D.told (disk_of journal.old)) (D.told (disk_of journal.new))) }
     ensures stop { (file : List ℕ) → D.told (disk_of journal.old) ≡ Some file → length file < 2 ^ 32
         → (left : List ℕ) → D.may_leave (disk_of journal.new) left → journal_of tree_letter left ≡ journal_of tree_letter file }
 {
@@ -90,6 +91,7 @@ pub(crate) fn read_frames<D: Disk>(
     ensures ended { OnOk result (has_ended journal.new ≡ true) }
     ensures cause { EndsReading result (disk_state D.faults journal.old) (disk_state D.faults journal.new) (D.last_failed (disk_of journal.new)) }
     ensures told { StaysTold (D.told (disk_of journal.old)) (D.told (disk_of journal.new)) }
+    ensures grown { OnOk result (GrowsByOne (D.told (disk_of journal.old)) (D.told (disk_of journal.new))) }
     ensures stop { (file : List ℕ) → D.told (disk_of journal.old) ≡ Some file → length file < 2 ^ 32
         → (left : List ℕ) → D.may_leave (disk_of journal.new) left → journal_of tree_letter left ≡ journal_of tree_letter file }
 {

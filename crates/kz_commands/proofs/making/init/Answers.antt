@@ -3,6 +3,7 @@ use Rattle.kz_spec_files.specs.Frames.{tree_letter, log_letter}
 use Rattle.kz_spec_commands.specs.Init.{tree_refusal, has_tree, log_refusal, has_log}
 use Rattle.kz_commands.proofs.Made.{EmptyTree, EmptyLog, log_inits, taken_inits, done_inits, taken_either, made_told}
 use Rattle.kz_commands.proofs.Left.{made_leaves}
+use Rattle.kz_commands.proofs.Grown.{made_grown}
 use Rattle.kz_commands.proofs.making.init.Goals as goal
 
 pub returns-in-Err-clause-told : goal.returns-in-Err-clause-told
@@ -36,7 +37,17 @@ returns-in-Ok-make-2-clause-made g c = record {
 }
 
 pub returns-in-Ok-make-2-clause-told : goal.returns-in-Ok-make-2-clause-told
-returns-in-Ok-make-2-clause-told g c = λ _. made_told tree_letter c.in-Ok.found.1 _ _ _ c.in-Ok.ensures.told c.in-Ok-make.ensures.made
+returns-in-Ok-make-2-clause-told g c = λ _. made_told tree_letter c.in-Ok.found.1 _ _ _ c.in-Ok.ensures.told.0 c.in-Ok-make.ensures.made
+
+pub returns-in-Err-clause-grown : goal.returns-in-Err-clause-grown
+returns-in-Err-clause-grown g c = λ is. absurd (c.in-Err.ensures.other.3 is)
+
+pub returns-in-Err-find_log-clause-grown : goal.returns-in-Err-find_log-clause-grown
+returns-in-Err-find_log-clause-grown g c = λ is. absurd (c.in-Err-find_log.ensures.other.3 is)
+
+pub returns-in-Ok-make-2-clause-grown : goal.returns-in-Ok-make-2-clause-grown
+returns-in-Ok-make-2-clause-grown g c = λ _.
+    made_grown tree_letter tree_refusal has_tree EmptyTree (g.D.Disk.told c.args.tree) (g.D.Disk.told c.in-Ok.found.0) (g.D.Disk.told c.in-Ok-make.tree) c.in-Ok.found.1 c.in-Ok.ensures.told.0 c.in-Ok.ensures.told.1 c.in-Ok.ensures.found c.in-Ok-make.ensures.made
 
 pub returns-in-Err-find_log-clause-settled : goal.returns-in-Err-find_log-clause-settled
 returns-in-Err-find_log-clause-settled g c = λ is. absurd (c.in-Err-find_log.ensures.other.3 is)

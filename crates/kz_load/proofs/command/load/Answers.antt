@@ -34,7 +34,7 @@ returns-in-Done-clause-stop g c =
     (outside g.D.Disk.told g.D.Disk.faults g.D.Disk.last_failed c.args.tree) (outside g.D.Disk.told g.D.Disk.faults g.D.Disk.last_failed c.init-made.result.1)
     (outside g.E.Disk.told g.E.Disk.faults g.E.Disk.last_failed c.args.log) (outside g.E.Disk.told g.E.Disk.faults g.E.Disk.last_failed c.init-made.result.2) refl refl refl refl
     (subst (λ s. MakesFiles Inits (outside g.D.Disk.told g.D.Disk.faults g.D.Disk.last_failed c.args.tree) (outside g.D.Disk.told g.D.Disk.faults g.D.Disk.last_failed c.init-made.result.1) (outside g.E.Disk.told g.E.Disk.faults g.E.Disk.last_failed c.args.log) (outside g.E.Disk.told g.E.Disk.faults g.E.Disk.last_failed c.init-made.result.2) s) c.in-Done.is c.init-made.ensures.made)
-    (c.init-made.ensures.told c.in-Done.is) (c.init-made.ensures.settled c.in-Done.is) c.load_tree-status.ensures.left c.load_tree-status.ensures.settled
+    (c.init-made.ensures.told c.in-Done.is) (c.init-made.ensures.grown c.in-Done.is) (c.init-made.ensures.settled c.in-Done.is) c.load_tree-status.ensures.left c.load_tree-status.ensures.settled
 
 pub returns-in_default-clause-stop : goal.returns-in_default-clause-stop
 returns-in_default-clause-stop g c =

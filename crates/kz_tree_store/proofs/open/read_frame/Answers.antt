@@ -1,8 +1,9 @@
 use Rattle.std.proofs.Common.{◌≡◌, refl, subst}
 use Rattle.kz_spec_files.specs.Frames.{journal_of}
-use Rattle.kz_journal.specs.Held.{unread}
+use Rattle.kz_journal.specs.Held.{disk_of, unread}
 use Rattle.kz_tree_store.specs.Held.{stored}
 use Rattle.kz_tree_store.proofs.Reading.{damaged_at, frame_refused}
+use Rattle.kz_tree_store.proofs.Opening.{grown_to, grown_by_none}
 use Rattle.kz_tree_store.proofs.open.read_frame.Goals as goal
 
 pub returns-in-Ok-clause-answer : goal.returns-in-Ok-clause-answer
@@ -33,3 +34,13 @@ pub returns-in-Err-NoMemory-clause-answer : goal.returns-in-Err-NoMemory-clause-
 returns-in-Err-NoMemory-clause-answer g c = λ file here.
     let same = rw c.in-Err-NoMemory.field-0-is at (c.in-Err-NoMemory.ensures.answer file here) in
     same.0
+
+pub returns-in-Ok-clause-grown : goal.returns-in-Ok-clause-grown
+returns-in-Ok-clause-grown g c = λ file new is_file is_new.
+    let next = rw c.in-Ok-Some.field-0-is at (c.in-Ok-Some.ensures.answer file is_file) in
+    grown_by_none (g.D.Disk.told (disk_of c.next.new.self)) file new next.0 is_new
+
+pub returns-in-Ok-None-clause-grown : goal.returns-in-Ok-None-clause-grown
+returns-in-Ok-None-clause-grown g c = λ file new is_file is_new.
+    let end = rw c.in-Ok-None.field-0-is at (c.in-Ok-None.ensures.answer file is_file) in
+    grown_to (g.D.Disk.told (disk_of c.next.new.self)) file end.1.new new end.1.is end.1.grown is_new

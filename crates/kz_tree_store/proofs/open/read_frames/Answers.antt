@@ -25,3 +25,6 @@ returns-in-Ok-false-clause-answer g c = λ file here first.
     let end = rw c.in-Ok-false.field-0-test at (c.in-Ok-false.ensures.answer file (inv.same file here)) in
     let whole = read_whole (stored c.frames.held) file (unread c.args.journal.now file) (unread c.frames.journal file) first (inv.read file here) end.1 in
     (end.0, known_whole (stored c.read_frame.new.held) c.into_parts.result.0 c.into_parts.result.1 file (whole ∙ ap Ok (sym end.2)) c.into_parts.ensures.tree c.into_parts.ensures.fresh)
+
+pub returns-in-Ok-false-clause-grown : goal.returns-in-Ok-false-clause-grown
+returns-in-Ok-false-clause-grown g c = λ file new is_file is_new. c.in-Ok-false.ensures.grown file new (c.frames.invariant.same file is_file) is_new
