@@ -1,9 +1,12 @@
-use Rattle.std.proofs.Common.{ℕ, List, [], ◌∷◌, ◌++◌, Option, IfOk, IfErr, refl, subst}
+use Rattle.std.proofs.Common.{ℕ, List, [], ◌∷◌, ◌++◌, Option, is_some, IfOk, IfErr, refl, ap, subst}
+use Rattle.kz_disk.specs.Disks.{StaysTold}
+use Rattle.kz_tree_store.specs.Opened.{GrowsByOne}
 use Rattle.kz_spec_files.specs.Frames.{tree_letter, plain_header, closed_gate, new_file}
 use Rattle.kz_spec_commands.specs.Init.{tree_refusal, has_tree}
 use Rattle.kz_commands.specs.declared.making.Found.{Found}
 use Rattle.kz_commands.specs.Making.{IsShortFound, IsTreeFound, IsRefusedFor, OfFile}
 use Rattle.kz_commands.proofs.Made.{short_found, short_tree_none, short_no_tree, EmptyTree, summed_tree, plain_tree, same_told}
+use Rattle.kz_commands.proofs.Grown.{same_grown}
 use Rattle.kz_commands.proofs.making.find_tree.Goals as goal
 
 pub returns-in-Ok-Some-clause-found : goal.returns-in-Ok-Some-clause-found
@@ -18,3 +21,10 @@ returns-in-Ok-None-clause-found g c =
 pub returns-in-Ok-None-clause-refused : goal.returns-in-Ok-None-clause-refused
 returns-in-Ok-None-clause-refused g c =
     subst (λ (before : Option (List ℕ)). IfErr c.look_through_tree.result (λ e. OfFile before (g.D.Disk.told e.0) (IsRefusedFor tree_letter tree_refusal) e.1)) c.in-Ok-None.ensures.same c.look_through_tree.ensures.refused
+
+pub returns-in-Ok-Some-clause-told : goal.returns-in-Ok-Some-clause-told
+returns-in-Ok-Some-clause-told g c = (ap is_some c.in-Ok-Some.ensures.same, same_grown (g.D.Disk.told c.args.disk) (g.D.Disk.told c.look.new.disk) c.in-Ok-Some.ensures.same)
+
+pub returns-in-Ok-None-clause-told : goal.returns-in-Ok-None-clause-told
+returns-in-Ok-None-clause-told g c =
+    subst (λ (before : Option (List ℕ)). IfOk c.look_through_tree.result (λ f. StaysTold before (g.D.Disk.told f.0) × GrowsByOne before (g.D.Disk.told f.0))) c.in-Ok-None.ensures.same c.look_through_tree.ensures.told

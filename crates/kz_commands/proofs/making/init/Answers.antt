@@ -42,6 +42,9 @@ returns-in-Ok-make-2-clause-told g c = λ _. made_told tree_letter c.in-Ok.found
 pub returns-in-Err-clause-grown : goal.returns-in-Err-clause-grown
 returns-in-Err-clause-grown g c = λ is. absurd (c.in-Err.ensures.other.3 is)
 
+pub returns-in-Err-find_log-clause-told : goal.returns-in-Err-find_log-clause-told
+returns-in-Err-find_log-clause-told g c = λ is. absurd (c.in-Err-find_log.ensures.other.3 is)
+
 pub returns-in-Err-find_log-clause-grown : goal.returns-in-Err-find_log-clause-grown
 returns-in-Err-find_log-clause-grown g c = λ is. absurd (c.in-Err-find_log.ensures.other.3 is)
 
