@@ -1,0 +1,6 @@
+//! Laws of the difference of two metadata and of their renderings.
+#![tactic(auto)]
+
+mod delta;
+
+pub use delta::keys_cover_renderings;
