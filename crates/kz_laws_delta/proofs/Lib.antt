@@ -9,3 +9,4 @@ pub mod ConfigsAlike
 pub mod QuotasAlike
 pub mod EntriesAlike
 pub mod Alike
+pub mod Effects

@@ -1,2 +1,3 @@
 pub mod Entities
 pub mod Spans
+pub mod Touched
