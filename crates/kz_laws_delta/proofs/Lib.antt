@@ -10,3 +10,5 @@ pub mod QuotasAlike
 pub mod EntriesAlike
 pub mod Alike
 pub mod Effects
+pub mod Configurations
+pub mod Stays
