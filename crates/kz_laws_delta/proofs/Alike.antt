@@ -1,12 +1,19 @@
 -- Keys that have all at which two metadata differ cover the difference of their renderings.
-use Rattle.std.proofs.Common.{◌≡◌, ℕ, List, ◌++◌, map, Contains, sym, ap, ◌∙◌}
+use Rattle.std.proofs.Common.{◌≡◌, ℕ, List, ◌++◌, map, Contains, refl, sym, ap, ◌∙◌}
+use Rattle.std.proofs.lemmas.Slice.Eq.{bytes_eq-Decides}
 use Rattle.std.specs.List.{flat_map}
 use Rattle.std.specs.Option.{option_or}
 use Rattle.kz_types.specs.declared.key.EntityKey.{EntityKey}
 use Rattle.kz_types.specs.Paths.{roots}
 use Rattle.kz_types.specs.declared.tree.Rendered.{Rendered}
 use Rattle.kz_ordered.specs.Order.{bytes_cmp}
-use Rattle.kz_ordered.specs.Ordered.{find}
+use Rattle.kz_ordered.specs.Ordered.{find, Rises}
+use Rattle.kz_ordered.specs.Difference.{DecidesEqual}
+use Rattle.kz_ordered.specs.Covering.{at_keys}
+use Rattle.kz_ordered.proofs.Order.{bytes_order}
+use Rattle.kz_ordered.proofs.Covering.{covered_difference}
+use Rattle.kz_spec_znodes.specs.Difference.{same_body, op_of, diff}
+use Rattle.kz_laws_znodes.proofs.Found.{render_rises}
 use Rattle.kz_spec_stores.specs.Tree.{path_of_rendered}
 use Rattle.kz_spec_stores.specs.Metadata.{Image}
 use Rattle.kz_spec_stores.specs.InOrder.{IsInOrder}
@@ -15,13 +22,19 @@ use Rattle.kz_laws_paths.proofs.Legal.{IsGoodKey}
 use Rattle.kz_laws_znodes.specs.RoundTrip.{IsWritable}
 use Rattle.kz_laws_znodes.proofs.Within.{to_flat}
 use Rattle.kz_spec_delta.specs.Entities.{entity}
-use Rattle.kz_spec_delta.specs.Spans.{spanned, CoverDifference}
+use Rattle.kz_spec_delta.specs.Spans.{spanned, all_spanned, CoverDifference}
 use Rattle.kz_laws_delta.proofs.Lasts.{last_at, alike-append, found_in_rendering}
 use Rattle.kz_laws_delta.proofs.Spanned.{HoldTheSame}
 use Rattle.kz_laws_delta.proofs.TopicsAlike.{topics_alike}
 use Rattle.kz_laws_delta.proofs.ConfigsAlike.{configs_alike}
 use Rattle.kz_laws_delta.proofs.QuotasAlike.{parents_alike, own_alike, users_alike}
 use Rattle.kz_laws_delta.proofs.EntriesAlike.{acls_alike, producer_alike}
+
+decides_body : DecidesEqual path_of_rendered same_body
+decides_body = record {
+  itself = λ r. (bytes_eq-Decides r.body r.body).1 refl;
+  equal = λ r s named same. (λ i. record { path = named i; body = (bytes_eq-Decides r.body s.body).0 same i });
+}
 
 module _ (old new : Image) (oo : IsInOrder old) (wo : IsWritable old) (on : IsInOrder new) (wn : IsWritable new) where
   entities_alike : (p : List ℕ) → HoldTheSame old new p → last_at p (entity_znodes old) ≡ last_at p (entity_znodes new)
@@ -47,3 +60,10 @@ module _ (old new : Image) (oo : IsInOrder old) (wo : IsWritable old) (on : IsIn
   covered ks same p outside =
       let hold : HoldTheSame old new p = λ k good within. same k good (λ has. outside (to_flat spanned ks k p has within)) in
       found_in_rendering p old ∙ ap (λ found. option_or found (find bytes_cmp path_of_rendered p (map bare roots))) (entities_alike p hold) ∙ sym (found_in_rendering p new)
+
+  -- so the operations are those between the znodes at the paths that the keys span
+  pub delta_of_paths : (ks : List EntityKey) → ((k : EntityKey) → IsGoodKey k → (Contains ks k → ⊥) → entity old k ≡ entity new k) → (paths : List (List ℕ)) → Rises bytes_cmp (λ p. p) paths → ((p : List ℕ) → Contains (all_spanned ks) p → Contains paths p)
+      → diff (render old) (render new) ≡ diff (at_keys bytes_cmp path_of_rendered paths (render old)) (at_keys bytes_cmp path_of_rendered paths (render new))
+  unfolding diff
+  delta_of_paths ks same paths rises within =
+      ap (map op_of) (covered_difference bytes_order path_of_rendered same_body decides_body paths (render old) (render new) rises (render_rises old) (render_rises new) (λ p outside. covered ks same p (λ has. outside (within p has))))

@@ -12,3 +12,4 @@ pub mod Alike
 pub mod Effects
 pub mod Configurations
 pub mod Stays
+pub mod Touched

@@ -1,5 +1,5 @@
 -- The keys that records touch, which lead from one metadata to another.
-use Rattle.std.specs.Prelude.{◌≡◌, ◌⊎◌, ℕ, ℤ, pos, List, [], ◌∷◌, ◌++◌, map, Option, Some, None, option_map, option_to_list, if◌then◌else◌}
+use Rattle.std.specs.Prelude.{◌≡◌, ◌⊎◌, ℕ, ℤ, pos, List, [], ◌∷◌, ◌++◌, map, Option, Some, None, option_map, option_and_then, option_to_list, if◌then◌else◌}
 use Rattle.std.specs.List.{flat_map}
 use Rattle.std.specs.Ordering.{int_eq}
 use Rattle.kz_types.specs.declared.id.Id.{Id}
@@ -9,6 +9,7 @@ use Rattle.kz_types.specs.declared.record.MetaRecord.{MetaRecord}
 use Rattle.kz_types.specs.declared.record.MetaRecord.TheVariants as meta
 use Rattle.kz_types.specs.declared.image.TopicEntry.{TopicEntry}
 use Rattle.kz_types.specs.declared.image.PartitionEntry.{PartitionEntry}
+use Rattle.kz_types.specs.Paths.{key_of, path_of}
 use Rattle.kz_spec_stores.specs.Metadata.{Image, topic_named, topic_name_of, acl_of}
 use Rattle.kz_spec_stores.specs.ImageRules.{quota_key}
 use Rattle.kz_spec_stores.specs.Image.{image_with}
@@ -47,7 +48,7 @@ keys_of_entry old new id = option_to_list (option_map acl_key (acl_of id old)) +
 -- the other keys that a record speaks of
 abbrev pub keys_spoken_of : Image → Image → MetaRecord → List EntityKey
 keys_spoken_of old new (meta.Config r) = if int_eq r.resource_type (pos 2) then [] else broker_key r.resource_name ∷ []
-keys_spoken_of old new (meta.ClientQuota r) = option_to_list (quota_key r.entity)
+keys_spoken_of old new (meta.ClientQuota r) = option_to_list (option_and_then (λ k. key_of (path_of k)) (quota_key r.entity))
 keys_spoken_of old new (meta.UserScramCredential r) = key.User (Some r.name) ∷ []
 keys_spoken_of old new (meta.RemoveUserScramCredential name mechanism) = key.User (Some name) ∷ []
 keys_spoken_of old new (meta.AccessControlEntry r) = keys_of_entry old new r.id
