@@ -6,7 +6,6 @@ use Rattle.kz_types.specs.declared.bodies.Body.{Body}
 use Rattle.kz_types.specs.declared.bodies.Body.TheVariants as body
 use Rattle.kz_types.specs.declared.bodies.Pair.{Pair}
 use Rattle.kz_types.specs.declared.image.Configuration.{Configuration}
-use Rattle.kz_types.specs.declared.key.EntityKey.{EntityKey}
 use Rattle.kz_types.specs.declared.key.EntityKey.TheVariants as key
 use Rattle.kz_types.specs.Paths.{path_of}
 use Rattle.kz_ordered.specs.Order.{bytes_cmp}
@@ -16,7 +15,7 @@ use Rattle.kz_ordered.proofs.Lookup.{same_some, found_is_contained, key_of_found
 use Rattle.kz_spec_stores.specs.Metadata.{Image, name_of_configuration, pairs_of, pairs_at}
 use Rattle.kz_spec_stores.specs.InOrder.{IsFilled, IsInOrder}
 use Rattle.kz_spec_stores.specs.Legal.{IsConfiguration}
-use Rattle.kz_spec_znodes.specs.Rendering.{znode, broker_key, config_znode}
+use Rattle.kz_spec_znodes.specs.Rendering.{znode, config_znode}
 use Rattle.kz_laws_paths.proofs.Keys.{one_key}
 use Rattle.kz_laws_znodes.specs.RoundTrip.{IsWritable}
 use Rattle.kz_laws_znodes.proofs.Within.{from_map, to_map}
@@ -24,8 +23,8 @@ use Rattle.kz_laws_znodes.proofs.BrokerWalk.{IsBrokerKey, named_only, named_back
 use Rattle.kz_laws_znodes.proofs.Held.{broker_good, broker_in}
 use Rattle.kz_spec_znodes.specs.Translation.{broker_name}
 use Rattle.kz_laws_znodes.proofs.Says.{broker_named}
-use Rattle.kz_spec_delta.specs.Entities.{config_body, entity}
-use Rattle.kz_spec_delta.specs.Spans.{spanned}
+use Rattle.kz_spec_delta.specs.Entities.{config_body}
+use Rattle.kz_spec_delta.specs.Spans.{spanned_paths}
 use Rattle.kz_laws_delta.proofs.Lasts.{last_at}
 use Rattle.kz_laws_delta.proofs.Spans.{own_path}
 use Rattle.kz_laws_delta.proofs.Spanned.{HoldTheSame}
@@ -92,4 +91,4 @@ module _ (old new : Image) (oo : IsInOrder old) (wo : IsWritable old) (on : IsIn
   pub configs_alike : last_at p (map config_znode old.broker_configs) ≡ last_at p (map config_znode new.broker_configs)
   configs_alike =
       groups_alike path IsBrokerKey one make (λ b x. refl) p (map config_znode old.broker_configs) (map config_znode new.broker_configs) (held old oo wo) (held new on wn) (configs_given old oo wo) (configs_given new on wn)
-      (λ b good at. hold (key.BrokerConfig b) (broker_good b good) (subst (Contains (spanned (key.BrokerConfig b))) at (own_path (key.BrokerConfig b))))
+      (λ b good at. hold (key.BrokerConfig b) (broker_good b good) (subst (Contains (spanned_paths (key.BrokerConfig b))) at (own_path (key.BrokerConfig b))))

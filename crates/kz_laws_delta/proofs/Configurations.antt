@@ -1,5 +1,5 @@
 -- The configurations of brokers, and their members.
-use Rattle.std.proofs.Common.{◌≡◌, ℕ, List, refl}
+use Rattle.std.proofs.Common.{ℕ, List, refl}
 use Rattle.kz_types.specs.declared.bodies.Pair.{Pair}
 use Rattle.kz_types.specs.declared.image.Configuration.{Configuration}
 use Rattle.kz_spec_stores.specs.Image.{name_of_configuration, with_pairs}

@@ -1,29 +1,23 @@
 -- What a record leaves of each list of the metadata, where it doesn't speak of an entry.
-use Rattle.std.proofs.Common.{◌≡◌, ◌≢◌, ◌⊎◌, ℕ, ℤ, pos, Bool, true, false, not, cond, List, [], ◌∷◌, ◌++◌, Option, Some, None, Contains, refl, sym, ap, ◌∙◌, subst, inl, inr}
-use Rattle.std.specs.Prelude.{option_map, option_to_list}
-use Rattle.std.specs.List.{find as find_by, filter}
-use Rattle.std.specs.Ordering.{int_eq}
+use Rattle.std.proofs.Common.{◌≡◌, ◌≢◌, ℕ, ℤ, Bool, true, false, not, cond, List, [], ◌∷◌, Option, Some, None, Contains, refl, sym, ap, ◌∙◌, subst, inl, inr}
 use Rattle.kz_types.specs.declared.id.Id.{Id}
 use Rattle.kz_types.specs.declared.image.TopicEntry.{TopicEntry}
-use Rattle.kz_types.specs.declared.key.EntityKey.{EntityKey}
 use Rattle.kz_types.specs.declared.record.MetaRecord.{MetaRecord}
-use Rattle.kz_types.specs.declared.record.MetaRecord.TheVariants as meta
 use Rattle.kz_types.specs.declared.image_fault.ImageRule.{ImageRule}
 use Rattle.kz_ordered.specs.Order.{bytes_cmp}
 use Rattle.kz_ordered.specs.Ordered.{find, Rises}
 use Rattle.kz_ordered.proofs.Order.{bytes_order}
-use Rattle.kz_ordered.proofs.Lookup.{some_is_none, found_is_contained, key_of_found, contained_is_found, find-put_other, find-without_other, Contains-head, Contains-tail}
+use Rattle.kz_ordered.proofs.Lookup.{find-put_other, find-without_other, Contains-head, Contains-tail}
 use Rattle.kz_ordered.proofs.Maps.{find-filter_found, find-filter_absent}
-use Rattle.kz_spec_stores.specs.Metadata.{Image, name_of_topic, same_id, topic_named, topic_with, topic_name_of}
+use Rattle.kz_spec_stores.specs.Metadata.{Image, name_of_topic, same_id}
 use Rattle.kz_spec_stores.specs.ImageRules.{broken_rule}
-use Rattle.kz_spec_stores.specs.Image.{put_topic, with_changed, without_topic, effect, unless_broken, image_with}
+use Rattle.kz_spec_stores.specs.Image.{with_changed, without_topic, effect, unless_broken}
 use Rattle.kz_spec_stores.specs.InOrder.{IsInOrder}
-use Rattle.kz_spec_stores.specs.Legal.{AreApart}
-use Rattle.kz_laws_images.proofs.Entries.{Holds, HasIfFound}
+use Rattle.kz_laws_images.proofs.Entries.{Holds}
 use Rattle.kz_laws_images.proofs.Kept.{kept}
-use Rattle.kz_laws_images.proofs.TopicFinds.{has_id, same_id-Decides, found_passes, found_by_id}
-use Rattle.kz_laws_images.proofs.Topics.{LeavesKeys, among_with, among_named}
-use Rattle.kz_spec_delta.specs.Touched.{Lead, topics_spoken_of}
+use Rattle.kz_laws_images.proofs.TopicFinds.{same_id-Decides}
+use Rattle.kz_laws_images.proofs.Topics.{LeavesKeys}
+use Rattle.kz_spec_delta.specs.Touched.{Lead}
 
 -- ---- entries with members
 

@@ -21,7 +21,7 @@ use Rattle.kz_laws_znodes.specs.RoundTrip.{IsWritable}
 use Rattle.kz_laws_znodes.proofs.Within.{from_map, to_map}
 use Rattle.kz_laws_znodes.proofs.Held.{facts_of_acl}
 use Rattle.kz_spec_delta.specs.Entities.{acl_body, rows_of_resource, entity}
-use Rattle.kz_spec_delta.specs.Spans.{spanned}
+use Rattle.kz_spec_delta.specs.Spans.{spanned_paths}
 use Rattle.kz_laws_delta.proofs.Lasts.{last_at}
 use Rattle.kz_laws_delta.proofs.Spans.{own_path}
 use Rattle.kz_laws_delta.proofs.Spanned.{HoldTheSame}
@@ -115,7 +115,7 @@ module _ (i : Image) (o : IsInOrder i) (w : IsWritable i) where
 
 module _ (old new : Image) (oo : IsInOrder old) (wo : IsWritable old) (on : IsInOrder new) (wn : IsWritable new) (p : List ℕ) (hold : HoldTheSame old new p) where
   same_rows : (k : EntityKey) → IsResource k → path_of k ≡ p → acl_body (rows_of_resource k old.acls) ≡ acl_body (rows_of_resource k new.acls)
-  same_rows (key.Acl pattern kind name) good at = hold (key.Acl pattern kind name) good (subst (Contains (spanned (key.Acl pattern kind name))) at (own_path (key.Acl pattern kind name)))
+  same_rows (key.Acl pattern kind name) good at = hold (key.Acl pattern kind name) good (subst (Contains (spanned_paths (key.Acl pattern kind name))) at (own_path (key.Acl pattern kind name)))
   same_rows (key.Topic name) none at = absurd none
   same_rows (key.Partition topic number) none at = absurd none
   same_rows (key.TopicConfig name) none at = absurd none
@@ -142,5 +142,5 @@ module _ (old new : Image) (oo : IsInOrder old) (wo : IsWritable old) (on : IsIn
   pub producer_alike : last_at p (producer_znodes old.next_producer) ≡ last_at p (producer_znodes new.next_producer)
   producer_alike =
       ap (last_at p) (producer_is old.next_producer)
-      ∙ same_entity p key.Producer (entity old key.Producer) (entity new key.Producer) (λ at. hold key.Producer producer_good (subst (Contains (spanned key.Producer)) (sym at) (own_path key.Producer)))
+      ∙ same_entity p key.Producer (entity old key.Producer) (entity new key.Producer) (λ at. hold key.Producer producer_good (subst (Contains (spanned_paths key.Producer)) (sym at) (own_path key.Producer)))
       ∙ ap (last_at p) (sym (producer_is new.next_producer))

@@ -1,8 +1,7 @@
 -- The parts of the paths of topics' znodes.
-use Rattle.std.proofs.Common.{◌≡◌, ℕ, ℤ, true, List, [], ◌∷◌, ◌++◌, Option, Some, get_or, refl, sym, ap, ◌∙◌, codes, append_assoc}
+use Rattle.std.proofs.Common.{◌≡◌, ℕ, ℤ, true, List, [], ◌∷◌, ◌++◌, get_or, ap, ◌∙◌, codes, append_assoc}
 use Rattle.std.specs.Fmt.{signed_decimal}
 use Rattle.kz_types.specs.declared.key.EntityKey.TheVariants as key
-use Rattle.kz_types.specs.Numbers.{number_in}
 use Rattle.kz_types.specs.PathRule.{parts}
 use Rattle.kz_types.specs.Paths.{is_topic_name, is_not_negative, path_of}
 use Rattle.kz_spec_znodes.specs.Rendering.{partitions_path, number_path}

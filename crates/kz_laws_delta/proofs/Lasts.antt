@@ -1,5 +1,5 @@
 -- The last znode of a path in a list of znodes: the one that stands once all are put, one after another.
-use Rattle.std.proofs.Common.{◌≡◌, ◌≢◌, ℕ, List, [], ◌∷◌, ◌++◌, reverse, map, Option, Some, None, Ordering, Contains, refl, sym, ap, ◌∙◌, subst, inl, inr, append-nil}
+use Rattle.std.proofs.Common.{◌≡◌, ◌≢◌, ℕ, List, [], ◌∷◌, ◌++◌, reverse, map, Option, Some, None, Ordering, Contains, refl, sym, ap, ◌∙◌, inl, inr, append-nil}
 use Rattle.std.specs.List.{flat_map}
 use Rattle.std.specs.Option.{option_or}
 use Rattle.std.proofs.lemmas.List.{reverse-append}
@@ -80,11 +80,13 @@ module _ {A K : Type 0} {cmp : K → K → Ordering} (o : TotalOrder cmp) (key :
 pub last_found : (p : List ℕ) (xs : List Rendered) (r : Rendered) → last_at p xs ≡ Some r → Contains xs r × (r.path ≡ p)
 last_found p xs r e =
     let whole : find bytes_cmp path_of_rendered p (all_put bytes_cmp path_of_rendered xs []) ≡ Some r = find-all_put bytes_order path_of_rendered p xs [] ∙ ap (find bytes_cmp path_of_rendered p) (append-nil (reverse xs)) ∙ e in
-    let has : Contains (all_put bytes_cmp path_of_rendered xs []) r = found_is_contained bytes_order path_of_rendered p (all_put bytes_cmp path_of_rendered xs []) r whole in
-    (elim (Contains-all_put_cases bytes_order path_of_rendered xs [] r has) [
-      | inl among ↦ among
-      | inr none ↦ absurd (Contains-nil r none)
-    ], key_of_found bytes_order path_of_rendered p (all_put bytes_cmp path_of_rendered xs []) r whole)
+    let has : Contains (all_put bytes_cmp path_of_rendered xs []) r = found_is_contained bytes_order path_of_rendered p (all_put bytes_cmp path_of_rendered xs []) r whole in (
+      elim (Contains-all_put_cases bytes_order path_of_rendered xs [] r has) [
+        | inl among ↦ among
+        | inr none ↦ absurd (Contains-nil r none)
+      ],
+      key_of_found bytes_order path_of_rendered p (all_put bytes_cmp path_of_rendered xs []) r whole,
+    )
 
 -- a list that has a znode of the path has a last one
 pub last_there : (p : List ℕ) (xs : List Rendered) (x : Rendered) → Contains xs x → x.path ≡ p → (r : Rendered) × (last_at p xs ≡ Some r)

@@ -1,5 +1,5 @@
 -- The znodes of quotas and of users with credentials at a path.
-use Rattle.std.proofs.Common.{◌≡◌, ◌⊎◌, ℕ, ◌<◌, Bool, true, false, List, [], ◌∷◌, ◌++◌, map, length, Option, Some, None, Contains, refl, sym, ap, ◌∙◌, subst, arith, inl, inr}
+use Rattle.std.proofs.Common.{◌≡◌, ℕ, ◌<◌, true, List, [], ◌∷◌, map, length, Option, Some, None, Contains, refl, sym, ap, ◌∙◌, subst, arith, inl, inr}
 use Rattle.std.specs.List.{flat_map}
 use Rattle.std.proofs.lemmas.Bool.{false≢true}
 use Rattle.std.proofs.lemmas.List.Elements.{All-contains}
@@ -16,7 +16,7 @@ use Rattle.kz_types.specs.Paths.{key_of, path_of}
 use Rattle.kz_ordered.specs.Order.{bytes_cmp}
 use Rattle.kz_ordered.specs.Ordered.{find}
 use Rattle.kz_ordered.proofs.Order.{bytes_order}
-use Rattle.kz_ordered.proofs.Lookup.{some_is_none, same_some, found_is_contained, key_of_found, contained_is_found, Contains-head, Contains-tail, Contains-nil, Contains-cons_cases}
+use Rattle.kz_ordered.proofs.Lookup.{same_some, found_is_contained, key_of_found, contained_is_found, Contains-head, Contains-nil, Contains-cons_cases}
 use Rattle.kz_spec_stores.specs.Metadata.{Image, path_of_quotas, name_of_user}
 use Rattle.kz_spec_stores.specs.Image.{quotas_in, scrams_in, scrams_at}
 use Rattle.kz_spec_stores.specs.InOrder.{IsQuotaFilled, IsUserFilled, IsInOrder}
@@ -28,7 +28,7 @@ use Rattle.kz_laws_znodes.proofs.Within.{from_flat, from_map, to_flat, to_map}
 use Rattle.kz_laws_znodes.proofs.Shown.{quota_key_good}
 use Rattle.kz_laws_znodes.proofs.Held.{has_quotas, quota_path, quota_kind_of, user_held}
 use Rattle.kz_spec_delta.specs.Entities.{quota_body, quotas_at, scrams_of_user, entity}
-use Rattle.kz_spec_delta.specs.Spans.{spanned, clients_path}
+use Rattle.kz_spec_delta.specs.Spans.{spanned_paths, clients_path}
 use Rattle.kz_laws_delta.proofs.Lasts.{last_at, last_found, last_there, alike_by_one}
 use Rattle.kz_laws_delta.proofs.Spans.{own_path, second_of}
 use Rattle.kz_laws_delta.proofs.Spanned.{HoldTheSame}
@@ -174,7 +174,7 @@ module _ (i : Image) (o : IsInOrder i) (w : IsWritable i) where
 
 module _ (old new : Image) (oo : IsInOrder old) (wo : IsWritable old) (on : IsInOrder new) (wn : IsWritable new) (p : List ℕ) (hold : HoldTheSame old new p) where
   same_at : (k : EntityKey) → IsGoodKey k → path_of k ≡ p → entity old k ≡ entity new k
-  same_at k good at = hold k good (subst (Contains (spanned k)) at (own_path k))
+  same_at k good at = hold k good (subst (Contains (spanned_paths k)) at (own_path k))
 
   pub own_alike : last_at p (flat_map own_znodes old.quotas) ≡ last_at p (flat_map own_znodes new.quotas)
   own_alike =
@@ -214,9 +214,9 @@ module _ (old new : Image) (oo : IsInOrder old) (wo : IsWritable old) (on : IsIn
       by (Some (key.Acl pattern kind name)) gives = absurd (Contains-nil r gives)
       by (Some key.Producer) gives = absurd (Contains-nil r gives)
 
-  module _ (i j : Image) (oi : IsInOrder i) (wi : IsWritable i) (oj : IsInOrder j) (same : (k : EntityKey) → IsGoodKey k → Contains (spanned k) p → entity i k ≡ entity j k) where
+  module _ (i j : Image) (oi : IsInOrder i) (wi : IsWritable i) (oj : IsInOrder j) (same : (k : EntityKey) → IsGoodKey k → Contains (spanned_paths k) p → entity i k ≡ entity j k) where
     -- the parents of a client are there in the other, too
-    client_there : (user client : Option (List ℕ)) (q : QuotaEntry) → Contains i.quotas q → key_of q.path ≡ Some (key.UserClient user client) → Contains (spanned (key.UserClient user client)) p
+    client_there : (user client : Option (List ℕ)) (q : QuotaEntry) → Contains i.quotas q → key_of q.path ≡ Some (key.UserClient user client) → Contains (spanned_paths (key.UserClient user client)) p
         → (r : Rendered) → Contains (client_parents (Some (key.UserClient user client))) r → Contains (flat_map quota_parents j.quotas) r
     client_there user client q has is within r gives =
         let k : EntityKey = key.UserClient user client in
@@ -244,9 +244,9 @@ module _ (old new : Image) (oo : IsInOrder old) (wo : IsWritable old) (on : IsIn
     parent_by q has (Some (key.UserClient user client)) is r at gives =
         let k : EntityKey = key.UserClient user client in
         client_there user client q has is (elim (Contains-cons_cases (bare (path_of (key.User user))) (bare (clients_path (key.User user)) ∷ []) r gives) [
-          | inl e ↦ subst (Contains (spanned k)) (ap (λ (x : Rendered). x.path) e ∙ at) (Contains-head (path_of (key.User user)) (clients_path (key.User user) ∷ path_of k ∷ []))
+          | inl e ↦ subst (Contains (spanned_paths k)) (ap (λ (x : Rendered). x.path) e ∙ at) (Contains-head (path_of (key.User user)) (clients_path (key.User user) ∷ path_of k ∷ []))
           | inr later ↦ elim (Contains-cons_cases (bare (clients_path (key.User user))) [] r later) [
-            | inl e ↦ subst (Contains (spanned k)) (ap (λ (x : Rendered). x.path) e ∙ at) (second_of (path_of (key.User user)) (clients_path (key.User user)) (path_of k ∷ []))
+            | inl e ↦ subst (Contains (spanned_paths k)) (ap (λ (x : Rendered). x.path) e ∙ at) (second_of (path_of (key.User user)) (clients_path (key.User user)) (path_of k ∷ []))
             | inr none ↦ absurd (Contains-nil r none)
           ]
         ]) r gives

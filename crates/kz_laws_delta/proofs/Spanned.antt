@@ -5,11 +5,11 @@ use Rattle.kz_types.specs.declared.key.EntityKey.{EntityKey}
 use Rattle.kz_spec_stores.specs.Metadata.{Image}
 use Rattle.kz_laws_paths.proofs.Legal.{IsGoodKey}
 use Rattle.kz_spec_delta.specs.Entities.{entity}
-use Rattle.kz_spec_delta.specs.Spans.{spanned}
+use Rattle.kz_spec_delta.specs.Spans.{spanned_paths}
 
 -- Each good key that spans this path holds the same in both.
 abbrev pub HoldTheSame : Image → Image → List ℕ → Type 0
-HoldTheSame old new p = (k : EntityKey) → IsGoodKey k → Contains (spanned k) p → entity old k ≡ entity new k
+HoldTheSame old new p = (k : EntityKey) → IsGoodKey k → Contains (spanned_paths k) p → entity old k ≡ entity new k
 
 -- two bodies are the same where that is so if there is either
 pub unless_neither : (b c : Option Body) → ((x : Body) → b ≡ Some x → b ≡ c) → ((x : Body) → c ≡ Some x → b ≡ c) → b ≡ c

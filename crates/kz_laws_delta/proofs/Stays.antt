@@ -1,7 +1,6 @@
 -- What stays of the metadata along records that don't speak of it.
-use Rattle.std.proofs.Common.{◌≡◌, ◌≢◌, ℕ, ℤ, pos, Bool, true, false, ◌&&◌, cond, List, [], ◌∷◌, ◌++◌, Option, Some, None, Contains, refl, sym, ap, ◌∙◌, subst}
+use Rattle.std.proofs.Common.{◌≡◌, ◌≢◌, ℕ, ℤ, pos, Bool, true, false, ◌&&◌, cond, List, [], ◌∷◌, Option, Some, None, Contains, refl, sym, ap, ◌∙◌, subst}
 use Rattle.std.specs.Prelude.{⊤, int_le, option_map, option_to_list}
-use Rattle.std.specs.List.{find as find_by}
 use Rattle.std.specs.Ordering.{int_cmp, int_eq}
 use Rattle.kz_types.specs.declared.codes.TheConstants.{NO_MIGRATION, POST_MIGRATION}
 use Rattle.kz_types.specs.declared.id.Id.{Id}

@@ -1,6 +1,6 @@
 -- The znodes of topics at a path that no key of a change spans.
-use Rattle.std.proofs.Common.{◌≡◌, ◌≢◌, ◌⊎◌, ℕ, ℤ, pos, Bool, true, false, List, [], ◌∷◌, ◌++◌, map, Option, Some, None, Contains, All, refl, sym, ap, ◌∙◌, subst, inl, inr}
-use Rattle.std.specs.Prelude.{option_map, option_and_then}
+use Rattle.std.proofs.Common.{◌≡◌, ◌≢◌, ℕ, ℤ, pos, Bool, true, false, List, [], ◌∷◌, ◌++◌, Option, Some, None, Contains, refl, sym, ap, ◌∙◌, inl, inr}
+use Rattle.std.specs.Prelude.{option_map}
 use Rattle.std.specs.List.{flat_map}
 use Rattle.std.specs.Ordering.{int_cmp}
 use Rattle.std.specs.Fmt.{signed_decimal}
@@ -19,9 +19,8 @@ use Rattle.kz_types.specs.Paths.{is_topic_name, is_not_negative, path_of}
 use Rattle.kz_ordered.specs.Order.{bytes_cmp}
 use Rattle.kz_ordered.specs.Ordered.{find, Rises}
 use Rattle.kz_ordered.proofs.Order.{bytes_order, int_order}
-use Rattle.kz_ordered.proofs.Lookup.{Contains-nil, Contains-cons_cases, found_is_contained, key_of_found}
-use Rattle.kz_spec_stores.specs.Tree.{path_of_rendered}
-use Rattle.kz_spec_stores.specs.Metadata.{Image, name_of_topic, number_of_partition, partition_at, pairs_of_topic}
+use Rattle.kz_ordered.proofs.Lookup.{Contains-nil, Contains-cons_cases, key_of_found}
+use Rattle.kz_spec_stores.specs.Metadata.{name_of_topic, number_of_partition, partition_at, pairs_of_topic}
 use Rattle.kz_spec_znodes.specs.Rendering.{bare, znode, topic_znode, partitions_path, number_path, state_body, partition_znodes, topic_config_znodes, topic_znodes}
 use Rattle.kz_laws_paths.specs.TextKeys.{IsSmall}
 use Rattle.kz_laws_paths.proofs.Parts.{number_is_read}

@@ -1,5 +1,5 @@
 -- The znodes of topics at a path, in two metadata in which each key that spans it holds the same.
-use Rattle.std.proofs.Common.{◌≡◌, ℕ, ℤ, true, List, [], ◌∷◌, ◌++◌, Option, Some, None, Contains, refl, sym, ap, ◌∙◌, subst}
+use Rattle.std.proofs.Common.{◌≡◌, ℕ, ℤ, true, List, ◌++◌, Option, Some, None, Contains, refl, sym, ap, ◌∙◌, subst}
 use Rattle.std.specs.Prelude.{option_map, option_and_then}
 use Rattle.std.specs.List.{flat_map}
 use Rattle.std.specs.Ordering.{int_cmp}
@@ -9,7 +9,6 @@ use Rattle.kz_types.specs.declared.image.TopicEntry.{TopicEntry}
 use Rattle.kz_types.specs.declared.image.PartitionEntry.{PartitionEntry}
 use Rattle.kz_types.specs.declared.key.EntityKey.TheVariants as key
 use Rattle.kz_types.specs.Paths.{is_topic_name, is_not_negative, is_legal, path_of}
-use Rattle.kz_ordered.specs.Order.{bytes_cmp}
 use Rattle.kz_ordered.specs.Ordered.{find}
 use Rattle.kz_ordered.proofs.Order.{bytes_order, int_order}
 use Rattle.kz_ordered.proofs.Lookup.{found_is_contained, key_of_found}
@@ -21,8 +20,8 @@ use Rattle.kz_laws_paths.specs.TextKeys.{IsText, IsSmall}
 use Rattle.kz_laws_paths.proofs.Legal.{IsGoodKey}
 use Rattle.kz_laws_znodes.specs.RoundTrip.{IsWritable}
 use Rattle.kz_laws_znodes.proofs.Shown.{topic_facts, partition_facts}
-use Rattle.kz_spec_delta.specs.Entities.{topic_body, config_body, entity}
-use Rattle.kz_spec_delta.specs.Spans.{spanned}
+use Rattle.kz_spec_delta.specs.Entities.{topic_body, config_body}
+use Rattle.kz_spec_delta.specs.Spans.{spanned_paths}
 use Rattle.kz_laws_delta.proofs.Lasts.{last_at, alike-append}
 use Rattle.kz_laws_delta.proofs.Forms.{third}
 use Rattle.kz_laws_delta.proofs.Spans.{own_path, partitions_spanned, number_spanned}
@@ -85,7 +84,7 @@ module _ (old new : Image) (oo : IsInOrder old) (wo : IsWritable old) (on : IsIn
   number = number_at p
 
   -- the state of the partition is the same, where its key spans the path
-  same_state : (a b : Option TopicEntry) → topic_named name old ≡ a → topic_named name new ≡ b → Contains (spanned (key.Partition name number)) p → state_in number a ≡ state_in number b
+  same_state : (a b : Option TopicEntry) → topic_named name old ≡ a → topic_named name new ≡ b → Contains (spanned_paths (key.Partition name number)) p → state_in number a ≡ state_in number b
   same_state a b e f within =
       let whole : IsGoodKey (key.Partition name number) → state_in number a ≡ state_in number b =
       λ good. sym (state_is number a) ∙ ap (λ x. option_map state_body (option_and_then (λ (t : TopicEntry). partition_at number t.partitions) x)) (sym e) ∙ hold (key.Partition name number) good within
@@ -103,16 +102,16 @@ module _ (old new : Image) (oo : IsInOrder old) (wo : IsWritable old) (on : IsIn
 
   same_pair : (a b : Option TopicEntry) → topic_named name old ≡ a → topic_named name new ≡ b → last_at p (partition_pair name number (state_in number a)) ≡ last_at p (partition_pair name number (state_in number b))
   same_pair a b e f =
-      let at : Contains (spanned (key.Partition name number)) p → state_in number a ≡ state_in number b = same_state a b e f in
+      let at : Contains (spanned_paths (key.Partition name number)) p → state_in number a ≡ state_in number b = same_state a b e f in
       alike-append p (bare_if (number_path name number) (state_in number a)) (entity_znode (key.Partition name number) (state_in number a)) (bare_if (number_path name number) (state_in number b)) (entity_znode (key.Partition name number) (state_in number b))
       (same_bare p (number_path name number) (state_in number a) (state_in number b) (λ is. ap (bare_if (number_path name number)) (at (of_number is))))
       (same_entity p (key.Partition name number) (state_in number a) (state_in number b) (λ is. at (of_state is)))
     where
-      of_number : p ≡ number_path name number → Contains (spanned (key.Partition name number)) p
-      of_number is = subst (Contains (spanned (key.Partition name number))) (sym is) (number_spanned name number)
+      of_number : p ≡ number_path name number → Contains (spanned_paths (key.Partition name number)) p
+      of_number is = subst (Contains (spanned_paths (key.Partition name number))) (sym is) (number_spanned name number)
 
-      of_state : p ≡ path_of (key.Partition name number) → Contains (spanned (key.Partition name number)) p
-      of_state is = subst (Contains (spanned (key.Partition name number))) (sym is) (own_path (key.Partition name number))
+      of_state : p ≡ path_of (key.Partition name number) → Contains (spanned_paths (key.Partition name number)) p
+      of_state is = subst (Contains (spanned_paths (key.Partition name number))) (sym is) (own_path (key.Partition name number))
 
   -- the same of the partitions of the topic
   same_partitions : (a b : Option TopicEntry) → topic_named name old ≡ a → topic_named name new ≡ b → IsGoodKey (key.Topic name) → last_at p (flat_map (partition_znodes name) (partitions_of a)) ≡ last_at p (flat_map (partition_znodes name) (partitions_of b))
@@ -124,15 +123,15 @@ module _ (old new : Image) (oo : IsInOrder old) (wo : IsWritable old) (on : IsIn
 
   same_parts : (a b : Option TopicEntry) → topic_named name old ≡ a → topic_named name new ≡ b → IsGoodKey (key.Topic name) → IsGoodKey (key.TopicConfig name) → last_at p (topic_parts name a) ≡ last_at p (topic_parts name b)
   same_parts a b e f good good_config =
-      let topic : Contains (spanned (key.Topic name)) p → option_map topic_body a ≡ option_map topic_body b = λ within. ap (option_map topic_body) (sym e) ∙ hold (key.Topic name) good within ∙ ap (option_map topic_body) f in
-      let config : Contains (spanned (key.TopicConfig name)) p → config_body (pairs_of_topic a) ≡ config_body (pairs_of_topic b) =
+      let topic : Contains (spanned_paths (key.Topic name)) p → option_map topic_body a ≡ option_map topic_body b = λ within. ap (option_map topic_body) (sym e) ∙ hold (key.Topic name) good within ∙ ap (option_map topic_body) f in
+      let config : Contains (spanned_paths (key.TopicConfig name)) p → config_body (pairs_of_topic a) ≡ config_body (pairs_of_topic b) =
       λ within. ap (λ x. config_body (pairs_of_topic x)) (sym e) ∙ hold (key.TopicConfig name) good_config within ∙ ap (λ x. config_body (pairs_of_topic x)) f in
       let rest : Option TopicEntry → List Rendered = λ x. flat_map (partition_znodes name) (partitions_of x) ++ entity_znode (key.TopicConfig name) (config_body (pairs_of_topic x)) in
       let below : Option TopicEntry → List Rendered = λ x. bare_if (partitions_path name) (option_map topic_body x) ++ rest x in
-      alike-append p (entity_znode (key.Topic name) (option_map topic_body a)) (below a) (entity_znode (key.Topic name) (option_map topic_body b)) (below b) (same_entity p (key.Topic name) (option_map topic_body a) (option_map topic_body b) (λ is. topic (subst (Contains (spanned (key.Topic name))) (sym is) (own_path (key.Topic name)))))
-      (alike-append p (bare_if (partitions_path name) (option_map topic_body a)) (rest a) (bare_if (partitions_path name) (option_map topic_body b)) (rest b) (same_bare p (partitions_path name) (option_map topic_body a) (option_map topic_body b) (λ is. ap (bare_if (partitions_path name)) (topic (subst (Contains (spanned (key.Topic name))) (sym is) (partitions_spanned name)))))
+      alike-append p (entity_znode (key.Topic name) (option_map topic_body a)) (below a) (entity_znode (key.Topic name) (option_map topic_body b)) (below b) (same_entity p (key.Topic name) (option_map topic_body a) (option_map topic_body b) (λ is. topic (subst (Contains (spanned_paths (key.Topic name))) (sym is) (own_path (key.Topic name)))))
+      (alike-append p (bare_if (partitions_path name) (option_map topic_body a)) (rest a) (bare_if (partitions_path name) (option_map topic_body b)) (rest b) (same_bare p (partitions_path name) (option_map topic_body a) (option_map topic_body b) (λ is. ap (bare_if (partitions_path name)) (topic (subst (Contains (spanned_paths (key.Topic name))) (sym is) (partitions_spanned name)))))
       (alike-append p (flat_map (partition_znodes name) (partitions_of a)) (entity_znode (key.TopicConfig name) (config_body (pairs_of_topic a))) (flat_map (partition_znodes name) (partitions_of b)) (entity_znode (key.TopicConfig name) (config_body (pairs_of_topic b))) (same_partitions a b e f good)
-      (same_entity p (key.TopicConfig name) (config_body (pairs_of_topic a)) (config_body (pairs_of_topic b)) (λ is. config (subst (Contains (spanned (key.TopicConfig name))) (sym is) (own_path (key.TopicConfig name)))))))
+      (same_entity p (key.TopicConfig name) (config_body (pairs_of_topic a)) (config_body (pairs_of_topic b)) (λ is. config (subst (Contains (spanned_paths (key.TopicConfig name))) (sym is) (own_path (key.TopicConfig name)))))))
 
   same_topic : (a b : Option TopicEntry) → topic_named name old ≡ a → topic_named name new ≡ b → last_at p (topic_parts name a) ≡ last_at p (topic_parts name b)
   same_topic None None e f = refl

@@ -1,12 +1,11 @@
 -- The keys that records touch are all those at which the two metadata differ.
-use Rattle.std.proofs.Common.{◌≡◌, ◌≢◌, ◌⊎◌, ℕ, ℤ, pos, negsuc, Bool, true, false, cond, List, [], ◌∷◌, ◌++◌, map, filter, Option, Some, None, Contains, refl, sym, ap, ◌∙◌, subst, inl, inr}
+use Rattle.std.proofs.Common.{◌≡◌, ◌⊎◌, ℕ, ℤ, pos, negsuc, Bool, true, false, cond, List, [], ◌∷◌, ◌++◌, map, filter, Option, Some, None, Contains, refl, sym, ap, ◌∙◌, subst, inl, inr}
 use Rattle.std.specs.Prelude.{◌+ℤ◌, option_map, option_and_then, option_to_list}
 use Rattle.std.specs.List.{flat_map}
 use Rattle.std.specs.Str.{bytes_eq}
-use Rattle.std.specs.Ordering.{int_cmp, int_eq}
+use Rattle.std.specs.Ordering.{int_cmp}
 use Rattle.std.proofs.lemmas.Slice.Eq.{bytes_eq-Decides}
 use Rattle.std.proofs.lemmas.List.Elements.{Contains-append_left, Contains-append_right}
-use Rattle.kz_types.specs.declared.bodies.Body.{Body}
 use Rattle.kz_types.specs.declared.bodies.Body.TheVariants as body
 use Rattle.kz_types.specs.declared.id.Id.{Id}
 use Rattle.kz_types.specs.declared.image.AclEntry.{AclEntry}
@@ -26,7 +25,6 @@ use Rattle.kz_ordered.proofs.Maps.{Rises-filter, find-filter_found, find-filter_
 use Rattle.kz_spec_stores.specs.Metadata.{Image, number_of_partition, id_of_acl, topic_named, partition_at, acl_of}
 use Rattle.kz_spec_stores.specs.InOrder.{IsInOrder}
 use Rattle.kz_spec_stores.specs.Image.{scrams_in, quotas_in}
-use Rattle.kz_spec_stores.specs.ImageRules.{quota_key}
 use Rattle.kz_spec_znodes.specs.Rendering.{broker_key, acl_key, row_of_acl, state_body}
 use Rattle.kz_spec_znodes.specs.Translation.{broker_name}
 use Rattle.kz_laws_paths.specs.TextKeys.{HasTexts}
@@ -35,15 +33,13 @@ use Rattle.kz_laws_paths.proofs.Keys.{path_holds, one_key}
 use Rattle.kz_laws_znodes.specs.RoundTrip.{IsWritable}
 use Rattle.kz_laws_znodes.proofs.Within.{from_flat, to_flat, to_map}
 use Rattle.kz_laws_znodes.proofs.BrokerWalk.{IsBrokerKey, named_back, name_is_legal}
-use Rattle.kz_laws_znodes.proofs.Says.{broker_named}
 use Rattle.kz_laws_znodes.proofs.Held.{broker_in, facts_of_acl}
 use Rattle.kz_ordered.proofs.Lookup.{same_some}
 use Rattle.kz_spec_delta.specs.Entities.{topic_body, config_body, quota_body, quotas_at, acl_body, entity}
-use Rattle.kz_spec_delta.specs.Touched.{Lead, topics_spoken_of, partition_keys, keys_of_topic, keys_of_entry, keys_spoken_of, touched_by, touched}
+use Rattle.kz_spec_delta.specs.Touched.{Lead, topics_spoken_of, partition_keys, keys_of_topic, keys_of_entry, keys_spoken_of, keys_touched_by, touched_keys}
 use Rattle.kz_laws_delta.proofs.Spans.{second_of}
-use Rattle.kz_laws_delta.proofs.Stays.{topic_stays, SparesConfig, config_stays, SparesQuotas, quotas_stay, SparesUser, user_stays, entry_found, SparesEntry, entry_stays, SparesProducer, next_stays}
+use Rattle.kz_laws_delta.proofs.Stays.{topic_stays, SparesConfig, config_stays, SparesQuotas, quotas_stay, SparesUser, user_stays, SparesEntry, entry_stays, SparesProducer, next_stays}
 use Rattle.kz_spec_stores.specs.Metadata.{pairs_of, pairs_of_topic}
-use Rattle.kz_types.specs.Paths.{is_absent_or, is_not_negative}
 
 -- ---- whether a list has a text
 
@@ -73,15 +69,15 @@ broker_is_good b legal texts = (legal, texts)
 
 module _ (old new : Image) (oo : IsInOrder old) (wo : IsWritable old) (on : IsInOrder new) (wn : IsWritable new) (rs : List MetaRecord) (lead : Lead old rs new) where
   -- a key that isn't touched isn't touched by any of the records
-  untouched : (k : EntityKey) → (Contains (touched old new rs) k → ⊥) → (r : MetaRecord) → Contains rs r → Contains (touched_by old new r) k → ⊥
-  untouched k none r has within = none (to_flat (touched_by old new) rs r k has within)
+  untouched : (k : EntityKey) → (Contains (touched_keys old new rs) k → ⊥) → (r : MetaRecord) → Contains rs r → Contains (keys_touched_by old new r) k → ⊥
+  untouched k none r has within = none (to_flat (keys_touched_by old new) rs r k has within)
 
   -- ---- topics
 
-  of_topic : (k : EntityKey) (name : List ℕ) → Contains (keys_of_topic old new name) k → (r : MetaRecord) → Contains (topics_spoken_of old r) name → Contains (touched_by old new r) k
+  of_topic : (k : EntityKey) (name : List ℕ) → Contains (keys_of_topic old new name) k → (r : MetaRecord) → Contains (topics_spoken_of old r) name → Contains (keys_touched_by old new r) k
   of_topic k name within r spoken = Contains-append_left (flat_map (keys_of_topic old new) (topics_spoken_of old r)) (keys_spoken_of old new r) k (to_flat (keys_of_topic old new) (topics_spoken_of old r) name k spoken within)
 
-  same_topic : (k : EntityKey) (name : List ℕ) → Contains (keys_of_topic old new name) k → (Contains (touched old new rs) k → ⊥) → topic_named name old ≡ topic_named name new
+  same_topic : (k : EntityKey) (name : List ℕ) → Contains (keys_of_topic old new name) k → (Contains (touched_keys old new rs) k → ⊥) → topic_named name old ≡ topic_named name new
   same_topic k name within none = sym (topic_stays old oo name rs new (λ r has spoken. untouched k none r has (of_topic k name within r spoken)) lead)
 
   -- no partition of the number
@@ -100,7 +96,7 @@ module _ (old new : Image) (oo : IsInOrder old) (wo : IsWritable old) (on : IsIn
       by None e = ap (λ f. option_map state_body (option_and_then (λ (t : TopicEntry). partition_at number t.partitions) f)) e
       by (Some t) e = ap (λ f. option_map state_body (option_and_then (λ (t : TopicEntry). partition_at number t.partitions) f)) e ∙ found_by t e (find int_cmp number_of_partition number t.partitions) refl
 
-  same_partition : (name : List ℕ) (number : ℤ) → (Contains (touched old new rs) (key.Partition name number) → ⊥) → entity old (key.Partition name number) ≡ entity new (key.Partition name number)
+  same_partition : (name : List ℕ) (number : ℤ) → (Contains (touched_keys old new rs) (key.Partition name number) → ⊥) → entity old (key.Partition name number) ≡ entity new (key.Partition name number)
   same_partition name number none = elim (contained_or_not name (flat_map (topics_spoken_of old) rs)) [
     | inl spoken ↦
         let f = from_flat (topics_spoken_of old) rs name spoken in
@@ -117,7 +113,7 @@ module _ (old new : Image) (oo : IsInOrder old) (wo : IsWritable old) (on : IsIn
 
   -- ---- configurations of brokers
 
-  spoken_right : (r : MetaRecord) (k : EntityKey) → Contains (keys_spoken_of old new r) k → Contains (touched_by old new r) k
+  spoken_right : (r : MetaRecord) (k : EntityKey) → Contains (keys_spoken_of old new r) k → Contains (keys_touched_by old new r) k
   spoken_right r k has = Contains-append_right (flat_map (keys_of_topic old new) (topics_spoken_of old r)) (keys_spoken_of old new r) k has
 
   spares_config : (b : Option ℤ) → IsBrokerKey b → (r : MetaRecord) → (Contains (keys_spoken_of old new r) (key.BrokerConfig b) → ⊥) → SparesConfig (broker_name b) r
@@ -139,7 +135,7 @@ module _ (old new : Image) (oo : IsInOrder old) (wo : IsWritable old) (on : IsIn
   spares_config b good meta.EndTransaction none = tt
   spares_config b good (meta.AbortTransaction reason) none = tt
 
-  same_config : (b : Option ℤ) → IsBrokerKey b → (Contains (touched old new rs) (key.BrokerConfig b) → ⊥) → entity old (key.BrokerConfig b) ≡ entity new (key.BrokerConfig b)
+  same_config : (b : Option ℤ) → IsBrokerKey b → (Contains (touched_keys old new rs) (key.BrokerConfig b) → ⊥) → entity old (key.BrokerConfig b) ≡ entity new (key.BrokerConfig b)
   same_config b good none =
       ap (λ f. config_body (pairs_of f)) (sym (config_stays (broker_name b) old oo rs new (λ r has. spares_config b good r (λ within. untouched (key.BrokerConfig b) none r has (spoken_right r (key.BrokerConfig b) within))) lead))
 
@@ -164,7 +160,7 @@ module _ (old new : Image) (oo : IsInOrder old) (wo : IsWritable old) (on : IsIn
   spares_quotas k good meta.EndTransaction none = tt
   spares_quotas k good (meta.AbortTransaction reason) none = tt
 
-  same_quotas : (k : EntityKey) → IsGoodKey k → (Contains (touched old new rs) k → ⊥) → quotas_at k old ≡ quotas_at k new
+  same_quotas : (k : EntityKey) → IsGoodKey k → (Contains (touched_keys old new rs) k → ⊥) → quotas_at k old ≡ quotas_at k new
   same_quotas k good none = ap quotas_in (sym (quotas_stay (path_of k) old oo rs new (λ r has. spares_quotas k good r (λ within. untouched k none r has (spoken_right r k within))) lead))
 
   -- ---- credentials
@@ -188,7 +184,7 @@ module _ (old new : Image) (oo : IsInOrder old) (wo : IsWritable old) (on : IsIn
   spares_user name meta.EndTransaction none = tt
   spares_user name (meta.AbortTransaction reason) none = tt
 
-  same_user : (user : Option (List ℕ)) → IsGoodKey (key.User user) → (Contains (touched old new rs) (key.User user) → ⊥) → entity old (key.User user) ≡ entity new (key.User user)
+  same_user : (user : Option (List ℕ)) → IsGoodKey (key.User user) → (Contains (touched_keys old new rs) (key.User user) → ⊥) → entity old (key.User user) ≡ entity new (key.User user)
   same_user None good none = ap (λ qs. quota_body qs []) (same_quotas (key.User None) good none)
   same_user (Some name) good none =
       let quotas = same_quotas (key.User (Some name)) good none in
@@ -216,7 +212,7 @@ module _ (old new : Image) (oo : IsInOrder old) (wo : IsWritable old) (on : IsIn
   spares_producer meta.EndTransaction none = tt
   spares_producer (meta.AbortTransaction reason) none = tt
 
-  same_producer : (Contains (touched old new rs) key.Producer → ⊥) → entity old key.Producer ≡ entity new key.Producer
+  same_producer : (Contains (touched_keys old new rs) key.Producer → ⊥) → entity old key.Producer ≡ entity new key.Producer
   same_producer none = ap (option_map (λ next. body.Producer (negsuc 0) next (next +ℤ pos 999))) (sym (next_stays old oo rs new (λ r has. spares_producer r (λ within. untouched key.Producer none r has (spoken_right r key.Producer within))) lead))
 
   -- ---- access control entries
@@ -318,7 +314,7 @@ module _ (old new : Image) (oo : IsInOrder old) (wo : IsWritable old) (on : IsIn
   spoken_by k good meta.EndTransaction none bytes within = absurd (Contains-nil bytes within)
   spoken_by k good (meta.AbortTransaction reason) none bytes within = absurd (Contains-nil bytes within)
 
-  same_entries : (k : EntityKey) → IsGoodKey k → (Contains (touched old new rs) k → ⊥) → filter (is_at k) old.acls ≡ filter (is_at k) new.acls
+  same_entries : (k : EntityKey) → IsGoodKey k → (Contains (touched_keys old new rs) k → ⊥) → filter (is_at k) old.acls ≡ filter (is_at k) new.acls
   same_entries k good none =
       same_items bytes_order id_of_acl (filter (is_at k) old.acls) (filter (is_at k) new.acls) (Rises-filter bytes_order id_of_acl (is_at k) old.acls oo.acls) (Rises-filter bytes_order id_of_acl (is_at k) new.acls on.acls)
       (λ bytes. elim (contained_or_not bytes (flat_map ids_spoken_of rs)) [
@@ -328,7 +324,7 @@ module _ (old new : Image) (oo : IsInOrder old) (wo : IsWritable old) (on : IsIn
 
   -- ---- all keys
 
-  pub have_difference : (k : EntityKey) → is_legal k ≡ true → HasTexts k → (Contains (touched old new rs) k → ⊥) → entity old k ≡ entity new k
+  pub have_difference : (k : EntityKey) → is_legal k ≡ true → HasTexts k → (Contains (touched_keys old new rs) k → ⊥) → entity old k ≡ entity new k
   have_difference (key.Topic name) legal texts none =
       ap (option_map topic_body) (same_topic (key.Topic name) name (Contains-head (key.Topic name) (key.TopicConfig name ∷ (partition_keys name (topic_named name old) ++ partition_keys name (topic_named name new)))) none)
   have_difference (key.Partition topic number) legal texts none = same_partition topic number none

@@ -13,8 +13,8 @@ use Rattle.kz_spec_stores.specs.InOrder.{IsInOrder}
 use Rattle.kz_spec_znodes.specs.Rendering.{render}
 use Rattle.kz_spec_znodes.specs.Difference.{diff}
 use Rattle.kz_spec_delta.specs.Entities.{entity}
-use Rattle.kz_spec_delta.specs.Spans.{all_spanned, CoverDifference}
-use Rattle.kz_spec_delta.specs.Touched.{Lead, touched}
+use Rattle.kz_spec_delta.specs.Spans.{all_spanned_paths, CoverDifference}
+use Rattle.kz_spec_delta.specs.Touched.{Lead, touched_keys}
 use Rattle.kz_laws_paths.specs.TextKeys.{HasTexts}
 use Rattle.kz_laws_znodes.specs.RoundTrip.{IsWritable}
 
@@ -28,7 +28,7 @@ KeysCoverRenderings = (old new : Image) → IsInOrder old → IsWritable old →
 
 -- The keys that records touch have the difference of the metadata that they lead from and of those that they lead to.
 abbrev pub TouchedKeysSuffice : Type 0
-TouchedKeysSuffice = (old new : Image) → IsInOrder old → IsWritable old → IsInOrder new → IsWritable new → (rs : List MetaRecord) → Lead old rs new → HaveDifference (touched old new rs) old new
+TouchedKeysSuffice = (old new : Image) → IsInOrder old → IsWritable old → IsInOrder new → IsWritable new → (rs : List MetaRecord) → Lead old rs new → HaveDifference (touched_keys old new rs) old new
 
 -- The znodes of a rendering at these paths.
 abbrev pub znodes_at : List (List ℕ) → Image → List Rendered
@@ -38,4 +38,4 @@ znodes_at paths i = at_keys bytes_cmp path_of_rendered paths (render i)
 -- that the keys span, and at any other paths beside.
 abbrev pub DeltaIsDifference : Type 0
 DeltaIsDifference = (old new : Image) → IsInOrder old → IsWritable old → IsInOrder new → IsWritable new → (ks : List EntityKey) → HaveDifference ks old new
-    → (paths : List (List ℕ)) → Rises bytes_cmp (λ p. p) paths → ((p : List ℕ) → Contains (all_spanned ks) p → Contains paths p) → diff (render old) (render new) ≡ diff (znodes_at paths old) (znodes_at paths new)
+    → (paths : List (List ℕ)) → Rises bytes_cmp (λ p. p) paths → ((p : List ℕ) → Contains (all_spanned_paths ks) p → Contains paths p) → diff (render old) (render new) ≡ diff (znodes_at paths old) (znodes_at paths new)

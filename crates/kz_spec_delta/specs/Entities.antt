@@ -1,5 +1,5 @@
 -- What metadata holds for the key of an entity: the body that its znode has.
-use Rattle.std.specs.Prelude.{ℕ, ℤ, negsuc, pos, ◌+ℤ◌, List, [], ◌∷◌, map, Option, Some, None, option_map, option_and_then}
+use Rattle.std.specs.Prelude.{ℕ, negsuc, pos, ◌+ℤ◌, List, [], ◌∷◌, map, Option, Some, None, option_map, option_and_then}
 use Rattle.std.specs.List.{filter}
 use Rattle.std.specs.Str.{bytes_eq}
 use Rattle.kz_types.specs.declared.key.EntityKey.{EntityKey}

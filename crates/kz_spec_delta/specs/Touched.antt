@@ -56,9 +56,9 @@ keys_spoken_of old new (meta.RemoveAccessControlEntry id) = keys_of_entry old ne
 keys_spoken_of old new (meta.ProducerIds r) = key.Producer ∷ []
 keys_spoken_of old new r = []
 
-abbrev pub touched_by : Image → Image → MetaRecord → List EntityKey
-touched_by old new r = flat_map (keys_of_topic old new) (topics_spoken_of old r) ++ keys_spoken_of old new r
+abbrev pub keys_touched_by : Image → Image → MetaRecord → List EntityKey
+keys_touched_by old new r = flat_map (keys_of_topic old new) (topics_spoken_of old r) ++ keys_spoken_of old new r
 
 -- The keys that records touch, which lead from the one metadata to the other.
-abbrev pub touched : Image → Image → List MetaRecord → List EntityKey
-touched old new rs = flat_map (touched_by old new) rs
+abbrev pub touched_keys : Image → Image → List MetaRecord → List EntityKey
+touched_keys old new rs = flat_map (keys_touched_by old new) rs

@@ -4,3 +4,4 @@
 #![tactic(auto)]
 
 mod span_examples;
+mod touched_examples;
