@@ -1,0 +1,15 @@
+pub mod Lasts
+pub mod Forms
+pub mod Spans
+pub mod Spanned
+pub mod Topics
+pub mod TopicsAlike
+pub mod Groups
+pub mod ConfigsAlike
+pub mod QuotasAlike
+pub mod EntriesAlike
+pub mod Alike
+pub mod Effects
+pub mod Configurations
+pub mod Stays
+pub mod Touched

@@ -1,0 +1,339 @@
+-- The keys that records touch are all those at which the two metadata differ.
+use Rattle.std.proofs.Common.{◌≡◌, ◌⊎◌, ℕ, ℤ, pos, negsuc, Bool, true, false, cond, List, [], ◌∷◌, ◌++◌, map, filter, Option, Some, None, Contains, refl, sym, ap, ◌∙◌, subst, inl, inr}
+use Rattle.std.specs.Prelude.{◌+ℤ◌, option_map, option_and_then, option_to_list}
+use Rattle.std.specs.List.{flat_map}
+use Rattle.std.specs.Str.{bytes_eq}
+use Rattle.std.specs.Ordering.{int_cmp}
+use Rattle.std.proofs.lemmas.Slice.Eq.{bytes_eq-Decides}
+use Rattle.std.proofs.lemmas.List.Elements.{Contains-append_left, Contains-append_right}
+use Rattle.kz_types.specs.declared.bodies.Body.TheVariants as body
+use Rattle.kz_types.specs.declared.id.Id.{Id}
+use Rattle.kz_types.specs.declared.image.AclEntry.{AclEntry}
+use Rattle.kz_types.specs.declared.image.Configuration.{Configuration}
+use Rattle.kz_types.specs.declared.image.PartitionEntry.{PartitionEntry}
+use Rattle.kz_types.specs.declared.image.TopicEntry.{TopicEntry}
+use Rattle.kz_types.specs.declared.key.EntityKey.{EntityKey}
+use Rattle.kz_types.specs.declared.key.EntityKey.TheVariants as key
+use Rattle.kz_types.specs.declared.record.MetaRecord.{MetaRecord}
+use Rattle.kz_types.specs.declared.record.MetaRecord.TheVariants as meta
+use Rattle.kz_types.specs.Paths.{is_legal, key_of, path_of}
+use Rattle.kz_ordered.specs.Order.{bytes_cmp}
+use Rattle.kz_ordered.specs.Ordered.{find}
+use Rattle.kz_ordered.proofs.Order.{bytes_order, int_order}
+use Rattle.kz_ordered.proofs.Lookup.{found_is_contained, key_of_found, same_items, Contains-head, Contains-tail, Contains-nil, Contains-cons_cases}
+use Rattle.kz_ordered.proofs.Maps.{Rises-filter, find-filter_found, find-filter_absent}
+use Rattle.kz_spec_stores.specs.Metadata.{Image, number_of_partition, id_of_acl, topic_named, partition_at, acl_of}
+use Rattle.kz_spec_stores.specs.InOrder.{IsInOrder}
+use Rattle.kz_spec_stores.specs.Image.{scrams_in, quotas_in}
+use Rattle.kz_spec_znodes.specs.Rendering.{broker_key, acl_key, row_of_acl, state_body}
+use Rattle.kz_spec_znodes.specs.Translation.{broker_name}
+use Rattle.kz_laws_paths.specs.TextKeys.{HasTexts}
+use Rattle.kz_laws_paths.proofs.Legal.{IsGoodKey}
+use Rattle.kz_laws_paths.proofs.Keys.{path_holds, one_key}
+use Rattle.kz_laws_znodes.specs.RoundTrip.{IsWritable}
+use Rattle.kz_laws_znodes.proofs.Within.{from_flat, to_flat, to_map}
+use Rattle.kz_laws_znodes.proofs.BrokerWalk.{IsBrokerKey, named_back, name_is_legal}
+use Rattle.kz_laws_znodes.proofs.Held.{broker_in, facts_of_acl}
+use Rattle.kz_ordered.proofs.Lookup.{same_some}
+use Rattle.kz_spec_delta.specs.Entities.{topic_body, config_body, quota_body, quotas_at, acl_body, entity}
+use Rattle.kz_spec_delta.specs.Touched.{Lead, topics_spoken_of, partition_keys, keys_of_topic, keys_of_entry, keys_spoken_of, keys_touched_by, touched_keys}
+use Rattle.kz_laws_delta.proofs.Spans.{second_of}
+use Rattle.kz_laws_delta.proofs.Stays.{topic_stays, SparesConfig, config_stays, SparesQuotas, quotas_stay, SparesUser, user_stays, SparesEntry, entry_stays, SparesProducer, next_stays}
+use Rattle.kz_spec_stores.specs.Metadata.{pairs_of, pairs_of_topic}
+
+-- ---- whether a list has a text
+
+pub contained_or_not : (x : List ℕ) (xs : List (List ℕ)) → Contains xs x ⊎ (Contains xs x → ⊥)
+contained_or_not x [] = inr (λ has. absurd (Contains-nil x has))
+contained_or_not x (y ∷ ys) = by (bytes_eq y x) (bytes_eq-Decides y x).0 (bytes_eq-Decides y x).1 (contained_or_not x ys)
+  where
+    by : (b : Bool) → (b ≡ true → y ≡ x) → (y ≡ x → b ≡ true) → Contains ys x ⊎ (Contains ys x → ⊥) → Contains (y ∷ ys) x ⊎ (Contains (y ∷ ys) x → ⊥)
+    by true is back rest = inl (subst (λ z. Contains (y ∷ ys) z) (is refl) (Contains-head y ys))
+    by false is back (inl later) = inl (Contains-tail y ys x later)
+    by false is back (inr none) = inr (λ has. elim (Contains-cons_cases y ys x has) [
+      | inl e ↦ absurd (let tied : false ≡ true = back e in cc (tied))
+      | inr later ↦ none later
+    ])
+
+-- the key of a broker's configuration by its name
+broker_back : (b : Option ℤ) → IsBrokerKey b → broker_key (broker_name b) ≡ key.BrokerConfig b
+broker_back b good =
+    let c : Configuration = record { name = broker_name b; pairs = [] } in
+    let n = broker_in c (name_is_legal b good) in
+    let same : n.0 ≡ b = same_some n.0 b (sym n.2 ∙ named_back b good) in
+    n.1 ∙ ap (λ k. key.BrokerConfig k) same
+
+broker_is_good : (b : Option ℤ) → is_legal (key.BrokerConfig b) ≡ true → HasTexts (key.BrokerConfig b) → IsBrokerKey b
+unfolding is_legal
+broker_is_good b legal texts = (legal, texts)
+
+module _ (old new : Image) (oo : IsInOrder old) (wo : IsWritable old) (on : IsInOrder new) (wn : IsWritable new) (rs : List MetaRecord) (lead : Lead old rs new) where
+  -- a key that isn't touched isn't touched by any of the records
+  untouched : (k : EntityKey) → (Contains (touched_keys old new rs) k → ⊥) → (r : MetaRecord) → Contains rs r → Contains (keys_touched_by old new r) k → ⊥
+  untouched k none r has within = none (to_flat (keys_touched_by old new) rs r k has within)
+
+  -- ---- topics
+
+  of_topic : (k : EntityKey) (name : List ℕ) → Contains (keys_of_topic old new name) k → (r : MetaRecord) → Contains (topics_spoken_of old r) name → Contains (keys_touched_by old new r) k
+  of_topic k name within r spoken = Contains-append_left (flat_map (keys_of_topic old new) (topics_spoken_of old r)) (keys_spoken_of old new r) k (to_flat (keys_of_topic old new) (topics_spoken_of old r) name k spoken within)
+
+  same_topic : (k : EntityKey) (name : List ℕ) → Contains (keys_of_topic old new name) k → (Contains (touched_keys old new rs) k → ⊥) → topic_named name old ≡ topic_named name new
+  same_topic k name within none = sym (topic_stays old oo name rs new (λ r has spoken. untouched k none r has (of_topic k name within r spoken)) lead)
+
+  -- no partition of the number
+  no_partition : (i : Image) (name : List ℕ) (number : ℤ) → (Contains (partition_keys name (topic_named name i)) (key.Partition name number) → ⊥) → entity i (key.Partition name number) ≡ None
+  no_partition i name number none = by (topic_named name i) refl
+    where
+      found_by : (t : TopicEntry) → topic_named name i ≡ Some t → (q : Option PartitionEntry) → find int_cmp number_of_partition number t.partitions ≡ q → option_map state_body (option_map (λ (p : PartitionEntry). p.row) q) ≡ None
+      found_by t is None e = refl
+      found_by t is (Some q) e =
+          let has : Contains t.partitions q = found_is_contained int_order number_of_partition number t.partitions q e in
+          let at : q.number ≡ number = key_of_found int_order number_of_partition number t.partitions q e in
+          let key_of_q : Contains (partition_keys name (Some t)) (key.Partition name q.number) = to_map (λ (p : PartitionEntry). key.Partition name p.number) t.partitions q has in
+          absurd (none (subst (λ f. Contains (partition_keys name f) (key.Partition name number)) (sym is) (subst (λ n. Contains (partition_keys name (Some t)) (key.Partition name n)) at key_of_q)))
+
+      by : (found : Option TopicEntry) → topic_named name i ≡ found → option_map state_body (option_and_then (λ (t : TopicEntry). partition_at number t.partitions) (topic_named name i)) ≡ None
+      by None e = ap (λ f. option_map state_body (option_and_then (λ (t : TopicEntry). partition_at number t.partitions) f)) e
+      by (Some t) e = ap (λ f. option_map state_body (option_and_then (λ (t : TopicEntry). partition_at number t.partitions) f)) e ∙ found_by t e (find int_cmp number_of_partition number t.partitions) refl
+
+  same_partition : (name : List ℕ) (number : ℤ) → (Contains (touched_keys old new rs) (key.Partition name number) → ⊥) → entity old (key.Partition name number) ≡ entity new (key.Partition name number)
+  same_partition name number none = elim (contained_or_not name (flat_map (topics_spoken_of old) rs)) [
+    | inl spoken ↦
+        let f = from_flat (topics_spoken_of old) rs name spoken in
+        let outside : Contains (keys_of_topic old new name) (key.Partition name number) → ⊥ = λ within. untouched (key.Partition name number) none f.source f.has (of_topic (key.Partition name number) name within f.source f.gives) in
+        let one = partition_keys name (topic_named name old) in
+        let other = partition_keys name (topic_named name new) in
+        let later : Contains (one ++ other) (key.Partition name number) → ⊥ =
+        λ has. outside (Contains-tail (key.Topic name) (key.TopicConfig name ∷ (one ++ other)) (key.Partition name number) (Contains-tail (key.TopicConfig name) (one ++ other) (key.Partition name number) has)) in
+        no_partition old name number (λ has. later (Contains-append_left one other (key.Partition name number) has)) ∙ sym (no_partition new name number (λ has. later (Contains-append_right one other (key.Partition name number) has)))
+    | inr silent ↦
+        ap (λ f. option_map state_body (option_and_then (λ (t : TopicEntry). partition_at number t.partitions) f))
+        (sym (topic_stays old oo name rs new (λ r has spoken. silent (to_flat (topics_spoken_of old) rs r name has spoken)) lead))
+  ]
+
+  -- ---- configurations of brokers
+
+  spoken_right : (r : MetaRecord) (k : EntityKey) → Contains (keys_spoken_of old new r) k → Contains (keys_touched_by old new r) k
+  spoken_right r k has = Contains-append_right (flat_map (keys_of_topic old new) (topics_spoken_of old r)) (keys_spoken_of old new r) k has
+
+  spares_config : (b : Option ℤ) → IsBrokerKey b → (r : MetaRecord) → (Contains (keys_spoken_of old new r) (key.BrokerConfig b) → ⊥) → SparesConfig (broker_name b) r
+  spares_config b good (meta.RegisterBroker r) none = tt
+  spares_config b good (meta.Topic r) none = tt
+  spares_config b good (meta.Partition r) none = tt
+  spares_config b good (meta.Config r) none = λ other e. none (subst (λ t. Contains (cond t [] (broker_key r.resource_name ∷ [])) (key.BrokerConfig b)) (sym other) (subst (λ k. Contains (broker_key r.resource_name ∷ []) k) (ap broker_key (sym e) ∙ broker_back b good) (Contains-head (broker_key r.resource_name) [])))
+  spares_config b good (meta.PartitionChange r) none = tt
+  spares_config b good (meta.RemoveTopic id) none = tt
+  spares_config b good (meta.UserScramCredential r) none = tt
+  spares_config b good (meta.ClientQuota r) none = tt
+  spares_config b good (meta.ProducerIds r) none = tt
+  spares_config b good (meta.AccessControlEntry r) none = tt
+  spares_config b good (meta.RemoveAccessControlEntry id) none = tt
+  spares_config b good meta.NoOp none = tt
+  spares_config b good (meta.ZkMigrationState s) none = tt
+  spares_config b good (meta.RemoveUserScramCredential user mechanism) none = tt
+  spares_config b good (meta.BeginTransaction label) none = tt
+  spares_config b good meta.EndTransaction none = tt
+  spares_config b good (meta.AbortTransaction reason) none = tt
+
+  same_config : (b : Option ℤ) → IsBrokerKey b → (Contains (touched_keys old new rs) (key.BrokerConfig b) → ⊥) → entity old (key.BrokerConfig b) ≡ entity new (key.BrokerConfig b)
+  same_config b good none =
+      ap (λ f. config_body (pairs_of f)) (sym (config_stays (broker_name b) old oo rs new (λ r has. spares_config b good r (λ within. untouched (key.BrokerConfig b) none r has (spoken_right r (key.BrokerConfig b) within))) lead))
+
+  -- ---- quotas
+
+  spares_quotas : (k : EntityKey) → IsGoodKey k → (r : MetaRecord) → (Contains (keys_spoken_of old new r) k → ⊥) → SparesQuotas (path_of k) r
+  spares_quotas k good (meta.RegisterBroker r) none = tt
+  spares_quotas k good (meta.Topic r) none = tt
+  spares_quotas k good (meta.Partition r) none = tt
+  spares_quotas k good (meta.Config r) none = tt
+  spares_quotas k good (meta.PartitionChange r) none = tt
+  spares_quotas k good (meta.RemoveTopic id) none = tt
+  spares_quotas k good (meta.UserScramCredential r) none = tt
+  spares_quotas k good (meta.ClientQuota r) none = λ j is e. none (subst (λ o. Contains (option_to_list (option_and_then (λ l. key_of (path_of l)) o)) k) (sym is) (subst (λ o. Contains (option_to_list o) k) (sym (ap key_of (sym e) ∙ path_holds k good.0 good.1)) (Contains-head k [])))
+  spares_quotas k good (meta.ProducerIds r) none = tt
+  spares_quotas k good (meta.AccessControlEntry r) none = tt
+  spares_quotas k good (meta.RemoveAccessControlEntry id) none = tt
+  spares_quotas k good meta.NoOp none = tt
+  spares_quotas k good (meta.ZkMigrationState s) none = tt
+  spares_quotas k good (meta.RemoveUserScramCredential user mechanism) none = tt
+  spares_quotas k good (meta.BeginTransaction label) none = tt
+  spares_quotas k good meta.EndTransaction none = tt
+  spares_quotas k good (meta.AbortTransaction reason) none = tt
+
+  same_quotas : (k : EntityKey) → IsGoodKey k → (Contains (touched_keys old new rs) k → ⊥) → quotas_at k old ≡ quotas_at k new
+  same_quotas k good none = ap quotas_in (sym (quotas_stay (path_of k) old oo rs new (λ r has. spares_quotas k good r (λ within. untouched k none r has (spoken_right r k within))) lead))
+
+  -- ---- credentials
+
+  spares_user : (name : List ℕ) (r : MetaRecord) → (Contains (keys_spoken_of old new r) (key.User (Some name)) → ⊥) → SparesUser name r
+  spares_user name (meta.RegisterBroker r) none = tt
+  spares_user name (meta.Topic r) none = tt
+  spares_user name (meta.Partition r) none = tt
+  spares_user name (meta.Config r) none = tt
+  spares_user name (meta.PartitionChange r) none = tt
+  spares_user name (meta.RemoveTopic id) none = tt
+  spares_user name (meta.UserScramCredential r) none = λ e. none (subst (λ n. Contains (key.User (Some r.name) ∷ []) (key.User (Some n))) (sym e) (Contains-head (key.User (Some r.name)) []))
+  spares_user name (meta.ClientQuota r) none = tt
+  spares_user name (meta.ProducerIds r) none = tt
+  spares_user name (meta.AccessControlEntry r) none = tt
+  spares_user name (meta.RemoveAccessControlEntry id) none = tt
+  spares_user name meta.NoOp none = tt
+  spares_user name (meta.ZkMigrationState s) none = tt
+  spares_user name (meta.RemoveUserScramCredential user mechanism) none = λ e. none (subst (λ n. Contains (key.User (Some user) ∷ []) (key.User (Some n))) (sym e) (Contains-head (key.User (Some user)) []))
+  spares_user name (meta.BeginTransaction label) none = tt
+  spares_user name meta.EndTransaction none = tt
+  spares_user name (meta.AbortTransaction reason) none = tt
+
+  same_user : (user : Option (List ℕ)) → IsGoodKey (key.User user) → (Contains (touched_keys old new rs) (key.User user) → ⊥) → entity old (key.User user) ≡ entity new (key.User user)
+  same_user None good none = ap (λ qs. quota_body qs []) (same_quotas (key.User None) good none)
+  same_user (Some name) good none =
+      let quotas = same_quotas (key.User (Some name)) good none in
+      let scrams = ap scrams_in (sym (user_stays name old oo rs new (λ r has. spares_user name r (λ within. untouched (key.User (Some name)) none r has (spoken_right r (key.User (Some name)) within))) lead)) in
+      (λ i. quota_body (quotas i) (scrams i))
+
+  -- ---- producer ids
+
+  spares_producer : (r : MetaRecord) → (Contains (keys_spoken_of old new r) key.Producer → ⊥) → SparesProducer r
+  spares_producer (meta.RegisterBroker r) none = tt
+  spares_producer (meta.Topic r) none = tt
+  spares_producer (meta.Partition r) none = tt
+  spares_producer (meta.Config r) none = tt
+  spares_producer (meta.PartitionChange r) none = tt
+  spares_producer (meta.RemoveTopic id) none = tt
+  spares_producer (meta.UserScramCredential r) none = tt
+  spares_producer (meta.ClientQuota r) none = tt
+  spares_producer (meta.ProducerIds r) none = none (Contains-head key.Producer [])
+  spares_producer (meta.AccessControlEntry r) none = tt
+  spares_producer (meta.RemoveAccessControlEntry id) none = tt
+  spares_producer meta.NoOp none = tt
+  spares_producer (meta.ZkMigrationState s) none = tt
+  spares_producer (meta.RemoveUserScramCredential user mechanism) none = tt
+  spares_producer (meta.BeginTransaction label) none = tt
+  spares_producer meta.EndTransaction none = tt
+  spares_producer (meta.AbortTransaction reason) none = tt
+
+  same_producer : (Contains (touched_keys old new rs) key.Producer → ⊥) → entity old key.Producer ≡ entity new key.Producer
+  same_producer none = ap (option_map (λ next. body.Producer (negsuc 0) next (next +ℤ pos 999))) (sym (next_stays old oo rs new (λ r has. spares_producer r (λ within. untouched key.Producer none r has (spoken_right r key.Producer within))) lead))
+
+  -- ---- access control entries
+
+  -- the ids of entries that a record speaks of
+  abbrev ids_spoken_of : MetaRecord → List (List ℕ)
+  ids_spoken_of (meta.AccessControlEntry r) = r.id.bytes ∷ []
+  ids_spoken_of (meta.RemoveAccessControlEntry id) = id.bytes ∷ []
+  ids_spoken_of r = []
+
+  spares_entry : (bytes : List ℕ) (r : MetaRecord) → (Contains (ids_spoken_of r) bytes → ⊥) → SparesEntry bytes r
+  spares_entry bytes (meta.RegisterBroker r) none = tt
+  spares_entry bytes (meta.Topic r) none = tt
+  spares_entry bytes (meta.Partition r) none = tt
+  spares_entry bytes (meta.Config r) none = tt
+  spares_entry bytes (meta.PartitionChange r) none = tt
+  spares_entry bytes (meta.RemoveTopic id) none = tt
+  spares_entry bytes (meta.UserScramCredential r) none = tt
+  spares_entry bytes (meta.ClientQuota r) none = tt
+  spares_entry bytes (meta.ProducerIds r) none = tt
+  spares_entry bytes (meta.AccessControlEntry r) none = λ e. none (subst (Contains (r.id.bytes ∷ [])) (sym e) (Contains-head r.id.bytes []))
+  spares_entry bytes (meta.RemoveAccessControlEntry id) none = λ e. none (subst (Contains (id.bytes ∷ [])) (sym e) (Contains-head id.bytes []))
+  spares_entry bytes meta.NoOp none = tt
+  spares_entry bytes (meta.ZkMigrationState s) none = tt
+  spares_entry bytes (meta.RemoveUserScramCredential user mechanism) none = tt
+  spares_entry bytes (meta.BeginTransaction label) none = tt
+  spares_entry bytes meta.EndTransaction none = tt
+  spares_entry bytes (meta.AbortTransaction reason) none = tt
+
+  abbrev is_at : EntityKey → AclEntry → Bool
+  is_at k a = bytes_eq (path_of (acl_key a.row)) (path_of k)
+
+  -- an entry whose id is spoken of is of no resource that isn't touched
+  of_other : (k : EntityKey) → IsGoodKey k → (bytes : List ℕ) (i : Image) → IsInOrder i → IsWritable i → (a : AclEntry) → find bytes_cmp id_of_acl bytes i.acls ≡ Some a → (acl_key a.row ≡ k → ⊥) → is_at k a ≡ false
+  of_other k good bytes i o w a e other = by (is_at k a) (bytes_eq-Decides (path_of (acl_key a.row)) (path_of k)).0
+    where
+      by : (b : Bool) → (b ≡ true → path_of (acl_key a.row) ≡ path_of k) → b ≡ false
+      by true is =
+          let g = (facts_of_acl i o w a (found_is_contained bytes_order id_of_acl bytes i.acls a e)).good in
+          absurd (other (one_key (acl_key a.row) k g.0 g.1 good.0 good.1 (is refl)))
+      by false is = refl
+
+  none_of : (k : EntityKey) → IsGoodKey k → (bytes : List ℕ) (i : Image) → IsInOrder i → IsWritable i → ((a : AclEntry) → find bytes_cmp id_of_acl bytes i.acls ≡ Some a → acl_key a.row ≡ k → ⊥)
+      → find bytes_cmp id_of_acl bytes (filter (is_at k) i.acls) ≡ None
+  none_of k good bytes i o w other = by (find bytes_cmp id_of_acl bytes i.acls) refl
+    where
+      by : (found : Option AclEntry) → find bytes_cmp id_of_acl bytes i.acls ≡ found → find bytes_cmp id_of_acl bytes (filter (is_at k) i.acls) ≡ None
+      by None e = find-filter_absent bytes_order id_of_acl (is_at k) bytes i.acls e
+      by (Some a) e = find-filter_found bytes_order id_of_acl (is_at k) bytes i.acls a o.acls e ∙ ap (λ b. cond b (Some a) None) (of_other k good bytes i o w a e (other a e))
+
+  filtered_alike : (k : EntityKey) (bytes : List ℕ) → find bytes_cmp id_of_acl bytes old.acls ≡ find bytes_cmp id_of_acl bytes new.acls
+      → find bytes_cmp id_of_acl bytes (filter (is_at k) old.acls) ≡ find bytes_cmp id_of_acl bytes (filter (is_at k) new.acls)
+  filtered_alike k bytes same = by (find bytes_cmp id_of_acl bytes old.acls) refl
+    where
+      by : (found : Option AclEntry) → find bytes_cmp id_of_acl bytes old.acls ≡ found → find bytes_cmp id_of_acl bytes (filter (is_at k) old.acls) ≡ find bytes_cmp id_of_acl bytes (filter (is_at k) new.acls)
+      by None e = find-filter_absent bytes_order id_of_acl (is_at k) bytes old.acls e ∙ sym (find-filter_absent bytes_order id_of_acl (is_at k) bytes new.acls (sym same ∙ e))
+      by (Some a) e = find-filter_found bytes_order id_of_acl (is_at k) bytes old.acls a oo.acls e ∙ sym (find-filter_found bytes_order id_of_acl (is_at k) bytes new.acls a on.acls (sym same ∙ e))
+
+  -- the keys of an entry's resources, before and after
+  key_before : (k : EntityKey) (id : Id) (a : AclEntry) → find bytes_cmp id_of_acl id.bytes old.acls ≡ Some a → acl_key a.row ≡ k → Contains (keys_of_entry old new id) k
+  key_before k id a e is =
+      let row : acl_of id old ≡ Some a.row = ap (option_map (λ (x : AclEntry). x.row)) e in
+      Contains-append_left (option_to_list (option_map acl_key (acl_of id old))) (option_to_list (option_map acl_key (acl_of id new))) k
+      (subst (λ o. Contains (option_to_list (option_map acl_key o)) k) (sym row) (subst (λ j. Contains (j ∷ []) k) (sym is) (Contains-head k [])))
+
+  key_after : (k : EntityKey) (id : Id) (a : AclEntry) → find bytes_cmp id_of_acl id.bytes new.acls ≡ Some a → acl_key a.row ≡ k → Contains (keys_of_entry old new id) k
+  key_after k id a e is =
+      let row : acl_of id new ≡ Some a.row = ap (option_map (λ (x : AclEntry). x.row)) e in
+      Contains-append_right (option_to_list (option_map acl_key (acl_of id old))) (option_to_list (option_map acl_key (acl_of id new))) k
+      (subst (λ o. Contains (option_to_list (option_map acl_key o)) k) (sym row) (subst (λ j. Contains (j ∷ []) k) (sym is) (Contains-head k [])))
+
+  spoken_alike : (k : EntityKey) → IsGoodKey k → (id : Id) → (Contains (keys_of_entry old new id) k → ⊥) → find bytes_cmp id_of_acl id.bytes (filter (is_at k) old.acls) ≡ find bytes_cmp id_of_acl id.bytes (filter (is_at k) new.acls)
+  spoken_alike k good id none =
+      none_of k good id.bytes old oo wo (λ a e is. none (key_before k id a e is)) ∙ sym (none_of k good id.bytes new on wn (λ a e is. none (key_after k id a e is)))
+
+  spoken_by : (k : EntityKey) → IsGoodKey k → (r : MetaRecord) → (Contains (keys_spoken_of old new r) k → ⊥) → (bytes : List ℕ) → Contains (ids_spoken_of r) bytes
+      → find bytes_cmp id_of_acl bytes (filter (is_at k) old.acls) ≡ find bytes_cmp id_of_acl bytes (filter (is_at k) new.acls)
+  spoken_by k good (meta.RegisterBroker r) none bytes within = absurd (Contains-nil bytes within)
+  spoken_by k good (meta.Topic r) none bytes within = absurd (Contains-nil bytes within)
+  spoken_by k good (meta.Partition r) none bytes within = absurd (Contains-nil bytes within)
+  spoken_by k good (meta.Config r) none bytes within = absurd (Contains-nil bytes within)
+  spoken_by k good (meta.PartitionChange r) none bytes within = absurd (Contains-nil bytes within)
+  spoken_by k good (meta.RemoveTopic id) none bytes within = absurd (Contains-nil bytes within)
+  spoken_by k good (meta.UserScramCredential r) none bytes within = absurd (Contains-nil bytes within)
+  spoken_by k good (meta.ClientQuota r) none bytes within = absurd (Contains-nil bytes within)
+  spoken_by k good (meta.ProducerIds r) none bytes within = absurd (Contains-nil bytes within)
+  spoken_by k good (meta.AccessControlEntry r) none bytes within = elim (Contains-cons_cases r.id.bytes [] bytes within) [
+    | inl e ↦ subst (λ b. find bytes_cmp id_of_acl b (filter (is_at k) old.acls) ≡ find bytes_cmp id_of_acl b (filter (is_at k) new.acls)) e (spoken_alike k good r.id none)
+    | inr later ↦ absurd (Contains-nil bytes later)
+  ]
+  spoken_by k good (meta.RemoveAccessControlEntry id) none bytes within = elim (Contains-cons_cases id.bytes [] bytes within) [
+    | inl e ↦ subst (λ b. find bytes_cmp id_of_acl b (filter (is_at k) old.acls) ≡ find bytes_cmp id_of_acl b (filter (is_at k) new.acls)) e (spoken_alike k good id none)
+    | inr later ↦ absurd (Contains-nil bytes later)
+  ]
+  spoken_by k good meta.NoOp none bytes within = absurd (Contains-nil bytes within)
+  spoken_by k good (meta.ZkMigrationState s) none bytes within = absurd (Contains-nil bytes within)
+  spoken_by k good (meta.RemoveUserScramCredential user mechanism) none bytes within = absurd (Contains-nil bytes within)
+  spoken_by k good (meta.BeginTransaction label) none bytes within = absurd (Contains-nil bytes within)
+  spoken_by k good meta.EndTransaction none bytes within = absurd (Contains-nil bytes within)
+  spoken_by k good (meta.AbortTransaction reason) none bytes within = absurd (Contains-nil bytes within)
+
+  same_entries : (k : EntityKey) → IsGoodKey k → (Contains (touched_keys old new rs) k → ⊥) → filter (is_at k) old.acls ≡ filter (is_at k) new.acls
+  same_entries k good none =
+      same_items bytes_order id_of_acl (filter (is_at k) old.acls) (filter (is_at k) new.acls) (Rises-filter bytes_order id_of_acl (is_at k) old.acls oo.acls) (Rises-filter bytes_order id_of_acl (is_at k) new.acls on.acls)
+      (λ bytes. elim (contained_or_not bytes (flat_map ids_spoken_of rs)) [
+        | inl spoken ↦ let f = from_flat ids_spoken_of rs bytes spoken in spoken_by k good f.source (λ within. untouched k none f.source f.has (spoken_right f.source k within)) bytes f.gives
+        | inr silent ↦ filtered_alike k bytes (sym (entry_stays bytes old oo rs new (λ r has. spares_entry bytes r (λ within. silent (to_flat ids_spoken_of rs r bytes has within))) lead))
+      ])
+
+  -- ---- all keys
+
+  pub have_difference : (k : EntityKey) → is_legal k ≡ true → HasTexts k → (Contains (touched_keys old new rs) k → ⊥) → entity old k ≡ entity new k
+  have_difference (key.Topic name) legal texts none =
+      ap (option_map topic_body) (same_topic (key.Topic name) name (Contains-head (key.Topic name) (key.TopicConfig name ∷ (partition_keys name (topic_named name old) ++ partition_keys name (topic_named name new)))) none)
+  have_difference (key.Partition topic number) legal texts none = same_partition topic number none
+  have_difference (key.TopicConfig name) legal texts none =
+      ap (λ f. config_body (pairs_of_topic f)) (same_topic (key.TopicConfig name) name (second_of (key.Topic name) (key.TopicConfig name) (partition_keys name (topic_named name old) ++ partition_keys name (topic_named name new))) none)
+  have_difference (key.BrokerConfig broker) legal texts none = same_config broker (broker_is_good broker legal texts) none
+  have_difference (key.Client client) legal texts none = ap (λ qs. quota_body qs []) (same_quotas (key.Client client) (legal, texts) none)
+  have_difference (key.User user) legal texts none = same_user user (legal, texts) none
+  have_difference (key.UserClient user client) legal texts none = ap (λ qs. quota_body qs []) (same_quotas (key.UserClient user client) (legal, texts) none)
+  have_difference (key.Ip address) legal texts none = ap (λ qs. quota_body qs []) (same_quotas (key.Ip address) (legal, texts) none)
+  have_difference (key.Acl pattern kind name) legal texts none = ap (λ rows. acl_body (map row_of_acl rows)) (same_entries (key.Acl pattern kind name) (legal, texts) none)
+  have_difference key.Producer legal texts none = same_producer none

@@ -1,0 +1,41 @@
+-- The keys at which two metadata differ, and the paths at which their renderings do.
+use Rattle.std.specs.Prelude.{◌≡◌, ℕ, true, List, Contains}
+use Rattle.kz_types.specs.declared.key.EntityKey.{EntityKey}
+use Rattle.kz_types.specs.declared.record.MetaRecord.{MetaRecord}
+use Rattle.kz_types.specs.declared.tree.Rendered.{Rendered}
+use Rattle.kz_types.specs.Paths.{is_legal}
+use Rattle.kz_ordered.specs.Order.{bytes_cmp}
+use Rattle.kz_ordered.specs.Ordered.{Rises}
+use Rattle.kz_ordered.specs.Covering.{at_keys}
+use Rattle.kz_spec_stores.specs.Tree.{path_of_rendered}
+use Rattle.kz_spec_stores.specs.Metadata.{Image}
+use Rattle.kz_spec_stores.specs.InOrder.{IsInOrder}
+use Rattle.kz_spec_znodes.specs.Rendering.{render}
+use Rattle.kz_spec_znodes.specs.Difference.{diff}
+use Rattle.kz_spec_delta.specs.Entities.{entity}
+use Rattle.kz_spec_delta.specs.Spans.{all_spanned_paths, CoverDifference}
+use Rattle.kz_spec_delta.specs.Touched.{Lead, touched_keys}
+use Rattle.kz_laws_paths.specs.TextKeys.{HasTexts}
+use Rattle.kz_laws_znodes.specs.RoundTrip.{IsWritable}
+
+-- Each legal key at which two metadata differ is one of these.
+abbrev pub HaveDifference : List EntityKey → Image → Image → Type 0
+HaveDifference ks old new = (k : EntityKey) → is_legal k ≡ true → HasTexts k → (Contains ks k → ⊥) → entity old k ≡ entity new k
+
+-- Where keys have the difference of two metadata, they cover the difference of the renderings.
+abbrev pub KeysCoverRenderings : Type 0
+KeysCoverRenderings = (old new : Image) → IsInOrder old → IsWritable old → IsInOrder new → IsWritable new → (ks : List EntityKey) → HaveDifference ks old new → CoverDifference ks (render old) (render new)
+
+-- The keys that records touch have the difference of the metadata that they lead from and of those that they lead to.
+abbrev pub TouchedKeysSuffice : Type 0
+TouchedKeysSuffice = (old new : Image) → IsInOrder old → IsWritable old → IsInOrder new → IsWritable new → (rs : List MetaRecord) → Lead old rs new → HaveDifference (touched_keys old new rs) old new
+
+-- The znodes of a rendering at these paths.
+abbrev pub znodes_at : List (List ℕ) → Image → List Rendered
+znodes_at paths i = at_keys bytes_cmp path_of_rendered paths (render i)
+
+-- Where keys have the difference of two metadata, the operations between the renderings are those between their znodes at the paths
+-- that the keys span, and at any other paths beside.
+abbrev pub DeltaIsDifference : Type 0
+DeltaIsDifference = (old new : Image) → IsInOrder old → IsWritable old → IsInOrder new → IsWritable new → (ks : List EntityKey) → HaveDifference ks old new
+    → (paths : List (List ℕ)) → Rises bytes_cmp (λ p. p) paths → ((p : List ℕ) → Contains (all_spanned_paths ks) p → Contains paths p) → diff (render old) (render new) ≡ diff (znodes_at paths old) (znodes_at paths new)
