@@ -1,0 +1,5 @@
+pub mod Making
+pub mod Topics
+pub mod Rest
+pub mod Users
+pub mod Whole
