@@ -6,9 +6,7 @@ use Rattle.kz_types.specs.declared.id.Id.{Id}
 use Rattle.kz_types.specs.declared.codes.TheConstants.{NO_MIGRATION}
 use Rattle.kz_types.specs.declared.record.MetaRecord.{MetaRecord}
 use Rattle.kz_types.specs.declared.record.MetaRecord.TheVariants as meta
-use Rattle.kz_types.specs.declared.bodies.Pair.{Pair}
 use Rattle.kz_types.specs.declared.bodies.QuotaRow.{QuotaRow}
-use Rattle.kz_types.specs.declared.bodies.ScramPair.{ScramPair}
 use Rattle.kz_types.specs.declared.image.TopicEntry.{TopicEntry}
 use Rattle.kz_types.specs.declared.image.PartitionEntry.{PartitionEntry}
 use Rattle.kz_types.specs.declared.image.Configuration.{Configuration}

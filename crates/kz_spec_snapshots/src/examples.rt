@@ -17,6 +17,11 @@ pub fn worked_snapshots()
         ∷ record { first = pos 1; epoch = pos 1; time = pos 0; items = partition 1 (pos 0) ∷ [] }
         ∷ record { first = pos 2; epoch = pos 3; time = pos 0; items = meta.ProducerIds (record { broker_id = negsuc 0; broker_epoch = negsuc 0; next = pos 1000 }) ∷ [] } ∷ [] }
     ensures one { snapshot_batches (pos 3) (image_of_records (broker_member [] (codes "a") (Some (codes "1")) ∷ topic (codes "t") 1 ∷ topic_member (codes "t") (codes "b") (Some (codes "2")) ∷ block (pos 1000) ∷ []))
-        ≡ record { first = pos 0; epoch = pos 3; time = pos 0; items = topic (codes "t") 1 ∷ topic_member (codes "t") (codes "b") (Some (codes "2")) ∷ broker_member [] (codes "a") (Some (codes "1"))
-        ∷ meta.ProducerIds (record { broker_id = negsuc 0; broker_epoch = negsuc 0; next = pos 1000 }) ∷ [] } ∷ [] }
+        ≡ record {
+          first = pos 0;
+          epoch = pos 3;
+          time = pos 0;
+          items = topic (codes "t") 1 ∷ topic_member (codes "t") (codes "b") (Some (codes "2")) ∷ broker_member [] (codes "a") (Some (codes "1"))
+              ∷ meta.ProducerIds (record { broker_id = negsuc 0; broker_epoch = negsuc 0; next = pos 1000 }) ∷ [];
+        } ∷ [] }
 {}
