@@ -14,11 +14,11 @@ use Rattle.kz_types.specs.declared.machine.Event.{Event}
 use Rattle.kz_types.specs.declared.machine.Event.TheVariants as event
 use Rattle.kz_types.specs.declared.machine.Answer.{Answer}
 use Rattle.kz_types.specs.declared.machine.Answer.TheVariants as answer
-use Rattle.kz_spec_stores.specs.Tree.{multi, begin_session, end_session}
+use Rattle.kz_spec_stores.specs.Tree.{multi, begin_session, end_session, migration_record}
 use Rattle.kz_spec_stores.specs.Log.{append, elect, image_of, begun_of}
-use Rattle.kz_spec_stores.specs.Requests.{Multi, BeginSession, EndSession, Append, Elect, Done, NoMemory, answer_of_tree_fault, answer_of_log_fault, IsTaken}
+use Rattle.kz_spec_stores.specs.Requests.{Multi, BeginSession, EndSession, Append, Elect, Done, NoMemory, answer_of_tree_fault, answer_of_log_fault, IsTaken, Snapshot}
 use Rattle.kz_spec_machine.specs.Driver.{Shared, Driver, least, step}
-use Rattle.kz_spec_machine.specs.Machine.{World, ends, driver_of, running_ids, running_refusal, leader_refusal, client_refusal, election_records, registration, final_records, work}
+use Rattle.kz_spec_machine.specs.Machine.{World, ends, driver_of, running_ids, running_refusal, leader_refusal, client_refusal, election_records, registration, final_records, work, snapshot_refusal, snapshot_offset}
 use Rattle.kz_spec_machine.specs.Failures.{is_failed_step, is_failure, IsCutOff, IsLeftByStep, IsLeftByTurn, IsLeft}
 use Rattle.kz_driver.specs.Disks.{Disks, Payloads}
 use Rattle.kz_turns.specs.Stops.{AreUp}
@@ -26,7 +26,7 @@ use Rattle.kz_turns.specs.Disks.{StepRequestDisks, TurnDisks}
 use Rattle.kz_world_parts.specs.declared.faults.EventFault.{EventFault}
 use Rattle.kz_world_parts.specs.declared.faults.EventFault.TheVariants as event_fault
 use Rattle.kz_world_parts.specs.Stores.{AsksNothing, ReadsLog, ChangesTree, ChangesLog}
-use Rattle.kz_world_parts.specs.Disks.{DriverTurnDisks, TurnEventDisks, DriverStepDisks, UnlessRefused, TakesBack, ResultDisks, EventDisks}
+use Rattle.kz_world_parts.specs.Disks.{DriverTurnDisks, TurnEventDisks, DriverStepDisks, UnlessRefused, TakesBack, ResultDisks, EventDisks, CutsLog}
 use Rattle.kz_world_parts.specs.Refusals.{records_refusal, end_refusal}
 use Rattle.kz_world_parts.specs.Faults.{result_of_answer}
 use Rattle.kz_failures.specs.declared.failure.Failure.{Failure}
@@ -36,6 +36,7 @@ use Rattle.kz_failures.proofs.Answers.{differ, reply_works, replies_work}
 use Rattle.kz_failures.proofs.Stores.{same_quiet, change_tells, read_tells, all_same, tree_fails, log_fails, after_quiet, up_after}
 use Rattle.kz_failures.proofs.Requests.{made_calm, step_tells}
 use Rattle.kz_failures.proofs.Rollbacks.{own_failure, tree_result, log_result, rollback_tells}
+use Rattle.kz_log.specs.Requests.{made_by_snapshot}
 
 -- ---- the steps of a turn
 
@@ -148,6 +149,10 @@ module _ (w : World) (payloads : Payloads) (old new : Disks) (up : AreUp old) wh
   step_event_tells p now (Some d) (Ok a) works h = step_answer_tells p now d a works h
   step_event_tells p now (Some d) (Err f) works h = nothing_tells old new up (Err f) h
 
+  cut_tells : (at : Option ℤ) (r : Result Answer EventFault) → CutsLog w.shared.log at payloads r old new → AnswerDisks (own_failure r) old new
+  cut_tells None r h = log_read_tells old new up r h
+  cut_tells (Some at) r h = log_change_tells old new up (made_by_snapshot w.shared.log at) (payloads.log w.shared.log (Snapshot at)) r h
+
   event_tells : (e : Event) (r : Result Answer EventFault) → Works r → ResultDisks w e payloads r old new → AnswerDisks (own_failure r) old new
   event_tells (event.Quorum ids) r works h = nothing_tells old new up r h
   event_tells (event.Start id) r works h = nothing_tells old new up r h
@@ -179,6 +184,9 @@ module _ (w : World) (payloads : Payloads) (old new : Disks) (up : AreUp old) wh
   event_tells event.Rollback r works h =
       unless (option_map (λ id. answer.Running id) (least (running_ids w.drivers))) _ _ (AnswerDisks (own_failure r) old new)
       (λ (k : TakesBack w.shared payloads r old new). rollback_tells w.shared payloads r old new up k) (λ k. nothing_tells old new up r k) h
+  event_tells event.Snapshot r works h =
+      unless (snapshot_refusal w) _ _ (AnswerDisks (own_failure r) old new)
+      (λ k. cut_tells (snapshot_offset (migration_record w.shared.tree) w.shared.log) r k) (λ k. log_read_tells old new up r k) h
   event_tells event.Check r works h = log_read_tells old new up r h
   event_tells (event.ZkOpen session) r works h = tree_change_tells old new up (begin_session w.shared.tree session) (payloads.tree w.shared.tree (BeginSession session)) r h
   event_tells (event.ZkExpire session) r works h = tree_change_tells old new up (end_session w.shared.tree session) (payloads.tree w.shared.tree (EndSession session)) r h

@@ -15,17 +15,17 @@ ghost use Rattle.kz_image.specs.Faults.{IsFirstBad};
 ghost use Rattle.kz_image_lists.specs.QuotaPaths.{IsEntityRead};
 
 use crate::rules::{broken, refused};
+use kz_blocks::Blocks;
 use kz_image_lists::{
     QuotaList, Topics, configure, is_migrating, partition_at, register, remove_scram, scram_at,
     set_scram,
 };
-use kz_sorted::{find, put, without};
 use kz_types::{
     AccessControlEntryRecord, AclEntry, AclRow, ClientQuotaRecord, ConfigRecord, Configuration,
     Duplicate, EntityKey, Id, ImageFault, MetaRecord, NO_MIGRATION, NoMemory, POST_MIGRATION, Pair,
     PartitionChangeRecord, PartitionRecord, PartitionRow, ProducerIdsRecord, QuotaEntry, QuotaRow,
     RegisterBrokerRecord, ScramEntry, ScramRow, Sequence, Text, TopicEntry, TopicRecord,
-    UserScramCredentialRecord, copy_all,
+    UserScramCredentialRecord,
 };
 use std::alloc::Global;
 use std::marker::Model;
@@ -40,15 +40,16 @@ pub type Quotas = Sequence<QuotaRow>;
 pub type Brokers = Sequence<RegisterBrokerRecord>;
 
 /// The metadata of the cluster: topics, configurations of brokers, quotas, credentials, access control entries, the
-/// registered brokers, the next producer id, and the state of the migration.
+/// registered brokers, the next producer id, and the state of the migration. A copy has the same blocks of entries: it costs a
+/// pointer for each, and the registrations of the brokers.
 #[derive(Drop)]
 pub struct Image {
     alloc: Global,
     topics: Topics,
-    broker_configs: Vec<Configuration>,
+    broker_configs: Blocks<Configuration>,
     quotas: QuotaList,
-    users: Vec<ScramEntry>,
-    acls: Vec<AclEntry>,
+    users: Blocks<ScramEntry>,
+    acls: Blocks<AclEntry>,
     brokers: Brokers,
     next_producer: Option<i64>,
     state: i8,
@@ -62,10 +63,10 @@ impl Model for Image {
 
     ghost view = { λ i. record {
       topics = i.topics;
-      broker_configs = i.broker_configs.items;
+      broker_configs = i.broker_configs;
       quotas = i.quotas;
-      users = i.users.items;
-      acls = i.acls.items;
+      users = i.users;
+      acls = i.acls;
       brokers = i.brokers;
       next_producer = i.next_producer;
       state = i.state;
@@ -73,10 +74,10 @@ impl Model for Image {
 
     ghost invariant = { λ i. IsInOrder (record {
       topics = i.topics;
-      broker_configs = i.broker_configs.items;
+      broker_configs = i.broker_configs;
       quotas = i.quotas;
-      users = i.users.items;
-      acls = i.acls.items;
+      users = i.users;
+      acls = i.acls;
       brokers = i.brokers;
       next_producer = i.next_producer;
       state = i.state;
@@ -111,10 +112,10 @@ impl Image {
         Image {
             alloc,
             topics: Topics::new(alloc),
-            broker_configs: Vec::new(alloc),
+            broker_configs: Blocks::new(alloc),
             quotas: QuotaList::new(alloc),
-            users: Vec::new(alloc),
-            acls: Vec::new(alloc),
+            users: Blocks::new(alloc),
+            acls: Blocks::new(alloc),
             brokers: Sequence::new(alloc),
             next_producer: None,
             state: NO_MIGRATION,
@@ -180,7 +181,7 @@ impl Image {
     fn configs_of_broker(&self, name: &Text) -> Option<&Pairs>
         ensures { option_map (λ pairs. pairs.now) result ≡ configs_of (pos 4) name.now self.now }
     {
-        let config = find(&self.broker_configs, name.bytes())?;
+        let config = self.broker_configs.find(name.bytes())?;
         if config.pairs.len() == 0 {
             return None;
         }
@@ -198,7 +199,7 @@ impl Image {
     pub fn scram(&self, name: &Text, mechanism: i8) -> Option<&ScramRow>
         ensures { option_map (λ row. row.now) result ≡ scram_of name.now mechanism self.now }
     {
-        match find(&self.users, name.bytes()) {
+        match self.users.find(name.bytes()) {
             Some(user) => scram_at(user.scrams.as_slice(), mechanism),
             None => None,
         }
@@ -208,7 +209,7 @@ impl Image {
     pub fn acl(&self, id: Id) -> Option<&AclRow>
         ensures { option_map (λ row. row.now) result ≡ acl_of id self.now }
     {
-        match find(&self.acls, &id.bytes) {
+        match self.acls.find(&id.bytes) {
             Some(entry) => Some(&entry.row),
             None => None,
         }
@@ -250,51 +251,51 @@ impl Image {
     // ---- lists
 
     /// Lends the topics, by rising name.
-    pub fn topics(&self) -> &[TopicEntry]
+    pub fn topics(&self) -> &Blocks<TopicEntry>
         ensures topics { result.now ≡ self.now.topics }
         ensures in_order { AreTopicsInOrder self.now.topics }
         ensures legal { AreTopics self.now.topics }
     {
-        self.topics.as_slice()
+        self.topics.entries()
     }
 
     /// Lends the configurations of brokers, by rising name, where the empty name stands for all brokers. None of them is
     /// empty.
-    pub fn broker_configs(&self) -> &[Configuration]
+    pub fn broker_configs(&self) -> &Blocks<Configuration>
         ensures configs { result.now ≡ self.now.broker_configs }
         ensures in_order { AreInOrder self.now.broker_configs }
         ensures legal { All IsConfiguration self.now.broker_configs }
     {
-        self.broker_configs.as_slice()
+        &self.broker_configs
     }
 
     /// Lends the quotas, by the rising path of their entity's znode. No entity has none, and each path is read as that of an
     /// entity.
-    pub fn quota_entries(&self) -> &[QuotaEntry]
+    pub fn quota_entries(&self) -> &Blocks<QuotaEntry>
         ensures quotas { result.now ≡ self.now.quotas }
         ensures in_order { AreQuotasInOrder self.now.quotas }
         ensures legal { All IsQuotaEntry self.now.quotas }
         ensures read { All IsEntityRead self.now.quotas }
     {
-        self.quotas.as_slice()
+        self.quotas.entries()
     }
 
     /// Lends the credentials of users, by rising name. No user has none.
-    pub fn users(&self) -> &[ScramEntry]
+    pub fn users(&self) -> &Blocks<ScramEntry>
         ensures users { result.now ≡ self.now.users }
         ensures in_order { AreUsersInOrder self.now.users }
         ensures legal { All IsScramEntry self.now.users }
     {
-        self.users.as_slice()
+        &self.users
     }
 
     /// Lends the access control entries, by rising id.
-    pub fn acls(&self) -> &[AclEntry]
+    pub fn acls(&self) -> &Blocks<AclEntry>
         ensures acls { result.now ≡ self.now.acls }
         ensures rising { Rises bytes_cmp id_of_acl self.now.acls }
         ensures legal { All IsAcl self.now.acls }
     {
-        self.acls.as_slice()
+        &self.acls
     }
 
     // ---- changes
@@ -370,10 +371,12 @@ impl Image {
         Ok(())
     }
 
-    fn remove_topic(&mut self, topic_id: Id)
-        ensures { self.new ≡ record self.old { topics = without_topic topic_id self.old.topics } }
+    fn remove_topic(&mut self, topic_id: Id) -> Result<(), NoMemory>
+        ensures ok { OnOk result (self.new ≡ record self.old { topics = without_topic topic_id self.old.topics }) }
+        ensures err { OnErr result (self.new ≡ self.old) }
     {
-        self.topics.remove(topic_id);
+        self.topics.remove(self.alloc, topic_id)?;
+        Ok(())
     }
 
     fn set_scram(&mut self, change: &UserScramCredentialRecord) -> Result<(), NoMemory>
@@ -385,10 +388,12 @@ impl Image {
         Ok(())
     }
 
-    fn remove_scram(&mut self, name: &Text, mechanism: i8)
-        ensures { self.new ≡ record self.old { users = scram_removed name.now mechanism self.old.users } }
+    fn remove_scram(&mut self, name: &Text, mechanism: i8) -> Result<(), NoMemory>
+        ensures ok { OnOk result (self.new ≡ record self.old { users = scram_removed name.now mechanism self.old.users }) }
+        ensures err { OnErr result (self.new ≡ self.old) }
     {
-        remove_scram(self.alloc, &mut self.users, name, mechanism);
+        remove_scram(self.alloc, &mut self.users, name, mechanism)?;
+        Ok(())
     }
 
     fn change_quota(&mut self, change: &ClientQuotaRecord) -> Result<(), NoMemory>
@@ -406,14 +411,16 @@ impl Image {
         ensures err { OnErr result (self.new ≡ self.old) }
     {
         let entry = acl_entry(self.alloc, change)?;
-        put(&mut self.acls, entry)?;
+        self.acls.put(entry)?;
         Ok(())
     }
 
-    fn remove_acl(&mut self, id: Id)
-        ensures { self.new ≡ record self.old { acls = without_in bytes_cmp id_of_acl id.bytes self.old.acls } }
+    fn remove_acl(&mut self, id: Id) -> Result<(), NoMemory>
+        ensures ok { OnOk result (self.new ≡ record self.old { acls = without_in bytes_cmp id_of_acl id.bytes self.old.acls }) }
+        ensures err { OnErr result (self.new ≡ self.old) }
     {
-        without(&mut self.acls, &id.bytes);
+        self.acls.without(&id.bytes)?;
+        Ok(())
     }
 
     fn set_next_producer(&mut self, change: &ProducerIdsRecord)
@@ -443,10 +450,7 @@ impl Image {
             MetaRecord::Partition(change) => self.make_partition(epoch, change),
             MetaRecord::Config(change) => self.configure(change),
             MetaRecord::PartitionChange(change) => self.change_partition(epoch, change),
-            MetaRecord::RemoveTopic { topic_id } => {
-                self.remove_topic(*topic_id);
-                Ok(())
-            }
+            MetaRecord::RemoveTopic { topic_id } => self.remove_topic(*topic_id),
             MetaRecord::UserScramCredential(change) => self.set_scram(change),
             MetaRecord::ClientQuota(change) => self.change_quota(change),
             MetaRecord::ProducerIds(change) => {
@@ -454,17 +458,13 @@ impl Image {
                 Ok(())
             }
             MetaRecord::AccessControlEntry(change) => self.make_acl(change),
-            MetaRecord::RemoveAccessControlEntry { id } => {
-                self.remove_acl(*id);
-                Ok(())
-            }
+            MetaRecord::RemoveAccessControlEntry { id } => self.remove_acl(*id),
             MetaRecord::ZkMigrationState { state } => {
                 self.set_state(*state);
                 Ok(())
             }
             MetaRecord::RemoveUserScramCredential { name, mechanism } => {
-                self.remove_scram(name, *mechanism);
-                Ok(())
+                self.remove_scram(name, *mechanism)
             }
             MetaRecord::NoOp
             | MetaRecord::BeginTransaction { name: _ }
@@ -501,10 +501,10 @@ impl Duplicate for Image {
         Ok(Image {
             alloc,
             topics: self.topics.copy(alloc)?,
-            broker_configs: copy_all(alloc, &self.broker_configs)?,
+            broker_configs: self.broker_configs.copy(alloc)?,
             quotas: self.quotas.copy(alloc)?,
-            users: copy_all(alloc, &self.users)?,
-            acls: copy_all(alloc, &self.acls)?,
+            users: self.users.copy(alloc)?,
+            acls: self.acls.copy(alloc)?,
             brokers: self.brokers.copy(alloc)?,
             next_producer: self.next_producer,
             state: self.state,

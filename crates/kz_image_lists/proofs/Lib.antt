@@ -1,7 +1,6 @@
-pub mod Lists
+pub mod ConfigurationLists
 pub mod Entries
 pub mod TopicLists
 pub mod TopicNames
 pub mod BrokerLists
 pub mod QuotaLists
-pub mod UserLists

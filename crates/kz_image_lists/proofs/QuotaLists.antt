@@ -1,5 +1,5 @@
 -- What a change of quotas makes of the entities that have some, at the place of its path.
-use Rattle.std.proofs.Common.{◌≡◌, ◌≢◌, ℕ, ◌<◌, ℤ, ◌++◌, ◌&&◌, Bool, true, false, cond, List, [], ◌∷◌, Option, Some, None, Ok, Err, length, get_or, set, insert, remove, refl, sym, ap, ◌∙◌}
+use Rattle.std.proofs.Common.{◌≡◌, ◌≢◌, ℕ, ℤ, ◌++◌, ◌&&◌, Bool, true, false, cond, List, [], ◌∷◌, Option, Some, None, refl, sym, ap, ◌∙◌}
 use Rattle.std.proofs.lemmas.Bool.{false≢true}
 use Rattle.std.specs.Ordering.{int_eq}
 use Rattle.std.specs.Prelude.{pos, is_some, codes}
@@ -13,18 +13,16 @@ use Rattle.kz_types.specs.declared.image.QuotaEntry.{QuotaEntry}
 use Rattle.kz_types.specs.declared.record.ClientQuotaRecord.{ClientQuotaRecord}
 use Rattle.kz_types.proofs.PathRules.{both_hold}
 use Rattle.kz_ordered.specs.Order.{bytes_cmp}
-use Rattle.kz_ordered.specs.Ordered.{find, put, without}
-use Rattle.kz_ordered.specs.Spot.{IsSpot}
+use Rattle.kz_ordered.specs.Ordered.{find}
 use Rattle.kz_ordered.proofs.Order.{bytes_order, is_eq_other}
-use Rattle.kz_spec_stores.specs.Metadata.{path_of_quotas, key_of_quota}
+use Rattle.kz_spec_stores.specs.Metadata.{path_of_quotas}
 use Rattle.kz_spec_stores.specs.ImageRules.{has_quota}
 use Rattle.kz_spec_stores.specs.Image.{quotas_in, with_quota, with_quotas}
 use Rattle.kz_spec_stores.specs.InOrder.{AreQuotasInOrder}
 use Rattle.kz_spec_stores.specs.InOrder.{is_below_quota_root}
 use Rattle.kz_image_lists.specs.QuotaPaths.{IsEntityRead}
-use Rattle.kz_image_lists.proofs.Entries.{set_there, remove_there, key_there, entry_there, entry_absent, insert_absent, none_absent}
 use Rattle.kz_laws_images.proofs.Entries.{changed_all}
-use Rattle.kz_laws_images.proofs.QuotaLists.{quotas_hold, rows_of}
+use Rattle.kz_laws_images.proofs.QuotaLists.{quotas_hold}
 
 -- ---- what isn't found
 
@@ -74,35 +72,6 @@ acl_path pattern kind name = acl_path_is_other (int_eq pattern (pos 3)) _
 pub producer_path : is_below_quota_root (path_of key.Producer) ≡ false
 unfolding path_of
 producer_path = refl
-
--- ---- changes of an entity
-
-module _ (change : ClientQuotaRecord) (path : List ℕ) (xs : List QuotaEntry) (i : ℕ) where
-  module _ (old new : QuotaEntry) (order : AreQuotasInOrder xs) (there : IsSpot bytes_cmp path_of_quotas path xs (Ok i)) (was : old ≡ get_or xs i old) (is : new ≡ record old { quotas = with_quota change old.quotas }) where
-    rows_are : new.quotas ≡ with_quota change (quotas_in (find bytes_cmp path_of_quotas path xs))
-    rows_are = ap rows_of is ∙ ap (λ f. with_quota change (quotas_in f)) (sym (entry_there quotas_hold path xs i old order.rising there was))
-
-    path_is : new.path ≡ path
-    path_is = ap path_of_quotas is ∙ key_there quotas_hold path xs i old there was
-
-    pub set_quotas : 0 < length new.quotas → set xs i new ≡ with_quotas path (with_quota change (quotas_in (find bytes_cmp path_of_quotas path xs))) xs
-    set_quotas some = set_there quotas_hold path xs i new _ order.rising there path_is rows_are some
-
-    pub remove_quotas : length new.quotas ≡ 0 → remove (set xs i new) i ≡ with_quotas path (with_quota change (quotas_in (find bytes_cmp path_of_quotas path xs))) xs
-    remove_quotas none = remove_there quotas_hold path xs i new _ order.rising there rows_are none
-
-  pub insert_quotas : (new : QuotaEntry) → IsSpot bytes_cmp path_of_quotas path xs (Err i) → change.remove ≡ false → new ≡ record { path = path; quotas = record { key = change.key; value = change.value } ∷ [] }
-      → insert xs i new ≡ with_quotas path (with_quota change (quotas_in (find bytes_cmp path_of_quotas path xs))) xs
-  insert_quotas new s sets is =
-      ap (insert xs i) is ∙ insert_absent quotas_hold path xs i (record { key = change.key; value = change.value }) [] s
-      ∙ ap (λ b. with_quotas path (cond b (without bytes_cmp key_of_quota change.key []) (put bytes_cmp key_of_quota (record { key = change.key; value = change.value }) [])) xs) (sym sets)
-      ∙ ap (λ f. with_quotas path (with_quota change (quotas_in f)) xs) (sym (entry_absent quotas_hold path xs i s))
-
-  pub absent_quotas : IsSpot bytes_cmp path_of_quotas path xs (Err i) → change.remove ≡ true → xs ≡ with_quotas path (with_quota change (quotas_in (find bytes_cmp path_of_quotas path xs))) xs
-  absent_quotas s removes =
-      none_absent quotas_hold path xs i s
-      ∙ ap (λ b. with_quotas path (cond b (without bytes_cmp key_of_quota change.key []) (put bytes_cmp key_of_quota (record { key = change.key; value = change.value }) [])) xs) (sym removes)
-      ∙ ap (λ f. with_quotas path (with_quota change (quotas_in f)) xs) (sym (entry_absent quotas_hold path xs i s))
 
 -- ---- paths that are read
 

@@ -1,15 +1,14 @@
 //! The configurations of brokers, by rising name.
-ghost use Rattle.std.specs.Prelude.{◌≡◌, ◌∷◌, [], IfOk, OnOk, OnErr, Some};
+ghost use Rattle.std.specs.Prelude.{◌≡◌, IfOk, OnOk, OnErr, Some};
 ghost use Rattle.kz_ordered.specs.Order.{bytes_cmp};
 ghost use Rattle.kz_ordered.specs.Ordered.{Rises};
-ghost use Rattle.kz_ordered.specs.Spot.{IsSpot};
-ghost use Rattle.kz_spec_stores.specs.Image.{name_of_configuration, name_of_pair, with_member, configurations_after};
+ghost use Rattle.kz_spec_stores.specs.Image.{name_of_pair, pairs_at, with_member, with_pairs, configurations_after};
 ghost use Rattle.kz_spec_stores.specs.InOrder.{AreInOrder};
 
-use kz_sorted::{put, spot, without};
+use kz_blocks::Blocks;
+use kz_sorted::{put, without};
 use kz_types::{ConfigRecord, Configuration, Duplicate, NoMemory, Pair, Sequence, Text};
 use std::alloc::Global;
-use std::mem;
 
 fn put_pair(alloc: Global, pairs: &mut Vec<Pair>, name: &Text, value: &Text) -> Result<(), NoMemory>
     requires { Rises bytes_cmp name_of_pair pairs.old.items }
@@ -42,78 +41,51 @@ pub fn change_pairs(
     }
 }
 
-fn change_configuration(
+// A copy of the members of a configuration. One that isn't there has none.
+fn pairs_of(
     alloc: Global,
-    config: &mut Configuration,
-    change: &ConfigRecord,
-) -> Result<(), NoMemory>
-    requires { Rises bytes_cmp name_of_pair config.old.pairs }
-    ensures ok { OnOk result (config.new ≡ record config.old { pairs = with_member change.now.name change.now.value config.old.pairs }) }
-    ensures err { OnErr result (config.new ≡ config.old) }
+    configs: &Blocks<Configuration>,
+    name: &Text,
+) -> Result<Vec<Pair>, NoMemory>
+    ensures { IfOk result (λ pairs. pairs.items ≡ pairs_at name.now configs.now) }
 {
-    let mut pairs = mem::replace(&mut config.pairs, Sequence::new(alloc)).into_vec();
-    let changed = change_pairs(alloc, &mut pairs, change);
-    config.pairs = Sequence::from_vec(pairs);
-    changed
-}
-
-// The configuration that a change of an absent one makes.
-fn new_configuration(
-    alloc: Global,
-    change: &ConfigRecord,
-    value: &Text,
-) -> Result<Configuration, NoMemory>
-    ensures { IfOk result (λ made. made ≡ record { name = change.now.resource_name; pairs = record { name = change.now.name; value = value.now } ∷ [] }) }
-{
-    let mut pairs = Sequence::new(alloc);
-    pairs.push(Pair {
-        name: change.name.copy(alloc)?,
-        value: value.copy(alloc)?,
-    })?;
-    Ok(Configuration {
-        name: change.resource_name.copy(alloc)?,
-        pairs,
-    })
-}
-
-fn change_at(
-    alloc: Global,
-    configs: &mut Vec<Configuration>,
-    place: usize,
-    change: &ConfigRecord,
-) -> Result<(), NoMemory>
-    requires order { AreInOrder configs.old.items }
-    requires there { IsSpot bytes_cmp name_of_configuration change.now.resource_name configs.old.items (Ok place) }
-    ensures ok { OnOk result (configs.new.items ≡ configurations_after change.now configs.old.items) }
-    ensures err { OnErr result (configs.new.items ≡ configs.old.items) }
-{
-    let config = &mut configs[place];
-    change_configuration(alloc, config, change)?;
-    if config.pairs.len() == 0 {
-        let _ = configs.remove(place);
+    match configs.find(name.bytes()) {
+        Some(config) => Ok(config.pairs.copy(alloc)?.into_vec()),
+        None => Ok(Vec::new(alloc)),
     }
-    Ok(())
+}
+
+// Puts a configuration with these members in the place of the one of its name. One without members isn't kept.
+fn put_pairs(
+    alloc: Global,
+    configs: &mut Blocks<Configuration>,
+    name: &Text,
+    pairs: Vec<Pair>,
+) -> Result<(), NoMemory>
+    ensures ok { OnOk result (configs.new ≡ with_pairs name.now pairs.items configs.old) }
+    ensures err { OnErr result (configs.new ≡ configs.old) }
+{
+    if pairs.len() == 0 {
+        return configs.without(name.bytes());
+    }
+    let config = Configuration {
+        name: name.copy(alloc)?,
+        pairs: Sequence::from_vec(pairs),
+    };
+    configs.put(config)
 }
 
 /// Sets or removes a member of a configuration. At `Err` nothing has changed.
 pub fn configure(
     alloc: Global,
-    configs: &mut Vec<Configuration>,
+    configs: &mut Blocks<Configuration>,
     change: &ConfigRecord,
 ) -> Result<(), NoMemory>
-    requires { AreInOrder configs.old.items }
-    ensures ok { OnOk result (configs.new.items ≡ configurations_after change.now configs.old.items) }
-    ensures err { OnErr result (configs.new.items ≡ configs.old.items) }
+    requires { AreInOrder configs.old }
+    ensures ok { OnOk result (configs.new ≡ configurations_after change.now configs.old) }
+    ensures err { OnErr result (configs.new ≡ configs.old) }
 {
-    match spot(configs, change.resource_name.bytes()) {
-        Ok(place) => change_at(alloc, configs, place, change),
-        Err(place) => match &change.value {
-            Some(value) => {
-                let config = new_configuration(alloc, change, value)?;
-                configs.insert(place, config)?;
-                Ok(())
-            }
-            None => Ok(()),
-        },
-    }
+    let mut pairs = pairs_of(alloc, configs, &change.resource_name)?;
+    change_pairs(alloc, &mut pairs, change)?;
+    put_pairs(alloc, configs, &change.resource_name, pairs)
 }

@@ -9,12 +9,11 @@ ghost use Rattle.kz_spec_stores.specs.Metadata.{name_of_user, mechanism_of_pair}
 ghost use Rattle.kz_spec_stores.specs.Image.{with_scrams, scrams_at, scram_row, scram_set, scram_removed};
 ghost use Rattle.kz_spec_stores.specs.InOrder.{AreUsersInOrder};
 
-use kz_sorted::spot;
+use kz_blocks::Blocks;
 use kz_types::{
     Duplicate, NoMemory, ScramEntry, ScramPair, ScramRow, Sequence, Text, UserScramCredentialRecord,
 };
 use std::alloc::Global;
-use std::mem;
 
 // Where the credential of this mechanism stands, or would stand.
 fn scram_place(scrams: &[ScramPair], mechanism: i8) -> Result<usize, usize>
@@ -37,6 +36,7 @@ pub fn scram_at<'a>(scrams: &'a [ScramPair], mechanism: i8) -> Option<&'a ScramR
 
 // ---- the credentials of a user
 
+// Puts a credential in the place of the one of its mechanism.
 fn place_scram(scrams: &mut Vec<ScramPair>, scram: ScramPair) -> Result<(), NoMemory>
     requires { Rises int_cmp mechanism_of_pair scrams.old.items }
     ensures ok { OnOk result (scrams.new.items ≡ put_in int_cmp mechanism_of_pair scram scrams.old.items) }
@@ -54,6 +54,7 @@ fn place_scram(scrams: &mut Vec<ScramPair>, scram: ScramPair) -> Result<(), NoMe
     }
 }
 
+// Takes the credential of a mechanism out.
 fn drop_scram(scrams: &mut Vec<ScramPair>, mechanism: i8)
     requires { Rises int_cmp mechanism_of_pair scrams.old.items }
     ensures { scrams.new.items ≡ without_in int_cmp mechanism_of_pair mechanism scrams.old.items }
@@ -61,26 +62,6 @@ fn drop_scram(scrams: &mut Vec<ScramPair>, mechanism: i8)
     if let Ok(place) = scram_place(scrams, mechanism) {
         let _removed = scrams.remove(place);
     }
-}
-
-fn put_scram(alloc: Global, user: &mut ScramEntry, scram: ScramPair) -> Result<(), NoMemory>
-    requires { Rises int_cmp mechanism_of_pair user.old.scrams }
-    ensures ok { OnOk result (user.new ≡ record user.old { scrams = put_in int_cmp mechanism_of_pair scram user.old.scrams }) }
-    ensures err { OnErr result (user.new ≡ user.old) }
-{
-    let mut scrams = mem::replace(&mut user.scrams, Sequence::new(alloc)).into_vec();
-    let placed = place_scram(&mut scrams, scram);
-    user.scrams = Sequence::from_vec(scrams);
-    placed
-}
-
-fn without_scram(alloc: Global, user: &mut ScramEntry, mechanism: i8)
-    requires { Rises int_cmp mechanism_of_pair user.old.scrams }
-    ensures { user.new ≡ record user.old { scrams = without_in int_cmp mechanism_of_pair mechanism user.old.scrams } }
-{
-    let mut scrams = mem::replace(&mut user.scrams, Sequence::new(alloc)).into_vec();
-    drop_scram(&mut scrams, mechanism);
-    user.scrams = Sequence::from_vec(scrams);
 }
 
 // ---- users
@@ -100,75 +81,68 @@ fn scram_pair(alloc: Global, change: &UserScramCredentialRecord) -> Result<Scram
     })
 }
 
-fn put_at(
+// A copy of the credentials of a user. One that isn't there has none.
+fn scrams_of(
     alloc: Global,
-    users: &mut Vec<ScramEntry>,
-    place: usize,
+    users: &Blocks<ScramEntry>,
     name: &Text,
-    scram: ScramPair,
-) -> Result<(), NoMemory>
-    requires order { AreUsersInOrder users.old.items }
-    requires there { IsSpot bytes_cmp name_of_user name.now users.old.items (Ok place) }
-    ensures ok { OnOk result (users.new.items ≡ with_scrams name.now (put_in int_cmp mechanism_of_pair scram (scrams_at name.now users.old.items)) users.old.items) }
-    ensures err { OnErr result (users.new.items ≡ users.old.items) }
+) -> Result<Vec<ScramPair>, NoMemory>
+    ensures { IfOk result (λ scrams. scrams.items ≡ scrams_at name.now users.now) }
 {
-    let user = &mut users[place];
-    put_scram(alloc, user, scram)?;
-    Ok(())
+    match users.find(name.bytes()) {
+        Some(user) => Ok(user.scrams.copy(alloc)?.into_vec()),
+        None => Ok(Vec::new(alloc)),
+    }
 }
 
-// The user that a credential of one without any makes.
-fn new_user(alloc: Global, name: &Text, scram: ScramPair) -> Result<ScramEntry, NoMemory>
-    ensures { IfOk result (λ made. made ≡ record { name = name.now; scrams = scram ∷ [] }) }
+// Puts a user with these credentials in the place of the one of its name. One without credentials isn't kept.
+fn put_scrams(
+    alloc: Global,
+    users: &mut Blocks<ScramEntry>,
+    name: &Text,
+    scrams: Vec<ScramPair>,
+) -> Result<(), NoMemory>
+    ensures ok { OnOk result (users.new ≡ with_scrams name.now scrams.items users.old) }
+    ensures err { OnErr result (users.new ≡ users.old) }
 {
-    let mut scrams = Sequence::new(alloc);
-    scrams.push(scram)?;
-    Ok(ScramEntry {
+    if scrams.len() == 0 {
+        return users.without(name.bytes());
+    }
+    let user = ScramEntry {
         name: name.copy(alloc)?,
-        scrams,
-    })
+        scrams: Sequence::from_vec(scrams),
+    };
+    users.put(user)
 }
 
 /// Sets a credential of a user. At `Err` nothing has changed.
 pub fn set_scram(
     alloc: Global,
-    users: &mut Vec<ScramEntry>,
+    users: &mut Blocks<ScramEntry>,
     change: &UserScramCredentialRecord,
 ) -> Result<(), NoMemory>
-    requires { AreUsersInOrder users.old.items }
-    ensures ok { OnOk result (users.new.items ≡ scram_set change.now users.old.items) }
-    ensures err { OnErr result (users.new.items ≡ users.old.items) }
+    requires { AreUsersInOrder users.old }
+    ensures ok { OnOk result (users.new ≡ scram_set change.now users.old) }
+    ensures err { OnErr result (users.new ≡ users.old) }
 {
     let scram = scram_pair(alloc, change)?;
-    match spot(users, change.name.bytes()) {
-        Ok(place) => put_at(alloc, users, place, &change.name, scram),
-        Err(place) => {
-            let user = new_user(alloc, &change.name, scram)?;
-            users.insert(place, user)?;
-            Ok(())
-        }
-    }
+    let mut scrams = scrams_of(alloc, users, &change.name)?;
+    place_scram(&mut scrams, scram)?;
+    put_scrams(alloc, users, &change.name, scrams)
 }
 
-fn remove_at(alloc: Global, users: &mut Vec<ScramEntry>, place: usize, name: &Text, mechanism: i8)
-    requires order { AreUsersInOrder users.old.items }
-    requires there { IsSpot bytes_cmp name_of_user name.now users.old.items (Ok place) }
-    ensures { users.new.items ≡ scram_removed name.now mechanism users.old.items }
+/// Removes a credential of a user. At `Err` nothing has changed.
+pub fn remove_scram(
+    alloc: Global,
+    users: &mut Blocks<ScramEntry>,
+    name: &Text,
+    mechanism: i8,
+) -> Result<(), NoMemory>
+    requires { AreUsersInOrder users.old }
+    ensures ok { OnOk result (users.new ≡ scram_removed name.now mechanism users.old) }
+    ensures err { OnErr result (users.new ≡ users.old) }
 {
-    let user = &mut users[place];
-    without_scram(alloc, user, mechanism);
-    if user.scrams.len() == 0 {
-        let _ = users.remove(place);
-    }
-    let _ = name;
-}
-
-/// Removes a credential of a user.
-pub fn remove_scram(alloc: Global, users: &mut Vec<ScramEntry>, name: &Text, mechanism: i8)
-    requires { AreUsersInOrder users.old.items }
-    ensures { users.new.items ≡ scram_removed name.now mechanism users.old.items }
-{
-    if let Ok(place) = spot(users, name.bytes()) {
-        remove_at(alloc, users, place, name, mechanism);
-    }
+    let mut scrams = scrams_of(alloc, users, name)?;
+    drop_scram(&mut scrams, mechanism);
+    put_scrams(alloc, users, name, scrams)
 }

@@ -6,13 +6,13 @@ mod brokers;
 mod configurations;
 mod credentials;
 mod names;
-mod places;
 mod quotas;
+mod topic;
 mod topics;
 
 pub use brokers::{is_migrating, register};
 pub use configurations::configure;
 pub use credentials::{remove_scram, scram_at, set_scram};
-pub use places::partition_at;
 pub use quotas::QuotaList;
+pub use topic::partition_at;
 pub use topics::Topics;

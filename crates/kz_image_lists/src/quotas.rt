@@ -5,7 +5,6 @@ ghost use Rattle.kz_types.specs.PathRule.{is_path};
 ghost use Rattle.kz_types.specs.declared.bodies.QuotaRow.{QuotaRow};
 ghost use Rattle.kz_ordered.specs.Order.{bytes_cmp};
 ghost use Rattle.kz_ordered.specs.Ordered.{find as find_in, put as put_in, without as without_in, Rises};
-ghost use Rattle.kz_ordered.specs.Spot.{IsSpot};
 ghost use Rattle.kz_spec_stores.specs.Metadata.{path_of_quotas, key_of_quota};
 ghost use Rattle.kz_spec_stores.specs.ImageRules.{quota_key, has_quota};
 ghost use Rattle.kz_spec_stores.specs.Image.{quotas_in, with_quota, with_quotas, quota_changed};
@@ -13,20 +12,20 @@ ghost use Rattle.kz_spec_stores.specs.InOrder.{AreQuotasInOrder};
 ghost use Rattle.kz_image_rules.specs.QuotaKeys.{entity_of};
 ghost use Rattle.kz_image_lists.specs.QuotaPaths.{IsEntityRead};
 
+use kz_blocks::Blocks;
 use kz_image_rules::{QuotaKey, path_of, quota_key};
-use kz_sorted::{find, put, spot, without};
+use kz_sorted::{put, without};
 use kz_types::{
     ClientQuotaRecord, Duplicate, EntityKey, NoMemory, PathFault, QuotaEntry, QuotaRow, Sequence,
-    ZPath, copy_all,
+    ZPath,
 };
 use std::alloc::Global;
 use std::marker::Model;
-use std::mem;
 
 /// The entities that have quotas, by the rising path of their znode. Each path is read as that of an entity.
 #[derive(Drop)]
 pub struct QuotaList {
-    entries: Vec<QuotaEntry>,
+    entries: Blocks<QuotaEntry>,
 }
 
 impl Model for QuotaList {
@@ -36,19 +35,18 @@ impl Model for QuotaList {
 
     ghost Value = { List QuotaEntry };
 
-    ghost view = { λ q. q.entries.items };
+    ghost view = { λ q. q.entries };
 
-    ghost invariant = { λ q. All IsEntityRead q.entries.items };
+    ghost invariant = { λ q. All IsEntityRead q.entries };
 }
 
 // ---- look-ups
 
 // The quotas under a path.
-fn quotas_at<'a>(entries: &'a [QuotaEntry], path: &[u8]) -> Option<&'a Sequence<QuotaRow>>
-    requires { Rises bytes_cmp path_of_quotas entries.now }
+fn quotas_at<'a>(entries: &'a Blocks<QuotaEntry>, path: &[u8]) -> Option<&'a Sequence<QuotaRow>>
     ensures { option_map (λ quotas. quotas.now) result ≡ option_map (λ q. q.quotas) (find_in bytes_cmp path_of_quotas path.now entries.entry.now) }
 {
-    match find(entries, path) {
+    match entries.find(path) {
         Some(entry) => Some(&entry.quotas),
         None => None,
     }
@@ -56,7 +54,7 @@ fn quotas_at<'a>(entries: &'a [QuotaEntry], path: &[u8]) -> Option<&'a Sequence<
 
 // The quotas of an entity that may have some.
 fn quotas_of_key<'a>(
-    entries: &'a [QuotaEntry],
+    entries: &'a Blocks<QuotaEntry>,
     key: &QuotaKey<'_>,
 ) -> Option<&'a Sequence<QuotaRow>>
     requires { AreQuotasInOrder entries.now }
@@ -69,7 +67,7 @@ fn quotas_of_key<'a>(
 }
 
 // The quotas of an entity. What is no entity has none.
-fn quotas_of<'a>(entries: &'a [QuotaEntry], key: &EntityKey) -> Option<&'a Sequence<QuotaRow>>
+fn quotas_of<'a>(entries: &'a Blocks<QuotaEntry>, key: &EntityKey) -> Option<&'a Sequence<QuotaRow>>
     requires { AreQuotasInOrder entries.now }
     ensures { option_map (λ quotas. quotas.now) result ≡ (if is_legal key.now then option_map (λ q. q.quotas) (find_in bytes_cmp path_of_quotas (path_of key.now) entries.entry.now) else None) }
 {
@@ -127,41 +125,6 @@ fn change_rows(
     put(quotas, row)
 }
 
-fn change_entry(
-    alloc: Global,
-    entry: &mut QuotaEntry,
-    change: &ClientQuotaRecord,
-) -> Result<(), NoMemory>
-    requires { Rises bytes_cmp key_of_quota entry.old.quotas }
-    ensures ok { OnOk result (entry.new ≡ record entry.old { quotas = with_quota change.now entry.old.quotas }) }
-    ensures err { OnErr result (entry.new ≡ entry.old) }
-{
-    let mut quotas = mem::replace(&mut entry.quotas, Sequence::new(alloc)).into_vec();
-    let changed = change_rows(alloc, &mut quotas, change);
-    entry.quotas = Sequence::from_vec(quotas);
-    changed
-}
-
-fn change_at(
-    alloc: Global,
-    entries: &mut Vec<QuotaEntry>,
-    path: &[u8],
-    place: usize,
-    change: &ClientQuotaRecord,
-) -> Result<(), NoMemory>
-    requires order { AreQuotasInOrder entries.old.items }
-    requires there { IsSpot bytes_cmp path_of_quotas path.now entries.old.items (Ok place) }
-    ensures ok { OnOk result (entries.new.items ≡ with_quotas path.now (with_quota change.now (quotas_in (find_in bytes_cmp path_of_quotas path.now entries.old.items))) entries.old.items) }
-    ensures err { OnErr result (entries.new.items ≡ entries.old.items) }
-{
-    let entry = &mut entries[place];
-    change_entry(alloc, entry, change)?;
-    if entry.quotas.len() == 0 {
-        let _ = entries.remove(place);
-    }
-    Ok(())
-}
-
 // A path of these bytes.
 fn path_copy(alloc: Global, path: &[u8]) -> Result<ZPath, NoMemory>
     requires { is_path path.now ≡ true }
@@ -174,55 +137,70 @@ fn path_copy(alloc: Global, path: &[u8]) -> Result<ZPath, NoMemory>
     }
 }
 
-// The entry that a quota of an entity without any makes.
-fn new_entry(alloc: Global, path: &[u8], change: &ClientQuotaRecord) -> Result<QuotaEntry, NoMemory>
-    requires { is_path path.now ≡ true }
-    ensures { IfOk result (λ made. made ≡ record { path = path.now; quotas = record { key = change.now.key; value = change.now.value } ∷ [] }) }
+// A copy of the quotas under a path. Where there is no entity, there are none.
+fn rows_of(
+    alloc: Global,
+    entries: &Blocks<QuotaEntry>,
+    path: &[u8],
+) -> Result<Vec<QuotaRow>, NoMemory>
+    ensures { IfOk result (λ rows. rows.items ≡ quotas_in (find_in bytes_cmp path_of_quotas path.now entries.now)) }
 {
-    let mut quotas = Sequence::new(alloc);
-    quotas.push(quota_row(alloc, change)?)?;
-    Ok(QuotaEntry {
+    match entries.find(path) {
+        Some(entry) => Ok(entry.quotas.copy(alloc)?.into_vec()),
+        None => Ok(Vec::new(alloc)),
+    }
+}
+
+// Puts an entity with these quotas in the place of the one of its path. One without quotas isn't kept.
+fn put_rows(
+    alloc: Global,
+    entries: &mut Blocks<QuotaEntry>,
+    path: &[u8],
+    rows: Vec<QuotaRow>,
+) -> Result<(), NoMemory>
+    requires { is_path path.now ≡ true }
+    ensures ok { OnOk result (entries.new ≡ with_quotas path.now rows.items entries.old) }
+    ensures err { OnErr result (entries.new ≡ entries.old) }
+{
+    if rows.len() == 0 {
+        return entries.without(path);
+    }
+    let entry = QuotaEntry {
         path: path_copy(alloc, path)?,
-        quotas,
-    })
+        quotas: Sequence::from_vec(rows),
+    };
+    entries.put(entry)
 }
 
 // Sets or removes a quota of the entity of a path.
 fn change_under(
     alloc: Global,
-    entries: &mut Vec<QuotaEntry>,
+    entries: &mut Blocks<QuotaEntry>,
     path: &[u8],
     change: &ClientQuotaRecord,
 ) -> Result<(), NoMemory>
-    requires order { AreQuotasInOrder entries.old.items }
+    requires order { AreQuotasInOrder entries.old }
     requires rule { is_path path.now ≡ true }
-    ensures ok { OnOk result (entries.new.items ≡ with_quotas path.now (with_quota change.now (quotas_in (find_in bytes_cmp path_of_quotas path.now entries.old.items))) entries.old.items) }
-    ensures err { OnErr result (entries.new.items ≡ entries.old.items) }
+    ensures ok { OnOk result (entries.new ≡ with_quotas path.now (with_quota change.now (quotas_in (find_in bytes_cmp path_of_quotas path.now entries.old))) entries.old) }
+    ensures err { OnErr result (entries.new ≡ entries.old) }
 {
-    match spot(entries, path) {
-        Ok(place) => change_at(alloc, entries, path, place, change),
-        Err(place) => if change.remove {
-            Ok(())
-        } else {
-            let entry = new_entry(alloc, path, change)?;
-            entries.insert(place, entry)?;
-            Ok(())
-        },
-    }
+    let mut rows = rows_of(alloc, entries, path)?;
+    change_rows(alloc, &mut rows, change)?;
+    put_rows(alloc, entries, path, rows)
 }
 
 // Sets or removes a quota of whom the record speaks. At `Err` nothing has changed.
 fn change_entries(
     alloc: Global,
-    entries: &mut Vec<QuotaEntry>,
+    entries: &mut Blocks<QuotaEntry>,
     change: &ClientQuotaRecord,
 ) -> Result<(), NoMemory>
-    requires order { AreQuotasInOrder entries.old.items }
-    requires read { All IsEntityRead entries.old.items }
+    requires order { AreQuotasInOrder entries.old }
+    requires read { All IsEntityRead entries.old }
     requires named { has_quota (quota_key change.now.entity) change.now.key ≡ true }
-    ensures ok { OnOk result (entries.new.items ≡ quota_changed change.now (quota_key change.now.entity) entries.old.items) }
-    ensures err { OnErr result (entries.new.items ≡ entries.old.items) }
-    ensures read { All IsEntityRead entries.new.items }
+    ensures ok { OnOk result (entries.new ≡ quota_changed change.now (quota_key change.now.entity) entries.old) }
+    ensures err { OnErr result (entries.new ≡ entries.old) }
+    ensures read { All IsEntityRead entries.new }
 {
     let Some(key) = quota_key(change.entity.as_slice()) else {
         return Ok(());
@@ -240,16 +218,16 @@ impl QuotaList {
         ensures { result ≡ [] }
     {
         QuotaList {
-            entries: Vec::new(alloc),
+            entries: Blocks::new(alloc),
         }
     }
 
     /// Lends the entities with their quotas, by rising path.
-    pub fn as_slice(&self) -> &[QuotaEntry]
+    pub fn entries(&self) -> &Blocks<QuotaEntry>
         ensures entries { result.now ≡ self.now }
         ensures read { All IsEntityRead self.now }
     {
-        self.entries.as_slice()
+        &self.entries
     }
 
     /// The quotas of an entity. What is no entity has none.
@@ -275,7 +253,7 @@ impl QuotaList {
 impl Duplicate for QuotaList {
     fn copy(&self, alloc: Global) -> Result<Self, NoMemory> {
         Ok(QuotaList {
-            entries: copy_all(alloc, &self.entries)?,
+            entries: self.entries.copy(alloc)?,
         })
     }
 }

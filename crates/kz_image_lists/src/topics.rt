@@ -1,5 +1,5 @@
 //! The topics, by rising name, and their names, by rising id.
-ghost use Rattle.std.specs.Prelude.{◌≡◌, true, [], None, option_map, option_and_then, IfOk, MatchOption, OnOk, OnErr};
+ghost use Rattle.std.specs.Prelude.{◌≡◌, true, [], None, option_map, option_and_then, IfOk, OnOk, OnErr};
 ghost use Rattle.std.specs.List.{find as find_by};
 ghost use Rattle.kz_ordered.specs.Order.{bytes_cmp};
 ghost use Rattle.kz_ordered.specs.Ordered.{find as find_in, Rises};
@@ -8,37 +8,36 @@ ghost use Rattle.kz_spec_stores.specs.ImageRules.{new_row, leaves_row};
 ghost use Rattle.kz_spec_stores.specs.Image.{put_topic, new_topic, with_changed, put_partition, partition_changed, without_topic, topic_configured};
 ghost use Rattle.kz_spec_stores.specs.InOrder.{AreTopicsInOrder};
 ghost use Rattle.kz_spec_stores.specs.Legal.{AreApart};
-ghost use Rattle.kz_image_lists.specs.Places.{IsTopicPlace};
 
 use crate::names::TopicName;
-use crate::places::{change_at, configure_at, set_partition_at};
+use crate::topic::{with_member, with_partition, with_partition_changed};
+use kz_blocks::Blocks;
 use kz_image_rules::new_row;
-use kz_sorted::{find, put, spot, without};
 use kz_types::{
     ConfigRecord, Duplicate, Id, NoMemory, PartitionChangeRecord, PartitionRecord, Sequence, Text,
-    TopicEntry, TopicRecord, copy_all,
+    TopicEntry, TopicRecord,
 };
 use std::alloc::Global;
 use std::marker::Model;
 
 /// The topics, by rising name, as contracts see them, and their names, by rising id: a look-up by an id searches these, and
-/// then the topics by the name.
+/// then the topics by the name. A copy has the same blocks of topics: it costs a pointer for each.
 #[derive(Drop)]
 pub struct Topics {
-    topics: Vec<TopicEntry>,
-    names: Vec<TopicName>,
+    topics: Blocks<TopicEntry>,
+    names: Blocks<TopicName>,
 }
 
 impl Model for Topics {
     ghost use Rattle.std.specs.Prelude.{List};
     ghost use Rattle.kz_types.specs.declared.image.TopicEntry.{TopicEntry};
-    ghost use Rattle.kz_image_lists.specs.Places.{AreNames};
+    ghost use Rattle.kz_image_lists.specs.Names.{AreNames};
 
     ghost Value = { List TopicEntry };
 
-    ghost view = { λ t. t.topics.items };
+    ghost view = { λ t. t.topics };
 
-    ghost invariant = { λ t. AreNames t.names.items t.topics.items };
+    ghost invariant = { λ t. AreNames t.names t.topics };
 }
 
 // The topic that a record makes.
@@ -69,38 +68,25 @@ impl Topics {
         ensures { result ≡ [] }
     {
         Topics {
-            topics: Vec::new(alloc),
-            names: Vec::new(alloc),
+            topics: Blocks::new(alloc),
+            names: Blocks::new(alloc),
         }
     }
 
     /// Lends the topics, by rising name.
-    pub fn as_slice(&self) -> &[TopicEntry]
+    pub fn entries(&self) -> &Blocks<TopicEntry>
         ensures { result.now ≡ self.now }
     {
-        self.topics.as_slice()
+        &self.topics
     }
 
     // ---- look-ups
 
     /// The topic of a name.
     pub fn named(&self, name: &Text) -> Option<&TopicEntry>
-        requires { Rises bytes_cmp name_of_topic self.now }
         ensures { option_map (λ t. t.now) result ≡ find_in bytes_cmp name_of_topic name.now self.now }
     {
-        find(&self.topics, name.bytes())
-    }
-
-    // The place of the topic of an id.
-    fn place(&self, id: Id) -> Option<usize>
-        requires { Rises bytes_cmp name_of_topic self.now }
-        ensures { MatchOption result (find_by (λ t. same_id t.id id) self.now ≡ None) (λ place. IsTopicPlace id self.now place) }
-    {
-        let named = find(&self.names, &id.bytes)?;
-        match spot(&self.topics, named.name.bytes()) {
-            Ok(place) => Some(place),
-            Err(_) => None,
-        }
+        self.topics.find(name.bytes())
     }
 
     /// The topic of an id.
@@ -108,8 +94,8 @@ impl Topics {
         requires { Rises bytes_cmp name_of_topic self.now }
         ensures { option_map (λ t. t.now) result ≡ find_by (λ t. same_id t.id id) self.now }
     {
-        match self.place(id) {
-            Some(place) => Some(&self.topics[place]),
+        match self.names.find(&id.bytes) {
+            Some(named) => self.topics.find(named.name.bytes()),
             None => None,
         }
     }
@@ -125,27 +111,29 @@ impl Topics {
         ensures err { OnErr result (self.new ≡ self.old) }
     {
         let topic = topic_made(alloc, change)?;
-        let name = name_made(alloc, change)?;
-        put(&mut self.names, name)?;
-        match put(&mut self.topics, topic) {
-            Ok(()) => Ok(()),
-            Err(fault) => {
-                without(&mut self.names, &change.topic_id.bytes);
-                Err(fault)
-            }
-        }
+        let mut names = self.names.copy(alloc)?;
+        names.put(name_made(alloc, change)?)?;
+        self.topics.put(topic)?;
+        self.names = names;
+        Ok(())
     }
 
-    /// Removes the topic of an id, with its partitions and its configuration.
-    pub fn remove(&mut self, id: Id)
+    /// Removes the topic of an id, with its partitions and its configuration. At `Err` nothing has changed.
+    pub fn remove(&mut self, alloc: Global, id: Id) -> Result<(), NoMemory>
         requires rising { Rises bytes_cmp name_of_topic self.old }
         requires apart { AreApart self.old }
-        ensures { self.new ≡ without_topic id self.old }
+        ensures ok { OnOk result (self.new ≡ without_topic id self.old) }
+        ensures err { OnErr result (self.new ≡ self.old) }
     {
-        if let Some(place) = self.place(id) {
-            let _removed = self.topics.remove(place);
-            without(&mut self.names, &id.bytes);
-        }
+        let name = match self.with_id(id) {
+            Some(topic) => topic.name.copy(alloc)?,
+            None => return Ok(()),
+        };
+        let mut names = self.names.copy(alloc)?;
+        names.without(&id.bytes)?;
+        self.topics.without(name.bytes())?;
+        self.names = names;
+        Ok(())
     }
 
     /// Makes a partition of a topic, where the topic is there. At `Err` nothing has changed.
@@ -160,11 +148,14 @@ impl Topics {
         ensures ok { OnOk result (self.new ≡ with_changed (put_partition change.now.partition_id (new_row epoch change.now)) (find_by (λ t. same_id t.id change.now.topic_id) self.old) self.old) }
         ensures err { OnErr result (self.new ≡ self.old) }
     {
-        let Some(place) = self.place(change.topic_id) else {
-            return Ok(());
+        let changed = match self.with_id(change.topic_id) {
+            Some(topic) => {
+                let row = new_row(alloc, epoch, change)?;
+                with_partition(alloc, topic, change.partition_id, row)?
+            }
+            None => return Ok(()),
         };
-        let row = new_row(alloc, epoch, change)?;
-        set_partition_at(alloc, &mut self.topics, place, change, row)?;
+        self.topics.put(changed)?;
         Ok(())
     }
 
@@ -181,13 +172,12 @@ impl Topics {
         ensures ok { OnOk result (self.new ≡ with_changed (partition_changed epoch change.now) (find_by (λ t. same_id t.id change.now.topic_id) self.old) self.old) }
         ensures err { OnErr result (self.new ≡ self.old) }
     {
-        match self.place(change.topic_id) {
-            Some(place) => {
-                change_at(alloc, epoch, &mut self.topics, place, change)?;
-                Ok(())
-            }
-            None => Ok(()),
-        }
+        let changed = match self.with_id(change.topic_id) {
+            Some(topic) => with_partition_changed(alloc, epoch, topic, change)?,
+            None => return Ok(()),
+        };
+        self.topics.put(changed)?;
+        Ok(())
     }
 
     /// Sets or removes a member of a topic's configuration, where the topic is there. At `Err` nothing has changed.
@@ -197,21 +187,21 @@ impl Topics {
         ensures ok { OnOk result (self.new ≡ with_changed (topic_configured change.now) (find_in bytes_cmp name_of_topic change.now.resource_name self.old) self.old) }
         ensures err { OnErr result (self.new ≡ self.old) }
     {
-        match spot(&self.topics, change.resource_name.bytes()) {
-            Ok(place) => {
-                configure_at(alloc, &mut self.topics, place, change)?;
-                Ok(())
-            }
-            Err(_) => Ok(()),
-        }
+        let changed = match self.named(&change.resource_name) {
+            Some(topic) => with_member(alloc, topic, change)?,
+            None => return Ok(()),
+        };
+        self.topics.put(changed)?;
+        Ok(())
     }
 }
 
 impl Duplicate for Topics {
+    // The same topics in the same blocks.
     fn copy(&self, alloc: Global) -> Result<Self, NoMemory> {
         Ok(Topics {
-            topics: copy_all(alloc, &self.topics)?,
-            names: copy_all(alloc, &self.names)?,
+            topics: self.topics.copy(alloc)?,
+            names: self.names.copy(alloc)?,
         })
     }
 }

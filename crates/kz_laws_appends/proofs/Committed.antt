@@ -14,6 +14,7 @@ use Rattle.kz_spec_stores.specs.Tree.{migration_record}
 use Rattle.kz_spec_stores.specs.Log.{Log, end_of, entries, all_entries_applied, image_at, image_of, with_batch, append, is_migrated_log, is_open_log, commit_of}
 use Rattle.kz_spec_znodes.specs.Rendering.{excess}
 use Rattle.kz_spec_machine.specs.Driver.{Shared, Driver, at_stage, epoch_or_zero, commit_records}
+use Rattle.kz_laws_trees.proofs.Commits.{commit_is_past}
 use Rattle.kz_spec_machine.specs.Sound.{LogShape, IsBatchEnd, Agreement, IsSharedSound, claim_version, shown_in, Migrates, Fills, IsTranslated, AtStage, WasElected, IsSoundDriver}
 use Rattle.kz_laws_drivers.specs.Effects.{IsLonger}
 use Rattle.kz_laws_drivers.proofs.Numbers.{both_at_most, at_most_by, at_least_itself}
@@ -132,7 +133,7 @@ agrees s d epoch now k =
     record {
       holds = held_by (shown_in s.tree) s.log.epoch k.lead.shows;
       ended = λ at e past.
-          let last : at ≡ end_of more = both_at_most at (end_of more) (batch_end_within more at k.more e) (past (end_of more) (commits s d epoch now k)) in
+          let last : at ≡ end_of more = both_at_most at (end_of more) (batch_end_within more at k.more e) (commit_is_past more (end_of more) at past (commits s d epoch now k)) in
           ap (is_open (entries more.batches)) last ∙ commit_closes s.log epoch now k.more;
       fits = λ at e. each_fits s d epoch now at k (old_or_end s.log epoch now commit_records at e);
       record_there = there_by (migration_record s.tree) recorded;

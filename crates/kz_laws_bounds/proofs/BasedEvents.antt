@@ -26,7 +26,7 @@ use Rattle.kz_spec_values.specs.Control.{control_path, epoch_path, migration_pat
 use Rattle.kz_spec_stores.specs.Tree.{Tree, path_of_op, row_at, after_op, multi, begin_session, end_session, is_owner, is_owned, loses_child, after_loss}
 use Rattle.kz_spec_stores.specs.Log.{Log}
 use Rattle.kz_spec_machine.specs.Driver.{Shared, Driver, new_driver, elected_driver}
-use Rattle.kz_spec_machine.specs.Machine.{World, driver_of, quorum_refusal, declared_world, start_refusal, started_world, stop_refusal, stopped_world, next_epoch, election_refusal, elected_world, election_answer, change_refusal, changed_world, registration, register_refusal, final_records, finalise_refusal, exit_ops, tree_after_ops, reset_world, given_back, rollback_refusal, with_tree, moved_world, is_reserved, is_held, is_held_tree, first_told, client_refusal, client_world, next, after_events}
+use Rattle.kz_spec_machine.specs.Machine.{World, driver_of, quorum_refusal, declared_world, start_refusal, started_world, stop_refusal, stopped_world, next_epoch, election_refusal, elected_world, election_answer, change_refusal, changed_world, registration, register_refusal, final_records, finalise_refusal, exit_ops, tree_after_ops, reset_world, given_back, rollback_refusal, with_tree, moved_world, is_reserved, is_held, is_held_tree, first_told, client_refusal, client_world, next, after_events, cut_world, snapshot_refusal}
 use Rattle.kz_spec_machine.specs.Sound.{Lasts, is_lasting, claim_version, shown_in, SeesPresent, Looks, AtStage, IsSoundDriver, Each, Sound, BasesAtStage, Based, IsLawful}
 use Rattle.kz_spec_runs.specs.Openings.{opened_world}
 use Rattle.kz_laws_trees.proofs.Rows.{same, other, compare, created_found, set_found}
@@ -126,6 +126,10 @@ rollback_based : (w : World) → EachBased w → EachBased (next w event.Rollbac
 unfolding next
 rollback_based w based = unless_taken EachBased w (rollback_refusal w) (given_back (reset_world w) (tree_after_ops w.shared.tree (exit_ops w.shared.tree))) based
     (λ none. given_back_based w (tree_after_ops w.shared.tree (exit_ops w.shared.tree)) (may_roll_back w none).alone)
+
+snapshot_based : (w : World) → EachBased w → EachBased (next w event.Snapshot).0
+unfolding next
+snapshot_based w based = decided EachBased w (snapshot_refusal w) (cut_world w) _ based (λ j f found. same_tree w.shared (cut_world w).shared f refl (based j f found))
 
 check_based : (w : World) → EachBased w → EachBased (next w event.Check).0
 unfolding next
@@ -327,6 +331,7 @@ each_event w (event.Change id records now) lawful leaves sound based = change_ba
 each_event w (event.Register id broker migrating now) lawful leaves sound based = register_based w id broker now migrating based
 each_event w (event.Finalise id now) lawful leaves sound based = finalise_based w id now based
 each_event w event.Rollback lawful leaves sound based = rollback_based w based
+each_event w event.Snapshot lawful leaves sound based = snapshot_based w based
 each_event w event.Check lawful leaves sound based = check_based w based
 each_event w (event.ZkOpen session) lawful leaves sound based = open_based w session sound based
 each_event w (event.ZkExpire session) lawful leaves sound based = expire_based w session sound based

@@ -20,7 +20,7 @@ use Rattle.kz_spec_stores.specs.Tree.{Tree, multi, begin_session, end_session}
 use Rattle.kz_spec_stores.specs.Log.{Log, append, is_migrated_log, is_open_log}
 use Rattle.kz_spec_znodes.specs.Translation.{Unreadable, translate}
 use Rattle.kz_spec_machine.specs.Driver.{Shared, Driver, epoch_or_zero, claim_ops, remaining_at, write_ops, begin_record, commit_records, begin_request, write_request, request_at, with_tree, with_log, shared_after, reaches_store, planned_step, step}
-use Rattle.kz_spec_machine.specs.Machine.{World, running_ids, driver_of, running_refusal, quorum_refusal, declared_world, start_refusal, started_world, stop_refusal, stopped_world, election_refusal, elected_world, election_answer, step_result, ends, TurnResult, with_reply, turn, work, turn_result, change_refusal, changed_world, registration, register_refusal, final_records, finalise_refusal, moved_world, client_refusal, client_world, next}
+use Rattle.kz_spec_machine.specs.Machine.{World, running_ids, driver_of, running_refusal, quorum_refusal, declared_world, start_refusal, started_world, stop_refusal, stopped_world, election_refusal, elected_world, election_answer, step_result, ends, TurnResult, with_reply, turn, work, turn_result, change_refusal, changed_world, registration, register_refusal, final_records, finalise_refusal, moved_world, client_refusal, client_world, next, cut_world, snapshot_refusal}
 use Rattle.kz_spec_machine.specs.Sound.{IsTime, IsSharedSound, IsSoundDriver, Sound, IsLawful}
 use Rattle.kz_laws_steps.specs.Steps.{StepKeeps}
 use Rattle.kz_laws_steps.proofs.Tests.{true_or_false}
@@ -37,6 +37,7 @@ use Rattle.kz_laws_events.proofs.Exits.{may_finalise, final_batch}
 use Rattle.kz_laws_events.proofs.Turned.{one_step}
 use Rattle.kz_laws_events.proofs.Every.{event_sound}
 use Rattle.kz_laws_commits.specs.After.{TakesNothingBack}
+use Rattle.kz_laws_events.proofs.Snapshots.{may_snapshot, cut_is}
 
 -- ---- a request
 
@@ -140,6 +141,7 @@ event_stays w (event.Register id broker migrating now) lawful forward sound migr
 event_stays w (event.Finalise id now) lawful forward sound migrated = decided_by IsMigrated w (finalise_refusal w id) (changed_world w final_records now) _ migrated
     (λ none. (changed.longer w.shared now final_records (final_batch w id now sound (may_finalise w id none))).migrated migrated)
 event_stays w event.Rollback lawful forward sound migrated = absurd forward
+event_stays w event.Snapshot lawful forward sound migrated = decided_by IsMigrated w (snapshot_refusal w) (cut_world w) answer.Done migrated (λ none. (cut_is w sound (may_snapshot w none)).migrated)
 event_stays w event.Check lawful forward sound migrated = migrated
 event_stays w (event.ZkOpen session) lawful forward sound migrated = moved_stays w (begin_session w.shared.tree session) migrated
 event_stays w (event.ZkExpire session) lawful forward sound migrated = moved_stays w (end_session w.shared.tree session) migrated

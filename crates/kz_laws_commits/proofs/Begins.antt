@@ -21,12 +21,13 @@ pub batch_begins : (l : Log) (epoch now : ℤ) (items : List MetaRecord) → All
 batch_begins l epoch now items unmarked = record {
   new = new_batch l epoch now items ∷ [];
   base = refl;
+  base_image = refl;
   appended = refl;
   unmarked = unmarked_batch (end_of l +ℤ pos 1) epoch now items unmarked;
 }
 
 pub same_begins : (l : Log) → BeginsNone l l
-same_begins l = record { new = []; base = refl; appended = sym (append-nil l.batches); unmarked = All-nil HoldsNoMarker }
+same_begins l = record { new = []; base = refl; base_image = refl; appended = sym (append-nil l.batches); unmarked = All-nil HoldsNoMarker }
 
 -- ---- elections
 

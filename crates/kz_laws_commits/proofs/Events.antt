@@ -14,7 +14,7 @@ use Rattle.kz_types.specs.declared.record.MetaRecord.{MetaRecord}
 use Rattle.kz_spec_stores.specs.Tree.{Tree, multi, begin_session, end_session}
 use Rattle.kz_spec_stores.specs.Log.{Log, is_open_log, begun_of}
 use Rattle.kz_spec_machine.specs.Driver.{Shared, Driver, new_driver}
-use Rattle.kz_spec_machine.specs.Machine.{World, quorum_refusal, declared_world, start_refusal, started_world, stop_refusal, stopped_world, election_refusal, elected_world, election_answer, change_refusal, changed_world, registration, register_refusal, driver_of, final_records, finalise_refusal, exit_ops, tree_after_ops, reset_world, given_back, rollback_refusal, with_tree, moved_world, is_held_tree, client_refusal, client_world, next, after_events}
+use Rattle.kz_spec_machine.specs.Machine.{World, quorum_refusal, declared_world, start_refusal, started_world, stop_refusal, stopped_world, election_refusal, elected_world, election_answer, change_refusal, changed_world, registration, register_refusal, driver_of, final_records, finalise_refusal, exit_ops, tree_after_ops, reset_world, given_back, rollback_refusal, with_tree, moved_world, is_held_tree, client_refusal, client_world, next, after_events, cut_world, snapshot_refusal}
 use Rattle.kz_spec_machine.specs.Sound.{LogShape, claim_version, shown_in, Sound, IsLawful}
 use Rattle.kz_laws_drivers.specs.Effects.{IsUnchanged}
 use Rattle.kz_laws_trees.proofs.Sessions.{begin_leaves, end_leaves}
@@ -31,6 +31,8 @@ use Rattle.kz_laws_events.proofs.Every.{event_sound}
 use Rattle.kz_laws_commits.specs.Commits.{CopiesAtStage, Copies}
 use Rattle.kz_laws_commits.proofs.Others.{past_copies, same_copies}
 use Rattle.kz_laws_commits.proofs.Turns.{EachCopies, stepped_copies, turned_copies}
+use Rattle.kz_laws_events.proofs.Snapshots.{may_snapshot, cut_is}
+use Rattle.kz_laws_events.proofs.Grown.{migrated_settled}
 
 -- ---- logs in which no transaction is open
 
@@ -130,6 +132,13 @@ stop_copies : (w : World) (controller : Option ℤ) → EachCopies w → EachCop
 unfolding next
 stop_copies w controller copies = decided EachCopies w (stop_refusal w controller) (stopped_world w controller) answer.Done copies (stopped w controller copies)
 
+snapshot_copies : (w : World) → Sound w → EachCopies w → EachCopies (next w event.Snapshot).0
+unfolding next
+snapshot_copies w sound copies = decided_by EachCopies w (snapshot_refusal w) (cut_world w) answer.Done copies (λ none j f found.
+    let m = may_snapshot w none in
+    let c = cut_is w sound m in
+    settled_copies w.shared.tree (cut_world w).shared.log f f.stage c.sound.kept.log (c.settled ∙ migrated_settled w.shared.tree w.shared.log sound.kept.log (sound.kept.agreement m.migrated)))
+
 check_copies : (w : World) → EachCopies w → EachCopies (next w event.Check).0
 unfolding next
 check_copies w copies = copies
@@ -147,6 +156,7 @@ event_copies w (event.Change id records now) lawful sound copies = change_copies
 event_copies w (event.Register id broker migrating now) lawful sound copies = register_copies w id broker now migrating sound copies
 event_copies w (event.Finalise id now) lawful sound copies = finalise_copies w id now sound copies
 event_copies w event.Rollback lawful sound copies = rollback_copies w copies
+event_copies w event.Snapshot lawful sound copies = snapshot_copies w sound copies
 event_copies w event.Check lawful sound copies = check_copies w copies
 event_copies w (event.ZkOpen session) lawful sound copies = open_copies w session sound copies
 event_copies w (event.ZkExpire session) lawful sound copies = expire_copies w session sound copies

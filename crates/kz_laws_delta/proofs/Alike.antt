@@ -1,4 +1,4 @@
--- Keys that have all at which two metadata differ cover the difference of their renderings.
+-- Keys that span all paths of the keys at which two metadata differ cover the difference of their renderings.
 use Rattle.std.proofs.Common.{◌≡◌, ℕ, List, ◌++◌, map, Contains, refl, sym, ap, ◌∙◌}
 use Rattle.std.proofs.lemmas.Slice.Eq.{bytes_eq-Decides}
 use Rattle.std.specs.List.{flat_map}
@@ -18,11 +18,9 @@ use Rattle.kz_spec_stores.specs.Tree.{path_of_rendered}
 use Rattle.kz_spec_stores.specs.Metadata.{Image}
 use Rattle.kz_spec_stores.specs.InOrder.{IsInOrder}
 use Rattle.kz_spec_znodes.specs.Rendering.{bare, topic_znodes, config_znode, quota_parents, own_znodes, user_znode, quota_znodes, acl_znode, producer_znodes, entity_znodes, render}
-use Rattle.kz_laws_paths.proofs.Legal.{IsGoodKey}
 use Rattle.kz_laws_znodes.specs.RoundTrip.{IsWritable}
-use Rattle.kz_laws_znodes.proofs.Within.{to_flat}
-use Rattle.kz_spec_delta.specs.Entities.{entity}
-use Rattle.kz_spec_delta.specs.Spans.{spanned_paths, all_spanned_paths, CoverDifference}
+use Rattle.kz_spec_delta.specs.Spans.{all_spanned_paths, CoverDifference}
+use Rattle.kz_laws_delta.specs.Delta.{HaveDifference}
 use Rattle.kz_laws_delta.proofs.Lasts.{last_at, alike-append, found_in_rendering}
 use Rattle.kz_laws_delta.proofs.Spanned.{HoldTheSame}
 use Rattle.kz_laws_delta.proofs.TopicsAlike.{topics_alike}
@@ -56,13 +54,13 @@ module _ (old new : Image) (oo : IsInOrder old) (wo : IsWritable old) (on : IsIn
       after_configs i = quota_znodes i.quotas i.users ++ last_znodes i
 
   -- at a path that no key spans, nothing differs
-  pub covered : (ks : List EntityKey) → ((k : EntityKey) → IsGoodKey k → (Contains ks k → ⊥) → entity old k ≡ entity new k) → CoverDifference ks (render old) (render new)
+  pub covered : (ks : List EntityKey) → HaveDifference ks old new → CoverDifference ks (render old) (render new)
   covered ks same p outside =
-      let hold : HoldTheSame old new p = λ k good within. same k good (λ has. outside (to_flat spanned_paths ks k p has within)) in
+      let hold : HoldTheSame old new p = λ k good within. same k good.0 good.1 p within outside in
       found_in_rendering p old ∙ ap (λ found. option_or found (find bytes_cmp path_of_rendered p (map bare roots))) (entities_alike p hold) ∙ sym (found_in_rendering p new)
 
   -- so the operations are those between the znodes at the paths that the keys span
-  pub delta_of_paths : (ks : List EntityKey) → ((k : EntityKey) → IsGoodKey k → (Contains ks k → ⊥) → entity old k ≡ entity new k) → (paths : List (List ℕ)) → Rises bytes_cmp (λ p. p) paths → ((p : List ℕ) → Contains (all_spanned_paths ks) p → Contains paths p)
+  pub delta_of_paths : (ks : List EntityKey) → HaveDifference ks old new → (paths : List (List ℕ)) → Rises bytes_cmp (λ p. p) paths → ((p : List ℕ) → Contains (all_spanned_paths ks) p → Contains paths p)
       → diff (render old) (render new) ≡ diff (at_keys bytes_cmp path_of_rendered paths (render old)) (at_keys bytes_cmp path_of_rendered paths (render new))
   unfolding diff
   delta_of_paths ks same paths rises within =

@@ -43,11 +43,11 @@ one b c good other same =
     let keys : key.BrokerConfig b ≡ key.BrokerConfig c = one_key (key.BrokerConfig b) (key.BrokerConfig c) g.0 g.1 h.0 h.1 same in
     cc (keys)
 
-filled_body : (pairs : List Pair) → 0 < length pairs → config_body pairs ≡ Some (body.Config pairs)
+pub filled_body : (pairs : List Pair) → 0 < length pairs → config_body pairs ≡ Some (body.Config pairs)
 filled_body [] some = absurd (omega (arith, some))
 filled_body (p ∷ ps) some = refl
 
-body_filled : (pairs : List Pair) (b : Body) → config_body pairs ≡ Some b → b ≡ body.Config pairs
+pub body_filled : (pairs : List Pair) (b : Body) → config_body pairs ≡ Some b → b ≡ body.Config pairs
 body_filled [] b e = absurd (cc (e))
 body_filled (p ∷ ps) b e = sym (same_some (body.Config (p ∷ ps)) b e)
 

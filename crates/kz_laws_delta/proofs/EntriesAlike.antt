@@ -34,7 +34,7 @@ abbrev is_at : EntityKey → AclEntry → Bool
 is_at k a = bytes_eq (path_of (acl_key a.row)) (path_of k)
 
 -- one of the entries is of the resource, where there are rows of it
-some_entry : (k : EntityKey) (acls : List AclEntry) → rows_of_resource k acls ≢ [] → (a : AclEntry) × Contains acls a × (path_of (acl_key a.row) ≡ path_of k)
+pub some_entry : (k : EntityKey) (acls : List AclEntry) → rows_of_resource k acls ≢ [] → (a : AclEntry) × Contains acls a × (path_of (acl_key a.row) ≡ path_of k)
 some_entry k [] some = absurd (some refl)
 some_entry k (a ∷ acls) some = by (is_at k a) refl some (some_entry k acls)
   where
@@ -44,7 +44,7 @@ some_entry k (a ∷ acls) some = by (is_at k a) refl some (some_entry k acls)
     by false e some later = let r = later some in (r.0, Contains-tail a acls r.0 r.1, r.2)
 
 -- there are rows, where one of the entries is of the resource
-some_rows : (k : EntityKey) (acls : List AclEntry) (a : AclEntry) → Contains acls a → path_of (acl_key a.row) ≡ path_of k → (r : AclRow) × ((rs : List AclRow) × (rows_of_resource k acls ≡ r ∷ rs))
+pub some_rows : (k : EntityKey) (acls : List AclEntry) (a : AclEntry) → Contains acls a → path_of (acl_key a.row) ≡ path_of k → (r : AclRow) × ((rs : List AclRow) × (rows_of_resource k acls ≡ r ∷ rs))
 some_rows k [] a has at = absurd (Contains-nil a has)
 some_rows k (b ∷ acls) a has at = by (is_at k b) refl (λ has. some_rows k acls a has at)
   where
@@ -59,11 +59,11 @@ some_rows k (b ∷ acls) a has at = by (is_at k b) refl (λ has. some_rows k acl
     by true e later = (b.row, (map row_of_acl (filter (is_at k) acls), refl))
     by false e later = later (rest e)
 
-body_of_rows : (rows : List AclRow) (r : AclRow) (rs : List AclRow) → rows ≡ r ∷ rs → acl_body rows ≡ Some (body.Acls rows)
+pub body_of_rows : (rows : List AclRow) (r : AclRow) (rs : List AclRow) → rows ≡ r ∷ rs → acl_body rows ≡ Some (body.Acls rows)
 body_of_rows [] r rs e = absurd (cc (e))
 body_of_rows (x ∷ xs) r rs e = refl
 
-rows_of_body : (rows : List AclRow) (b : Body) → acl_body rows ≡ Some b → (b ≡ body.Acls rows) × (rows ≢ [])
+pub rows_of_body : (rows : List AclRow) (b : Body) → acl_body rows ≡ Some b → (b ≡ body.Acls rows) × (rows ≢ [])
 rows_of_body [] b e = absurd (cc (e))
 rows_of_body (x ∷ xs) b e = (sym (same_some (body.Acls (x ∷ xs)) b e), λ none. cc (none))
 

@@ -1,7 +1,6 @@
 -- Znodes that stand for keys of one kind: each has the path of a good key and what the key holds, and each good key that holds
 -- something has one.
 use Rattle.std.proofs.Common.{◌≡◌, ℕ, List, [], ◌∷◌, map, Option, Some, None, Contains, refl, sym, ap, ◌∙◌}
-use Rattle.std.specs.List.{flat_map}
 use Rattle.kz_types.specs.declared.tree.Rendered.{Rendered}
 use Rattle.kz_ordered.proofs.Lookup.{same_some}
 use Rattle.kz_spec_stores.specs.Tree.{path_of_rendered}
@@ -34,7 +33,3 @@ module _ {J B : Type 0} (path : J → List ℕ) (Good : J → Type 0) (one : (j 
       by (Some r) b e h = e ∙ sym (from_one p xs ys f g gx gy same r e)
       by None (Some r) e h = from_one p ys xs g f gy gx (λ j good at. sym (same j good at)) r h ∙ sym h
       by None None e h = e ∙ sym h
-
-pub map_flat : {A : Type 0} (f : A → Rendered) (xs : List A) → map f xs ≡ flat_map (λ x. f x ∷ []) xs
-map_flat f [] = refl
-map_flat f (x ∷ xs) = ap (λ zs. f x ∷ zs) (map_flat f xs)

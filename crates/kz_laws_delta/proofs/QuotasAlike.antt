@@ -49,15 +49,15 @@ quotas_said (q ∷ qs) [] ss (v ∷ vs) e = absurd (cc (e))
 quotas_said (q ∷ qs) (u ∷ us) ss vs e = (cc (e), cc (e))
 
 -- the body of quotas without credentials, where there are some
-abbrev own_body : List QuotaRow → Option Body
+abbrev pub own_body : List QuotaRow → Option Body
 own_body [] = None
 own_body (q ∷ qs) = Some (body.Quota (q ∷ qs) [])
 
-own_filled : (qs : List QuotaRow) → 0 < length qs → own_body qs ≡ Some (body.Quota qs [])
+pub own_filled : (qs : List QuotaRow) → 0 < length qs → own_body qs ≡ Some (body.Quota qs [])
 own_filled [] some = absurd (omega (arith, some))
 own_filled (q ∷ qs) some = refl
 
-own_is : (qs : List QuotaRow) (b : Body) → own_body qs ≡ Some b → b ≡ body.Quota qs []
+pub own_is : (qs : List QuotaRow) (b : Body) → own_body qs ≡ Some b → b ≡ body.Quota qs []
 own_is [] b e = absurd (cc (e))
 own_is (q ∷ qs) b e = sym (same_some (body.Quota (q ∷ qs) []) b e)
 
@@ -131,15 +131,15 @@ one_user : (a b : List ℕ) → IsUser a → IsUser b → path_of_user a ≡ pat
 one_user a b g h same = let keys : key.User (Some a) ≡ key.User (Some b) = one_key (key.User (Some a)) (key.User (Some b)) g.0 g.1 h.0 h.1 same in cc (keys)
 
 -- the body of a user with credentials
-abbrev user_body : List QuotaRow → List ScramPair → Option Body
+abbrev pub user_body : List QuotaRow → List ScramPair → Option Body
 user_body qs [] = None
 user_body qs (s ∷ ss) = Some (body.Quota qs (s ∷ ss))
 
-user_filled : (qs : List QuotaRow) (ss : List ScramPair) → 0 < length ss → user_body qs ss ≡ Some (body.Quota qs ss)
+pub user_filled : (qs : List QuotaRow) (ss : List ScramPair) → 0 < length ss → user_body qs ss ≡ Some (body.Quota qs ss)
 user_filled qs [] some = absurd (omega (arith, some))
 user_filled qs (s ∷ ss) some = refl
 
-user_is : (qs : List QuotaRow) (ss : List ScramPair) (b : Body) → user_body qs ss ≡ Some b → b ≡ body.Quota qs ss
+pub user_is : (qs : List QuotaRow) (ss : List ScramPair) (b : Body) → user_body qs ss ≡ Some b → b ≡ body.Quota qs ss
 user_is qs [] b e = absurd (cc (e))
 user_is qs (s ∷ ss) b e = sym (same_some (body.Quota qs (s ∷ ss)) b e)
 

@@ -1,5 +1,6 @@
 -- Which paths a key spans.
 use Rattle.std.proofs.Common.{ℕ, ℤ, List, [], ◌∷◌, Contains}
+use Rattle.std.proofs.lemmas.List.Elements.{Contains-append_left}
 use Rattle.kz_types.specs.declared.key.EntityKey.{EntityKey}
 use Rattle.kz_types.specs.declared.key.EntityKey.TheVariants as key
 use Rattle.kz_types.specs.Paths.{path_of}
@@ -35,3 +36,7 @@ partitions_spanned name = second_of (path_of (key.Topic name)) (partitions_path 
 
 pub number_spanned : (name : List ℕ) (number : ℤ) → Contains (spanned_paths (key.Partition name number)) (number_path name number)
 number_spanned name number = third_of (path_of (key.Topic name)) (partitions_path name) (number_path name number) (path_of (key.Partition name number) ∷ [])
+
+-- a partition spans what its topic does
+pub topic_within : (name : List ℕ) (number : ℤ) (p : List ℕ) → Contains (spanned_paths (key.Topic name)) p → Contains (spanned_paths (key.Partition name number)) p
+topic_within name number p within = Contains-append_left (spanned_paths (key.Topic name)) (number_path name number ∷ path_of (key.Partition name number) ∷ []) p within

@@ -1,5 +1,5 @@
 -- What stays of the metadata along records that don't speak of it.
-use Rattle.std.proofs.Common.{◌≡◌, ◌≢◌, ℕ, ℤ, pos, Bool, true, false, ◌&&◌, cond, List, [], ◌∷◌, Option, Some, None, Contains, refl, sym, ap, ◌∙◌, subst}
+use Rattle.std.proofs.Common.{◌≡◌, ◌≢◌, ◌⊎◌, ℕ, ℤ, pos, Bool, true, false, ◌&&◌, cond, List, [], ◌∷◌, Option, Some, None, Contains, refl, sym, ap, ◌∙◌, subst, inl, inr}
 use Rattle.std.specs.Prelude.{⊤, int_le, option_map, option_to_list}
 use Rattle.std.specs.Ordering.{int_cmp, int_eq}
 use Rattle.kz_types.specs.declared.codes.TheConstants.{NO_MIGRATION, POST_MIGRATION}
@@ -10,6 +10,7 @@ use Rattle.kz_types.specs.declared.image.QuotaEntry.{QuotaEntry}
 use Rattle.kz_types.specs.declared.image.ScramEntry.{ScramEntry}
 use Rattle.kz_types.specs.declared.image.TopicEntry.{TopicEntry}
 use Rattle.kz_types.specs.declared.key.EntityKey.{EntityKey}
+use Rattle.kz_types.specs.declared.row.PartitionRow.{PartitionRow}
 use Rattle.kz_types.specs.declared.record.ConfigRecord.{ConfigRecord}
 use Rattle.kz_types.specs.declared.record.ClientQuotaRecord.{ClientQuotaRecord}
 use Rattle.kz_types.specs.declared.record.MetaRecord.{MetaRecord}
@@ -18,7 +19,7 @@ use Rattle.kz_types.specs.Paths.{path_of}
 use Rattle.kz_ordered.specs.Order.{bytes_cmp}
 use Rattle.kz_ordered.specs.Ordered.{find, put, without}
 use Rattle.kz_ordered.proofs.Order.{bytes_order}
-use Rattle.kz_ordered.proofs.Lookup.{found_is_contained, key_of_found, contained_is_found, find-put_other, find-without_other, Contains-head}
+use Rattle.kz_ordered.proofs.Lookup.{same_some, found_is_contained, key_of_found, contained_is_found, find-put_other, find-without_other, Contains-head}
 use Rattle.kz_spec_stores.specs.Metadata.{Image, name_of_topic, name_of_configuration, path_of_quotas, name_of_user, mechanism_of_pair, id_of_acl, topic_named, topic_with, topic_name_of}
 use Rattle.kz_spec_stores.specs.ImageRules.{quota_key, broken_rule, new_row}
 use Rattle.kz_spec_stores.specs.Image.{new_topic, with_changed, put_partition, partition_changed, topic_configured, configurations_after, with_member, pairs_at, quotas_in, with_quota, quota_changed, scrams_at, scram_row, acl_row, effect}
@@ -27,65 +28,101 @@ use Rattle.kz_laws_images.proofs.Entries.{HasIfFound}
 use Rattle.kz_laws_images.proofs.QuotaLists.{quotas_hold}
 use Rattle.kz_laws_images.proofs.UserLists.{users_hold}
 use Rattle.kz_laws_images.proofs.TopicFinds.{has_id, same_id-Decides, found_passes, found_by_id}
-use Rattle.kz_laws_images.proofs.Topics.{partition_put_leaves, partition_changed_leaves, topic_configured_leaves, among_with}
-use Rattle.kz_spec_delta.specs.Touched.{Lead, topics_spoken_of}
+use Rattle.kz_laws_images.proofs.Legal.{topic_id}
+use Rattle.kz_laws_images.proofs.Topics.{LeavesKeys, partition_put_leaves, partition_changed_leaves, topic_configured_leaves, among_with, among_named, alike_by_name}
+use Rattle.kz_spec_delta.specs.Touched.{Lead}
 use Rattle.kz_laws_delta.proofs.Effects.{found_elsewhere, changed_elsewhere, removed_elsewhere, stays_along}
 use Rattle.kz_laws_delta.proofs.Configurations.{configurations_hold}
 
 -- ---- topics
 
+-- the id of a topic that is found
+abbrev pub said_id : Option TopicEntry → Option Id
+said_id found = option_map topic_id found
+
 module _ (old : Image) (oo : IsInOrder old) (name : List ℕ) where
   -- a topic of the name has the name for its id
-  named_by_id : (id : Id) (t : TopicEntry) → topic_named name old ≡ Some t → t.id ≡ id → Contains (option_to_list (topic_name_of id old)) name
-  named_by_id id t is same =
-      let has : Contains old.topics t = found_is_contained bytes_order name_of_topic name old.topics t is in
-      let named : t.name ≡ name = key_of_found bytes_order name_of_topic name old.topics t is in
-      let by_id : topic_with id old ≡ Some t = subst (λ (i : Id). topic_with i old ≡ Some t) same (found_by_id old.topics t oo.legal.topics.apart has) in
-      subst (λ o. Contains (option_to_list o) name) (sym (ap (option_map name_of_topic) by_id)) (subst (λ n. Contains (n ∷ []) name) (sym named) (Contains-head name []))
+  named_by_id : (id : Id) → said_id (topic_named name old) ≡ Some id → Contains (option_to_list (topic_name_of id old)) name
+  named_by_id id = by (topic_named name old) refl
+    where
+      by : (found : Option TopicEntry) → topic_named name old ≡ found → said_id found ≡ Some id → Contains (option_to_list (topic_name_of id old)) name
+      by None is said = absurd (cc (said))
+      by (Some t) is said =
+          let has : Contains old.topics t = found_is_contained bytes_order name_of_topic name old.topics t is in
+          let named : t.name ≡ name = key_of_found bytes_order name_of_topic name old.topics t is in
+          let same : t.id ≡ id = same_some t.id id said in
+          let by_id : topic_with id old ≡ Some t = subst (λ (i : Id). topic_with i old ≡ Some t) same (found_by_id old.topics t oo.legal.topics.apart has) in
+          subst (λ o. Contains (option_to_list o) name) (sym (ap (option_map name_of_topic) by_id)) (subst (λ n. Contains (n ∷ []) name) (sym named) (Contains-head name []))
 
-  id_elsewhere : (m : Image) → IsInOrder m → topic_named name m ≡ topic_named name old → (id : Id) → (Contains (option_to_list (topic_name_of id old)) name → ⊥) → (t : TopicEntry) → topic_with id m ≡ Some t → name ≢ t.name
+  id_elsewhere : (m : Image) → IsInOrder m → said_id (topic_named name m) ≡ said_id (topic_named name old) → (id : Id) → (Contains (option_to_list (topic_name_of id old)) name → ⊥) → (t : TopicEntry) → topic_with id m ≡ Some t → name ≢ t.name
   id_elsewhere m order is id spared t found e =
       let has : Contains m.topics t = subst (HasIfFound (Contains m.topics)) found (among_with id m.topics) in
       let passes : has_id id t ≡ true = subst (HasIfFound (λ (u : TopicEntry). has_id id u ≡ true)) found (found_passes (has_id id) m.topics) in
       let named : topic_named name m ≡ Some t = ap (λ n. find bytes_cmp name_of_topic n m.topics) e ∙ contained_is_found bytes_order name_of_topic m.topics t order.topics.rising has in
-      spared (named_by_id id t (sym is ∙ named) ((same_id-Decides t.id id).0 passes))
+      spared (named_by_id id (sym is ∙ ap said_id named ∙ ap (λ i. Some i) ((same_id-Decides t.id id).0 passes)))
 
-  abbrev SparesTopic : MetaRecord → Type 0
-  SparesTopic r = Contains (topics_spoken_of old r) name → ⊥
+  -- What is looked up in the topic of the name, by which its id is known.
+  module _ {V : Type 0} (look : Option TopicEntry → V) (says : (a b : Option TopicEntry) → look a ≡ look b → said_id a ≡ said_id b) where
+    -- A change of a topic leaves what is looked up.
+    abbrev Leaves : (TopicEntry → TopicEntry) → Type 0
+    Leaves change = (t : TopicEntry) → look (Some (change t)) ≡ look (Some t)
 
-  configured : (m : Image) (r : ConfigRecord) (b : Bool) → (Contains (cond b (r.resource_name ∷ []) []) name → ⊥)
-      → topic_named name (cond b (record m { topics = with_changed (topic_configured r) (topic_named r.resource_name m) m.topics }) (record m { broker_configs = configurations_after r m.broker_configs })) ≡ topic_named name m
-  configured m r true spared =
-      changed_elsewhere name (topic_configured r) (topic_configured_leaves r) (topic_named r.resource_name m) m.topics
-      (λ t found e. spared (subst (λ n. Contains (r.resource_name ∷ []) n) (sym (e ∙ key_of_found bytes_order name_of_topic r.resource_name m.topics t found)) (Contains-head r.resource_name [])))
-  configured m r false spared = refl
+    -- A record that doesn't make or remove the topic, and whose change of a topic is of another, or leaves what is looked up.
+    abbrev pub SparesTopic : MetaRecord → Type 0
+    SparesTopic (meta.Topic r) = Contains (r.name ∷ []) name → ⊥
+    SparesTopic (meta.RemoveTopic id) = Contains (option_to_list (topic_name_of id old)) name → ⊥
+    SparesTopic (meta.Partition r) = (Contains (option_to_list (topic_name_of r.topic_id old)) name → ⊥) ⊎ ((row : PartitionRow) → Leaves (put_partition r.partition_id row))
+    SparesTopic (meta.PartitionChange r) = (Contains (option_to_list (topic_name_of r.topic_id old)) name → ⊥) ⊎ ((epoch : ℤ) → Leaves (partition_changed epoch r))
+    SparesTopic (meta.Config r) = int_eq r.resource_type (pos 2) ≡ true → (name ≢ r.resource_name) ⊎ Leaves (topic_configured r)
+    SparesTopic r = ⊤
 
-  marked : (m : Image) (s : ℤ) (b : Bool) → topic_named name (cond b (record m { state = s }) m) ≡ topic_named name m
-  marked m s true = refl
-  marked m s false = refl
+    -- a topic by its id is changed
+    changed_by_id : (m : Image) → IsInOrder m → look (topic_named name m) ≡ look (topic_named name old) → (id : Id) (change : TopicEntry → TopicEntry) → LeavesKeys change → (Contains (option_to_list (topic_name_of id old)) name → ⊥) ⊎ Leaves change
+        → look (find bytes_cmp name_of_topic name (with_changed change (topic_with id m) m.topics)) ≡ look (topic_named name m)
+    changed_by_id m order is id change leaves (inl spared) = ap look (changed_elsewhere name change leaves (topic_with id m) m.topics (id_elsewhere m order (says (topic_named name m) (topic_named name old) is) id spared))
+    changed_by_id m order is id change leaves (inr alike) = alike_by_name look m.topics order.topics.rising order.legal.topics.apart change leaves name (topic_with id m) (among_with id m.topics) alike
 
-  topic_step : (m : Image) (epoch : ℤ) (r : MetaRecord) → IsInOrder m → topic_named name m ≡ topic_named name old → SparesTopic r → broken_rule m r ≡ None → topic_named name (effect epoch r m) ≡ topic_named name m
-  topic_step m epoch (meta.RegisterBroker r) order is spared fine = refl
-  topic_step m epoch (meta.Topic r) order is spared fine = find-put_other bytes_order name_of_topic (new_topic r) m.topics name (λ e. spared (subst (λ n. Contains (r.name ∷ []) n) (sym e) (Contains-head r.name [])))
-  topic_step m epoch (meta.Partition r) order is spared fine = changed_elsewhere name (put_partition r.partition_id (new_row epoch r)) (partition_put_leaves r.partition_id (new_row epoch r)) (topic_with r.topic_id m) m.topics (id_elsewhere m order is r.topic_id spared)
-  topic_step m epoch (meta.Config r) order is spared fine = configured m r (int_eq r.resource_type (pos 2)) spared
-  topic_step m epoch (meta.PartitionChange r) order is spared fine = changed_elsewhere name (partition_changed epoch r) (partition_changed_leaves epoch r) (topic_with r.topic_id m) m.topics (id_elsewhere m order is r.topic_id spared)
-  topic_step m epoch (meta.RemoveTopic id) order is spared fine = removed_elsewhere name id m.topics order.topics.rising (λ t found same. spared (named_by_id id t (sym is ∙ found) same))
-  topic_step m epoch (meta.UserScramCredential r) order is spared fine = refl
-  topic_step m epoch (meta.ClientQuota r) order is spared fine = refl
-  topic_step m epoch (meta.ProducerIds r) order is spared fine = refl
-  topic_step m epoch (meta.AccessControlEntry r) order is spared fine = refl
-  topic_step m epoch (meta.RemoveAccessControlEntry id) order is spared fine = refl
-  topic_step m epoch meta.NoOp order is spared fine = refl
-  topic_step m epoch (meta.ZkMigrationState s) order is spared fine = marked m s (int_le NO_MIGRATION s && int_le s POST_MIGRATION)
-  topic_step m epoch (meta.RemoveUserScramCredential user mechanism) order is spared fine = refl
-  topic_step m epoch (meta.BeginTransaction label) order is spared fine = refl
-  topic_step m epoch meta.EndTransaction order is spared fine = refl
-  topic_step m epoch (meta.AbortTransaction reason) order is spared fine = refl
+    configured : (m : Image) → IsInOrder m → (r : ConfigRecord) → (name ≢ r.resource_name) ⊎ Leaves (topic_configured r)
+        → look (find bytes_cmp name_of_topic name (with_changed (topic_configured r) (topic_named r.resource_name m) m.topics)) ≡ look (topic_named name m)
+    configured m order r (inl other) =
+        ap look (changed_elsewhere name (topic_configured r) (topic_configured_leaves r) (topic_named r.resource_name m) m.topics
+        (λ t found e. other (e ∙ key_of_found bytes_order name_of_topic r.resource_name m.topics t found)))
+    configured m order r (inr alike) =
+        alike_by_name look m.topics order.topics.rising order.legal.topics.apart (topic_configured r) (topic_configured_leaves r) name (topic_named r.resource_name m) (among_named r.resource_name m.topics) alike
 
-  -- a topic that no record speaks of stays
-  pub topic_stays : (rs : List MetaRecord) (new : Image) → ((r : MetaRecord) → Contains rs r → SparesTopic r) → Lead old rs new → topic_named name new ≡ topic_named name old
-  topic_stays rs new spared lead = stays_along (topic_named name) (topic_named name old) SparesTopic topic_step rs old new oo refl spared lead
+    configured_if : (m : Image) → IsInOrder m → (r : ConfigRecord) (b : Bool) → (b ≡ true → (name ≢ r.resource_name) ⊎ Leaves (topic_configured r))
+        → look (topic_named name (cond b (record m { topics = with_changed (topic_configured r) (topic_named r.resource_name m) m.topics }) (record m { broker_configs = configurations_after r m.broker_configs }))) ≡ look (topic_named name m)
+    configured_if m order r true spared = configured m order r (spared refl)
+    configured_if m order r false spared = refl
+
+    marked : (m : Image) (s : ℤ) (b : Bool) → look (topic_named name (cond b (record m { state = s }) m)) ≡ look (topic_named name m)
+    marked m s true = refl
+    marked m s false = refl
+
+    topic_step : (m : Image) (epoch : ℤ) (r : MetaRecord) → IsInOrder m → look (topic_named name m) ≡ look (topic_named name old) → SparesTopic r → broken_rule m r ≡ None → look (topic_named name (effect epoch r m)) ≡ look (topic_named name m)
+    topic_step m epoch (meta.RegisterBroker r) order is spared fine = refl
+    topic_step m epoch (meta.Topic r) order is spared fine = ap look (find-put_other bytes_order name_of_topic (new_topic r) m.topics name (λ e. spared (subst (λ n. Contains (r.name ∷ []) n) (sym e) (Contains-head r.name []))))
+    topic_step m epoch (meta.Partition r) order is spared fine = changed_by_id m order is r.topic_id (put_partition r.partition_id (new_row epoch r)) (partition_put_leaves r.partition_id (new_row epoch r)) (elim spared [ inl other ↦ inl other | inr alike ↦ inr (alike (new_row epoch r)) ])
+    topic_step m epoch (meta.Config r) order is spared fine = configured_if m order r (int_eq r.resource_type (pos 2)) spared
+    topic_step m epoch (meta.PartitionChange r) order is spared fine = changed_by_id m order is r.topic_id (partition_changed epoch r) (partition_changed_leaves epoch r) (elim spared [ inl other ↦ inl other | inr alike ↦ inr (alike epoch) ])
+    topic_step m epoch (meta.RemoveTopic id) order is spared fine =
+        ap look (removed_elsewhere name id m.topics order.topics.rising
+        (λ t found same. spared (named_by_id id (sym (says (topic_named name m) (topic_named name old) is) ∙ ap said_id found ∙ ap (λ i. Some i) same))))
+    topic_step m epoch (meta.UserScramCredential r) order is spared fine = refl
+    topic_step m epoch (meta.ClientQuota r) order is spared fine = refl
+    topic_step m epoch (meta.ProducerIds r) order is spared fine = refl
+    topic_step m epoch (meta.AccessControlEntry r) order is spared fine = refl
+    topic_step m epoch (meta.RemoveAccessControlEntry id) order is spared fine = refl
+    topic_step m epoch meta.NoOp order is spared fine = refl
+    topic_step m epoch (meta.ZkMigrationState s) order is spared fine = marked m s (int_le NO_MIGRATION s && int_le s POST_MIGRATION)
+    topic_step m epoch (meta.RemoveUserScramCredential user mechanism) order is spared fine = refl
+    topic_step m epoch (meta.BeginTransaction label) order is spared fine = refl
+    topic_step m epoch meta.EndTransaction order is spared fine = refl
+    topic_step m epoch (meta.AbortTransaction reason) order is spared fine = refl
+
+    -- what no record changes stays
+    pub topic_stays : (rs : List MetaRecord) (new : Image) → ((r : MetaRecord) → Contains rs r → SparesTopic r) → Lead old rs new → look (topic_named name new) ≡ look (topic_named name old)
+    topic_stays rs new spared lead = stays_along (λ m. look (topic_named name m)) (look (topic_named name old)) SparesTopic topic_step rs old new oo refl spared lead
 
 -- ---- configurations of brokers
 

@@ -28,7 +28,7 @@ use Rattle.kz_laws_delta.proofs.Spans.{own_path, partitions_spanned, number_span
 use Rattle.kz_laws_delta.proofs.Spanned.{HoldTheSame, unless_neither}
 use Rattle.kz_laws_delta.proofs.Topics.{entity_znode, same_entity, bare_if, same_bare, topics_give, number_at, IsNumber, partition_pair, partitions_give, partitions_of, topic_parts, parts_of_topic}
 
-topic_key : (name : List ℕ) → is_topic_name name ≡ true → IsText name → IsGoodKey (key.Topic name)
+pub topic_key : (name : List ℕ) → is_topic_name name ≡ true → IsText name → IsGoodKey (key.Topic name)
 unfolding is_legal
 topic_key name legal text = (legal, text)
 
@@ -36,11 +36,11 @@ legal_name : (name : List ℕ) → IsGoodKey (key.Topic name) → is_topic_name 
 unfolding is_legal
 legal_name name good = good.0
 
-topic_config_key : (name : List ℕ) → is_topic_name name ≡ true → IsText name → IsGoodKey (key.TopicConfig name)
+pub topic_config_key : (name : List ℕ) → is_topic_name name ≡ true → IsText name → IsGoodKey (key.TopicConfig name)
 unfolding is_legal
 topic_config_key name legal text = (legal, text)
 
-state_key : (name : List ℕ) (number : ℤ) → is_topic_name name ≡ true → is_not_negative number ≡ true → IsText name → IsSmall number → IsGoodKey (key.Partition name number)
+pub state_key : (name : List ℕ) (number : ℤ) → is_topic_name name ≡ true → is_not_negative number ≡ true → IsText name → IsSmall number → IsGoodKey (key.Partition name number)
 unfolding is_legal
 state_key name number legal low text small = (and_from (is_topic_name name) (is_not_negative number) legal low, (text, small))
 

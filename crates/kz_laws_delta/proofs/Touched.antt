@@ -1,12 +1,18 @@
--- The keys that records touch are all those at which the two metadata differ.
-use Rattle.std.proofs.Common.{◌≡◌, ◌⊎◌, ℕ, ℤ, pos, negsuc, Bool, true, false, cond, List, [], ◌∷◌, ◌++◌, map, filter, Option, Some, None, Contains, refl, sym, ap, ◌∙◌, subst, inl, inr}
+-- The keys that records touch span all paths of the keys at which the two metadata differ.
+use Rattle.std.proofs.Common.{◌≡◌, ◌≢◌, ◌⊎◌, ℕ, ℤ, pos, negsuc, Bool, true, false, cond, List, [], ◌∷◌, ◌++◌, map, filter, Option, Some, None, Contains, refl, sym, ap, ◌∙◌, subst, inl, inr}
 use Rattle.std.specs.Prelude.{◌+ℤ◌, option_map, option_and_then, option_to_list}
 use Rattle.std.specs.List.{flat_map}
 use Rattle.std.specs.Str.{bytes_eq}
-use Rattle.std.specs.Ordering.{int_cmp}
+use Rattle.std.specs.Bool.{Decides}
+use Rattle.std.specs.Ordering.{int_cmp, int_eq}
+use Rattle.std.proofs.lemmas.Bool.{false≢true}
+use Rattle.std.proofs.lemmas.Bool.Decides.{Decides-int_eq}
 use Rattle.std.proofs.lemmas.Slice.Eq.{bytes_eq-Decides}
 use Rattle.std.proofs.lemmas.List.Elements.{Contains-append_left, Contains-append_right}
+use Rattle.kz_types.specs.declared.bodies.Body.{Body}
 use Rattle.kz_types.specs.declared.bodies.Body.TheVariants as body
+use Rattle.kz_types.specs.declared.bodies.Pair.{Pair}
+use Rattle.kz_types.specs.declared.row.PartitionRow.{PartitionRow}
 use Rattle.kz_types.specs.declared.id.Id.{Id}
 use Rattle.kz_types.specs.declared.image.AclEntry.{AclEntry}
 use Rattle.kz_types.specs.declared.image.Configuration.{Configuration}
@@ -14,17 +20,21 @@ use Rattle.kz_types.specs.declared.image.PartitionEntry.{PartitionEntry}
 use Rattle.kz_types.specs.declared.image.TopicEntry.{TopicEntry}
 use Rattle.kz_types.specs.declared.key.EntityKey.{EntityKey}
 use Rattle.kz_types.specs.declared.key.EntityKey.TheVariants as key
+use Rattle.kz_types.specs.declared.record.ConfigRecord.{ConfigRecord}
 use Rattle.kz_types.specs.declared.record.MetaRecord.{MetaRecord}
+use Rattle.kz_types.specs.declared.record.PartitionRecord.{PartitionRecord}
+use Rattle.kz_types.specs.declared.record.PartitionChangeRecord.{PartitionChangeRecord}
 use Rattle.kz_types.specs.declared.record.MetaRecord.TheVariants as meta
 use Rattle.kz_types.specs.Paths.{is_legal, key_of, path_of}
 use Rattle.kz_ordered.specs.Order.{bytes_cmp}
 use Rattle.kz_ordered.specs.Ordered.{find}
 use Rattle.kz_ordered.proofs.Order.{bytes_order, int_order}
-use Rattle.kz_ordered.proofs.Lookup.{found_is_contained, key_of_found, same_items, Contains-head, Contains-tail, Contains-nil, Contains-cons_cases}
+use Rattle.kz_ordered.proofs.Lookup.{found_is_contained, key_of_found, same_items, find-put_other, Contains-head, Contains-tail, Contains-nil, Contains-cons_cases}
 use Rattle.kz_ordered.proofs.Maps.{Rises-filter, find-filter_found, find-filter_absent}
-use Rattle.kz_spec_stores.specs.Metadata.{Image, number_of_partition, id_of_acl, topic_named, partition_at, acl_of}
+use Rattle.kz_spec_stores.specs.Metadata.{Image, number_of_partition, id_of_acl, topic_named, topic_name_of, partition_at, acl_of}
 use Rattle.kz_spec_stores.specs.InOrder.{IsInOrder}
-use Rattle.kz_spec_stores.specs.Image.{scrams_in, quotas_in}
+use Rattle.kz_spec_stores.specs.ImageRules.{changed_row}
+use Rattle.kz_spec_stores.specs.Image.{put_partition, change_partition, partition_changed, topic_configured, scrams_in, quotas_in}
 use Rattle.kz_spec_znodes.specs.Rendering.{broker_key, acl_key, row_of_acl, state_body}
 use Rattle.kz_spec_znodes.specs.Translation.{broker_name}
 use Rattle.kz_laws_paths.specs.TextKeys.{HasTexts}
@@ -36,9 +46,11 @@ use Rattle.kz_laws_znodes.proofs.BrokerWalk.{IsBrokerKey, named_back, name_is_le
 use Rattle.kz_laws_znodes.proofs.Held.{broker_in, facts_of_acl}
 use Rattle.kz_ordered.proofs.Lookup.{same_some}
 use Rattle.kz_spec_delta.specs.Entities.{topic_body, config_body, quota_body, quotas_at, acl_body, entity}
-use Rattle.kz_spec_delta.specs.Touched.{Lead, topics_spoken_of, partition_keys, keys_of_topic, keys_of_entry, keys_spoken_of, keys_touched_by, touched_keys}
-use Rattle.kz_laws_delta.proofs.Spans.{second_of}
-use Rattle.kz_laws_delta.proofs.Stays.{topic_stays, SparesConfig, config_stays, SparesQuotas, quotas_stay, SparesUser, user_stays, SparesEntry, entry_stays, SparesProducer, next_stays}
+use Rattle.kz_spec_delta.specs.Spans.{spanned_paths, all_spanned_paths}
+use Rattle.kz_spec_delta.specs.Touched.{Lead, topics_made_or_removed, partition_keys, keys_of_topic, keys_of_partition, keys_of_entry, keys_spoken_of, keys_touched_by, touched_keys}
+use Rattle.kz_laws_delta.specs.Delta.{HaveDifference}
+use Rattle.kz_laws_delta.proofs.Spans.{second_of, topic_within}
+use Rattle.kz_laws_delta.proofs.Stays.{said_id, SparesTopic, topic_stays, SparesConfig, config_stays, SparesQuotas, quotas_stay, SparesUser, user_stays, SparesEntry, entry_stays, SparesProducer, next_stays}
 use Rattle.kz_spec_stores.specs.Metadata.{pairs_of, pairs_of_topic}
 
 -- ---- whether a list has a text
@@ -63,7 +75,7 @@ broker_back b good =
     let same : n.0 ≡ b = same_some n.0 b (sym n.2 ∙ named_back b good) in
     n.1 ∙ ap (λ k. key.BrokerConfig k) same
 
-broker_is_good : (b : Option ℤ) → is_legal (key.BrokerConfig b) ≡ true → HasTexts (key.BrokerConfig b) → IsBrokerKey b
+pub broker_is_good : (b : Option ℤ) → is_legal (key.BrokerConfig b) ≡ true → HasTexts (key.BrokerConfig b) → IsBrokerKey b
 unfolding is_legal
 broker_is_good b legal texts = (legal, texts)
 
@@ -72,13 +84,84 @@ module _ (old new : Image) (oo : IsInOrder old) (wo : IsWritable old) (on : IsIn
   untouched : (k : EntityKey) → (Contains (touched_keys old new rs) k → ⊥) → (r : MetaRecord) → Contains rs r → Contains (keys_touched_by old new r) k → ⊥
   untouched k none r has within = none (to_flat (keys_touched_by old new) rs r k has within)
 
+  spoken_right : (r : MetaRecord) (k : EntityKey) → Contains (keys_spoken_of old new r) k → Contains (keys_touched_by old new r) k
+  spoken_right r k has = Contains-append_right (flat_map (keys_of_topic old new) (topics_made_or_removed old r)) (keys_spoken_of old new r) k has
+
   -- ---- topics
 
-  of_topic : (k : EntityKey) (name : List ℕ) → Contains (keys_of_topic old new name) k → (r : MetaRecord) → Contains (topics_spoken_of old r) name → Contains (keys_touched_by old new r) k
-  of_topic k name within r spoken = Contains-append_left (flat_map (keys_of_topic old new) (topics_spoken_of old r)) (keys_spoken_of old new r) k (to_flat (keys_of_topic old new) (topics_spoken_of old r) name k spoken within)
+  of_topic : (k : EntityKey) (name : List ℕ) → Contains (keys_of_topic old new name) k → (r : MetaRecord) → Contains (topics_made_or_removed old r) name → Contains (keys_touched_by old new r) k
+  of_topic k name within r made = Contains-append_left (flat_map (keys_of_topic old new) (topics_made_or_removed old r)) (keys_spoken_of old new r) k (to_flat (keys_of_topic old new) (topics_made_or_removed old r) name k made within)
 
-  same_topic : (k : EntityKey) (name : List ℕ) → Contains (keys_of_topic old new name) k → (Contains (touched_keys old new rs) k → ⊥) → topic_named name old ≡ topic_named name new
-  same_topic k name within none = sym (topic_stays old oo name rs new (λ r has spoken. untouched k none r has (of_topic k name within r spoken)) lead)
+  -- the key of a partition of a topic that has the name for its id
+  of_partition : (id : Id) (name : List ℕ) (number : ℤ) → Contains (option_to_list (topic_name_of id old)) name → Contains (keys_of_partition old id number) (key.Partition name number)
+  of_partition id name number = by (topic_name_of id old)
+    where
+      by : (found : Option (List ℕ)) → Contains (option_to_list found) name → Contains (option_to_list (option_map (λ n. key.Partition n number) found)) (key.Partition name number)
+      by None has = absurd (Contains-nil name has)
+      by (Some n) has = elim (Contains-cons_cases n [] name has) [
+        | inl e ↦ subst (λ m. Contains (key.Partition n number ∷ []) (key.Partition m number)) e (Contains-head (key.Partition n number) [])
+        | inr later ↦ absurd (Contains-nil name later)
+      ]
+
+  -- What is looked up in the topic of a name, by which its id is known, where no record makes or removes the topic or changes what is looked up.
+  module _ (name : List ℕ) {V : Type 0} (look : Option TopicEntry → V) (says : (a b : Option TopicEntry) → look a ≡ look b → said_id a ≡ said_id b)
+      (made : (r : MetaRecord) → Contains rs r → Contains (topics_made_or_removed old r) name → ⊥)
+      (new_one : (r : PartitionRecord) → Contains rs (meta.Partition r) → (Contains (option_to_list (topic_name_of r.topic_id old)) name → ⊥) ⊎ ((row : PartitionRow) (t : TopicEntry) → look (Some (put_partition r.partition_id row t)) ≡ look (Some t)))
+      (altered : (r : PartitionChangeRecord) → Contains rs (meta.PartitionChange r) → (Contains (option_to_list (topic_name_of r.topic_id old)) name → ⊥) ⊎ ((epoch : ℤ) (t : TopicEntry) → look (Some (partition_changed epoch r t)) ≡ look (Some t)))
+      (configured : (r : ConfigRecord) → Contains rs (meta.Config r) → int_eq r.resource_type (pos 2) ≡ true → (name ≢ r.resource_name) ⊎ ((t : TopicEntry) → look (Some (topic_configured r t)) ≡ look (Some t))) where
+    spares_topic : (r : MetaRecord) → Contains rs r → SparesTopic old oo name look says r
+    spares_topic (meta.RegisterBroker r) has = tt
+    spares_topic (meta.Topic r) has = made (meta.Topic r) has
+    spares_topic (meta.Partition r) has = new_one r has
+    spares_topic (meta.Config r) has = configured r has
+    spares_topic (meta.PartitionChange r) has = altered r has
+    spares_topic (meta.RemoveTopic id) has = made (meta.RemoveTopic id) has
+    spares_topic (meta.UserScramCredential r) has = tt
+    spares_topic (meta.ClientQuota r) has = tt
+    spares_topic (meta.ProducerIds r) has = tt
+    spares_topic (meta.AccessControlEntry r) has = tt
+    spares_topic (meta.RemoveAccessControlEntry id) has = tt
+    spares_topic meta.NoOp has = tt
+    spares_topic (meta.ZkMigrationState s) has = tt
+    spares_topic (meta.RemoveUserScramCredential user mechanism) has = tt
+    spares_topic (meta.BeginTransaction label) has = tt
+    spares_topic meta.EndTransaction has = tt
+    spares_topic (meta.AbortTransaction reason) has = tt
+
+    looked_up_alike : look (topic_named name old) ≡ look (topic_named name new)
+    looked_up_alike = sym (topic_stays old oo name look says rs new spares_topic lead)
+
+  -- the topic's own body, where neither it nor any of its partitions is touched
+  same_topic : (name : List ℕ) → (Contains (touched_keys old new rs) (key.Topic name) → ⊥) → ((number : ℤ) → Contains (touched_keys old new rs) (key.Partition name number) → ⊥) → entity old (key.Topic name) ≡ entity new (key.Topic name)
+  same_topic name none others =
+      ap (λ x. x.1) (looked_up_alike name look (λ a b e. ap (λ x. x.0) e)
+      (λ r has within. untouched (key.Topic name) none r has (of_topic (key.Topic name) name (Contains-head (key.Topic name) (key.TopicConfig name ∷ (partition_keys name (topic_named name old) ++ partition_keys name (topic_named name new)))) r within))
+      (λ r has. inl (λ said. untouched (key.Partition name r.partition_id) (others r.partition_id) (meta.Partition r) has (spoken_right (meta.Partition r) (key.Partition name r.partition_id) (of_partition r.topic_id name r.partition_id said))))
+      (λ r has. inl (λ said. untouched (key.Partition name r.partition_id) (others r.partition_id) (meta.PartitionChange r) has (spoken_right (meta.PartitionChange r) (key.Partition name r.partition_id) (of_partition r.topic_id name r.partition_id said))))
+      (λ r has is. inr (λ t. refl)))
+    where
+      look : Option TopicEntry → Option Id × Option Body
+      look found = (said_id found, option_map topic_body found)
+
+  same_topic_config : (name : List ℕ) → (Contains (touched_keys old new rs) (key.TopicConfig name) → ⊥) → entity old (key.TopicConfig name) ≡ entity new (key.TopicConfig name)
+  same_topic_config name none =
+      ap (λ x. config_body x.1) (looked_up_alike name look (λ a b e. ap (λ x. x.0) e)
+      (λ r has within. untouched (key.TopicConfig name) none r has (of_topic (key.TopicConfig name) name (second_of (key.Topic name) (key.TopicConfig name) (partition_keys name (topic_named name old) ++ partition_keys name (topic_named name new))) r within))
+      (λ r has. inr (λ row t. refl))
+      (λ r has. inr (λ epoch t. left r.partition_id (changed_row epoch r) (partition_at r.partition_id t.partitions) t))
+      (λ r has is. inl (λ e. untouched (key.TopicConfig name) none (meta.Config r) has (spoken_right (meta.Config r) (key.TopicConfig name) (named r is e)))))
+    where
+      look : Option TopicEntry → Option Id × List Pair
+      look found = (said_id found, pairs_of_topic found)
+
+      left : (number : ℤ) (change : PartitionRow → PartitionRow) (row : Option PartitionRow) (t : TopicEntry) → look (Some (change_partition number change row t)) ≡ look (Some t)
+      left number change None t = refl
+      left number change (Some row) t = refl
+
+      named : (r : ConfigRecord) → int_eq r.resource_type (pos 2) ≡ true → name ≡ r.resource_name → Contains (keys_spoken_of old new (meta.Config r)) (key.TopicConfig name)
+      named r is e =
+          subst (λ b. Contains (cond b (key.TopicConfig r.resource_name ∷ []) (broker_key r.resource_name ∷ [])) (key.TopicConfig name)) (sym is)
+          (subst (λ n. Contains (key.TopicConfig r.resource_name ∷ []) (key.TopicConfig n)) (sym e) (Contains-head (key.TopicConfig r.resource_name) []))
 
   -- no partition of the number
   no_partition : (i : Image) (name : List ℕ) (number : ℤ) → (Contains (partition_keys name (topic_named name i)) (key.Partition name number) → ⊥) → entity i (key.Partition name number) ≡ None
@@ -96,31 +179,61 @@ module _ (old new : Image) (oo : IsInOrder old) (wo : IsWritable old) (on : IsIn
       by None e = ap (λ f. option_map state_body (option_and_then (λ (t : TopicEntry). partition_at number t.partitions) f)) e
       by (Some t) e = ap (λ f. option_map state_body (option_and_then (λ (t : TopicEntry). partition_at number t.partitions) f)) e ∙ found_by t e (find int_cmp number_of_partition number t.partitions) refl
 
+  -- a partition that isn't touched, of a topic that no record makes or removes
+  silent_partition : (name : List ℕ) (number : ℤ) → (Contains (touched_keys old new rs) (key.Partition name number) → ⊥) → ((r : MetaRecord) → Contains rs r → Contains (topics_made_or_removed old r) name → ⊥)
+      → entity old (key.Partition name number) ≡ entity new (key.Partition name number)
+  silent_partition name number none made =
+      ap (λ x. option_map state_body x.1) (looked_up_alike name look (λ a b e. ap (λ x. x.0) e) made
+      (λ r has. put_by r has (int_eq r.partition_id number) (Decides-int_eq r.partition_id number))
+      (λ r has. changed_by r has (int_eq r.partition_id number) (Decides-int_eq r.partition_id number))
+      (λ r has is. inr (λ t. refl)))
+    where
+      look : Option TopicEntry → Option Id × Option PartitionRow
+      look found = (said_id found, option_and_then (λ (t : TopicEntry). partition_at number t.partitions) found)
+
+      -- the key of the partition, where the number of a record is its own
+      numbered : (id : Id) (own : ℤ) → own ≡ number → Contains (option_to_list (topic_name_of id old)) name → Contains (keys_of_partition old id own) (key.Partition name number)
+      numbered id own e said = subst (λ n. Contains (keys_of_partition old id own) (key.Partition name n)) e (of_partition id name own said)
+
+      left : (own : ℤ) → (own ≡ number → ⊥) → (row : PartitionRow) (t : TopicEntry) → look (Some (put_partition own row t)) ≡ look (Some t)
+      left own other row t =
+          let stays = ap (option_map (λ (p : PartitionEntry). p.row)) (find-put_other int_order number_of_partition (record { number = own; row = row }) t.partitions number (λ e. other (sym e))) in
+          (λ i. (Some t.id, stays i))
+
+      left_if : (own : ℤ) → (own ≡ number → ⊥) → (change : PartitionRow → PartitionRow) (row : Option PartitionRow) (t : TopicEntry) → look (Some (change_partition own change row t)) ≡ look (Some t)
+      left_if own other change None t = refl
+      left_if own other change (Some row) t = left own other (change row) t
+
+      put_by : (r : PartitionRecord) → Contains rs (meta.Partition r) → (b : Bool) → Decides b (r.partition_id ≡ number)
+          → (Contains (option_to_list (topic_name_of r.topic_id old)) name → ⊥) ⊎ ((row : PartitionRow) (t : TopicEntry) → look (Some (put_partition r.partition_id row t)) ≡ look (Some t))
+      put_by r has true d = inl (λ said. untouched (key.Partition name number) none (meta.Partition r) has (spoken_right (meta.Partition r) (key.Partition name number) (numbered r.topic_id r.partition_id (d.0 refl) said)))
+      put_by r has false d = inr (λ row t. left r.partition_id (λ e. false≢true (d.1 e)) row t)
+
+      changed_by : (r : PartitionChangeRecord) → Contains rs (meta.PartitionChange r) → (b : Bool) → Decides b (r.partition_id ≡ number)
+          → (Contains (option_to_list (topic_name_of r.topic_id old)) name → ⊥) ⊎ ((epoch : ℤ) (t : TopicEntry) → look (Some (partition_changed epoch r t)) ≡ look (Some t))
+      changed_by r has true d = inl (λ said. untouched (key.Partition name number) none (meta.PartitionChange r) has (spoken_right (meta.PartitionChange r) (key.Partition name number) (numbered r.topic_id r.partition_id (d.0 refl) said)))
+      changed_by r has false d = inr (λ epoch t. left_if r.partition_id (λ e. false≢true (d.1 e)) (changed_row epoch r) (partition_at r.partition_id t.partitions) t)
+
   same_partition : (name : List ℕ) (number : ℤ) → (Contains (touched_keys old new rs) (key.Partition name number) → ⊥) → entity old (key.Partition name number) ≡ entity new (key.Partition name number)
-  same_partition name number none = elim (contained_or_not name (flat_map (topics_spoken_of old) rs)) [
-    | inl spoken ↦
-        let f = from_flat (topics_spoken_of old) rs name spoken in
+  same_partition name number none = elim (contained_or_not name (flat_map (topics_made_or_removed old) rs)) [
+    | inl made ↦
+        let f = from_flat (topics_made_or_removed old) rs name made in
         let outside : Contains (keys_of_topic old new name) (key.Partition name number) → ⊥ = λ within. untouched (key.Partition name number) none f.source f.has (of_topic (key.Partition name number) name within f.source f.gives) in
         let one = partition_keys name (topic_named name old) in
         let other = partition_keys name (topic_named name new) in
         let later : Contains (one ++ other) (key.Partition name number) → ⊥ =
         λ has. outside (Contains-tail (key.Topic name) (key.TopicConfig name ∷ (one ++ other)) (key.Partition name number) (Contains-tail (key.TopicConfig name) (one ++ other) (key.Partition name number) has)) in
         no_partition old name number (λ has. later (Contains-append_left one other (key.Partition name number) has)) ∙ sym (no_partition new name number (λ has. later (Contains-append_right one other (key.Partition name number) has)))
-    | inr silent ↦
-        ap (λ f. option_map state_body (option_and_then (λ (t : TopicEntry). partition_at number t.partitions) f))
-        (sym (topic_stays old oo name rs new (λ r has spoken. silent (to_flat (topics_spoken_of old) rs r name has spoken)) lead))
+    | inr silent ↦ silent_partition name number none (λ r has within. silent (to_flat (topics_made_or_removed old) rs r name has within))
   ]
 
   -- ---- configurations of brokers
-
-  spoken_right : (r : MetaRecord) (k : EntityKey) → Contains (keys_spoken_of old new r) k → Contains (keys_touched_by old new r) k
-  spoken_right r k has = Contains-append_right (flat_map (keys_of_topic old new) (topics_spoken_of old r)) (keys_spoken_of old new r) k has
 
   spares_config : (b : Option ℤ) → IsBrokerKey b → (r : MetaRecord) → (Contains (keys_spoken_of old new r) (key.BrokerConfig b) → ⊥) → SparesConfig (broker_name b) r
   spares_config b good (meta.RegisterBroker r) none = tt
   spares_config b good (meta.Topic r) none = tt
   spares_config b good (meta.Partition r) none = tt
-  spares_config b good (meta.Config r) none = λ other e. none (subst (λ t. Contains (cond t [] (broker_key r.resource_name ∷ [])) (key.BrokerConfig b)) (sym other) (subst (λ k. Contains (broker_key r.resource_name ∷ []) k) (ap broker_key (sym e) ∙ broker_back b good) (Contains-head (broker_key r.resource_name) [])))
+  spares_config b good (meta.Config r) none = λ other e. none (subst (λ t. Contains (cond t (key.TopicConfig r.resource_name ∷ []) (broker_key r.resource_name ∷ [])) (key.BrokerConfig b)) (sym other) (subst (λ k. Contains (broker_key r.resource_name ∷ []) k) (ap broker_key (sym e) ∙ broker_back b good) (Contains-head (broker_key r.resource_name) [])))
   spares_config b good (meta.PartitionChange r) none = tt
   spares_config b good (meta.RemoveTopic id) none = tt
   spares_config b good (meta.UserScramCredential r) none = tt
@@ -324,16 +437,22 @@ module _ (old new : Image) (oo : IsInOrder old) (wo : IsWritable old) (on : IsIn
 
   -- ---- all keys
 
-  pub have_difference : (k : EntityKey) → is_legal k ≡ true → HasTexts k → (Contains (touched_keys old new rs) k → ⊥) → entity old k ≡ entity new k
-  have_difference (key.Topic name) legal texts none =
-      ap (option_map topic_body) (same_topic (key.Topic name) name (Contains-head (key.Topic name) (key.TopicConfig name ∷ (partition_keys name (topic_named name old) ++ partition_keys name (topic_named name new)))) none)
-  have_difference (key.Partition topic number) legal texts none = same_partition topic number none
-  have_difference (key.TopicConfig name) legal texts none =
-      ap (λ f. config_body (pairs_of_topic f)) (same_topic (key.TopicConfig name) name (second_of (key.Topic name) (key.TopicConfig name) (partition_keys name (topic_named name old) ++ partition_keys name (topic_named name new))) none)
-  have_difference (key.BrokerConfig broker) legal texts none = same_config broker (broker_is_good broker legal texts) none
-  have_difference (key.Client client) legal texts none = ap (λ qs. quota_body qs []) (same_quotas (key.Client client) (legal, texts) none)
-  have_difference (key.User user) legal texts none = same_user user (legal, texts) none
-  have_difference (key.UserClient user client) legal texts none = ap (λ qs. quota_body qs []) (same_quotas (key.UserClient user client) (legal, texts) none)
-  have_difference (key.Ip address) legal texts none = ap (λ qs. quota_body qs []) (same_quotas (key.Ip address) (legal, texts) none)
-  have_difference (key.Acl pattern kind name) legal texts none = ap (λ rows. acl_body (map row_of_acl rows)) (same_entries (key.Acl pattern kind name) (legal, texts) none)
-  have_difference key.Producer legal texts none = same_producer none
+  -- at a path that no touched key spans, each key that spans it holds the same
+  module _ (p : List ℕ) (outside : Contains (all_spanned_paths (touched_keys old new rs)) p → ⊥) where
+    not_touched : (k : EntityKey) → Contains (spanned_paths k) p → Contains (touched_keys old new rs) k → ⊥
+    not_touched k within has = outside (to_flat spanned_paths (touched_keys old new rs) k p has within)
+
+    pub same_at : (k : EntityKey) → is_legal k ≡ true → HasTexts k → Contains (spanned_paths k) p → entity old k ≡ entity new k
+    same_at (key.Topic name) legal texts within = same_topic name (not_touched (key.Topic name) within) (λ number. not_touched (key.Partition name number) (topic_within name number p within))
+    same_at (key.Partition topic number) legal texts within = same_partition topic number (not_touched (key.Partition topic number) within)
+    same_at (key.TopicConfig name) legal texts within = same_topic_config name (not_touched (key.TopicConfig name) within)
+    same_at (key.BrokerConfig broker) legal texts within = same_config broker (broker_is_good broker legal texts) (not_touched (key.BrokerConfig broker) within)
+    same_at (key.Client client) legal texts within = ap (λ qs. quota_body qs []) (same_quotas (key.Client client) (legal, texts) (not_touched (key.Client client) within))
+    same_at (key.User user) legal texts within = same_user user (legal, texts) (not_touched (key.User user) within)
+    same_at (key.UserClient user client) legal texts within = ap (λ qs. quota_body qs []) (same_quotas (key.UserClient user client) (legal, texts) (not_touched (key.UserClient user client) within))
+    same_at (key.Ip address) legal texts within = ap (λ qs. quota_body qs []) (same_quotas (key.Ip address) (legal, texts) (not_touched (key.Ip address) within))
+    same_at (key.Acl pattern kind name) legal texts within = ap (λ rows. acl_body (map row_of_acl rows)) (same_entries (key.Acl pattern kind name) (legal, texts) (not_touched (key.Acl pattern kind name) within))
+    same_at key.Producer legal texts within = same_producer (not_touched key.Producer within)
+
+  pub have_difference : HaveDifference (touched_keys old new rs) old new
+  have_difference k legal texts p within outside = same_at p outside k legal texts within

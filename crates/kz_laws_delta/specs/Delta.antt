@@ -13,14 +13,15 @@ use Rattle.kz_spec_stores.specs.InOrder.{IsInOrder}
 use Rattle.kz_spec_znodes.specs.Rendering.{render}
 use Rattle.kz_spec_znodes.specs.Difference.{diff}
 use Rattle.kz_spec_delta.specs.Entities.{entity}
-use Rattle.kz_spec_delta.specs.Spans.{all_spanned_paths, CoverDifference}
+use Rattle.kz_spec_delta.specs.Spans.{spanned_paths, all_spanned_paths, CoverDifference}
 use Rattle.kz_spec_delta.specs.Touched.{Lead, touched_keys}
 use Rattle.kz_laws_paths.specs.TextKeys.{HasTexts}
 use Rattle.kz_laws_znodes.specs.RoundTrip.{IsWritable}
 
--- Each legal key at which two metadata differ is one of these.
+-- Where two metadata differ at a legal key, these keys span its path and each other path that it spans. So each legal key that spans
+-- a path that these keys don't span holds the same in both.
 abbrev pub HaveDifference : List EntityKey → Image → Image → Type 0
-HaveDifference ks old new = (k : EntityKey) → is_legal k ≡ true → HasTexts k → (Contains ks k → ⊥) → entity old k ≡ entity new k
+HaveDifference ks old new = (k : EntityKey) → is_legal k ≡ true → HasTexts k → (p : List ℕ) → Contains (spanned_paths k) p → (Contains (all_spanned_paths ks) p → ⊥) → entity old k ≡ entity new k
 
 -- Where keys have the difference of two metadata, they cover the difference of the renderings.
 abbrev pub KeysCoverRenderings : Type 0

@@ -1,14 +1,16 @@
 //! Which paths a change of metadata touches.
 ghost use Rattle.kz_laws_delta.specs.Delta.{KeysCoverRenderings, TouchedKeysSuffice, DeltaIsDifference};
 
-/// The keys of all entities at which two metadata differ span every path at which their renderings differ: the path of an entity,
-/// and the parents that it has below its root.
+/// Keys that span all paths of the legal keys at which two metadata differ span every path at which their renderings differ. The
+/// paths of a key are its own, and those of the parents that it has below its root; a topic's are also that of the parent of its
+/// partitions.
 pub fn keys_cover_renderings()
     ensures { KeysCoverRenderings }
 {}
 
-/// The keys that records touch are all those at which the metadata after them differs from that before. Each record is taken in or
-/// passed over.
+/// Where the metadata after records differ at a legal key from that before, the keys that the records touch span all paths of
+/// that key. The key itself needn't be touched: a partition's record changes the topic's own body, and touches the key of the partition
+/// alone, which spans the topic's paths too. Each record is taken in or passed over.
 pub fn touched_keys_suffice()
     ensures { TouchedKeysSuffice }
 {}

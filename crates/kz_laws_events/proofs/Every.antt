@@ -10,6 +10,7 @@ use Rattle.kz_laws_events.proofs.Elections.{election_sound}
 use Rattle.kz_laws_events.proofs.Turned.{step_event, turn_event}
 use Rattle.kz_laws_events.proofs.Unheld.{clients_sound}
 use Rattle.kz_laws_events.proofs.Exits.{finalise_sound, rollback_sound}
+use Rattle.kz_laws_events.proofs.Snapshots.{snapshot_sound}
 
 check_sound : (w : World) → Sound w → Sound (next w event.Check).0
 unfolding next
@@ -26,6 +27,7 @@ event_sound w (event.Change id records now) lawful sound = change_sound w id now
 event_sound w (event.Register id broker migrating now) lawful sound = registration_sound w id broker migrating now sound
 event_sound w (event.Finalise id now) lawful sound = finalise_sound w id now sound
 event_sound w event.Rollback lawful sound = rollback_sound w sound
+event_sound w event.Snapshot lawful sound = snapshot_sound w sound
 event_sound w event.Check lawful sound = check_sound w sound
 event_sound w (event.ZkOpen session) lawful sound = open_sound w session lawful sound
 event_sound w (event.ZkExpire session) lawful sound = expire_sound w session sound

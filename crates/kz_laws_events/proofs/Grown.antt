@@ -9,7 +9,7 @@ use Rattle.kz_spec_znodes.specs.Rendering.{render, excess}
 use Rattle.kz_spec_machine.specs.Sound.{LogShape, IsBatchEnd, IsPastCommit, RecordAgrees, Agreement}
 use Rattle.kz_laws_drivers.specs.Effects.{IsLonger}
 use Rattle.kz_laws_trees.proofs.Ends.{end_is_batch_end, batch_end_within}
-use Rattle.kz_laws_trees.proofs.Commits.{commit_within}
+use Rattle.kz_laws_trees.proofs.Commits.{end_is_past, past_before}
 use Rattle.kz_laws_logs.proofs.BatchEnds.{old_or_end, open_at_old}
 
 -- what is known of such a batch
@@ -21,7 +21,7 @@ pub record IsSettledBatch (l : Log) (epoch now : ℤ) (items : List MetaRecord) 
 
 -- no transaction is open in a migrated log
 pub migrated_settled : (t : Tree) (l : Log) → LogShape l → Agreement t l → is_open_log l ≡ false
-migrated_settled t l shape old = old.ended (end_of l) (end_is_batch_end l) (λ c is. commit_within l c shape is)
+migrated_settled t l shape old = old.ended (end_of l) (end_is_batch_end l) (end_is_past l shape)
 
 ended_at : (t : Tree) (l : Log) (epoch now : ℤ) (items : List MetaRecord) (k : ℤ) → LogShape l → IsSettledBatch l epoch now items → Agreement t l → IsPastCommit l k → IsBatchEnd l k ⊎ (k ≡ end_of (with_batch l epoch now items)) → is_open (entries (with_batch l epoch now items).batches) k ≡ false
 ended_at t l epoch now items k shape b old past (inl e) = open_at_old l epoch now items k shape e ∙ old.ended k e past
@@ -43,7 +43,7 @@ record_agrees t l epoch now items r shape migrated b old = record {
 pub agrees_more : (t : Tree) (l : Log) (epoch now : ℤ) (items : List MetaRecord) → LogShape l → is_migrated_log l ≡ true → IsSettledBatch l epoch now items → Agreement t l → Agreement t (with_batch l epoch now items)
 agrees_more t l epoch now items shape migrated b old = record {
   holds = old.holds;
-  ended = λ k e past. ended_at t l epoch now items k shape b old (λ c is. past c (b.commit ∙ is)) (old_or_end l epoch now items k e);
+  ended = λ k e past. ended_at t l epoch now items k shape b old (past_before l epoch now items k shape past) (old_or_end l epoch now items k e);
   fits = λ k e. fits_at t l epoch now items k shape b old (old_or_end l epoch now items k e);
   record_there = old.record_there;
   recorded = λ r found. record_agrees t l epoch now items r shape migrated b (old.recorded r found);

@@ -7,5 +7,6 @@ pub mod Turned
 pub mod Fenced
 pub mod Unheld
 pub mod Exits
+pub mod Snapshots
 pub mod Every
 pub mod Runs

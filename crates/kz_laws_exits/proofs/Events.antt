@@ -16,7 +16,7 @@ use Rattle.kz_types.specs.declared.tree.Op.{Op}
 use Rattle.kz_spec_stores.specs.Tree.{Tree, multi, begin_session, end_session}
 use Rattle.kz_spec_stores.specs.Log.{Log, empty_log, image_at, image_of, with_batch, is_open_log, reset}
 use Rattle.kz_spec_machine.specs.Driver.{Shared, Driver, new_driver, elected_driver}
-use Rattle.kz_spec_machine.specs.Machine.{World, empty_world, driver_of, quorum_refusal, declared_world, start_refusal, started_world, stop_refusal, stopped_world, next_epoch, election_refusal, elected_world, election_answer, change_refusal, changed_world, registration, register_refusal, is_finalised_log, exit_ops, tree_after_ops, reset_world, given_back, rollback_refusal, with_tree, moved_world, is_held_tree, client_refusal, client_world, next, after_events}
+use Rattle.kz_spec_machine.specs.Machine.{World, empty_world, driver_of, quorum_refusal, declared_world, start_refusal, started_world, stop_refusal, stopped_world, next_epoch, election_refusal, elected_world, election_answer, change_refusal, changed_world, registration, register_refusal, is_finalised_log, exit_ops, tree_after_ops, reset_world, given_back, rollback_refusal, with_tree, moved_world, is_held_tree, client_refusal, client_world, next, after_events, cut_world, snapshot_refusal}
 use Rattle.kz_spec_machine.specs.Sound.{LogShape, IsBelowShown, claim_version, shown_in, Sound, IsLawful}
 use Rattle.kz_laws_drivers.specs.Effects.{IsUnchanged}
 use Rattle.kz_laws_trees.specs.LogLaws.{IsPlain}
@@ -43,6 +43,7 @@ use Rattle.kz_laws_exits.proofs.Ahead.{same_ahead, past_ahead}
 use Rattle.kz_laws_exits.proofs.Final.{final_migrated, not_final}
 use Rattle.kz_laws_exits.proofs.Turns.{stepped_ends, turned_ends}
 use Rattle.kz_laws_exits.proofs.Finalised.{finalise_ends}
+use Rattle.kz_laws_events.proofs.Snapshots.{may_snapshot, cut_is}
 
 -- ---- a longer log that isn't finalised by what is new
 
@@ -170,6 +171,15 @@ stop_ends : (w : World) (controller : Option ℤ) → EndHolds w → EndHolds (n
 unfolding next
 stop_ends w controller old = decided EndHolds w (stop_refusal w controller) (stopped_world w controller) answer.Done old (stopped w controller old)
 
+snapshot_ends : (w : World) → Sound w → EndHolds w → EndHolds (next w event.Snapshot).0
+unfolding next
+snapshot_ends w sound old = decided_by EndHolds w (snapshot_refusal w) (cut_world w) answer.Done old (λ none.
+    let c = cut_is w sound (may_snapshot w none) in
+    record {
+      closed = λ final. old.closed (sym c.finalised ∙ final);
+      each = λ j f found. record { rests = λ final elected. (old.each j f found).rests (sym c.finalised ∙ final) elected; ahead = (old.each j f found).ahead };
+    })
+
 check_ends : (w : World) → EndHolds w → EndHolds (next w event.Check).0
 unfolding next
 check_ends w old = old
@@ -204,6 +214,7 @@ event_ends w (event.Change id records now) lawful sound old = change_ends w id n
 event_ends w (event.Register id broker migrating now) lawful sound old = register_ends w id broker now migrating sound old
 event_ends w (event.Finalise id now) lawful sound old = finalise_ends w id now sound old
 event_ends w event.Rollback lawful sound old = rollback_ends w old
+event_ends w event.Snapshot lawful sound old = snapshot_ends w sound old
 event_ends w event.Check lawful sound old = check_ends w old
 event_ends w (event.ZkOpen session) lawful sound old = open_ends w session sound old
 event_ends w (event.ZkExpire session) lawful sound old = expire_ends w session sound old

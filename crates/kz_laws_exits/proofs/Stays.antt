@@ -11,7 +11,7 @@ use Rattle.kz_types.specs.declared.plan.Plan.TheVariants as plan
 use Rattle.kz_spec_stores.specs.Tree.{Tree, multi, begin_session, end_session}
 use Rattle.kz_spec_stores.specs.Log.{end_of, image_of, is_migrated_log, is_open_log, with_batch}
 use Rattle.kz_spec_machine.specs.Driver.{Shared, Driver, step}
-use Rattle.kz_spec_machine.specs.Machine.{World, running_ids, driver_of, running_refusal, leader_refusal, dual_write_refusal, rest_refusal, unless, full, step_result, turn, work, turn_result, quorum_refusal, declared_world, start_refusal, started_world, stop_refusal, stopped_world, next_epoch, election_refusal, elected_world, election_answer, change_refusal, changed_world, registration, register_refusal, final_records, finalise_refusal, client_refusal, client_world, moved_world, is_finalised_log, next, after_events}
+use Rattle.kz_spec_machine.specs.Machine.{World, running_ids, driver_of, running_refusal, leader_refusal, dual_write_refusal, rest_refusal, unless, full, step_result, turn, work, turn_result, quorum_refusal, declared_world, start_refusal, started_world, stop_refusal, stopped_world, next_epoch, election_refusal, elected_world, election_answer, change_refusal, changed_world, registration, register_refusal, final_records, finalise_refusal, client_refusal, client_world, moved_world, is_finalised_log, next, after_events, cut_world, snapshot_refusal}
 use Rattle.kz_spec_machine.specs.Sound.{IsTime, IsSharedSound, IsSoundDriver, Sound, IsLawful}
 use Rattle.kz_laws_trees.proofs.Asked.{asked_plain}
 use Rattle.kz_laws_logs.proofs.Opened.{elected_records}
@@ -28,6 +28,7 @@ use Rattle.kz_laws_exits.specs.Ends.{HasEnded, EndHolds}
 use Rattle.kz_laws_exits.proofs.Final.{final_migrated, final_step, step_ends}
 use Rattle.kz_laws_exits.proofs.Finalised.{final_rollback_refused}
 use Rattle.kz_laws_exits.proofs.Events.{plain_final, registration_plain, event_ends}
+use Rattle.kz_laws_events.proofs.Snapshots.{may_snapshot, cut_is}
 
 -- ---- a turn
 
@@ -118,6 +119,7 @@ stays_final w (event.Register id broker migrating now) lawful sound ends final =
     plain_final w.shared.log w.shared.log.epoch now (registration broker migrating) sound.kept.log (registration_plain broker migrating) ∙ final)
 stays_final w (event.Finalise id now) lawful sound ends final = decided_by IsFinal w (finalise_refusal w id) (changed_world w final_records now) _ final (λ none. absurd (true_or_false (is_finalised_log w.shared.log) final (once w id none)))
 stays_final w event.Rollback lawful sound ends final = subst IsFinal (sym (final_rollback_refused w final).0) final
+stays_final w event.Snapshot lawful sound ends final = decided_by IsFinal w (snapshot_refusal w) (cut_world w) answer.Done final (λ none. (cut_is w sound (may_snapshot w none)).finalised ∙ final)
 stays_final w event.Check lawful sound ends final = final
 stays_final w (event.ZkOpen session) lawful sound ends final = moved_final w (begin_session w.shared.tree session) final
 stays_final w (event.ZkExpire session) lawful sound ends final = moved_final w (end_session w.shared.tree session) final

@@ -1,5 +1,5 @@
-//! Metadata that a program holds is in order and can be written. The functions here are never run: what they go over is what
-//! their contracts say.
+//! Metadata that a program holds is in order and can be written. The functions here do nothing but go over it: what they go over is
+//! what their contracts say.
 ghost use Rattle.std.specs.Prelude.{◌≡◌, ℤ, true, length, All};
 ghost use Rattle.base64.specs.GeneralPurpose.{IsBytes};
 ghost use Rattle.kz_spec_stores.specs.InOrder.{IsInOrder};
@@ -7,6 +7,7 @@ ghost use Rattle.kz_spec_znodes.specs.Rendering.{render};
 ghost use Rattle.kz_laws_znodes.specs.RoundTrip.{IsSameBut, IsText, FitsInt, IsPartitionWritable, IsMemberWritable, IsTopicWritable, IsConfigWritable, IsQuotaWritable, AreQuotasWritable, IsScramWritable, IsUserWritable, IsAclWritable, IsWritable, MayReturn, Returns};
 ghost use Rattle.kz_image_lists.specs.QuotaPaths.{IsEntityRead};
 
+use kz_blocks::Blocks;
 use kz_image::Image;
 use kz_types::{
     AclEntry, Configuration, Pair, PartitionEntry, QuotaEntry, QuotaRow, ScramEntry, ScramPair,
@@ -38,9 +39,8 @@ fn text(text: &Text)
 fn ints(numbers: &[i32])
     ensures { All FitsInt numbers.now }
 {
-    if let [first, rest @ ..] = numbers {
-        int(*first);
-        ints(rest);
+    for item in numbers {
+        int(*item);
     }
 }
 
@@ -57,9 +57,8 @@ fn partition(p: &PartitionEntry)
 fn partitions(items: &[PartitionEntry])
     ensures { All IsPartitionWritable items.now }
 {
-    if let [first, rest @ ..] = items {
-        partition(first);
-        partitions(rest);
+    for item in items {
+        partition(item);
     }
 }
 
@@ -73,9 +72,8 @@ fn member(p: &Pair)
 fn members(items: &[Pair])
     ensures { All IsMemberWritable items.now }
 {
-    if let [first, rest @ ..] = items {
-        member(first);
-        members(rest);
+    for item in items {
+        member(item);
     }
 }
 
@@ -89,12 +87,11 @@ fn topic(t: &TopicEntry)
     members(t.pairs.as_slice());
 }
 
-fn topics(items: &[TopicEntry])
+fn topics(items: &Blocks<TopicEntry>)
     ensures { All IsTopicWritable items.now }
 {
-    if let [first, rest @ ..] = items {
-        topic(first);
-        topics(rest);
+    for item in items.items() {
+        topic(item);
     }
 }
 
@@ -104,12 +101,11 @@ fn config(c: &Configuration)
     members(c.pairs.as_slice());
 }
 
-fn configs(items: &[Configuration])
+fn configs(items: &Blocks<Configuration>)
     ensures { All IsConfigWritable items.now }
 {
-    if let [first, rest @ ..] = items {
-        config(first);
-        configs(rest);
+    for item in items.items() {
+        config(item);
     }
 }
 
@@ -127,9 +123,8 @@ fn quota(q: &QuotaRow)
 fn quotas_of_entity(items: &[QuotaRow])
     ensures { All IsQuotaWritable items.now }
 {
-    if let [first, rest @ ..] = items {
-        quota(first);
-        quotas_of_entity(rest);
+    for item in items {
+        quota(item);
     }
 }
 
@@ -140,13 +135,12 @@ fn entity(q: &QuotaEntry)
     quotas_of_entity(q.quotas.as_slice());
 }
 
-fn entities(items: &[QuotaEntry])
+fn entities(items: &Blocks<QuotaEntry>)
     requires { All IsEntityRead items.now }
     ensures { All AreQuotasWritable items.now }
 {
-    if let [first, rest @ ..] = items {
-        entity(first);
-        entities(rest);
+    for item in items.items() {
+        entity(item);
     }
 }
 
@@ -162,9 +156,8 @@ fn scram(s: &ScramPair)
 fn scrams(items: &[ScramPair])
     ensures { All IsScramWritable items.now }
 {
-    if let [first, rest @ ..] = items {
-        scram(first);
-        scrams(rest);
+    for item in items {
+        scram(item);
     }
 }
 
@@ -175,12 +168,11 @@ fn user(u: &ScramEntry)
     scrams(u.scrams.as_slice());
 }
 
-fn users(items: &[ScramEntry])
+fn users(items: &Blocks<ScramEntry>)
     ensures { All IsUserWritable items.now }
 {
-    if let [first, rest @ ..] = items {
-        user(first);
-        users(rest);
+    for item in items.items() {
+        user(item);
     }
 }
 
@@ -192,12 +184,11 @@ fn acl(a: &AclEntry)
     text(&a.row.host);
 }
 
-fn acls(items: &[AclEntry])
+fn acls(items: &Blocks<AclEntry>)
     ensures { All IsAclWritable items.now }
 {
-    if let [first, rest @ ..] = items {
-        acl(first);
-        acls(rest);
+    for item in items.items() {
+        acl(item);
     }
 }
 
@@ -226,6 +217,15 @@ fn writable(i: &Image)
     entities(i.quota_entries());
     users(i.users());
     acls(i.acls());
+}
+
+/// Metadata that a program holds is in order, and can be written.
+pub fn held_is_writable(i: &Image)
+    ensures order { IsInOrder i.now }
+    ensures writable { IsWritable i.now }
+{
+    in_order(i);
+    writable(i);
 }
 
 /// Metadata that a program holds, rendered, translated to records and made again, is the same metadata: the same topics,

@@ -184,7 +184,7 @@ module _ (i : Image) (order : IsInOrder i) where
           quotas = order.legal.quotas;
           users = order.legal.users;
           acls = order.legal.acls;
-          brokers = All-put IsBroker int_cmp id_of_broker r i.brokers (not_less r.broker_id (pos 0) valued.0) order.legal.brokers;
+          brokers = All-put IsBroker int_cmp id_of_broker r i.brokers (not_less r.broker_id (pos 0) valued.0, holds_by (is_epoch r.broker_epoch) valued.1) order.legal.brokers;
           next = order.legal.next;
           state = order.legal.state;
         };

@@ -9,7 +9,7 @@ use Rattle.serde_json.specs.View.{items_of}
 use Rattle.kz_types.specs.declared.plan.Plan.{Plan}
 use Rattle.kz_types.specs.declared.plan.Plan.TheVariants as plan
 use Rattle.kz_types.specs.declared.machine.Event.{Event}
-use Rattle.kz_types.specs.declared.machine.Event.TheVariants.{Quorum, Start, Stop, Elect, Step, Turn, Register, Change, Finalise, Rollback, Check, ZkOpen, ZkExpire, Zk}
+use Rattle.kz_types.specs.declared.machine.Event.TheVariants.{Quorum, Start, Stop, Elect, Step, Turn, Register, Change, Finalise, Rollback, Snapshot, Check, ZkOpen, ZkExpire, Zk}
 use Rattle.kz_types.specs.declared.record.MetaRecord.{MetaRecord}
 use Rattle.kz_types.specs.declared.tree.Op.{Op}
 use Rattle.kz_types.specs.declared.tree.Op.TheVariants as op
@@ -95,6 +95,7 @@ members_fit (Register c broker migrating now) h =
 members_fit (Change c records now) h = changes_fit c now records h.0 h.1 h.2
 members_fit (Finalise c now) h = now_fits 4 now _ h.1 (controller_fits 4 (codes "finalise") c refl h.0)
 members_fit Rollback h = event_fits 4 (codes "rollback") refl
+members_fit Snapshot h = event_fits 4 (codes "snapshot") refl
 members_fit Check h = event_fits 4 (codes "check") refl
 members_fit (ZkOpen s) h = session_fits 4 (codes "zk-open") s refl h
 members_fit (ZkExpire s) h = session_fits 4 (codes "zk-expire") s refl h

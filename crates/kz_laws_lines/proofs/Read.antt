@@ -12,7 +12,7 @@ use Rattle.kz_types.specs.Numbers.{are_distinct}
 use Rattle.kz_types.specs.declared.plan.Plan.{Plan}
 use Rattle.kz_types.specs.declared.plan.Plan.TheVariants as plan
 use Rattle.kz_types.specs.declared.machine.Event.{Event}
-use Rattle.kz_types.specs.declared.machine.Event.TheVariants.{Quorum, Start, Stop, Elect, Step, Turn, Register, Change, Finalise, Rollback, Check, ZkOpen, ZkExpire, Zk}
+use Rattle.kz_types.specs.declared.machine.Event.TheVariants.{Quorum, Start, Stop, Elect, Step, Turn, Register, Change, Finalise, Rollback, Snapshot, Check, ZkOpen, ZkExpire, Zk}
 use Rattle.kz_types.specs.declared.record.MetaRecord.{MetaRecord}
 use Rattle.kz_types.specs.declared.tree.Op.{Op}
 use Rattle.kz_types.specs.declared.tree.Op.TheVariants as op
@@ -151,6 +151,7 @@ event_says (Register c b m now) h = register_by c b now m _ refl h.0 h.1 h.2
 event_says (Change c records now) h = change_by c now records _ refl h.0 h.1 h.2
 event_says (Finalise c now) h = finalise_by c now _ refl h.0 h.1
 event_says Rollback h = refl
+event_says Snapshot h = refl
 event_says Check h = refl
 event_says (ZkOpen s) h = rw (session_is s h) refl
 event_says (ZkExpire s) h = rw (session_is s h) refl

@@ -3,7 +3,7 @@
 use Rattle.std.specs.Prelude.{◌≡◌, ◌≤◌, ⊤, true, ℤ, pos, negsuc, ◌≤ℤ◌, length, Option, Some, None, All}
 use Rattle.kz_types.specs.Numbers.{are_distinct}
 use Rattle.kz_types.specs.declared.machine.Event.{Event}
-use Rattle.kz_types.specs.declared.machine.Event.TheVariants.{Quorum, Start, Stop, Elect, Step, Turn, Register, Change, Finalise, Rollback, Check, ZkOpen, ZkExpire, Zk}
+use Rattle.kz_types.specs.declared.machine.Event.TheVariants.{Quorum, Start, Stop, Elect, Step, Turn, Register, Change, Finalise, Rollback, Snapshot, Check, ZkOpen, ZkExpire, Zk}
 use Rattle.kz_types.specs.declared.tree.Op.{Op}
 use Rattle.kz_types.specs.declared.tree.Op.TheVariants as op
 
@@ -49,6 +49,7 @@ IsLawfulEvent (Register controller broker migrating now) = IsNotNegative control
 IsLawfulEvent (Change controller records now) = IsNotNegative controller × (1 ≤ length records) × IsNotNegative now
 IsLawfulEvent (Finalise controller now) = IsNotNegative controller × IsNotNegative now
 IsLawfulEvent Rollback = ⊤
+IsLawfulEvent Snapshot = ⊤
 IsLawfulEvent Check = ⊤
 IsLawfulEvent (ZkOpen session) = IsPositive session
 IsLawfulEvent (ZkExpire session) = IsPositive session

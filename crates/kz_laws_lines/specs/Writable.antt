@@ -4,7 +4,7 @@ use Rattle.base64.specs.GeneralPurpose.{IsBytes}
 use Rattle.kz_types.specs.Numbers.{are_distinct}
 use Rattle.kz_types.specs.Paths.{is_path}
 use Rattle.kz_types.specs.declared.machine.Event.{Event}
-use Rattle.kz_types.specs.declared.machine.Event.TheVariants.{Quorum, Start, Stop, Elect, Step, Turn, Register, Change, Finalise, Rollback, Check, ZkOpen, ZkExpire, Zk}
+use Rattle.kz_types.specs.declared.machine.Event.TheVariants.{Quorum, Start, Stop, Elect, Step, Turn, Register, Change, Finalise, Rollback, Snapshot, Check, ZkOpen, ZkExpire, Zk}
 use Rattle.kz_types.specs.QuotaEntities.{is_client_first}
 use Rattle.kz_types.specs.declared.id.Id.{Id}
 use Rattle.kz_types.specs.declared.record.Endpoint.{Endpoint}
@@ -244,6 +244,7 @@ IsEvent (Register controller broker migrating now) = IsId controller × IsId bro
 IsEvent (Change controller records now) = IsId controller × AreSomeRecords records × IsTime now
 IsEvent (Finalise controller now) = IsId controller × IsTime now
 IsEvent Rollback = ⊤
+IsEvent Snapshot = ⊤
 IsEvent Check = ⊤
 IsEvent (ZkOpen session) = IsSession session
 IsEvent (ZkExpire session) = IsSession session

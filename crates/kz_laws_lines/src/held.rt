@@ -458,6 +458,7 @@ fn event(e: &Event)
             time(*now);
         }
         Event::Rollback => {}
+        Event::Snapshot => {}
         Event::Check => {}
         Event::ZkOpen { session: opened } => session(*opened),
         Event::ZkExpire { session: expired } => session(*expired),

@@ -5,7 +5,7 @@ use Rattle.std.proofs.lemmas.Int.{ints}
 use Rattle.kz_types.specs.declared.log.BatchRow.{BatchRow}
 use Rattle.kz_types.specs.declared.log.Entry.{Entry}
 use Rattle.kz_types.specs.declared.record.MetaRecord.{MetaRecord}
-use Rattle.kz_spec_stores.specs.Log.{Log, Follow, last_of, end_of, entries_at_offsets, entries_of_batch, entries, with_batch}
+use Rattle.kz_spec_stores.specs.Log.{Log, IsLog, Follow, last_of, end_of, entries_at_offsets, entries_of_batch, entries, with_batch}
 use Rattle.kz_spec_machine.specs.Sound.{LogShape}
 use Rattle.kz_laws_drivers.proofs.Numbers.{weaker, then_less, at_least_itself}
 use Rattle.kz_laws_trees.proofs.Logs.{AllAfter, end_more}
@@ -51,8 +51,11 @@ entries_rise from (b ∷ bs) follows =
     first : (from f : ℤ) → f ≡ from +ℤ pos 1 → from <ℤ f
     first from f is = omega (arith, ints, is)
 
+pub offsets_rise : (l : Log) → IsLog l → RisesAfter l.base (entries l.batches)
+offsets_rise l log = entries_rise l.base l.batches log.follow
+
 pub log_rises : (l : Log) → LogShape l → RisesAfter l.base (entries l.batches)
-log_rises l shape = entries_rise l.base l.batches shape.log.follow
+log_rises l shape = offsets_rise l shape.log
 
 -- ---- with one batch more
 

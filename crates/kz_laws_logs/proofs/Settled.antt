@@ -61,7 +61,7 @@ before_low o = omega (arith, ints)
 from_after : (e : Entry) (q : List Entry) → RisesAfter e.offset q → AllAfter (e.offset -ℤ pos 1) (e ∷ q)
 from_after e q rises = rises_after (e.offset -ℤ pos 1) (e.offset -ℤ pos 1) (e ∷ q) (at_least_itself (e.offset -ℤ pos 1)) (before_low e.offset, rises)
 
-inside_is : (base : ℤ) (p q : List Entry) (e : Entry) → IsPlaced base p e q → is_inside (p ++ e ∷ q) e.offset ≡ is_some (begin_in p)
+pub inside_is : (base : ℤ) (p q : List Entry) (e : Entry) → IsPlaced base p e q → is_inside (p ++ e ∷ q) e.offset ≡ is_some (begin_in p)
 inside_is base p q e k = inside_from (e.offset -ℤ pos 1) e.offset p (e ∷ q) (before_is e.offset) (from_after e q k.after) ∙ inside_begun base e.offset p k.front k.before
 
 counted_is : (at base : ℤ) (p q : List Entry) (e : Entry) → IsPlaced base p e q → e.offset ≤ℤ at → is_counted (p ++ e ∷ q) at e ≡ (not (is_marker e.item) && (not (is_some (begin_in p)) || is_ended_in at q))
@@ -96,7 +96,7 @@ some_first : (m n : Option ℤ) → is_some (first_begin m n) ≡ (is_some m || 
 some_first None n = refl
 some_first (Some o) n = refl
 
-next_is : (p : List Entry) (e : Entry) → is_some (begin_in (p ++ e ∷ [])) ≡ open_after (is_some (begin_in p)) e
+pub next_is : (p : List Entry) (e : Entry) → is_some (begin_in (p ++ e ∷ [])) ≡ open_after (is_some (begin_in p)) e
 next_is p e = by (closes e.item) refl
   where
     by : (c : Bool) → closes e.item ≡ c → is_some (begin_in (p ++ e ∷ [])) ≡ open_after (is_some (begin_in p)) e

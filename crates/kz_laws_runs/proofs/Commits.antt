@@ -16,8 +16,8 @@ use Rattle.kz_spec_stores.specs.Tree.{Tree, multi}
 use Rattle.kz_spec_stores.specs.Log.{Log, append, is_migrated_log, is_open_log, reset}
 use Rattle.kz_spec_znodes.specs.Translation.{Unreadable, translate}
 use Rattle.kz_spec_machine.specs.Driver.{Shared, Driver, epoch_or_zero, claim_ops, remaining_at, write_ops, begin_record, commit_records, begin_request, write_request, request_at, with_tree, with_log, shared_after, reaches_store, planned_step, step}
-use Rattle.kz_spec_machine.specs.Machine.{World, pair_of, after_events, request_pairs}
-use Rattle.kz_spec_machine.specs.Sound.{IsTime, IsSharedSound, IsSoundDriver, IsLawful}
+use Rattle.kz_spec_machine.specs.Machine.{World, pair_of, after_events, request_pairs, cut_world}
+use Rattle.kz_spec_machine.specs.Sound.{IsTime, IsSharedSound, IsSoundDriver, IsLawful, Sound}
 use Rattle.kz_spec_runs.specs.Openings.{opened_world, IsSoundPair}
 use Rattle.kz_spec_runs.specs.Promises.{IsTranslation, BeginsNone, StaysCommitted, CommitsWhole, CommittedWhole}
 use Rattle.kz_laws_drivers.specs.Effects.{IsUnchanged}
@@ -36,6 +36,7 @@ use Rattle.kz_laws_commits.proofs.Events.{event_copies}
 use Rattle.kz_laws_commits.proofs.After.{step_same}
 use Rattle.kz_laws_commits.proofs.Begins.{batch_begins, same_begins, election_begins}
 use Rattle.kz_laws_runs.proofs.Linked.{Promised, run_linked, linked_of}
+use Rattle.kz_laws_events.proofs.Snapshots.{MaySnapshot, cut_is}
 
 -- ---- the commit
 
@@ -102,7 +103,7 @@ settled_still s new kept migrated same = record {
 step_commits : (p : Plan) (s : Shared) (running : List ℤ) (now : ℤ) (d : Driver) → IsTime now → IsSharedSound s → IsSoundDriver s d → Copies s d → CommitsWhole (pair_of s) (pair_of (planned_step p s running now d).shared)
 step_commits p s running now d time kept fine copies = record {
   commits = step_brings p s running now d kept fine copies;
-  stays = λ migrated. inr (settled_still s (planned_step p s running now d).shared.log kept migrated (step_same p s running now d kept fine migrated));
+  stays = λ migrated. inr (inl (settled_still s (planned_step p s running now d).shared.log kept migrated (step_same p s running now d kept fine migrated)));
 }
 
 step_keeps : (s : Shared) (running : List ℤ) (now : ℤ) (d : Driver) → IsTime now → IsSharedSound s → IsSoundDriver s d → Copies s d → Copies (step s running now d).shared (step s running now d).driver
@@ -112,27 +113,27 @@ step_keeps s running now d time kept fine copies = (step_copies plan.Deliver s r
 elected_commits : (s : Shared) (now : ℤ) → MayElect s → CommitsWhole (pair_of s) (pair_of (record s { log = elected_of s.log now }))
 elected_commits s now m = record {
   commits = λ before after. absurd (true_or_false (is_migrated_log s.log) (elected.was s now m after) before);
-  stays = λ migrated. inr (record {
+  stays = λ migrated. inr (inl (record {
     migrated = (elected.longer s now m).migrated migrated;
     settled = elected_closed s now m;
     begins = election_begins s now m migrated;
-  });
+  }));
 }
 
 batch_commits : (s : Shared) (now : ℤ) (items : List MetaRecord) → IsLeaderBatch s now items → CommitsWhole (pair_of s) (pair_of (record s { log = more_of s now items }))
 batch_commits s now items b = record {
   commits = λ before after. absurd (true_or_false (is_migrated_log s.log) (changed.was s now items b after) before);
-  stays = λ migrated. inr (record {
+  stays = λ migrated. inr (inl (record {
     migrated = (changed.longer s now items b).migrated migrated;
     settled = more_closed s now items b;
     begins = batch_begins s.log s.log.epoch now items b.unmarked;
-  });
+  }));
 }
 
 tree_commits : (s : Shared) (new : Tree) → IsSharedSound s → (is_migrated_log s.log ≡ true → IsUnchanged s.tree new) → CommitsWhole (pair_of s) (pair_of (record s { tree = new }))
 tree_commits s new kept unchanged = record {
   commits = λ before after. absurd (true_or_false (is_migrated_log s.log) after before);
-  stays = λ migrated. inr (settled_still s s.log kept migrated refl);
+  stays = λ migrated. inr (inl (settled_still s s.log kept migrated refl));
 }
 
 reset_commits : (s : Shared) → IsSharedSound s → CommitsWhole (pair_of s) (pair_of (record s { log = reset s.log }))
@@ -140,6 +141,22 @@ reset_commits s kept = record {
   commits = λ before after. absurd (true_or_false (is_migrated_log (reset s.log)) after (reset_unmigrated s.log));
   stays = λ migrated. inl refl;
 }
+
+snapshot_commits : (w : World) → Sound w → MaySnapshot w → CommitsWhole (pair_of w.shared) (pair_of (cut_world w).shared)
+snapshot_commits w sound m =
+    let c = cut_is w sound m in
+    record {
+      commits = λ before after. absurd (true_or_false (is_migrated_log w.shared.log) m.migrated before);
+      stays = λ migrated. inr (inr (record {
+        record_is = m.may.record_is;
+        recorded = m.may.found;
+        may = m.may.allowed;
+        cut = m.may.cut;
+        tree = refl;
+        migrated = c.migrated;
+        settled = c.settled ∙ migrated_settled w.shared.tree w.shared.log sound.kept.log (sound.kept.agreement migrated);
+      }));
+    }
 
 commits_promised : Promised Copies CommitsWhole
 commits_promised = record {
@@ -150,6 +167,7 @@ commits_promised = record {
   on_batch = batch_commits;
   on_tree = tree_commits;
   on_reset = reset_commits;
+  on_snapshot = snapshot_commits;
 }
 
 pub run_commits : (t : Tree) (l : Log) (es : List Event) → IsSoundPair t l → All IsLawful es → CommittedWhole (opened_world t l) es

@@ -4,6 +4,7 @@ use Rattle.std.proofs.lemmas.List.Elements.{All-nil, All-cons, All-append, All-h
 use Rattle.kz_types.specs.declared.fault.TreeFault.{TreeFault}
 use Rattle.kz_types.specs.declared.move_fault.MoveFault.{MoveFault}
 use Rattle.kz_types.specs.declared.machine.Answer.{Answer}
+use Rattle.kz_types.specs.declared.machine.Answer.TheVariants as answer
 use Rattle.kz_types.specs.declared.machine.Event.{Event}
 use Rattle.kz_types.specs.declared.machine.Event.TheVariants as event
 use Rattle.kz_types.specs.declared.machine.Recorded.{Recorded}
@@ -13,7 +14,7 @@ use Rattle.kz_types.specs.declared.tree.Op.{Op}
 use Rattle.kz_spec_stores.specs.Tree.{Tree, multi, begin_session, end_session, migration_record}
 use Rattle.kz_spec_stores.specs.Log.{Log, is_migrated_log}
 use Rattle.kz_spec_machine.specs.Driver.{Shared, Driver, Request, nothing, request_at, planned_step, step}
-use Rattle.kz_spec_machine.specs.Machine.{World, Pair, pair_of, pairs_after, step_pairs, ends, turn_pairs, work, running_ids, driver_of, running_refusal, event_step_pairs, event_turn_pairs, outcome_unless, unless_refused, pairs_unless, tree_pairs, election_refusal, elected_world, election_answer, change_refusal, changed_world, registration, register_refusal, final_records, finalise_refusal, rollback_refusal, reset_world, exit_ops, exit_pairs, client_refusal, client_world, moved_world, with_tree, next, event_pairs, request_pairs}
+use Rattle.kz_spec_machine.specs.Machine.{World, Pair, pair_of, pairs_after, step_pairs, ends, turn_pairs, work, running_ids, driver_of, running_refusal, event_step_pairs, event_turn_pairs, outcome_unless, unless_refused, pairs_unless, tree_pairs, election_refusal, elected_world, election_answer, change_refusal, changed_world, registration, register_refusal, final_records, finalise_refusal, rollback_refusal, reset_world, exit_ops, exit_pairs, client_refusal, client_world, moved_world, with_tree, next, event_pairs, request_pairs, cut_world, snapshot_refusal}
 use Rattle.kz_spec_machine.specs.Sound.{IsTime, Agreement, IsSharedSound, IsSoundDriver, Sound, IsLawful}
 use Rattle.kz_spec_runs.specs.Openings.{opened_world, IsSoundPair}
 use Rattle.kz_spec_runs.specs.Promises.{IsAgreed, IsInAgreement, StayingInAgreement}
@@ -120,6 +121,7 @@ event_agreed w (event.Change id records now) lawful sound new = outcome_agreed w
 event_agreed w (event.Register id broker migrating now) lawful sound new = outcome_agreed w (register_refusal w id (registration broker migrating)) (changed_world w (registration broker migrating) now) _ new
 event_agreed w (event.Finalise id now) lawful sound new = outcome_agreed w (finalise_refusal w id) (changed_world w final_records now) _ new
 event_agreed w event.Rollback lawful sound new = unless_refused_agreed (rollback_refusal w) (pair_of (reset_world w).shared ∷ exit_pairs (reset_world w) (exit_ops w.shared.tree)) (rolled_back w)
+event_agreed w event.Snapshot lawful sound new = outcome_agreed w (snapshot_refusal w) (cut_world w) answer.Done new
 event_agreed w event.Check lawful sound new = All-nil IsInAgreement
 event_agreed w (event.ZkOpen session) lawful sound new = moved w (begin_session w.shared.tree session) new
 event_agreed w (event.ZkExpire session) lawful sound new = moved w (end_session w.shared.tree session) new

@@ -4,6 +4,7 @@ use Rattle.std.proofs.lemmas.List.Elements.{All-nil, All-cons, All-append, All-h
 use Rattle.kz_types.specs.declared.fault.TreeFault.{TreeFault}
 use Rattle.kz_types.specs.declared.move_fault.MoveFault.{MoveFault}
 use Rattle.kz_types.specs.declared.machine.Answer.{Answer}
+use Rattle.kz_types.specs.declared.machine.Answer.TheVariants as answer
 use Rattle.kz_types.specs.declared.machine.Event.{Event}
 use Rattle.kz_types.specs.declared.machine.Event.TheVariants as event
 use Rattle.kz_types.specs.declared.plan.Plan.{Plan}
@@ -12,7 +13,7 @@ use Rattle.kz_types.specs.declared.tree.Op.{Op}
 use Rattle.kz_spec_stores.specs.Tree.{Tree, multi, begin_session, end_session, unclosed_path}
 use Rattle.kz_spec_stores.specs.Log.{reset}
 use Rattle.kz_spec_machine.specs.Driver.{Shared, Driver, Request, nothing, request_at, planned_step, step}
-use Rattle.kz_spec_machine.specs.Machine.{World, Pair, pair_of, pairs_after, step_pairs, ends, turn_pairs, work, running_ids, driver_of, running_refusal, event_step_pairs, event_turn_pairs, outcome_unless, unless_refused, pairs_unless, tree_pairs, election_refusal, elected_world, election_answer, change_refusal, changed_world, registration, register_refusal, final_records, finalise_refusal, rollback_refusal, reset_world, is_finalised_log, exit_ops, tree_after_ops, given_back, exit_pairs, client_refusal, client_world, moved_world, with_tree, next, event_pairs, request_pairs}
+use Rattle.kz_spec_machine.specs.Machine.{World, Pair, pair_of, pairs_after, step_pairs, ends, turn_pairs, work, running_ids, driver_of, running_refusal, event_step_pairs, event_turn_pairs, outcome_unless, unless_refused, pairs_unless, tree_pairs, election_refusal, elected_world, election_answer, change_refusal, changed_world, registration, register_refusal, final_records, finalise_refusal, rollback_refusal, reset_world, is_finalised_log, exit_ops, tree_after_ops, given_back, exit_pairs, client_refusal, client_world, moved_world, with_tree, next, event_pairs, request_pairs, cut_world, snapshot_refusal}
 use Rattle.kz_spec_machine.specs.Sound.{IsTime, IsSharedSound, IsSoundDriver, Sound, IsLawful}
 use Rattle.kz_laws_steps.specs.Steps.{StepKeeps}
 use Rattle.kz_laws_steps.proofs.Tests.{true_or_false}
@@ -134,6 +135,7 @@ event_kept w (event.Change id records now) lawful sound old new = outcome_kept w
 event_kept w (event.Register id broker migrating now) lawful sound old new = outcome_kept w (register_refusal w id (registration broker migrating)) (changed_world w (registration broker migrating) now) _ new
 event_kept w (event.Finalise id now) lawful sound old new = outcome_kept w (finalise_refusal w id) (changed_world w final_records now) _ new
 event_kept w event.Rollback lawful sound old new = rolled_back w (rollback_refusal w) sound new
+event_kept w event.Snapshot lawful sound old new = outcome_kept w (snapshot_refusal w) (cut_world w) answer.Done new
 event_kept w event.Check lawful sound old new = All-nil IsKept
 event_kept w (event.ZkOpen session) lawful sound old new = moved w (begin_session w.shared.tree session) new
 event_kept w (event.ZkExpire session) lawful sound old new = moved w (end_session w.shared.tree session) new

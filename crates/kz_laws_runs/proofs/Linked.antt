@@ -13,7 +13,7 @@ use Rattle.kz_types.specs.declared.tree.Op.{Op}
 use Rattle.kz_spec_stores.specs.Tree.{Tree, multi, begin_session, end_session}
 use Rattle.kz_spec_stores.specs.Log.{is_migrated_log, reset}
 use Rattle.kz_spec_machine.specs.Driver.{Shared, Driver, epoch_or_zero, Request, nothing, request_at, shared_after, reaches_store, planned_step, step}
-use Rattle.kz_spec_machine.specs.Machine.{World, Pair, pair_of, pairs_after, step_pairs, ends, TurnResult, with_reply, turn, turn_pairs, work, running_ids, driver_of, running_refusal, step_result, event_step_pairs, turn_result, event_turn_pairs, outcome_unless, unless_refused, pairs_unless, quorum_refusal, declared_world, start_refusal, started_world, stop_refusal, stopped_world, election_refusal, elected_world, change_refusal, changed_world, registration, register_refusal, final_records, finalise_refusal, exit_ops, tree_after_ops, reset_world, given_back, rollback_refusal, exit_pairs, is_held_tree, client_refusal, client_world, moved_world, tree_pairs, next, event_pairs, after_events, request_pairs}
+use Rattle.kz_spec_machine.specs.Machine.{World, Pair, pair_of, pairs_after, step_pairs, ends, TurnResult, with_reply, turn, turn_pairs, work, running_ids, driver_of, running_refusal, step_result, event_step_pairs, turn_result, event_turn_pairs, outcome_unless, unless_refused, pairs_unless, quorum_refusal, declared_world, start_refusal, started_world, stop_refusal, stopped_world, election_refusal, elected_world, change_refusal, changed_world, registration, register_refusal, final_records, finalise_refusal, exit_ops, tree_after_ops, reset_world, given_back, rollback_refusal, exit_pairs, is_held_tree, client_refusal, client_world, moved_world, tree_pairs, next, event_pairs, after_events, request_pairs, cut_world, snapshot_refusal}
 use Rattle.kz_spec_machine.specs.Sound.{IsTime, IsSharedSound, IsSoundDriver, Each, Sound, IsLawful}
 use Rattle.kz_spec_runs.specs.Promises.{Linked}
 use Rattle.kz_laws_drivers.specs.Effects.{IsUnchanged}
@@ -27,6 +27,7 @@ use Rattle.kz_laws_events.proofs.Exits.{may_finalise, final_batch, reset_unmigra
 use Rattle.kz_laws_events.proofs.Turned.{one_step}
 use Rattle.kz_laws_events.proofs.Unheld.{unmigrated}
 use Rattle.kz_laws_events.proofs.Every.{event_sound}
+use Rattle.kz_laws_events.proofs.Snapshots.{MaySnapshot, may_snapshot}
 
 -- ---- lists of moments
 
@@ -54,6 +55,7 @@ pub record Promised (J : Shared → Driver → Type 0) (R : Pair → Pair → Ty
   pub on_batch : (s : Shared) (now : ℤ) (items : List MetaRecord) → IsLeaderBatch s now items → R (pair_of s) (pair_of (record s { log = more_of s now items }))
   pub on_tree : (s : Shared) (new : Tree) → IsSharedSound s → (is_migrated_log s.log ≡ true → IsUnchanged s.tree new) → R (pair_of s) (pair_of (record s { tree = new }))
   pub on_reset : (s : Shared) → IsSharedSound s → R (pair_of s) (pair_of (record s { log = reset s.log }))
+  pub on_snapshot : (w : World) → Sound w → MaySnapshot w → R (pair_of w.shared) (pair_of (cut_world w).shared)
 
 -- ---- a step
 
@@ -159,6 +161,7 @@ event_linked J R w (event.Register id broker migrating now) h lawful sound each 
 event_linked J R w (event.Finalise id now) h lawful sound each = one R w (finalise_refusal w id) (changed_world w final_records now) _ (λ none. h.on_batch w.shared now final_records (final_batch w id now sound (may_finalise w id none)))
 event_linked J R w event.Rollback h lawful sound each =
     more R w (rollback_refusal w) (pair_of (reset_world w).shared ∷ exit_pairs (reset_world w) (exit_ops w.shared.tree)) (given_back (reset_world w) (tree_after_ops w.shared.tree (exit_ops w.shared.tree))) (λ none. rolled_back J R w h sound)
+event_linked J R w event.Snapshot h lawful sound each = one R w (snapshot_refusal w) (cut_world w) _ (λ none. h.on_snapshot w sound (may_snapshot w none))
 event_linked J R w event.Check h lawful sound each = refl
 event_linked J R w (event.ZkOpen session) h lawful sound each = moved J R w (begin_session w.shared.tree session) h sound (λ new is. (begin_leaves w.shared.tree new session is sound.kept.tree).1)
 event_linked J R w (event.ZkExpire session) h lawful sound each = moved J R w (end_session w.shared.tree session) h sound (λ new is. (end_leaves w.shared.tree new session is sound.kept.tree).1)

@@ -77,6 +77,7 @@ nothing_asked = record {
   on_batch = λ s now batch may. tt;
   on_tree = λ s new kept may. tt;
   on_reset = λ s kept. tt;
+  on_snapshot = λ w sound may. tt;
 }
 
 linked_last : (P : Pair → Type 0) (p : Pair) (xs : List Pair) (q : Pair) → LinkedTo Always p xs q → All P (p ∷ xs) → P q

@@ -8,7 +8,7 @@ use Rattle.kz_spec_stores.specs.Tree.{Tree, rendered_row}
 use Rattle.kz_spec_stores.specs.Log.{Log, is_migrated_log, reset}
 use Rattle.kz_spec_znodes.specs.Rendering.{render}
 use Rattle.kz_spec_machine.specs.Driver.{Shared, Driver, planned_step}
-use Rattle.kz_spec_machine.specs.Machine.{World, Pair, pair_of, after_events, request_pairs}
+use Rattle.kz_spec_machine.specs.Machine.{World, Pair, pair_of, after_events, request_pairs, cut_world}
 use Rattle.kz_spec_machine.specs.Sound.{IsTime, IsSharedSound, IsSoundDriver, IsLawful}
 use Rattle.kz_spec_runs.specs.Openings.{opened_world, IsSoundPair}
 use Rattle.kz_spec_runs.specs.Promises.{Linked, IsAsRecorded, StayingAsRecorded}
@@ -22,6 +22,7 @@ use Rattle.kz_laws_events.proofs.Changed as changed
 use Rattle.kz_laws_events.proofs.Exits.{reset_unmigrated}
 use Rattle.kz_laws_runs.proofs.Agrees.{Anything}
 use Rattle.kz_laws_runs.proofs.Linked.{Promised, run_linked, linked_of}
+use Rattle.kz_laws_events.proofs.Snapshots.{cut_is}
 
 -- what each request leaves
 abbrev Leaves : Pair → Pair → Type 0
@@ -61,6 +62,7 @@ recorded_promised = record {
   on_batch = batch_recorded;
   on_tree = tree_recorded;
   on_reset = reset_recorded;
+  on_snapshot = λ w sound may. sound_recorded (cut_world w).shared (cut_is w sound may).sound.kept;
 }
 
 all_recorded : (p : Pair) (qs : List Pair) → IsAsRecorded p → Linked Leaves p qs → All IsAsRecorded (p ∷ qs)

@@ -9,7 +9,7 @@ use Rattle.kz_types.specs.declared.machine.Event.TheVariants as event
 use Rattle.kz_types.specs.declared.record.MetaRecord.{MetaRecord}
 use Rattle.kz_spec_lines.specs.Json.{json_of, member_count, text_member, by_name, count_with}
 use Rattle.kz_spec_lines.specs.Lines.{Item, line, long, much, items, is_passed_over}
-use Rattle.kz_spec_lines.specs.Events.{id_of, controller_of, now_of, timed_count, quorum_of, start_of, elect_of, turn_of, records_in, some_records, change_of, register_of, finalise_of, rollback_of, check_of, event_forms, event_of, line_event, ids_in, distinct_ids, stop_by, stop_of, plan_by, step_of}
+use Rattle.kz_spec_lines.specs.Events.{id_of, controller_of, now_of, timed_count, quorum_of, start_of, elect_of, turn_of, records_in, some_records, change_of, register_of, finalise_of, rollback_of, check_of, event_forms, event_of, line_event, ids_in, distinct_ids, stop_by, stop_of, plan_by, step_of, snapshot_of}
 use Rattle.kz_spec_machine.specs.Sound.{IsId, IsTime, IsLawful}
 use Rattle.kz_spec_runs.specs.InStep.{events_on, events_of, script_events}
 use Rattle.kz_types.specs.Numbers.{are_distinct}
@@ -84,13 +84,16 @@ register_lawful d = where_true IsLawful (member_count d == timed_count 4 d) _ (�
 rollback_lawful : (d : Data) → OfSome IsLawful (rollback_of d)
 rollback_lawful d = where_true IsLawful (member_count d == 1) (Some event.Rollback) (λ one. tt)
 
+snapshot_lawful : (d : Data) → OfSome IsLawful (snapshot_of d)
+snapshot_lawful d = where_true IsLawful (member_count d == 1) (Some event.Snapshot) (λ one. tt)
+
 check_lawful : (d : Data) → OfSome IsLawful (check_of d)
 check_lawful d = where_true IsLawful (member_count d == 1) (Some event.Check) (λ one. tt)
 
 -- ---- every event
 
 form_lawful : (name : List ℕ) (d : Data) → OfSome IsLawful (by_name event_forms name d)
-form_lawful name d = by_name_gives IsLawful event_forms name d (quorum_lawful, (start_lawful, (stop_lawful, (elect_lawful, (step_lawful, (turn_lawful, (register_lawful, (change_lawful, (finalise_lawful, (rollback_lawful, (check_lawful, (open_lawful, (expire_lawful, (zk_lawful, tt))))))))))))))
+form_lawful name d = by_name_gives IsLawful event_forms name d (quorum_lawful, (start_lawful, (stop_lawful, (elect_lawful, (step_lawful, (turn_lawful, (register_lawful, (change_lawful, (finalise_lawful, (rollback_lawful, (snapshot_lawful, (check_lawful, (open_lawful, (expire_lawful, (zk_lawful, tt)))))))))))))))
 
 event_lawful : (d : Data) → OfSome IsLawful (event_of d)
 event_lawful d = after (λ (x : List ℕ). ⊤) IsLawful (λ name. by_name event_forms name d) (text_member (codes "event") d) (anything (text_member (codes "event") d)) (λ name t. form_lawful name d)

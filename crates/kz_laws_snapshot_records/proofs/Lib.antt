@@ -3,3 +3,4 @@ pub mod Topics
 pub mod Rest
 pub mod Users
 pub mod Whole
+pub mod Batches

@@ -1,14 +1,16 @@
 -- Records of several epochs, and the metadata that they make.
-use Rattle.std.proofs.Common.{◌≡◌, ℤ, false, List, [], ◌∷◌, ◌++◌, map, None, Option, refl, sym, ap, ◌∙◌, subst, append_assoc, append-nil}
+use Rattle.std.proofs.Common.{◌≡◌, ℤ, false, List, [], ◌∷◌, ◌++◌, map, Option, refl, sym, ap, ◌∙◌, subst, append_assoc, append-nil}
 use Rattle.std.specs.List.{All, flat_map}
 use Rattle.std.proofs.lemmas.List.Elements.{All-head, All-tail}
 use Rattle.kz_types.specs.declared.record.MetaRecord.{MetaRecord}
 use Rattle.kz_types.specs.declared.image_fault.ImageRule.{ImageRule}
 use Rattle.kz_spec_stores.specs.Metadata.{Image}
 use Rattle.kz_spec_stores.specs.Image.{effect, unless_broken, image_with, all_applied}
-use Rattle.kz_spec_stores.specs.ImageRules.{is_misnamed, lacks, repeats, is_misvalued, broken_rule}
-use Rattle.kz_laws_znodes.proofs.Accepting.{Leads}
-use Rattle.kz_spec_snapshots.specs.Records.{EpochRecord, in_epoch, image_after}
+use Rattle.kz_spec_stores.specs.ImageRules.{is_misnamed, lacks, repeats, is_misvalued}
+use Rattle.kz_laws_znodes.proofs.Accepting.{Leads, unbroken}
+use Rattle.kz_types.specs.declared.log.EpochRecord.{EpochRecord}
+use Rattle.kz_spec_snapshots.specs.Records.{in_epoch, image_after}
+use Rattle.std.proofs.lemmas.List.{map-append}
 
 -- These records make the second metadata of the first.
 abbrev pub Make : List EpochRecord → Image → Image → Type 0
@@ -30,10 +32,6 @@ pub make_led : (epoch : ℤ) (rs : List MetaRecord) (i j : Image) → Leads epoc
 make_led epoch rs i j l = in_one_epoch epoch rs i ∙ l.made
 
 -- ---- one record
-
-unbroken : (i : Image) (r : MetaRecord) → is_misnamed r ≡ false → lacks i r ≡ false → repeats i r ≡ false → is_misvalued i r ≡ false → broken_rule i r ≡ None
-unfolding broken_rule
-unbroken i r named there new valued = rw (named, there, new, valued) refl
 
 pub make_one : (epoch : ℤ) (r : MetaRecord) (i : Image) → is_misnamed r ≡ false → lacks i r ≡ false → repeats i r ≡ false → is_misvalued i r ≡ false → Make (in_epoch epoch r ∷ []) i (effect epoch r i)
 make_one epoch r i named there new valued = ap (λ (o : Option ImageRule). unless_broken o (effect epoch r i) i) (unbroken i r named there new valued)
@@ -59,16 +57,7 @@ module _ {A : Type 0} (items : List A) (records_of : A → List EpochRecord) (st
   pub make_each : Make (flat_map records_of items) (state [] items) (state items [])
   make_each = make_from [] items refl
 
--- one record for each item
-pub map_as_flat : {A B : Type 0} (f : A → B) (xs : List A) → map f xs ≡ flat_map (λ (x : A). f x ∷ []) xs
-map_as_flat f [] = refl
-map_as_flat f (x ∷ xs) = ap (λ (l : List _). f x ∷ l) (map_as_flat f xs)
-
-map_append : {A B : Type 0} (f : A → B) (ys zs : List A) → map f (ys ++ zs) ≡ map f ys ++ map f zs
-map_append f [] zs = refl
-map_append f (y ∷ ys) zs = ap (λ (l : List _). f y ∷ l) (map_append f ys zs)
-
 -- records of one epoch, for each item
 pub map_flat : {A B C : Type 0} (f : B → C) (g : A → List B) (xs : List A) → map f (flat_map g xs) ≡ flat_map (λ (x : A). map f (g x)) xs
 map_flat f g [] = refl
-map_flat f g (x ∷ xs) = map_append f (g x) (flat_map g xs) ∙ ap (λ (l : List _). map f (g x) ++ l) (map_flat f g xs)
+map_flat f g (x ∷ xs) = map-append f (g x) (flat_map g xs) ∙ ap (λ (l : List _). map f (g x) ++ l) (map_flat f g xs)

@@ -20,16 +20,17 @@ use Rattle.kz_spec_stores.specs.ImageRules.{max_next}
 use Rattle.kz_spec_stores.specs.InOrder.{IsFilled}
 use Rattle.kz_spec_stores.specs.Legal.{IsConfiguration, IsAcl, IsBroker, IsNext}
 use Rattle.kz_laws_znodes.proofs.OtherSteps.{configuration, with_configuration, broker_leads, producer_leads}
-use Rattle.kz_spec_snapshots.specs.Records.{EpochRecord, in_epoch, members_of_brokers, record_of_acl, producer_record, state_records}
-use Rattle.kz_laws_snapshot_records.specs.Returning.{HasEpoch}
-use Rattle.kz_laws_snapshot_records.proofs.Making.{Make, make_led, make_one, all_at, make_each, map_as_flat}
+use Rattle.kz_types.specs.declared.log.EpochRecord.{EpochRecord}
+use Rattle.kz_spec_snapshots.specs.Records.{in_epoch, members_of_brokers, record_of_acl, producer_record, state_records}
+use Rattle.kz_laws_snapshot_records.proofs.Making.{Make, make_led, make_one, all_at, make_each}
+use Rattle.std.proofs.lemmas.List.Concat.{flat_map_single}
 
 -- ---- brokers
 
 not_negative : (z : ℤ) → is_not_negative z ≡ true → int_lt z (pos 0) ≡ false
 not_negative z h = grind (arith, ints)
 
-module _ (i : Image) (brokers : List RegisterBrokerRecord) (rises : Rises int_cmp id_of_broker brokers) (legal : All IsBroker brokers) (epochs : All HasEpoch brokers) (none : i.brokers ≡ []) (epoch : ℤ) where
+module _ (i : Image) (brokers : List RegisterBrokerRecord) (rises : Rises int_cmp id_of_broker brokers) (legal : All IsBroker brokers) (none : i.brokers ≡ []) (epoch : ℤ) where
   abbrev brokers_done : List RegisterBrokerRecord → List RegisterBrokerRecord → Image
   brokers_done done todo = record i { brokers = done }
 
@@ -37,14 +38,13 @@ module _ (i : Image) (brokers : List RegisterBrokerRecord) (rises : Rises int_cm
   broker_one done b rest whole =
       let under = below_split int_order id_of_broker done b rest (subst (Rises int_cmp id_of_broker) whole rises) in
       let own = all_at IsBroker done b rest (subst (All IsBroker) whole legal) in
-      let has = all_at HasEpoch done b rest (subst (All HasEpoch) whole epochs) in
-      make_one epoch (meta.RegisterBroker b) (brokers_done done (b ∷ rest)) refl refl refl (rw (not_negative b.broker_id own, has) refl)
+      make_one epoch (meta.RegisterBroker b) (brokers_done done (b ∷ rest)) refl refl refl (rw (not_negative b.broker_id own.0, own.1) refl)
       ∙ ap (λ (bs : List RegisterBrokerRecord). record i { brokers = bs }) (put_last int_order id_of_broker b done under)
 
   pub brokers_made : Make (map (λ b. in_epoch epoch (meta.RegisterBroker b)) brokers) i (record i { brokers = brokers })
   brokers_made =
       let begin : record i { brokers = [] } ≡ i = ap (λ (bs : List RegisterBrokerRecord). record i { brokers = bs }) (sym none) in
-      subst (λ (rs : List EpochRecord). Make rs i (record i { brokers = brokers })) (sym (map_as_flat (λ b. in_epoch epoch (meta.RegisterBroker b)) brokers))
+      subst (λ (rs : List EpochRecord). Make rs i (record i { brokers = brokers })) (flat_map_single (λ b. in_epoch epoch (meta.RegisterBroker b)) brokers)
       (subst (λ (j : Image). Make (flat_map (λ b. in_epoch epoch (meta.RegisterBroker b) ∷ []) brokers) j (record i { brokers = brokers })) begin
       (make_each brokers (λ b. in_epoch epoch (meta.RegisterBroker b) ∷ []) brokers_done broker_one))
 
@@ -96,7 +96,7 @@ module _ (i : Image) (acls : List AclEntry) (rises : Rises bytes_cmp id_of_acl a
   pub acls_made : Make (map (λ a. in_epoch epoch (record_of_acl a)) acls) i (record i { acls = acls })
   acls_made =
       let begin : record i { acls = [] } ≡ i = ap (λ (es : List AclEntry). record i { acls = es }) (sym none) in
-      subst (λ (rs : List EpochRecord). Make rs i (record i { acls = acls })) (sym (map_as_flat (λ a. in_epoch epoch (record_of_acl a)) acls))
+      subst (λ (rs : List EpochRecord). Make rs i (record i { acls = acls })) (flat_map_single (λ a. in_epoch epoch (record_of_acl a)) acls)
       (subst (λ (j : Image). Make (flat_map (λ a. in_epoch epoch (record_of_acl a) ∷ []) acls) j (record i { acls = acls })) begin
       (make_each acls (λ a. in_epoch epoch (record_of_acl a) ∷ []) acls_done acl_one))
 

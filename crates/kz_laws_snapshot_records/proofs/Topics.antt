@@ -24,7 +24,8 @@ use Rattle.kz_laws_images.proofs.TopicFinds.{other_id, same_id-Decides, find_id-
 use Rattle.kz_laws_znodes.proofs.Groups.{put_over}
 use Rattle.kz_laws_znodes.proofs.TopicSteps.{with_topic, with_members, IsFresh, topic_leads, config_leads}
 use Rattle.kz_spec_snapshots.specs.Records.{in_epoch, partition_of_topic, records_of_topic, members_of_topic}
-use Rattle.kz_laws_snapshot_records.proofs.Making.{Make, make_append, make_led, make_one, all_at, make_each, map_as_flat}
+use Rattle.kz_laws_snapshot_records.proofs.Making.{Make, make_append, make_led, make_one, all_at, make_each}
+use Rattle.std.proofs.lemmas.List.Concat.{flat_map_single}
 
 -- a topic as its record and those of its partitions make it
 abbrev pub bare_topic : TopicEntry → TopicEntry
@@ -99,7 +100,7 @@ module _ (i : Image) (sorted : Rises bytes_cmp name_of_topic i.topics) (name : L
   topic_made epoch ps rises legal =
       make_append (in_epoch epoch (meta.Topic (record { name = name; topic_id = id })) ∷ []) (map (partition_of_topic id) ps) i (with_topic i (with_partitions [])) (with_topic i (with_partitions ps))
       (make_led epoch (meta.Topic (record { name = name; topic_id = id }) ∷ []) i (with_topic i (with_partitions [])) (topic_leads epoch i name id fresh [] tt (All-nil _)))
-      (subst (λ rs. Make rs (with_topic i (with_partitions [])) (with_topic i (with_partitions ps))) (sym (map_as_flat (partition_of_topic id) ps))
+      (subst (λ rs. Make rs (with_topic i (with_partitions [])) (with_topic i (with_partitions ps))) (flat_map_single (partition_of_topic id) ps)
       (make_each ps (λ p. partition_of_topic id p ∷ []) (λ done todo. with_topic i (with_partitions done)) (partition_one ps rises legal)))
 
 -- ---- all topics

@@ -1,9 +1,9 @@
 -- The records of quotas and credentials.
-use Rattle.std.proofs.Common.{◌≡◌, ℕ, suc, ◌<◌, ℤ, pos, true, false, List, [], ◌∷◌, ◌++◌, map, length, Option, Some, None, refl, sym, ap, ◌∙◌, subst, arith}
+use Rattle.std.proofs.Common.{◌≡◌, ℕ, ◌<◌, ℤ, pos, true, false, List, [], ◌∷◌, ◌++◌, map, length, Option, Some, None, refl, sym, ap, ◌∙◌, subst, arith}
 use Rattle.std.specs.Prelude.{int_le, int_lt}
 use Rattle.std.specs.List.{All, Contains, flat_map}
 use Rattle.std.proofs.lemmas.Int.{ints}
-use Rattle.std.proofs.lemmas.List.Elements.{All-nil, All-cons, All-head, All-tail, All-contains}
+use Rattle.std.proofs.lemmas.List.Elements.{All-nil, All-cons, All-head, All-tail, All-contains, Contains-append_right}
 use Rattle.kz_types.specs.declared.bodies.QuotaRow.{QuotaRow}
 use Rattle.kz_types.specs.declared.bodies.ScramPair.{ScramPair}
 use Rattle.kz_types.specs.declared.image.QuotaEntry.{QuotaEntry}
@@ -28,10 +28,6 @@ use Rattle.kz_laws_znodes.proofs.Held.{has_quotas, quota_path, quota_kind_of}
 use Rattle.kz_laws_znodes.proofs.Shown.{quota_key_good}
 use Rattle.kz_spec_snapshots.specs.Records.{in_epoch, image_after, quotas_of_key, quotas_of_entry, scrams_of_entry}
 use Rattle.kz_laws_snapshot_records.proofs.Making.{Make, make_led, all_at, make_each}
-
-contains_at : {A : Type 0} (xs : List A) (y : A) (ys : List A) → Contains (xs ++ y ∷ ys) y
-contains_at [] y ys = (0, omega (arith), refl)
-contains_at (x ∷ xs) y ys = let rest = contains_at xs y ys in (suc rest.0, omega (arith, rest.1), rest.2)
 
 -- ---- quotas
 
@@ -65,7 +61,7 @@ module _ (g : Image) (o : IsInOrder g) (w : IsWritable g) (i : Image) (none : i.
 
   quota_one : (done : List QuotaEntry) (q : QuotaEntry) (rest : List QuotaEntry) → g.quotas ≡ done ++ q ∷ rest → Make (map (in_epoch epoch) (quotas_of_entry q)) (quotas_done done (q ∷ rest)) (quotas_done (done ++ q ∷ []) rest)
   quota_one done q rest whole =
-      let has : Contains g.quotas q = subst (λ (l : List QuotaEntry). Contains l q) (sym whole) (contains_at done q rest) in
+      let has : Contains g.quotas q = subst (λ (l : List QuotaEntry). Contains l q) (sym whole) (Contains-append_right done (q ∷ rest) q (0, omega arith, refl)) in
       let writable : AreQuotasWritable q = All-contains AreQuotasWritable g.quotas q w.quotas has in
       let filled : IsQuotaFilled q = All-contains IsQuotaFilled g.quotas q o.quotas.filled has in
       let legal : IsQuotaEntry q = All-contains IsQuotaEntry g.quotas q o.legal.quotas has in

@@ -17,9 +17,9 @@ use Rattle.kz_spec_stores.specs.Log.{Log, View, IsViewOf, end_of, image_at, imag
 use Rattle.kz_spec_znodes.specs.Rendering.{render}
 use Rattle.kz_spec_znodes.specs.Difference.{diff}
 use Rattle.kz_spec_machine.specs.Driver.{Shared, Driver, at_stage, epoch_or_zero, target_of, last_path, driver_at_log_end, after_log, after_rest, is_recorded_at}
-use Rattle.kz_spec_machine.specs.Sound.{IsEpochOrNone, LogShape, IsBatchEnd, RecordAgrees, IsSharedSound, shown_in, WasElected, MayNotKnow, IsTargetOf, IsAfterMigration, Targets, Writes, IsAtRest, is_filling, AtStage, IsSoundDriver}
+use Rattle.kz_spec_machine.specs.Sound.{IsEpochOrNone, LogShape, IsBatchEnd, IsPastCommit, RecordAgrees, IsSharedSound, shown_in, WasElected, MayNotKnow, IsTargetOf, IsAfterMigration, Targets, Writes, IsAtRest, is_filling, AtStage, IsSoundDriver}
 use Rattle.kz_laws_trees.proofs.Ends.{base_within, end_least, end_is_batch_end, batch_end_within, batch_end_least, image_before}
-use Rattle.kz_laws_trees.proofs.Commits.{commit_within}
+use Rattle.kz_laws_trees.proofs.Commits.{end_is_past}
 use Rattle.kz_laws_drivers.proofs.Numbers.{less_itself, at_most_by, at_most_then, both_at_most, less_or_same}
 use Rattle.kz_laws_steps.proofs.Tests.{true_or_false, own_epoch, epoch_or_none}
 use Rattle.kz_laws_steps.proofs.Ways.{lasts_read, either, unless_over, moved, read_on, read_stays}
@@ -75,7 +75,7 @@ aims s d kept fine elected migrated =
 targets_end : (s : Shared) (target : Recorded) → IsSharedSound s → is_migrated_log s.log ≡ true → target.offset ≡ end_of s.log → Targets s.tree s.log target
 targets_end s target kept migrated is = record {
   end = subst (IsBatchEnd s.log) (sym is) (end_is_batch_end s.log);
-  past = λ c commit. subst (λ (o : ℤ). c ≤ℤ o) (sym is) (commit_within s.log c kept.log commit);
+  past = subst (IsPastCommit s.log) (sym is) (end_is_past s.log kept.log);
   recorded = λ r found. subst (λ (o : ℤ). r.offset ≤ℤ o) (sym is) (recorded_within s r kept migrated found);
 }
 

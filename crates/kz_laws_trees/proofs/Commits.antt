@@ -1,14 +1,14 @@
 -- The commit of a log stays where more records come that end no transaction.
-use Rattle.std.proofs.Common.{◌≡◌, ℤ, pos, ◌+ℤ◌, ◌≤ℤ◌, ◌<ℤ◌, int_lt, Bool, true, false, ◌&&◌, ◌||◌, cond, List, [], ◌∷◌, ◌++◌, Option, Some, None, option_map, refl, ap, ◌∙◌, subst, arith}
+use Rattle.std.proofs.Common.{◌≡◌, ◌⊎◌, inl, inr, zero, suc, ℤ, pos, ◌+ℤ◌, ◌≤ℤ◌, ◌<ℤ◌, int_lt, Bool, true, false, ◌&&◌, ◌||◌, cond, List, [], ◌∷◌, ◌++◌, Option, Some, None, option_map, refl, sym, ap, ◌∙◌, subst, arith}
 use Rattle.std.specs.Ordering.{int_eq}
-use Rattle.std.specs.List.{list_any, find}
+use Rattle.std.specs.List.{Contains, list_any, find}
 use Rattle.std.proofs.lemmas.Bool.Decides.{Decides-int_eq}
 use Rattle.std.proofs.lemmas.Int.{ints}
 use Rattle.kz_types.specs.declared.log.Entry.{Entry}
 use Rattle.kz_types.specs.declared.record.MetaRecord.{MetaRecord}
 use Rattle.kz_spec_stores.specs.Settlement.{is_end, closes, is_inside, first_close, is_migration, is_at, ends_migration, commit}
 use Rattle.kz_spec_stores.specs.Log.{Log, end_of, entries, with_batch, commit_of}
-use Rattle.kz_spec_machine.specs.Sound.{LogShape}
+use Rattle.kz_spec_machine.specs.Sound.{LogShape, IsPastCommit}
 use Rattle.kz_laws_trees.proofs.Logs.{AllAfter, and_third, any_same, inside_same, numbered_after}
 use Rattle.kz_laws_trees.proofs.Migration.{AllUpTo, NoneEnds, entries_more, up_to_end, next_entries}
 
@@ -99,15 +99,75 @@ commit_kept l epoch now items shape none =
     ap commit (entries_more l epoch now items)
     ∙ commit_same (end_of l) (entries l.batches) (next_entries l epoch items) (up_to_end l shape) (numbered_after (end_of l) (end_of l +ℤ pos 1) epoch items (omega (arith, ints))) none
 
--- ---- it isn't after the log's end
+-- ---- which offsets aren't before a commit
 
-found_by : (at c : ℤ) (b : Bool) (e : Entry) (m : Option Entry) → e.offset ≤ℤ at → (option_map (λ (x : Entry). x.offset) m ≡ Some c → c ≤ℤ at) → option_map (λ (x : Entry). x.offset) (cond b (Some e) m) ≡ Some c → c ≤ℤ at
-found_by at c true e m low rest is = let same : e.offset ≡ c = cc in subst (λ (o : ℤ). o ≤ℤ at) same low
-found_by at c false e m low rest is = rest is
+contained_up_to : (at : ℤ) (es : List Entry) (e : Entry) → AllUpTo at es → Contains es e → e.offset ≤ℤ at
+contained_up_to at [] e up_to (n, within, is) = absurd (omega (arith, within))
+contained_up_to at (x ∷ es) e up_to (zero, within, is) = subst (λ (y : Entry). y.offset ≤ℤ at) is up_to.0
+contained_up_to at (x ∷ es) e up_to (suc n, within, is) = contained_up_to at es e up_to.1 (n, omega (arith, within), is)
 
-found_up_to : (at c : ℤ) (p : Entry → Bool) (es : List Entry) → AllUpTo at es → option_map (λ (x : Entry). x.offset) (find p es) ≡ Some c → c ≤ℤ at
-found_up_to at c p [] up_to is = absurd (cc)
-found_up_to at c p (e ∷ es) up_to is = found_by at c (p e) e (find p es) up_to.0 (found_up_to at c p es up_to.1) is
+contained_in_either : (xs ys : List Entry) (e : Entry) → Contains (xs ++ ys) e → Contains xs e ⊎ Contains ys e
+contained_in_either [] ys e has = inr has
+contained_in_either (x ∷ xs) ys e (zero, within, is) = inl (0, omega (arith), is)
+contained_in_either (x ∷ xs) ys e (suc n, within, is) = by (contained_in_either xs ys e (n, omega (arith, within), is))
+  where
+    by : Contains xs e ⊎ Contains ys e → Contains (x ∷ xs) e ⊎ Contains ys e
+    by (inl has) = inl (suc has.0, omega (arith, has.1), has.2)
+    by (inr has) = inr has
 
-pub commit_within : (l : Log) (c : ℤ) → LogShape l → commit_of l ≡ Some c → c ≤ℤ end_of l
-commit_within l c shape is = found_up_to (end_of l) c (ends_migration (entries l.batches)) (entries l.batches) (up_to_end l shape) is
+contained_first : (xs ys : List Entry) (e : Entry) → Contains xs e → Contains (xs ++ ys) e
+contained_first [] ys e (n, within, is) = absurd (omega (arith, within))
+contained_first (x ∷ xs) ys e (zero, within, is) = (0, omega (arith), is)
+contained_first (x ∷ xs) ys e (suc n, within, is) = let rest = contained_first xs ys e (n, omega (arith, within), is) in (suc rest.0, omega (arith, rest.1), rest.2)
+
+none_contained : (es : List Entry) (e : Entry) → NoneEnds es → Contains es e → is_end e.item ≡ false
+none_contained [] e none (n, within, is) = absurd (omega (arith, within))
+none_contained (x ∷ es) e none (zero, within, is) = subst (λ (y : Entry). is_end y.item ≡ false) is none.0
+none_contained (x ∷ es) e none (suc n, within, is) = none_contained es e none.1 (n, omega (arith, within), is)
+
+ends_nothing : (all : List Entry) (e : Entry) → is_end e.item ≡ false → ends_migration all e ≡ true → ⊥
+ends_nothing all e none ends =
+    let both : false ≡ true = sym (not_first (is_end e.item) (list_any (is_of_commit all e.offset) all) none) ∙ ends in absurd (cc)
+
+-- the log's end
+pub end_is_past : (l : Log) → LogShape l → IsPastCommit l (end_of l)
+end_is_past l shape e has ends = contained_up_to (end_of l) (entries l.batches) e (up_to_end l shape) has
+
+either_past : (l : Log) (new : List Entry) (k : ℤ) → LogShape l → AllAfter (end_of l) new → NoneEnds new → IsPastCommit l k → (e : Entry) → ends_migration (entries l.batches ++ new) e ≡ true → Contains (entries l.batches) e ⊎ Contains new e → e.offset ≤ℤ k
+either_past l new k shape after none past e ends (inl old) =
+    let up_to = up_to_end l shape in
+    past e old (sym (ends_same (end_of l) (entries l.batches) new e up_to after (contained_up_to (end_of l) (entries l.batches) e up_to old)) ∙ ends)
+either_past l new k shape after none past e ends (inr late) = absurd (ends_nothing (entries l.batches ++ new) e (none_contained new e none late) ends)
+
+next_after : (l : Log) (epoch : ℤ) (items : List MetaRecord) → AllAfter (end_of l) (next_entries l epoch items)
+next_after l epoch items = numbered_after (end_of l) (end_of l +ℤ pos 1) epoch items (omega (arith, ints))
+
+-- one that was it, after a batch that ends no transaction
+pub past_kept : (l : Log) (epoch now : ℤ) (items : List MetaRecord) (k : ℤ) → LogShape l → NoneEnds (next_entries l epoch items) → IsPastCommit l k → IsPastCommit (with_batch l epoch now items) k
+past_kept l epoch now items k shape none past e has ends =
+    let more = entries_more l epoch now items in
+    either_past l (next_entries l epoch items) k shape (next_after l epoch items) none past e
+    (subst (λ (all : List Entry). ends_migration all e ≡ true) more ends)
+    (contained_in_either (entries l.batches) (next_entries l epoch items) e (subst (λ (all : List Entry). Contains all e) more has))
+
+-- one that is it after a batch was so before it
+pub past_before : (l : Log) (epoch now : ℤ) (items : List MetaRecord) (k : ℤ) → LogShape l → IsPastCommit (with_batch l epoch now items) k → IsPastCommit l k
+past_before l epoch now items k shape past e has ends =
+    let more = entries_more l epoch now items in
+    let up_to = up_to_end l shape in
+    let es = entries l.batches in
+    let new = next_entries l epoch items in
+    past e (subst (λ (all : List Entry). Contains all e) (sym more) (contained_first es new e has))
+    (subst (λ (all : List Entry). ends_migration all e ≡ true) (sym more) (ends_same (end_of l) es new e up_to (next_after l epoch items) (contained_up_to (end_of l) es e up_to has) ∙ ends))
+
+found_by : (k c : ℤ) (p : Entry → Bool) (es : List Entry) → ((e : Entry) → Contains es e → p e ≡ true → e.offset ≤ℤ k) → option_map (λ (x : Entry). x.offset) (find p es) ≡ Some c → c ≤ℤ k
+found_by k c p [] past is = absurd (cc)
+found_by k c p (x ∷ es) past is = by (p x) refl (found_by k c p es (λ e has. past e (suc has.0, omega (arith, has.1), has.2))) is
+  where
+    by : (b : Bool) → p x ≡ b → (option_map (λ (y : Entry). y.offset) (find p es) ≡ Some c → c ≤ℤ k) → option_map (λ (y : Entry). y.offset) (cond b (Some x) (find p es)) ≡ Some c → c ≤ℤ k
+    by true t rest found = let same : x.offset ≡ c = cc in subst (λ (o : ℤ). o ≤ℤ k) same (past x (0, omega (arith), refl) t)
+    by false t rest found = rest found
+
+-- the log's commit isn't after such an offset
+pub commit_is_past : (l : Log) (c k : ℤ) → IsPastCommit l k → commit_of l ≡ Some c → c ≤ℤ k
+commit_is_past l c k past is = found_by k c (ends_migration (entries l.batches)) (entries l.batches) past is

@@ -7,7 +7,7 @@ use Rattle.kz_types.specs.declared.log.BatchRow.{BatchRow}
 use Rattle.kz_types.specs.declared.log.Entry.{Entry}
 use Rattle.kz_types.specs.declared.record.MetaRecord.{MetaRecord}
 use Rattle.kz_spec_stores.specs.Image.{empty_image}
-use Rattle.kz_spec_stores.specs.Log.{Log, Follow, last_of, last_end, end_of, record_count, entries_of_batch, entries, all_entries_applied, image_at, new_batch, with_batch}
+use Rattle.kz_spec_stores.specs.Log.{Log, IsLog, Follow, last_of, last_end, end_of, record_count, entries_of_batch, entries, all_entries_applied, image_at, new_batch, with_batch}
 use Rattle.kz_spec_machine.specs.Sound.{LogShape, IsBatchEnd}
 use Rattle.kz_laws_trees.proofs.Logs.{AllAfter, counted_same, numbered_after}
 
@@ -67,11 +67,11 @@ count_more bs b = sum_by-append (λ (x : BatchRow). length x.items) bs (b ∷ []
 -- ---- batch ends
 
 -- a list whose last item is this
-record LastIs (xs : List ℤ) (e : ℤ) : Type 0 where
-  front : List ℤ
-  whole : xs ≡ front ++ e ∷ []
+pub record LastIs (xs : List ℤ) (e : ℤ) : Type 0 where
+  pub front : List ℤ
+  pub whole : xs ≡ front ++ e ∷ []
 
-last_is : (from : ℤ) (bs : List BatchRow) → LastIs (from ∷ map last_of bs) (last_end from bs)
+pub last_is : (from : ℤ) (bs : List BatchRow) → LastIs (from ∷ map last_of bs) (last_end from bs)
 last_is from [] = record { front = []; whole = refl }
 last_is from (b ∷ bs) = let rest = last_is (last_of b) bs in record { front = from ∷ rest.front; whole = ap (λ l. from ∷ l) rest.whole }
 
@@ -118,8 +118,11 @@ least_by from (b ∷ bs) (x ∷ before) offset after follows is =
     let rest : last_of b ∷ map last_of bs ≡ before ++ offset ∷ after = cc in
     at_most_then from (last_of b) offset (counted_up from (last_of b) (length b.items) (last_of_is from b follows.0)) (least_by (last_of b) bs before offset after follows.2 rest)
 
+pub least_end : (l : Log) (offset : ℤ) → IsLog l → IsBatchEnd l offset → l.base ≤ℤ offset
+least_end l offset log e = least_by l.base l.batches e.before offset e.after log.follow e.among
+
 pub batch_end_least : (l : Log) (offset : ℤ) → LogShape l → IsBatchEnd l offset → l.base ≤ℤ offset
-batch_end_least l offset shape e = least_by l.base l.batches e.before offset e.after shape.log.follow e.among
+batch_end_least l offset shape = least_end l offset shape.log
 
 -- ---- at the base
 
@@ -140,10 +143,16 @@ entries_after at from (b ∷ bs) low follows = all_after_append at (entries_of_b
     last at from l n low is = omega (arith, ints)
 
 -- the metadata at the base is that of the base
-pub image_at_base : (l : Log) → LogShape l → image_at l l.base ≡ l.base_image
+pub base_image_is : (l : Log) → IsLog l → image_at l l.base ≡ l.base_image
 unfolding image_at
-image_at_base l shape = ap (λ es. all_entries_applied es l.base_image) (counted_same l.base [] (entries l.batches) (entries_after l.base l.base l.batches (omega (arith, ints)) shape.log.follow))
+base_image_is l log = ap (λ es. all_entries_applied es l.base_image) (counted_same l.base [] (entries l.batches) (entries_after l.base l.base l.batches (omega (arith, ints)) log.follow))
+
+pub image_at_base : (l : Log) → LogShape l → image_at l l.base ≡ l.base_image
+image_at_base l shape = base_image_is l shape.log
 
 -- and empty, where the log begins with its first record
+pub empty_before : (l : Log) → IsLog l → l.base ≡ negsuc 0 → image_at l (negsuc 0) ≡ empty_image
+empty_before l log first = subst (λ (at : ℤ). image_at l at ≡ empty_image) first (base_image_is l log ∙ log.base_image first)
+
 pub image_before : (l : Log) → LogShape l → l.base ≡ negsuc 0 → image_at l (negsuc 0) ≡ empty_image
-image_before l shape first = subst (λ (at : ℤ). image_at l at ≡ empty_image) first (image_at_base l shape ∙ shape.log.base_image first)
+image_before l shape = empty_before l shape.log

@@ -20,7 +20,7 @@ use Rattle.kz_laws_trees.proofs.Logs.{not_at_most, filter_none, image_kept, numb
 use Rattle.kz_laws_trees.specs.LogLaws.{IsPlain, IsUncommitted}
 use Rattle.kz_laws_trees.proofs.Migration.{AllUpTo, NoneEnds, entries_more, up_to_end, next_entries, numbered_plain, plain_ends, plain_keeps_state, uncommitted_stays, commit_migrates}
 use Rattle.kz_laws_trees.proofs.Ends.{follows_more, end_is_batch_end, batch_end_kept, batch_end_within}
-use Rattle.kz_laws_trees.proofs.Commits.{commit_kept}
+use Rattle.kz_laws_trees.proofs.Commits.{past_kept}
 
 -- ---- the shape
 
@@ -134,7 +134,7 @@ batch_lengthens l epoch now items shape low some stays none = record {
   view = λ v old. view_more l epoch now items v shape old;
   batch_end = λ at e. batch_end_kept l epoch now items at e;
   within = λ at e. batch_end_within l at shape e;
-  past = λ migrated at old c is. old c (sym (commit_kept l epoch now items shape (none migrated)) ∙ is);
+  past = λ migrated at old. past_kept l epoch now items at shape (none migrated) old;
   migrated = stays;
 }
 

@@ -42,7 +42,7 @@ numbered_up_to at first epoch (r ∷ rs) low = (here first (length rs) low, numb
     later : (f : ℤ) (n : ℕ) → ((f +ℤ pos (suc n)) -ℤ pos 1) ≤ℤ at → (((f +ℤ pos 1) +ℤ pos n) -ℤ pos 1) ≤ℤ at
     later f n low = omega (arith, ints)
 
-entries_up_to : (at from : ℤ) (bs : List BatchRow) → last_end from bs ≤ℤ at → Follow from bs → AllUpTo at (entries bs)
+pub entries_up_to : (at from : ℤ) (bs : List BatchRow) → last_end from bs ≤ℤ at → Follow from bs → AllUpTo at (entries bs)
 entries_up_to at from [] low follows = tt
 entries_up_to at from (b ∷ bs) low follows = up_to_append at (entries_of_batch b) (entries bs)
     (numbered_up_to at b.first b.epoch b.items (before (last_of b) (last_end (last_of b) bs) (counted_up (last_of b) (last_end (last_of b) bs) (record_count bs) (end_counts (last_of b) bs follows.2)) low))

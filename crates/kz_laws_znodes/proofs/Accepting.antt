@@ -29,15 +29,18 @@ pub record Keeps (i : Image) (r : MetaRecord) : Type 0 where
   pub new : repeats i r ≡ false
   pub valued : is_misvalued i r ≡ false
 
-unbroken : (i : Image) (r : MetaRecord) → Keeps i r → broken_rule i r ≡ None
+pub unbroken : (i : Image) (r : MetaRecord) → is_misnamed r ≡ false → lacks i r ≡ false → repeats i r ≡ false → is_misvalued i r ≡ false → broken_rule i r ≡ None
 unfolding broken_rule
-unbroken i r k = rw (k.named, k.there, k.new, k.valued) refl
+unbroken i r named there new valued = rw (named, there, new, valued) refl
+
+unbroken_by : (i : Image) (r : MetaRecord) → Keeps i r → broken_rule i r ≡ None
+unbroken_by i r k = unbroken i r k.named k.there k.new k.valued
 
 unrefused : (i : Image) (r : MetaRecord) → Keeps i r → rule_against i r ≡ None
-unrefused i r k = ap (λ b. if b then Some NotAllowed else broken_rule i r) k.plain ∙ unbroken i r k
+unrefused i r k = ap (λ b. if b then Some NotAllowed else broken_rule i r) k.plain ∙ unbroken_by i r k
 
 pub leads_one : (epoch : ℤ) (i : Image) (r : MetaRecord) → Keeps i r → Leads epoch (r ∷ []) i (effect epoch r i)
-leads_one epoch i r k = record { accepted = (unrefused i r k, tt); made = ap (λ o. unless_broken o (effect epoch r i) i) (unbroken i r k) }
+leads_one epoch i r k = record { accepted = (unrefused i r k, tt); made = ap (λ o. unless_broken o (effect epoch r i) i) (unbroken_by i r k) }
 
 pub leads_none : (epoch : ℤ) (i : Image) → Leads epoch [] i i
 leads_none epoch i = record { accepted = tt; made = refl }

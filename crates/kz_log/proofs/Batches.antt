@@ -73,7 +73,7 @@ and_false true = refl
 and_false false = refl
 
 module _ (at : ℤ) where
-  past : (from : ℤ) (e : Entry) → e.offset ≡ from +ℤ pos 1 → at ≤ℤ from → int_le e.offset at ≡ false
+  pub past : (from : ℤ) (e : Entry) → e.offset ≡ from +ℤ pos 1 → at ≤ℤ from → int_le e.offset at ≡ false
   past from e h over = grind (arith, ints)
 
   pub within : (from : ℤ) (e : Entry) → e.offset ≡ from +ℤ pos 1 → from <ℤ at → int_le e.offset at ≡ true

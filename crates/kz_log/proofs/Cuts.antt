@@ -96,7 +96,7 @@ none_there : (x : ℤ) (xs ys : List ℤ) → [] ≡ xs ++ x ∷ ys → ⊥
 none_there x [] ys h = cc
 none_there x (y ∷ xs) ys h = cc
 
-cut_at : (from position : ℤ) (batches : List BatchRow) (before after : List ℤ) → from ∷ map last_of batches ≡ before ++ position ∷ after
+pub cut_at : (from position : ℤ) (batches : List BatchRow) (before after : List ℤ) → from ∷ map last_of batches ≡ before ++ position ∷ after
     → (bs cs : List BatchRow) × (batches ≡ bs ++ cs) × (last_end from bs ≡ position)
 cut_at from position batches [] after h = ([], batches, refl, head_is from position (map last_of batches) after h)
 cut_at from position [] (x ∷ before) after h = absurd (none_there position before after (tail_is from x [] (before ++ position ∷ after) h))

@@ -2,5 +2,8 @@ pub mod Batches
 pub mod Building
 pub mod Cuts
 pub mod Offsets
+pub mod Snapshots
+pub mod OpenAt
+pub mod Pushing
 pub mod Views
 pub mod Wires

@@ -1,9 +1,9 @@
 -- What a store of a log answers a request.
-use Rattle.std.specs.Prelude.{◌≡◌, Result, Ok, Err, ⊤}
+use Rattle.std.specs.Prelude.{ℤ, ◌≡◌, Result, Ok, Err, ⊤}
 use Rattle.kz_image.specs.declared.feed.Feed.{Feed}
 use Rattle.kz_types.specs.declared.fault.LogFault.{LogFault}
 use Rattle.kz_types.specs.declared.fault.LogFault.TheVariants as fault
-use Rattle.kz_spec_stores.specs.Log.{Log, Feed as FeedOf, end_of, reset}
+use Rattle.kz_spec_stores.specs.Log.{Log, Feed as FeedOf, end_of, reset, snapshot}
 use Rattle.kz_log.specs.declared.store.Elected.{Elected}
 
 -- the epoch and the last offset of a log
@@ -20,6 +20,10 @@ pub record IsFeed (read : FeedOf) (f : Feed) : Type 0 where
 -- nothing refuses a reset
 abbrev pub made_by_reset : Log → Result Log LogFault
 made_by_reset l = Ok (reset l)
+
+-- nor a snapshot
+abbrev pub made_by_snapshot : Log → ℤ → Result Log LogFault
+made_by_snapshot l at = Ok (snapshot l at)
 
 -- A fault that refuses a change is the one that the definition says. Of the other faults the store's disk tells.
 abbrev pub IsRefusal : Result Log LogFault → LogFault → Type 0

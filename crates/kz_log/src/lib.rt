@@ -2,6 +2,7 @@
 //! requests. A view is what a controller knows of a log.
 #![tactic(auto)]
 
+mod base;
 mod builder;
 mod cursor;
 mod ends;

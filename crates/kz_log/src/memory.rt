@@ -96,7 +96,17 @@ impl MetaLog for MemoryLog {
     }
 
     fn reset(&mut self) -> Result<(), LogFault> {
-        self.rows.reset(self.alloc);
+        self.rows = self.rows.emptied(self.alloc);
         Ok(())
+    }
+
+    fn snapshot(&mut self, offset: i64) -> Result<(), LogFault> {
+        match self.rows.cut(self.alloc, offset) {
+            Ok(rows) => {
+                self.rows = rows;
+                Ok(())
+            }
+            Err(NoMemory) => Err(LogFault::NoMemory),
+        }
     }
 }

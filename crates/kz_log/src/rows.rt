@@ -1,11 +1,15 @@
 //! A log that is held whole.
-ghost use Rattle.std.specs.Prelude.{◌≡◌, ◌≤◌, ◌<◌, ◌≤ℤ◌, pos, None, List, length, drop, IfOk, OnOk, OnErr};
+ghost use Rattle.std.specs.Prelude.{◌≡◌, ◌≤◌, ◌<◌, ◌+ℤ◌, ◌≤ℤ◌, true, pos, negsuc, None, List, [], ◌∷◌, ◌++◌, length, drop, IfOk, OnOk, OnErr};
 ghost use Rattle.std.specs.List.{filter};
+ghost use Rattle.kz_types.specs.declared.limits.TheConstants.{MAX_LONG};
+ghost use Rattle.kz_types.specs.declared.log.BatchRow.{BatchRow as BatchRowValue};
 ghost use Rattle.kz_types.specs.declared.record.MetaRecord.{MetaRecord as MetaRecordValue};
-ghost use Rattle.kz_spec_stores.specs.Log.{IsLog, empty_log, end_of, batch_ends, image_at, full_log, with_batch, begins_after, feed_from, reset};
+ghost use Rattle.kz_spec_stores.specs.Image.{empty_image};
+ghost use Rattle.kz_spec_stores.specs.Log.{Log, IsLog, empty_log, end_of, batch_ends, image_at, full_log, new_batch, with_batch, begins_after, feed_from, may_be_base, reset, snapshot, with_row};
 ghost use Rattle.kz_log.specs.Requests.{IsFeed};
-ghost use Rattle.kz_log.specs.Rows.{log_of};
+ghost use Rattle.kz_log.specs.Rows.{log_of, GoesOn, IsPushed};
 
+use crate::base::is_open_at;
 use crate::ends::{all_ends, count_of, offset_after};
 use crate::pass::later_image;
 use kz_image::{Feed, Image};
@@ -71,6 +75,13 @@ impl LogRows {
         }
     }
 
+    /// What is held is a log.
+    pub fn is_log(&self)
+        ensures { IsLog self.now }
+    {
+        let _count = self.count;
+    }
+
     /// The epoch of the controller that was elected last, or 0.
     pub fn epoch(&self) -> i32
         ensures { result ≡ self.now.epoch }
@@ -83,6 +94,13 @@ impl LogRows {
         ensures { result ≡ self.now.base }
     {
         self.base
+    }
+
+    /// The metadata at the base.
+    pub fn base_image(&self) -> &Image
+        ensures { result.now ≡ self.now.base_image }
+    {
+        &self.base_image
     }
 
     /// The last offset, or the base where there is no record after it.
@@ -113,6 +131,17 @@ impl LogRows {
         later_image(alloc, self.base, &self.base_image, &self.batches, offset)
     }
 
+    /// Whether the log may be cut at an offset: it is the base or the last offset of a batch, and no transaction is open there.
+    pub fn may_be_base(&self, alloc: Global, offset: i64) -> Result<bool, NoMemory>
+        ensures { IfOk result (λ may. may ≡ may_be_base self.now offset) }
+    {
+        let ends = self.batch_ends(alloc)?;
+        if !ends.contains(&offset) {
+            return Ok(false);
+        }
+        Ok(!is_open_at(self.base, &self.batches, offset))
+    }
+
     /// The number of the limit that so many further records would pass, if any: that of `Limit::Records` where the log would
     /// have more than `MAX_RECORDS` records after its base, else that of `Limit::Long` where its last offset would be above
     /// `MAX_LONG`.
@@ -125,6 +154,55 @@ impl LogRows {
             Some(Limit::Long.number())
         } else {
             None
+        }
+    }
+
+    /// The batch of these records after the log's end.
+    pub fn batch(
+        &self,
+        alloc: Global,
+        epoch: i32,
+        now: i64,
+        items: &[MetaRecord],
+    ) -> Result<BatchRow, NoMemory>
+        requires some { 0 < length items.now }
+        requires room { (end_of self.now +ℤ pos (length items.now)) ≤ℤ MAX_LONG }
+        ensures { IfOk result (λ row. row ≡ new_batch self.now epoch now items.now) }
+    {
+        let copies = copy_all(alloc, items)?;
+        Ok(BatchRow {
+            first: self.end() + 1,
+            epoch,
+            time: now,
+            items: Sequence::from_vec(copies),
+        })
+    }
+
+    /// Adds a batch that follows on the log, whose epoch is the log's from then on. At `Err` the log is as it was.
+    pub fn push(&mut self, row: BatchRow) -> Result<(), NoMemory>
+        requires { GoesOn self.old row }
+        ensures ok { OnOk result (self.new ≡ with_row self.old row) }
+        ensures is_log { OnOk result (IsLog self.new) }
+        ensures err { OnErr result (self.new ≡ self.old) }
+    {
+        let epoch = row.epoch;
+        let count = row.items.len();
+        let Ok(()) = self.batches.push(row) else {
+            return Err(NoMemory);
+        };
+        self.count += count;
+        self.epoch = epoch;
+        Ok(())
+    }
+
+    /// Takes the last batch off again, which was added to a log of this epoch.
+    pub fn pop(&mut self, epoch: i32)
+        requires { IsPushed epoch self.old }
+        ensures { (l : Log) (b : BatchRowValue) → l.epoch ≡ epoch → self.old ≡ with_row l b → self.new ≡ l }
+    {
+        if let Some(row) = self.batches.pop() {
+            self.count -= row.items.len();
+            self.epoch = epoch;
         }
     }
 
@@ -144,17 +222,8 @@ impl LogRows {
         ensures is_log { OnOk result (IsLog self.new) }
         ensures err { OnErr result (self.new ≡ self.old) }
     {
-        let copies = copy_all(alloc, items)?;
-        let batch = BatchRow {
-            first: self.end() + 1,
-            epoch,
-            time: now,
-            items: Sequence::from_vec(copies),
-        };
-        self.batches.push(batch)?;
-        self.count += items.len();
-        self.epoch = epoch;
-        Ok(())
+        let row = self.batch(alloc, epoch, now, items)?;
+        self.push(row)
     }
 
     // The place of the first batch after an offset.
@@ -196,14 +265,47 @@ impl LogRows {
         })
     }
 
-    /// Drops all batches and the base. The epoch stays.
-    pub fn reset(&mut self, alloc: Global)
-        ensures reset { self.new ≡ reset self.old }
-        ensures is_log { IsLog self.new }
+    /// The log without its batches and without a base, whose epoch stays.
+    pub fn emptied(&self, alloc: Global) -> Self
+        ensures reset { result ≡ reset self.now }
+        ensures is_log { IsLog result }
     {
-        self.base = -1;
-        self.base_image = Image::new(alloc);
-        self.count = 0;
-        self.batches = Vec::new(alloc);
+        LogRows {
+            epoch: self.epoch,
+            base: -1,
+            base_image: Image::new(alloc),
+            count: 0,
+            batches: Vec::new(alloc),
+        }
+    }
+
+    /// The log with this base and this metadata there, and the batches after it. The base is a batch end at which no transaction is
+    /// open.
+    pub fn with_base(&self, alloc: Global, base: i64, image: Image) -> Result<Self, NoMemory>
+        requires may { may_be_base self.now base ≡ true }
+        requires empty { base ≡ negsuc 0 → image ≡ empty_image }
+        ensures base { IfOk result (λ rows. rows ≡ record self.now { base = base; base_image = image; batches = filter (begins_after base) self.now.batches }) }
+        ensures is_log { IfOk result (λ rows. IsLog rows) }
+    {
+        let batches = copy_all(alloc, &self.batches[self.place_after(base)..])?;
+        let count = count_of(&batches);
+        Ok(LogRows {
+            epoch: self.epoch,
+            base,
+            base_image: image,
+            count,
+            batches,
+        })
+    }
+
+    /// The log that is its metadata alone up to an offset, a batch end at which no transaction is open.
+    pub fn cut(&self, alloc: Global, offset: i64) -> Result<Self, NoMemory>
+        requires { may_be_base self.now offset ≡ true }
+        ensures cut { IfOk result (λ rows. rows ≡ snapshot self.now offset) }
+        ensures is_log { IfOk result (λ rows. IsLog rows) }
+    {
+        self.is_log();
+        let image = self.image_at(alloc, offset)?;
+        self.with_base(alloc, offset, image)
     }
 }

@@ -1,9 +1,9 @@
 //! A store that holds a metadata log.
-ghost use Rattle.std.specs.Prelude.{◌≡◌, ◌<◌, ◌≤ℤ◌, ℕ, false, Option, pos, length, IfOk, IfErr, OnOk, OnErr, IsErrOf, Ok};
+ghost use Rattle.std.specs.Prelude.{◌≡◌, ◌<◌, ◌≤ℤ◌, ℕ, true, false, Option, pos, length, IfOk, IfErr, OnOk, OnErr, IsErrOf, Ok};
 ghost use Rattle.kz_spec_stores.specs.Log as logs;
-ghost use Rattle.kz_spec_stores.specs.Log.{Log, IsLog, end_of, feed_from};
-ghost use Rattle.kz_spec_stores.specs.Requests.{Disk, LogChange, Append, Elect, Reset, answer_of_log_fault, answer_by, IsTaken, ChangesDisk, ReadsDisk, Only, Between};
-ghost use Rattle.kz_log.specs.Requests.{IsElected, IsFeed, IsRefusal, made_by_reset};
+ghost use Rattle.kz_spec_stores.specs.Log.{Log, IsLog, end_of, feed_from, may_be_base};
+ghost use Rattle.kz_spec_stores.specs.Requests.{Disk, LogChange, Append, Elect, Reset, Snapshot, answer_of_log_fault, answer_by, IsTaken, ChangesDisk, ReadsDisk, Only, Between};
+ghost use Rattle.kz_log.specs.Requests.{IsElected, IsFeed, IsRefusal, made_by_reset, made_by_snapshot};
 
 use kz_image::Feed;
 use kz_types::{LogFault, MetaRecord};
@@ -85,6 +85,16 @@ pub trait MetaLog {
         ensures same { OnErr result (log self.new ≡ log self.old) }
         ensures disk { ChangesDisk (IsTaken (made_by_reset (log self.old))) (payload_bytes (log self.old) Reset) (answer_by answer_of_log_fault result) (disk self.old) (disk self.new) }
         ensures stop { IsErrOf result LogFault.Failed → Between (log self.old) (made_by_reset (log self.old)) (left self.new) };
+
+    /// Cuts the log at an offset, a batch end at which no transaction is open: up to it, the log is its metadata alone from then on
+    /// (KIP-630). Nothing refuses it; the faults of the disk and `NoMemory` are those of an append.
+    fn snapshot(&mut self, offset: i64) -> Result<(), LogFault>
+        requires { may_be_base (log self.old) offset ≡ true }
+        ensures ok { OnOk result (log self.new ≡ logs.snapshot (log self.old) offset) }
+        ensures refused { IfErr result (IsRefusal (made_by_snapshot (log self.old) offset)) }
+        ensures same { OnErr result (log self.new ≡ log self.old) }
+        ensures disk { ChangesDisk (IsTaken (made_by_snapshot (log self.old) offset)) (payload_bytes (log self.old) (Snapshot offset)) (answer_by answer_of_log_fault result) (disk self.old) (disk self.new) }
+        ensures stop { IsErrOf result LogFault.Failed → Between (log self.old) (made_by_snapshot (log self.old) offset) (left self.new) };
 
     /// What the store holds is a log.
     ghost is_log: { (s : Self) → IsLog (log s) };

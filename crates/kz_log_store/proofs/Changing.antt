@@ -11,23 +11,13 @@ use Rattle.kz_types.specs.declared.log.BatchRow.{BatchRow}
 use Rattle.kz_types.specs.declared.record.MetaRecord.{MetaRecord}
 use Rattle.kz_types.specs.declared.fault.LogFault.{LogFault}
 use Rattle.kz_types.specs.declared.fault.LogFault.TheVariants as fault
-use Rattle.kz_spec_stores.specs.Log.{Log, append, elect, full_log, log_unless_limit, new_batch, with_batch, with_next_epoch}
+use Rattle.kz_spec_stores.specs.Log.{Log, append, elect, full_log, log_unless_limit, new_batch, with_batch, with_next_epoch, with_row}
 use Rattle.kz_spec_stores.specs.Requests.{Disk, StoreFile, Fits, with_frame, file_with, StoreAnswer, Done, Refused, NoMemory, Failed, Down, Full, ChangesDisk, IsTaken, Either, Between}
 use Rattle.kz_store_file.proofs.Stops.{between_from_either}
-use Rattle.kz_log.proofs.Batches.{room_for}
-use Rattle.kz_spec_files.specs.LogFile.{after_payload, batch_payload, with_row}
-use Rattle.kz_log_store.specs.Payloads.{GoesOn, IsPayloadOf}
-
--- the batch of a request follows on the log
-pub new_goes_on : (l : Log) (epoch now : ℤ) (items : List MetaRecord) → 0 < length items → full_log l items ≡ None → pos 1 ≤ℤ epoch → l.epoch ≤ℤ epoch → GoesOn l (new_batch l epoch now items)
-new_goes_on l epoch now items some free elected climbs =
-    let room = (room_for l items free).1 in record {
-      first = refl;
-      some = some;
-      last = omega (arith, ints, room);
-      climbs = climbs;
-      elected = elected;
-    }
+use Rattle.kz_log.specs.Rows.{GoesOn}
+use Rattle.kz_log.proofs.Pushing.{new_goes_on}
+use Rattle.kz_spec_files.specs.LogFile.{after_payload, batch_payload}
+use Rattle.kz_log_frames.specs.Payloads.{IsPayloadOf}
 
 -- ---- what nothing refuses
 

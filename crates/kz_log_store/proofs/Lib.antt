@@ -1,8 +1,5 @@
-mod FewBytes
 mod Reading
 mod Frames
-mod Payloads
-mod Taking
 mod Opening
 mod Changing
 mod Stepping

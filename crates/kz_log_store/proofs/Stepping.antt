@@ -14,7 +14,6 @@ use Rattle.kz_journal.specs.Held.{letter_of, unread, AnswersNext, EndsAt, Leaves
 use Rattle.kz_journal.specs.Nexts.{IsDamagedAt}
 use Rattle.kz_log_store.specs.declared.fault.LogOpenFault.{LogOpenFault}
 use Rattle.kz_log_store.specs.declared.fault.LogOpenFault.TheVariants.{DiskFault, Damaged, NoMemory}
-use Rattle.kz_log_store.specs.Held.{HeldLog}
 use Rattle.kz_log_store.specs.Opened.{HasRead, TakesFrame, TakesNext, EndsFrames, Steps, Reads, EndsReading, log_after}
 use Rattle.kz_log_store.proofs.Reading.{damaged_at, refused_at, read_whole, read_damaged}
 
@@ -36,7 +35,7 @@ refused_ends (Damaged place why) at said l old new failed takes up same = (up, s
 refused_ends NoMemory at said l old new failed takes up same = (up, same)
 
 -- reading that ends in a fault ends so since it began
-pub ends_since : (f : LogOpenFault) (first mid last : Disk) (failed : Bool) → mid.faults ≡ first.faults → EndsReading {T = Bool} (Err f) mid last failed → EndsReading {T = HeldLog × Bool} (Err f) first last failed
+pub ends_since : (f : LogOpenFault) (first mid last : Disk) (failed : Bool) → mid.faults ≡ first.faults → EndsReading {T = Bool} (Err f) mid last failed → EndsReading {T = Log × Bool} (Err f) first last failed
 ends_since DiskFault first mid last failed is ends = (subst (λ n. Rose n last.faults) is ends.0, ends.1)
 ends_since (Damaged at why) first mid last failed is ends = (ends.0, ends.1 ∙ is)
 ends_since NoMemory first mid last failed is ends = (ends.0, ends.1 ∙ is)
@@ -49,10 +48,10 @@ file_refused (Damaged at why) file old new fresh first before after told is read
 file_refused NoMemory file old new fresh first before after told is read steps = steps
 
 -- a file of which no frame is left
-pub file_read : (file : List ℕ) (found : HeldLog) (old new : Log) (fresh : Bool) (first before after : Journal) (told : Option (List ℕ)) → found.log ≡ new → first ≡ journal_of log_letter file → HasRead old fresh first before
+pub file_read : (file : List ℕ) (found : Log) (old new : Log) (fresh : Bool) (first before after : Journal) (told : Option (List ℕ)) → found ≡ new → first ≡ journal_of log_letter file → HasRead old fresh first before
     → Steps file (Ok false) old new before after told → Reads file (Ok (found, fresh)) told
 file_read file found old new fresh first before after told held is read steps =
-    (steps.0, read_whole found.log fresh file first before is (subst (λ l. HasRead l fresh first before) (sym (held ∙ steps.2)) read) steps.1)
+    (steps.0, read_whole found fresh file first before is (subst (λ l. HasRead l fresh first before) (sym (held ∙ steps.2)) read) steps.1)
 
 -- ---- the answer of a journal, and what is made of it
 

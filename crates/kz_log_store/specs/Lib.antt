@@ -1,5 +1,2 @@
-pub mod Held
-pub mod Taken
-pub mod Payloads
 pub mod Opened
 pub mod Stores

@@ -16,7 +16,6 @@ use Rattle.kz_journal.specs.Nexts.{IsAllRead}
 use Rattle.kz_store_file.specs.Values.{LeavesValue, settled_value}
 use Rattle.kz_log_store.specs.declared.fault.LogOpenFault.{LogOpenFault}
 use Rattle.kz_log_store.specs.declared.fault.LogOpenFault.TheVariants as fault
-use Rattle.kz_log_store.specs.Held.{HeldLog}
 
 -- ---- what a file stands for
 
@@ -122,8 +121,8 @@ EndsFrames (Ok false) ended before now = ended ≡ true
 EndsFrames (Err e) ended before now = ⊤
 
 -- What reading a whole file answers: the log and whether it has no frame, or where the file is damaged.
-abbrev pub Reads : List ℕ → Result (HeldLog × Bool) LogOpenFault → Option (List ℕ) → Type 0
-Reads file (Ok found) told = SaysTheSame file told × IsLogFile file found.0.log found.1
+abbrev pub Reads : List ℕ → Result (Log × Bool) LogOpenFault → Option (List ℕ) → Type 0
+Reads file (Ok found) told = SaysTheSame file told × IsLogFile file found.0 found.1
 Reads file (Err fault.DiskFault) told = ⊤
 Reads file (Err (fault.Damaged at why)) told = (told ≡ Some file) × (log_of file ≡ Err (at, why))
 Reads file (Err fault.NoMemory) told = told ≡ Some file

@@ -17,11 +17,7 @@ use Rattle.kz_log_store.specs.Opened.{IsLogFile, SaysTheSame, LeavesLog}
 
 -- the log
 abbrev pub held_log : {D : Type 0} {disk : _} → LogStore D disk → Log
-held_log s = s.rows.log
-
--- for how many further batches it has memory
-abbrev pub room_left : {D : Type 0} {disk : _} → LogStore D disk → ℕ
-room_left s = s.rows.room
+held_log s = s.rows
 
 -- its file has no frame
 abbrev pub is_fresh : {D : Type 0} {disk : _} → LogStore D disk → Bool

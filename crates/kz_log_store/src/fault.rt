@@ -1,4 +1,4 @@
-//! Why a log isn't opened, or a frame isn't read.
+//! Why a log isn't opened.
 use kz_types::LogWhy;
 
 /// Why a file isn't opened as a log.
@@ -8,15 +8,6 @@ pub enum LogOpenFault {
     DiskFault,
     /// The file is damaged at this place, in bytes from its beginning, and why. What stands before it is whole.
     Damaged { at: u64, why: LogWhy },
-    /// Memory ran out.
-    NoMemory,
-}
-
-/// Why a frame isn't taken.
-#[derive(Clone, Copy, Debug, PartialEq, Eq)]
-pub(crate) enum FrameFault {
-    /// The frame is damaged.
-    Why(LogWhy),
     /// Memory ran out.
     NoMemory,
 }

@@ -2,11 +2,8 @@
 #![tactic(auto)]
 
 mod fault;
-mod held;
 mod open;
-mod payload;
 mod store;
-mod take;
 
 pub use fault::LogOpenFault;
 pub use kz_types::LogWhy;

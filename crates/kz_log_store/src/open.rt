@@ -7,11 +7,11 @@ ghost use Rattle.kz_spec_files.specs.LogFile.{why_at, after_payload};
 ghost use Rattle.kz_journal.specs.Held.{disk_of, letter_of, has_ended, is_down, disk_state, bytes_left, unread};
 ghost use Rattle.kz_log_store.specs.Opened.{open_fault_of, next_fault_of, TakesFrame, TakesNext, Steps, EndsFrames, Reads, EndsReading};
 
-use crate::fault::{FrameFault, LogOpenFault};
-use crate::held::Held;
-use crate::take::take_payload;
+use crate::fault::LogOpenFault;
 use kz_disk::Disk;
 use kz_journal::{Frame, Journal, JournalFault};
+use kz_log::LogRows;
+use kz_log_frames::{FrameFault, take_payload};
 use kz_types::LogWhy;
 use std::alloc::Global;
 
@@ -39,8 +39,8 @@ fn why_at(at: u64) -> LogWhy
 }
 
 // Takes a frame.
-fn take_frame(alloc: Global, frame: &Frame, log: &mut Held) -> Result<(), LogOpenFault>
-    ensures { TakesFrame result frame.now.at (after_payload log.old.log frame.now.payload) log.new.log }
+fn take_frame(alloc: Global, frame: &Frame, log: &mut LogRows) -> Result<(), LogOpenFault>
+    ensures { TakesFrame result frame.now.at (after_payload log.old frame.now.payload) log.new }
 {
     match take_payload(alloc, log, frame.payload.as_slice()) {
         Ok(()) => Ok(()),
@@ -69,9 +69,9 @@ fn next_fault(fault: JournalFault) -> LogOpenFault
 fn take_next(
     alloc: Global,
     next: Result<Option<Frame>, JournalFault>,
-    log: &mut Held,
+    log: &mut LogRows,
 ) -> Result<bool, LogOpenFault>
-    ensures { TakesNext next result log.old.log log.new.log }
+    ensures { TakesNext next result log.old log.new }
 {
     match next {
         Ok(Some(frame)) => match take_frame(alloc, &frame, log) {
@@ -87,12 +87,12 @@ fn take_next(
 fn read_frame<D: Disk>(
     alloc: Global,
     journal: &mut Journal<D>,
-    log: &mut Held,
+    log: &mut LogRows,
 ) -> Result<bool, LogOpenFault>
     requires up { is_down journal.old ≡ false }
     requires letter { letter_of journal.old ≡ log_letter }
     ensures answer { (file : List ℕ) → D.told (disk_of journal.old) ≡ Some file
-        → Steps file result log.old.log log.new.log (unread journal.old file) (unread journal.new file) (D.told (disk_of journal.new)) }
+        → Steps file result log.old log.new (unread journal.old file) (unread journal.new file) (D.told (disk_of journal.new)) }
     ensures letter { letter_of journal.new ≡ log_letter }
     ensures ended { EndsFrames result (has_ended journal.new) (bytes_left journal.old) (bytes_left journal.new) }
     ensures cause { EndsReading result (disk_state D.faults journal.old) (disk_state D.faults journal.new) (D.last_failed (disk_of journal.new)) }
@@ -108,12 +108,12 @@ fn read_frame<D: Disk>(
 pub(crate) fn read_frames<D: Disk>(
     alloc: Global,
     journal: &mut Journal<D>,
-) -> Result<(Held, bool), LogOpenFault>
+) -> Result<(LogRows, bool), LogOpenFault>
     requires up { is_down journal.old ≡ false }
     requires letter { letter_of journal.old ≡ log_letter }
     ensures answer { (file : List ℕ) → D.told (disk_of journal.old) ≡ Some file → unread journal.old file ≡ journal_of log_letter file
         → Reads file result (D.told (disk_of journal.new)) }
-    ensures is_log { IfOk result (λ found. IsLog found.0.log) }
+    ensures is_log { IfOk result (λ found. IsLog found.0) }
     ensures letter { letter_of journal.new ≡ log_letter }
     ensures ended { OnOk result (has_ended journal.new ≡ true) }
     ensures cause { EndsReading result (disk_state D.faults journal.old) (disk_state D.faults journal.new) (D.last_failed (disk_of journal.new)) }
@@ -121,7 +121,7 @@ pub(crate) fn read_frames<D: Disk>(
     ensures stop { (file : List ℕ) → D.told (disk_of journal.old) ≡ Some file → length file < 2 ^ 32
         → (left : List ℕ) → D.may_leave (disk_of journal.new) left → journal_of log_letter left ≡ journal_of log_letter file }
 {
-    let mut log = Held::new(alloc);
+    let mut log = LogRows::new(alloc);
     let mut fresh = true;
     'frames: loop {
         match read_frame(alloc, journal, &mut log) {

@@ -1,65 +1,60 @@
 //! A log on a disk.
 ghost use Rattle.std.specs.Prelude.{◌≡◌, ◌<◌, ◌^◌, ◌≤ℤ◌, ◌+ℤ◌, pos, ℕ, List, Some, true, false, length, IfOk, IfErr, OnOk};
 ghost use Rattle.kz_types.specs.declared.limits.TheConstants.{MAX_LONG};
-ghost use Rattle.kz_spec_stores.specs.Log.{IsLog, end_of, new_batch};
-ghost use Rattle.kz_log_store.specs.Payloads.{IsPayloadOf};
+ghost use Rattle.kz_spec_stores.specs.Log.{IsLog, end_of, new_batch, with_row};
+ghost use Rattle.kz_log_frames.specs.Payloads.{IsPayloadOf};
 ghost use Rattle.kz_spec_files.specs.Frames.{log_letter, journal_of};
 ghost use Rattle.kz_log.specs.OneProof.{IsLog-prop};
 ghost use Rattle.kz_journal.specs.Held.{disk_of, letter_of, has_ended, is_down, unread};
-ghost use Rattle.kz_log_store.specs.Held.{log_code};
 ghost use Rattle.kz_log_store.specs.Opened.{IsLogFile, open_fault_of};
 
 use crate::fault::LogOpenFault;
-use crate::held::Held;
 use crate::open::{open_fault, read_frames};
-use crate::payload::{batch_bytes, reset_bytes};
 use kz_disk::Disk;
 use kz_journal::{Journal, JournalFault};
 use kz_log::{Elected, Feed, LogFault, LogRows, MetaLog};
+use kz_log_frames::{batch_bytes, cut_and_bytes, reset_bytes};
 use kz_store_file::{ChangeFault, write_frame, write_seal};
 use kz_types::{BatchRow, Limit, MAX_EPOCH, MetaRecord, NoMemory};
 use std::alloc::Global;
 
-// The batch of these records after a log's end, and the payload of its frame. The log then has memory for it.
+// The batch of these records after a log's end, and the payload of its frame.
 fn prepare(
     alloc: Global,
-    rows: &mut Held,
+    rows: &LogRows,
     epoch: i32,
     now: i64,
     items: &[MetaRecord],
 ) -> Result<(BatchRow, Vec<u8>), NoMemory>
     requires some { 0 < length items.now }
-    requires room { (end_of rows.old.log +ℤ pos (length items.now)) ≤ℤ MAX_LONG }
-    ensures row { IfOk result (λ made. made.0 ≡ new_batch rows.old.log epoch now items.now) }
+    requires room { (end_of rows.now +ℤ pos (length items.now)) ≤ℤ MAX_LONG }
+    ensures row { IfOk result (λ made. made.0 ≡ new_batch rows.now epoch now items.now) }
     ensures payload { IfOk result (λ made. IsPayloadOf made.0 made.1.items) }
-    ensures room { OnOk result (0 < rows.new.room) }
-    ensures same { rows.new.log ≡ rows.old.log }
 {
     let row = rows.batch(alloc, epoch, now, items)?;
     let payload = batch_bytes(alloc, &row)?;
-    rows.reserve()?;
     Ok((row, payload))
 }
 
-/// A metadata log on a disk. Its file is a journal of the letter `L`, which has a frame for each batch and each reset; the log is
-/// also held in memory. A change counts once its frame is whole on the disk.
+/// A metadata log on a disk. Its file is a journal of the letter `L`, which has a frame for each batch, each reset and each
+/// snapshot; the log is also held in memory. A change counts once its frame is whole on the disk.
 ///
 /// From a request on that answers `Failed` the store is down, and makes no call of the disk.
 #[derive(Drop)]
 pub struct LogStore<D: Disk> {
     alloc: Global,
     journal: Journal<D>,
-    rows: Held,
+    rows: LogRows,
     // The file has no frame.
     fresh: bool,
     // A call of the disk has failed.
     down: bool,
-    ghost is_log: { IsLog rows.log } by { IsLog-prop (log_code rows-code) rows.log },
+    ghost is_log: { IsLog rows } by { IsLog-prop rows-code rows },
     ghost letter: { letter_of journal ≡ log_letter },
     ghost down_is: { down ≡ is_down journal },
     ghost ended: { is_down journal ≡ false → has_ended journal ≡ true },
     // While the store isn't down, the log is that of the file.
-    ghost same: { is_down journal ≡ false → (file : List ℕ) → D.told (disk_of journal) ≡ Some file → IsLogFile file rows.log fresh },
+    ghost same: { is_down journal ≡ false → (file : List ℕ) → D.told (disk_of journal) ≡ Some file → IsLogFile file rows fresh },
 }
 
 // Why a disk isn't opened that isn't opened as a journal.
@@ -71,16 +66,16 @@ fn not_opened<D>(refused: (D, JournalFault)) -> (D, LogOpenFault)
 }
 
 impl<D: Disk> LogStore<D> {
-    ghost use Rattle.std.specs.Prelude.{◌<◌, ◌≤ℤ◌, ◌+ℤ◌, pos, None, IfOk, IfErr, OnOk, OnErr, IsErrOf, length, ⊤};
+    ghost use Rattle.std.specs.Prelude.{◌<◌, ◌≤◌, ◌≤ℤ◌, ◌+ℤ◌, pos, None, Ok, IfOk, IfErr, OnOk, OnErr, IsErrOf, length, ⊤};
     ghost use Rattle.kz_disk.specs.Disks.{StaysTold};
-    ghost use Rattle.kz_spec_stores.specs.Log.{full_log, with_batch, new_batch, reset};
+    ghost use Rattle.kz_spec_stores.specs.Log.{IsLog, full_log, with_batch, new_batch};
     ghost use Rattle.kz_spec_stores.specs.Requests.{answer_by, ChangesDisk, Only, Either};
-    ghost use Rattle.std.specs.Prelude.{◌∷◌};
-    ghost use Rattle.std.specs.Int.{w32, to_be_bytes, cast_unsigned};
-    ghost use Rattle.kz_spec_files.specs.LogFile.{batch_payload, reset_payload, with_row};
-    ghost use Rattle.kz_log_store.specs.Payloads.{GoesOn, IsPayloadOf};
+    ghost use Rattle.kz_types.specs.declared.limits.TheConstants.{MAX_FILE_BYTES};
+    ghost use Rattle.kz_spec_files.specs.LogFile.{after_payload, batch_payload};
+    ghost use Rattle.kz_log.specs.Rows.{GoesOn};
+    ghost use Rattle.kz_log_frames.specs.Payloads.{IsPayloadOf};
     ghost use Rattle.kz_store_file.specs.Changes.{answer_of_change_fault};
-    ghost use Rattle.kz_log_store.specs.Stores.{held_log, room_left, is_fresh, store_disk, store_down, store_state, left_of, IsOpened, IsUnopened, HasOpenCause, LeftByOpening, SealsTold, SealsDisk};
+    ghost use Rattle.kz_log_store.specs.Stores.{held_log, is_fresh, store_disk, store_down, store_state, left_of, IsOpened, IsUnopened, HasOpenCause, LeftByOpening, SealsTold, SealsDisk};
 
     /// Opens the disk's file as a log's journal, and reads all of it into memory. The file is only written to close the gate after
     /// its last frame, so a stop at any moment leaves the log that it stands for.
@@ -179,10 +174,10 @@ impl<D: Disk> LogStore<D> {
         journal.into_disk()
     }
 
-    // Appends a batch that follows on the log to the file, and then to the log, for which there is memory.
+    // Appends a batch that follows on the log, in memory and to the file. Where the file doesn't take it, it is taken off again, so
+    // that no memory is wanted once it is written.
     fn write(&mut self, row: BatchRow, payload: &[u8]) -> Result<(), ChangeFault>
         requires up { store_down self.old ≡ false }
-        requires room { 0 < room_left self.old }
         requires follows { GoesOn (held_log self.old) row }
         requires spelled { IsPayloadOf row payload.now }
         ensures ok { OnOk result (held_log self.new ≡ with_row (held_log self.old) row) }
@@ -190,34 +185,44 @@ impl<D: Disk> LogStore<D> {
         ensures disk { ChangesDisk ⊤ (length (batch_payload row)) (answer_by answer_of_change_fault result) (store_state D.faults self.old) (store_state D.faults self.new) }
         ensures stop { IsErrOf result ChangeFault.Failed → Either (held_log self.old) (with_row (held_log self.old) row) (left_of D.told D.may_leave self.new) }
     {
+        let epoch = self.rows.epoch();
+        let Ok(()) = self.rows.push(row) else {
+            return Err(ChangeFault::NoMemory);
+        };
         match write_frame(&mut self.journal, payload) {
             Ok(()) => {
-                self.rows.push(row);
                 self.fresh = false;
                 Ok(())
             }
             Err(ChangeFault::Failed) => {
+                self.rows.pop(epoch);
                 self.down = true;
                 Err(ChangeFault::Failed)
             }
-            Err(ChangeFault::Full { length }) => Err(ChangeFault::Full { length }),
-            Err(ChangeFault::NoMemory) => Err(ChangeFault::NoMemory),
+            Err(ChangeFault::Full { length }) => {
+                self.rows.pop(epoch);
+                Err(ChangeFault::Full { length })
+            }
+            Err(ChangeFault::NoMemory) => {
+                self.rows.pop(epoch);
+                Err(ChangeFault::NoMemory)
+            }
         }
     }
 
-    // Appends a reset of a log of this epoch to the file, and then drops the log's batches.
-    fn clear(&mut self, epoch: i32, payload: &[u8]) -> Result<(), ChangeFault>
+    // Appends a frame to the file, and then puts the log in place that it makes.
+    fn put(&mut self, rows: LogRows, payload: &[u8]) -> Result<(), ChangeFault>
         requires up { store_down self.old ≡ false }
-        requires epoch { epoch ≡ (held_log self.old).epoch }
-        requires spelled { payload.now ≡ 2 ∷ to_be_bytes w32 (cast_unsigned w32 epoch) }
-        ensures ok { OnOk result (held_log self.new ≡ reset (held_log self.old)) }
+        requires is_log { IsLog rows }
+        requires makes { length payload.now ≤ MAX_FILE_BYTES → after_payload (held_log self.old) payload.now ≡ Ok rows }
+        ensures ok { OnOk result (held_log self.new ≡ rows) }
         ensures same { OnErr result (held_log self.new ≡ held_log self.old) }
-        ensures disk { ChangesDisk ⊤ (length (reset_payload (held_log self.old))) (answer_by answer_of_change_fault result) (store_state D.faults self.old) (store_state D.faults self.new) }
-        ensures stop { IsErrOf result ChangeFault.Failed → Either (held_log self.old) (reset (held_log self.old)) (left_of D.told D.may_leave self.new) }
+        ensures disk { ChangesDisk ⊤ (length payload.now) (answer_by answer_of_change_fault result) (store_state D.faults self.old) (store_state D.faults self.new) }
+        ensures stop { IsErrOf result ChangeFault.Failed → Either (held_log self.old) rows (left_of D.told D.may_leave self.new) }
     {
         match write_frame(&mut self.journal, payload) {
             Ok(()) => {
-                self.rows.reset(self.alloc);
+                self.rows = rows;
                 self.fresh = false;
                 Ok(())
             }
@@ -241,7 +246,7 @@ impl<D: Disk> LogStore<D> {
         ensures disk { ChangesDisk ⊤ (length (batch_payload (new_batch (held_log self.old) epoch now items.now))) (answer_by answer_of_change_fault result) (store_state D.faults self.old) (store_state D.faults self.new) }
         ensures stop { IsErrOf result ChangeFault.Failed → Either (held_log self.old) (with_batch (held_log self.old) epoch now items.now) (left_of D.told D.may_leave self.new) }
     {
-        match prepare(self.alloc, &mut self.rows, epoch, now, items) {
+        match prepare(self.alloc, &self.rows, epoch, now, items) {
             Ok(made) => {
                 let (row, payload) = made;
                 self.write(row, &payload)
@@ -254,9 +259,9 @@ impl<D: Disk> LogStore<D> {
 impl<D: Disk> MetaLog for LogStore<D> {
     ghost use Rattle.kz_journal.specs.Held.{disk_state};
     ghost use Rattle.kz_log_store.specs.Opened.{LeavesLog, settled_log};
-    ghost use Rattle.kz_log_store.specs.Payloads.{change_bytes};
+    ghost use Rattle.kz_log_frames.specs.Payloads.{change_bytes};
 
-    ghost log = { λ s. s.rows.log };
+    ghost log = { λ s. s.rows };
 
     ghost disk = { λ s. disk_state D.faults s.journal };
 
@@ -266,7 +271,7 @@ impl<D: Disk> MetaLog for LogStore<D> {
 
     ghost is_log = { λ s. s.is_log };
 
-    ghost settled = { λ s up found left. settled_log s.rows.log s.fresh (D.told (disk_of s.journal)) (D.may_leave (disk_of s.journal)) (s.journal.settled up) (s.same up) found left };
+    ghost settled = { λ s up found left. settled_log s.rows s.fresh (D.told (disk_of s.journal)) (D.may_leave (disk_of s.journal)) (s.journal.settled up) (s.same up) found left };
 
     fn epoch(&self) -> i32 {
         self.rows.epoch()
@@ -338,15 +343,33 @@ impl<D: Disk> MetaLog for LogStore<D> {
         if self.down {
             return Err(LogFault::Down);
         }
-        let epoch = self.rows.epoch();
-        let Ok(payload) = reset_bytes(self.alloc, epoch) else {
+        let Ok(payload) = reset_bytes(self.alloc, self.rows.epoch()) else {
             return Err(LogFault::NoMemory);
         };
-        match self.clear(epoch, &payload) {
+        let rows = self.rows.emptied(self.alloc);
+        match self.put(rows, &payload) {
             Ok(()) => Ok(()),
             Err(ChangeFault::Failed) => Err(LogFault::Failed),
             Err(ChangeFault::Full { length }) => Err(LogFault::Full { length }),
             Err(ChangeFault::NoMemory) => Err(LogFault::NoMemory),
+        }
+    }
+
+    fn snapshot(&mut self, offset: i64) -> Result<(), LogFault> {
+        if self.down {
+            return Err(LogFault::Down);
+        }
+        match cut_and_bytes(self.alloc, &self.rows, offset) {
+            Ok(made) => {
+                let (rows, payload) = made;
+                match self.put(rows, &payload) {
+                    Ok(()) => Ok(()),
+                    Err(ChangeFault::Failed) => Err(LogFault::Failed),
+                    Err(ChangeFault::Full { length }) => Err(LogFault::Full { length }),
+                    Err(ChangeFault::NoMemory) => Err(LogFault::NoMemory),
+                }
+            }
+            Err(NoMemory) => Err(LogFault::NoMemory),
         }
     }
 }

@@ -8,9 +8,9 @@ ghost use Rattle.kz_spec_znodes.specs.Translation.{row_of, broker_name, config_r
 
 use crate::found::topic_row;
 use crate::numbers::number_text;
+use kz_entity_records::config_record;
 use kz_types::{
-    Body, BodyFault, ConfigRecord, Duplicate, MetaRecord, NoMemory, Pair, ReadWhy, Row, Sequence,
-    Text,
+    Body, BodyFault, Duplicate, MetaRecord, NoMemory, Pair, ReadWhy, Row, Sequence, Text,
 };
 use std::alloc::Global;
 
@@ -28,23 +28,6 @@ fn broker_name(alloc: Global, broker: Option<i32>) -> Result<Text, NoMemory>
         Some(id) => Ok(Text::from_string(number_text(alloc, id)?)),
         None => Ok(Text::from_str(alloc, "")?),
     }
-}
-
-// The record of a member of a configuration.
-fn config_record(
-    alloc: Global,
-    resource: i8,
-    name: &Text,
-    pair: &Pair,
-) -> Result<MetaRecord, NoMemory>
-    ensures { IfOk result (λ made. made ≡ config_record resource name.now pair.now) }
-{
-    Ok(MetaRecord::Config(ConfigRecord {
-        resource_type: resource,
-        resource_name: name.copy(alloc)?,
-        name: pair.name.copy(alloc)?,
-        value: Some(pair.value.copy(alloc)?),
-    }))
 }
 
 fn member_records(

@@ -4,6 +4,7 @@ pub mod PathForms
 pub mod QuotaLists
 pub mod QuotaPaths
 pub mod Entities
+pub mod Going
 pub mod Gathered
 pub mod Ties
 pub mod TopicPaths

@@ -7,6 +7,7 @@ ghost use Rattle.kz_render.specs.Gathered.{resource_znode, PutAlike};
 
 use crate::push::push_znode;
 use crate::resources::{Resource, resources};
+use kz_blocks::Blocks;
 use kz_json::acls_text;
 use kz_types::{AclEntry, Duplicate, NoMemory, Rendered};
 use std::alloc::Global;
@@ -43,7 +44,7 @@ fn push_resources(
 pub fn push_acls(
     alloc: Global,
     znodes: &mut Vec<Rendered>,
-    entries: &[AclEntry],
+    entries: &Blocks<AclEntry>,
 ) -> Result<(), NoMemory>
     requires { All IsAcl entries.now }
     ensures { OnOk result (PutAlike znodes.new.items (znodes.old.items ++ map (acl_znode entries.now) entries.now)) }

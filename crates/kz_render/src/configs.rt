@@ -6,6 +6,7 @@ ghost use Rattle.kz_spec_znodes.specs.Rendering.{broker_key, config_znode};
 
 use crate::paths::entity_path;
 use crate::push::push_znode;
+use kz_blocks::Blocks;
 use kz_json::config_text;
 use kz_types::{Configuration, EntityKey, NoMemory, Rendered, Text, ZPath, number_in};
 use std::alloc::Global;
@@ -52,11 +53,11 @@ fn push_config(
 pub fn push_configs(
     alloc: Global,
     znodes: &mut Vec<Rendered>,
-    configs: &[Configuration],
+    configs: &Blocks<Configuration>,
 ) -> Result<(), NoMemory>
     ensures { OnOk result (znodes.new.items ≡ znodes.old.items ++ map config_znode configs.now) }
 {
-    for config in configs {
+    for config in configs.items() {
         push_config(alloc, znodes, config)?;
     }
     Ok(())

@@ -3,10 +3,7 @@ ghost use Rattle.std.specs.Prelude.{◌≡◌, ◌∷◌, ◌++◌, [], Some, Al
 ghost use Rattle.std.specs.List.{flat_map};
 ghost use Rattle.kz_types.specs.Paths.{key_of, path_of, is_legal, has_path};
 ghost use Rattle.kz_types.specs.PathRule.{is_path};
-ghost use Rattle.kz_ordered.specs.Order.{bytes_cmp};
-ghost use Rattle.kz_ordered.specs.Ordered.{Rises};
 ghost use Rattle.kz_json.specs.Entries.{are_quotas};
-ghost use Rattle.kz_spec_stores.specs.Metadata.{path_of_quotas};
 ghost use Rattle.kz_spec_stores.specs.InOrder.{IsUserFilled};
 ghost use Rattle.kz_spec_stores.specs.Legal.{IsQuotaEntry, IsScramEntry};
 ghost use Rattle.kz_spec_znodes.specs.Rendering.{bare, client_parents, quota_parents, own_znodes, quota_znodes};
@@ -15,6 +12,7 @@ use crate::paths::{entity_path, path_after};
 use crate::push::{push_bare, push_znode};
 use crate::quota_body::quota_text;
 use crate::users::push_users;
+use kz_blocks::Blocks;
 use kz_path::key_of;
 use kz_types::{Duplicate, EntityKey, NoMemory, QuotaEntry, Rendered, ScramEntry, ZPath};
 use std::alloc::Global;
@@ -88,11 +86,11 @@ fn push_own(alloc: Global, znodes: &mut Vec<Rendered>, entry: &QuotaEntry) -> Re
 fn push_all_parents(
     alloc: Global,
     znodes: &mut Vec<Rendered>,
-    entries: &[QuotaEntry],
+    entries: &Blocks<QuotaEntry>,
 ) -> Result<(), NoMemory>
     ensures { OnOk result (znodes.new.items ≡ znodes.old.items ++ flat_map quota_parents entries.now) }
 {
-    for entry in entries {
+    for entry in entries.items() {
         push_parents(alloc, znodes, entry)?;
     }
     Ok(())
@@ -103,12 +101,12 @@ fn push_all_parents(
 fn push_all_own(
     alloc: Global,
     znodes: &mut Vec<Rendered>,
-    entries: &[QuotaEntry],
+    entries: &Blocks<QuotaEntry>,
 ) -> Result<(), NoMemory>
     requires { All IsQuotaEntry entries.now }
     ensures { OnOk result (znodes.new.items ≡ znodes.old.items ++ flat_map own_znodes entries.now) }
 {
-    for entry in entries {
+    for entry in entries.items() {
         push_own(alloc, znodes, entry)?;
     }
     Ok(())
@@ -118,10 +116,9 @@ fn push_all_own(
 pub fn push_quotas(
     alloc: Global,
     znodes: &mut Vec<Rendered>,
-    entries: &[QuotaEntry],
-    users: &[ScramEntry],
+    entries: &Blocks<QuotaEntry>,
+    users: &Blocks<ScramEntry>,
 ) -> Result<(), NoMemory>
-    requires rising { Rises bytes_cmp path_of_quotas entries.now }
     requires quotas { All IsQuotaEntry entries.now }
     requires filled { All IsUserFilled users.now }
     requires legal { All IsScramEntry users.now }

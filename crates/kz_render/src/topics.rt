@@ -9,6 +9,7 @@ ghost use Rattle.kz_spec_znodes.specs.Rendering.{bare, assignment_of, topic_znod
 
 use crate::push::{push_bare, push_znode};
 use crate::topic_paths::{number_path, partitions_path, state_path, topic_config_path, topic_path};
+use kz_blocks::Blocks;
 use kz_json::{PartitionState, config_text, state_text, topic_text};
 use kz_types::{
     AssignmentRow, Duplicate, NoMemory, Pair, PartitionEntry, PartitionRow, Rendered, Text,
@@ -160,12 +161,12 @@ fn push_topic(alloc: Global, znodes: &mut Vec<Rendered>, topic: &TopicEntry) -> 
 pub fn push_topics(
     alloc: Global,
     znodes: &mut Vec<Rendered>,
-    topics: &[TopicEntry],
+    topics: &Blocks<TopicEntry>,
 ) -> Result<(), NoMemory>
     requires { All IsTopic topics.now }
     ensures { OnOk result (znodes.new.items ≡ znodes.old.items ++ flat_map topic_znodes topics.now) }
 {
-    for topic in topics {
+    for topic in topics.items() {
         push_topic(alloc, znodes, topic)?;
     }
     Ok(())

@@ -3,7 +3,7 @@ ghost use Rattle.std.specs.Prelude.{◌≡◌, ◌∷◌, ◌++◌, [], Some, Al
 ghost use Rattle.kz_types.specs.declared.key.EntityKey.TheVariants as key;
 ghost use Rattle.kz_types.specs.Paths.{path_of, is_legal, has_path};
 ghost use Rattle.kz_ordered.specs.Order.{bytes_cmp};
-ghost use Rattle.kz_ordered.specs.Ordered.{find as find_in, Rises};
+ghost use Rattle.kz_ordered.specs.Ordered.{find as find_in};
 ghost use Rattle.kz_json.specs.Entries.{are_quotas};
 ghost use Rattle.kz_spec_stores.specs.Metadata.{path_of_quotas};
 ghost use Rattle.kz_spec_stores.specs.Image.{quotas_in};
@@ -14,7 +14,7 @@ ghost use Rattle.kz_spec_znodes.specs.Rendering.{user_znode};
 use crate::paths::entity_path;
 use crate::push::push_znode;
 use crate::quota_body::quota_text;
-use kz_sorted::find;
+use kz_blocks::Blocks;
 use kz_types::{
     Duplicate, EntityKey, NoMemory, QuotaEntry, QuotaRow, Rendered, ScramEntry, Text, ZPath,
 };
@@ -33,13 +33,12 @@ fn user_path(alloc: Global, name: &Text) -> Result<ZPath, NoMemory>
 }
 
 // The quotas of the entity at a path, where it has some.
-fn quotas_at<'a>(entries: &'a [QuotaEntry], path: &[u8]) -> &'a [QuotaRow]
-    requires rising { Rises bytes_cmp path_of_quotas entries.now }
-    requires legal { All IsQuotaEntry entries.now }
+fn quotas_at<'a>(entries: &'a Blocks<QuotaEntry>, path: &[u8]) -> &'a [QuotaRow]
+    requires { All IsQuotaEntry entries.now }
     ensures quotas { result.now ≡ quotas_in (find_in bytes_cmp path_of_quotas path.now entries.entry.now) }
     ensures range { are_quotas result.now ≡ true }
 {
-    match find(entries, path) {
+    match entries.find(path) {
         Some(entry) => entry.quotas.as_slice(),
         None => &[],
     }
@@ -49,10 +48,9 @@ fn quotas_at<'a>(entries: &'a [QuotaEntry], path: &[u8]) -> &'a [QuotaRow]
 fn push_user(
     alloc: Global,
     znodes: &mut Vec<Rendered>,
-    entries: &[QuotaEntry],
+    entries: &Blocks<QuotaEntry>,
     user: &ScramEntry,
 ) -> Result<(), NoMemory>
-    requires rising { Rises bytes_cmp path_of_quotas entries.now }
     requires quotas { All IsQuotaEntry entries.now }
     requires filled { IsUserFilled user.now }
     requires legal { IsScramEntry user.now }
@@ -68,16 +66,15 @@ fn push_user(
 pub fn push_users(
     alloc: Global,
     znodes: &mut Vec<Rendered>,
-    entries: &[QuotaEntry],
-    users: &[ScramEntry],
+    entries: &Blocks<QuotaEntry>,
+    users: &Blocks<ScramEntry>,
 ) -> Result<(), NoMemory>
-    requires rising { Rises bytes_cmp path_of_quotas entries.now }
     requires quotas { All IsQuotaEntry entries.now }
     requires filled { All IsUserFilled users.now }
     requires legal { All IsScramEntry users.now }
     ensures { OnOk result (znodes.new.items ≡ znodes.old.items ++ map (user_znode entries.now) users.now) }
 {
-    for user in users {
+    for user in users.items() {
         push_user(alloc, znodes, entries, user)?;
     }
     Ok(())

@@ -9,7 +9,7 @@ use Rattle.serde_json.specs.Written.{has_float}
 use Rattle.kz_types.specs.declared.plan.Plan.{Plan}
 use Rattle.kz_types.specs.declared.plan.Plan.TheVariants as plan
 use Rattle.kz_types.specs.declared.machine.Event.{Event}
-use Rattle.kz_types.specs.declared.machine.Event.TheVariants.{Quorum, Start, Stop, Elect, Step, Turn, Register, Change, Finalise, Rollback, Check, ZkOpen, ZkExpire, Zk}
+use Rattle.kz_types.specs.declared.machine.Event.TheVariants.{Quorum, Start, Stop, Elect, Step, Turn, Register, Change, Finalise, Rollback, Snapshot, Check, ZkOpen, ZkExpire, Zk}
 use Rattle.kz_types.specs.declared.tree.Op.{Op}
 use Rattle.kz_types.specs.declared.tree.Op.TheVariants as op
 use Rattle.kz_spec_lines.specs.Members.{with_text, with_whole, with_bytes}
@@ -76,6 +76,7 @@ members_no_float (Register controller broker migrating now) =
     flag_no_float (codes "migrating") migrating _ (whole_no_float (codes "broker") broker _ (now_no_float now _ (controller_no_float (codes "register") controller)))
 members_no_float (Finalise controller now) = now_no_float now _ (controller_no_float (codes "finalise") controller)
 members_no_float Rollback = event_members_no_float (codes "rollback")
+members_no_float Snapshot = event_members_no_float (codes "snapshot")
 members_no_float Check = event_members_no_float (codes "check")
 members_no_float (ZkOpen session) = session_no_float (codes "zk-open") session
 members_no_float (ZkExpire session) = session_no_float (codes "zk-expire") session

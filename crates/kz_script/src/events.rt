@@ -3,7 +3,7 @@ ghost use Rattle.std.specs.Prelude.{◌≡◌, IfOk, None, Some, Err, option_map
 ghost use Rattle.serde_json.specs.View.{view, items_view};
 ghost use Rattle.serde_json.specs.Find.{get};
 ghost use Rattle.kz_spec_lines.specs.Json.{count_with};
-ghost use Rattle.kz_spec_lines.specs.Events.{controller_of, now_of, timed_count, ids_in, distinct_ids, quorum_of, start_of, stop_by, stop_of, elect_of, turn_of, plan_named, plan_by, step_of, records_in, change_of, register_of, finalise_of, rollback_of, check_of, session_of, open_of, expire_of, ops_in, zk_of, event_of, line_event};
+ghost use Rattle.kz_spec_lines.specs.Events.{controller_of, now_of, timed_count, ids_in, distinct_ids, quorum_of, start_of, stop_by, stop_of, elect_of, turn_of, plan_named, plan_by, step_of, records_in, change_of, register_of, finalise_of, rollback_of, snapshot_of, check_of, session_of, open_of, expire_of, ops_in, zk_of, event_of, line_event};
 
 use crate::numbers::{id_of, time_of};
 use crate::ops::op_of;
@@ -275,6 +275,16 @@ fn rollback_of(value: &Value) -> Option<Event>
     }
 }
 
+fn snapshot_of(value: &Value) -> Option<Event>
+    ensures { result ≡ snapshot_of (view value.now) }
+{
+    if member_count(value) == 1 {
+        Some(Event::Snapshot)
+    } else {
+        None
+    }
+}
+
 fn check_of(value: &Value) -> Option<Event>
     ensures { result ≡ check_of (view value.now) }
 {
@@ -357,6 +367,7 @@ fn event_of(alloc: Global, value: &Value) -> Result<Option<Event>, NoMemory>
         "change" => change_of(alloc, value),
         "finalise" => Ok(finalise_of(value)),
         "rollback" => Ok(rollback_of(value)),
+        "snapshot" => Ok(snapshot_of(value)),
         "check" => Ok(check_of(value)),
         "zk-open" => Ok(open_of(value)),
         "zk-expire" => Ok(expire_of(value)),

@@ -1,3 +1,4 @@
 pub mod Entities
 pub mod Spans
 pub mod Touched
+pub mod Lookups

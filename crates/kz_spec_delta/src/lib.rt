@@ -3,5 +3,6 @@
 //! The definitions stand in specs/. A law is the contract of a function that does nothing.
 #![tactic(auto)]
 
+mod lookup_examples;
 mod span_examples;
 mod touched_examples;

@@ -7,7 +7,7 @@ use Rattle.serde_json.specs.Find.{get, as_array, as_bool, as_str}
 use Rattle.kz_types.specs.Numbers.{are_distinct}
 use Rattle.kz_types.specs.declared.limits.TheConstants.{MAX_NUMBER}
 use Rattle.kz_types.specs.declared.machine.Event.{Event}
-use Rattle.kz_types.specs.declared.machine.Event.TheVariants.{Quorum, Start, Stop, Elect, Step, Turn, Register, Change, Finalise, Rollback, Check, ZkOpen, ZkExpire, Zk}
+use Rattle.kz_types.specs.declared.machine.Event.TheVariants.{Quorum, Start, Stop, Elect, Step, Turn, Register, Change, Finalise, Rollback, Snapshot, Check, ZkOpen, ZkExpire, Zk}
 use Rattle.kz_types.specs.declared.plan.Plan.{Plan}
 use Rattle.kz_types.specs.declared.plan.Plan.TheVariants as plan
 use Rattle.kz_types.specs.declared.record.MetaRecord.{MetaRecord}
@@ -134,6 +134,9 @@ finalise_of d = if member_count d == timed_count 2 d
 abbrev pub rollback_of : Data → Option Event
 rollback_of d = if member_count d == 1 then Some Rollback else None
 
+abbrev pub snapshot_of : Data → Option Event
+snapshot_of d = if member_count d == 1 then Some Snapshot else None
+
 abbrev pub check_of : Data → Option Event
 check_of d = if member_count d == 1 then Some Check else None
 
@@ -179,6 +182,7 @@ event_forms =
     ∷ (codes "change", change_of)
     ∷ (codes "finalise", finalise_of)
     ∷ (codes "rollback", rollback_of)
+    ∷ (codes "snapshot", snapshot_of)
     ∷ (codes "check", check_of)
     ∷ (codes "zk-open", open_of)
     ∷ (codes "zk-expire", expire_of)

@@ -8,7 +8,7 @@ use Rattle.serde_json.specs.Written.{compact_text}
 use Rattle.kz_types.specs.declared.plan.Plan.{Plan}
 use Rattle.kz_types.specs.declared.plan.Plan.TheVariants as plan
 use Rattle.kz_types.specs.declared.machine.Event.{Event}
-use Rattle.kz_types.specs.declared.machine.Event.TheVariants.{Quorum, Start, Stop, Elect, Step, Turn, Register, Change, Finalise, Rollback, Check, ZkOpen, ZkExpire, Zk}
+use Rattle.kz_types.specs.declared.machine.Event.TheVariants.{Quorum, Start, Stop, Elect, Step, Turn, Register, Change, Finalise, Rollback, Snapshot, Check, ZkOpen, ZkExpire, Zk}
 use Rattle.kz_types.specs.declared.tree.Op.{Op}
 use Rattle.kz_types.specs.declared.tree.Op.TheVariants as op
 use Rattle.kz_spec_lines.specs.Members.{whole_data, with_text, with_whole, with_bytes}
@@ -77,6 +77,7 @@ members_of_event (Register controller broker migrating now) =
     put (codes "migrating") (boolean migrating) (with_whole (codes "broker") broker (with_now now (controller_members (codes "register") controller)))
 members_of_event (Finalise controller now) = with_now now (controller_members (codes "finalise") controller)
 members_of_event Rollback = event_members (codes "rollback")
+members_of_event Snapshot = event_members (codes "snapshot")
 members_of_event Check = event_members (codes "check")
 members_of_event (ZkOpen session) = with_whole (codes "session") session (event_members (codes "zk-open"))
 members_of_event (ZkExpire session) = with_whole (codes "session") session (event_members (codes "zk-expire"))

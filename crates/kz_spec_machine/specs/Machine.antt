@@ -34,7 +34,7 @@ use Rattle.kz_types.specs.declared.record.MetaRecord.{MetaRecord}
 use Rattle.kz_types.specs.declared.record.MetaRecord.TheVariants as meta
 use Rattle.kz_spec_stores.specs.Tree.{path_of_op, Tree, empty_tree, row_at, multi, begin_session, end_session, area, migrated_rows, migration_record, unclosed_path}
 use Rattle.kz_spec_stores.specs.Image.{empty_image, all_applied, is_migrated_state, Bad, first_bad, rule_number}
-use Rattle.kz_spec_stores.specs.Log.{Log, empty_log, end_of, begun_of, image_at, image_of, is_migrated_log, is_open_log, batch_ends, reset, with_batch, with_next_epoch, full_log}
+use Rattle.kz_spec_stores.specs.Log.{Log, empty_log, end_of, begun_of, image_at, image_of, is_migrated_log, is_open_log, batch_ends, may_be_base, reset, snapshot, with_batch, with_next_epoch, full_log}
 use Rattle.kz_spec_znodes.specs.Rendering.{Excess, render, excess}
 use Rattle.kz_spec_znodes.specs.Translation.{Unreadable, translate}
 use Rattle.kz_spec_znodes.specs.Difference.{op_size}
@@ -486,6 +486,24 @@ abbrev pub exit_pairs : World → List Op → List Pair
 exit_pairs w [] = []
 exit_pairs w (o ∷ os) = tree_pairs w (multi w.shared.tree (o ∷ os))
 
+-- ---- a snapshot of the log
+
+-- the recorded offset, where the log may be cut at it
+abbrev pub snapshot_offset : Option Recorded → Log → Option ℤ
+snapshot_offset None l = None
+snapshot_offset (Some r) l = if int_le (pos 0) r.offset && may_be_base l r.offset then Some r.offset else None
+
+-- Why the log isn't cut: it isn't migrated, or it can't be cut at what is recorded.
+abbrev pub snapshot_refusal : World → Option Answer
+snapshot_refusal w = unless (is_migrated_log w.shared.log && is_some (snapshot_offset (migration_record w.shared.tree) w.shared.log)) answer.TooEarly
+
+abbrev pub cut_log : Log → Option ℤ → Log
+cut_log l None = l
+cut_log l (Some at) = snapshot l at
+
+abbrev pub cut_world : World → World
+cut_world w = record { shared = record w.shared { log = cut_log w.shared.log (snapshot_offset (migration_record w.shared.tree) w.shared.log) }; drivers = w.drivers }
+
 -- ---- the machine
 
 abbrev pub unless_refused : World → Option Answer → World × Answer → World × Answer
@@ -504,6 +522,7 @@ next w (event.Change id records now) = outcome_unless w (change_refusal w id rec
 next w (event.Register id broker migrating now) = outcome_unless w (register_refusal w id (registration broker migrating)) (changed_world w (registration broker migrating) now) (answer.Appended (end_of (changed_log w.shared.log (registration broker migrating) now)))
 next w (event.Finalise id now) = outcome_unless w (finalise_refusal w id) (changed_world w final_records now) (answer.Appended (end_of (changed_log w.shared.log final_records now)))
 next w event.Rollback = unless_refused w (rollback_refusal w) (given_back (reset_world w) (tree_after_ops w.shared.tree (exit_ops w.shared.tree)))
+next w event.Snapshot = outcome_unless w (snapshot_refusal w) (cut_world w) answer.Done
 next w event.Check = (w, answer.Check (verdict w.shared.tree w.shared.log))
 next w (event.ZkOpen session) = moved_world w (begin_session w.shared.tree session)
 next w (event.ZkExpire session) = moved_world w (end_session w.shared.tree session)
@@ -525,6 +544,7 @@ event_pairs w (event.Change id records now) = pairs_unless (change_refusal w id 
 event_pairs w (event.Register id broker migrating now) = pairs_unless (register_refusal w id (registration broker migrating)) (pair_of (changed_world w (registration broker migrating) now).shared ∷ [])
 event_pairs w (event.Finalise id now) = pairs_unless (finalise_refusal w id) (pair_of (changed_world w final_records now).shared ∷ [])
 event_pairs w event.Rollback = pairs_unless (rollback_refusal w) (pair_of (reset_world w).shared ∷ exit_pairs (reset_world w) (exit_ops w.shared.tree))
+event_pairs w event.Snapshot = pairs_unless (snapshot_refusal w) (pair_of (cut_world w).shared ∷ [])
 event_pairs w event.Check = []
 event_pairs w (event.ZkOpen session) = tree_pairs w (begin_session w.shared.tree session)
 event_pairs w (event.ZkExpire session) = tree_pairs w (end_session w.shared.tree session)

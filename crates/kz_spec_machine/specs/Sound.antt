@@ -17,7 +17,7 @@ use Rattle.kz_types.specs.declared.record.MetaRecord.{MetaRecord}
 use Rattle.kz_types.specs.declared.record.MetaRecord.TheVariants as meta
 use Rattle.std.specs.Str.{bytes_eq}
 use Rattle.std.specs.Ordering.{int_cmp}
-use Rattle.std.specs.List.{filter, list_any, count_by}
+use Rattle.std.specs.List.{Contains, filter, list_any, count_by}
 use Rattle.kz_types.specs.Paths.{base_paths, control_paths, is_among, is_below, is_migrated, is_path}
 use Rattle.kz_ordered.specs.Order.{bytes_cmp}
 use Rattle.kz_ordered.specs.Ordered.{Rises}
@@ -25,7 +25,7 @@ use Rattle.kz_spec_values.specs.Control.{control_path, epoch_path, migration_pat
 use Rattle.kz_types.specs.Numbers.{are_distinct}
 use Rattle.kz_spec_stores.specs.Tree.{Tree, row_at, parent_of, is_root, has_parent, is_ephemeral, may_own, path_of_row, migrated_rows, area, migration_record, unclosed_path}
 use Rattle.kz_spec_stores.specs.InOrder.{IsInOrder}
-use Rattle.kz_spec_stores.specs.Settlement.{counting_records, is_open}
+use Rattle.kz_spec_stores.specs.Settlement.{counting_records, ends_migration, is_open}
 use Rattle.kz_spec_stores.specs.Image.{empty_image, all_applied, is_migrated_state}
 use Rattle.kz_spec_stores.specs.Log.{Log, IsLog, View, IsViewOf, entries, end_of, batch_ends, image_at, is_migrated_log, is_open_log, begun_of, commit_of}
 use Rattle.kz_spec_znodes.specs.Rendering.{render, excess}
@@ -156,7 +156,7 @@ pub record IsBatchEnd (l : Log) (offset : ℤ) : Type 0 where
 
 -- an offset isn't before a commit after the base
 abbrev pub IsPastCommit : Log → ℤ → Type 0
-IsPastCommit l offset = (c : ℤ) → commit_of l ≡ Some c → c ≤ℤ offset
+IsPastCommit l offset = (e : Entry) → Contains (entries l.batches) e → ends_migration (entries l.batches) e ≡ true → e.offset ≤ℤ offset
 
 -- What is recorded on a migrated log: no offset yet, on a log that begins with its first record and has a commit; or a batch
 -- end that isn't before a commit, at whose rendering a closed tree stands.
@@ -443,6 +443,7 @@ IsLawful (event.Change id records now) = IsId id × IsTime now × (1 ≤ length 
 IsLawful (event.Register id broker migrating now) = IsId id × IsId broker × IsTime now
 IsLawful (event.Finalise id now) = IsId id × IsTime now
 IsLawful event.Rollback = ⊤
+IsLawful event.Snapshot = ⊤
 IsLawful event.Check = ⊤
 IsLawful (event.ZkOpen session) = IsSession session
 IsLawful (event.ZkExpire session) = IsSession session

@@ -14,7 +14,7 @@ use Rattle.kz_ordered.specs.Order.{bytes_cmp}
 use Rattle.kz_ordered.specs.Ordered.{find}
 use Rattle.kz_spec_stores.specs.Tree.{Tree, area, migration_record, migrated_rows, path_of_rendered, unclosed_path}
 use Rattle.kz_spec_stores.specs.Settlement.{is_marker}
-use Rattle.kz_spec_stores.specs.Log.{Log, commit_of, end_of, entries, entries_at_offsets, image_at, is_migrated_log, is_open_log, reset}
+use Rattle.kz_spec_stores.specs.Log.{Log, commit_of, end_of, entries, entries_at_offsets, image_at, is_migrated_log, is_open_log, may_be_base, reset, snapshot}
 use Rattle.kz_spec_znodes.specs.Rendering.{render}
 use Rattle.kz_spec_znodes.specs.Translation.{translate}
 use Rattle.kz_spec_machine.specs.Driver.{Shared, begin_record, commit_records}
@@ -58,6 +58,7 @@ HoldsNoMarker b = All (λ (r : MetaRecord). is_marker r ≡ false) b.items
 pub record BeginsNone (l later : Log) : Type 0 where
   pub new : List BatchRow
   pub base : later.base ≡ l.base
+  pub base_image : later.base_image ≡ l.base_image
   pub appended : later.batches ≡ l.batches ++ new
   pub unmarked : All HoldsNoMarker new
 
@@ -67,11 +68,22 @@ pub record StaysCommitted (l later : Log) : Type 0 where
   pub settled : is_open_log later ≡ false
   pub begins : BeginsNone l later
 
+-- A migrated log is cut at the offset that the tree records, where it may be. It stays migrated, with no transaction open in it, and
+-- the tree stays.
+pub record IsSnapshotOf (p q : Pair) : Type 0 where
+  pub record_is : Recorded
+  pub recorded : migration_record p.tree ≡ Some record_is
+  pub may : may_be_base p.log record_is.offset ≡ true
+  pub cut : q.log ≡ snapshot p.log record_is.offset
+  pub tree : q.tree ≡ p.tree
+  pub migrated : is_migrated_log q.log ≡ true
+  pub settled : is_open_log q.log ≡ false
+
 -- The request that commits a migration commits the translation of the znodes that stand then, and leaves the tree. After it
--- the log stays migrated, and no further transaction begins, until the log is reset.
+-- the log stays migrated, and no further transaction begins, until the log is reset. A snapshot may cut it.
 pub record CommitsWhole (p q : Pair) : Type 0 where
   pub commits : is_migrated_log p.log ≡ false → is_migrated_log q.log ≡ true → IsTranslation p.tree q.log × (q.tree ≡ p.tree)
-  pub stays : is_migrated_log p.log ≡ true → (q.log ≡ reset p.log) ⊎ StaysCommitted p.log q.log
+  pub stays : is_migrated_log p.log ≡ true → (q.log ≡ reset p.log) ⊎ StaysCommitted p.log q.log ⊎ IsSnapshotOf p q
 
 -- ---- each znode agrees with the log, path by path
 

@@ -4,7 +4,8 @@ use Rattle.std.specs.List.{flat_map}
 use Rattle.std.specs.Ordering.{int_eq}
 use Rattle.kz_types.specs.declared.log.BatchRow.{BatchRow}
 use Rattle.kz_spec_stores.specs.Metadata.{Image}
-use Rattle.kz_spec_snapshots.specs.Records.{EpochRecord, in_epoch, snapshot_records}
+use Rattle.kz_types.specs.declared.log.EpochRecord.{EpochRecord}
+use Rattle.kz_spec_snapshots.specs.Records.{in_epoch, snapshot_records}
 
 -- a record before these batches: in the first of them, where that has its epoch, and else in one of its own
 abbrev pub record_before : ℤ → EpochRecord → List BatchRow → List BatchRow

@@ -4,6 +4,7 @@ use Rattle.std.specs.List.{flat_map}
 use Rattle.std.specs.Ordering.{int_eq}
 use Rattle.kz_types.specs.declared.id.Id.{Id}
 use Rattle.kz_types.specs.declared.codes.TheConstants.{NO_MIGRATION}
+use Rattle.kz_types.specs.declared.log.EpochRecord.{EpochRecord}
 use Rattle.kz_types.specs.declared.record.MetaRecord.{MetaRecord}
 use Rattle.kz_types.specs.declared.record.MetaRecord.TheVariants as meta
 use Rattle.kz_types.specs.declared.bodies.QuotaRow.{QuotaRow}
@@ -18,11 +19,6 @@ use Rattle.kz_types.specs.Paths.{key_of}
 use Rattle.kz_spec_stores.specs.Metadata.{Image}
 use Rattle.kz_spec_stores.specs.Image.{image_with}
 use Rattle.kz_spec_znodes.specs.Translation.{config_record, quota_record, scram_record}
-
--- A record, and the epoch of its batch.
-pub record EpochRecord : Type 0 where
-  pub epoch : ℤ
-  pub item : MetaRecord
 
 abbrev pub in_epoch : ℤ → MetaRecord → EpochRecord
 in_epoch epoch r = record { epoch = epoch; item = r }

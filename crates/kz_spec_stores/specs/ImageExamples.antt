@@ -1,5 +1,5 @@
 -- Worked records that the laws by example share.
-use Rattle.std.specs.Prelude.{ℕ, Bool, ℤ, pos, negsuc, List, [], ◌∷◌, ◌++◌, replicate, Option, Some, None, codes}
+use Rattle.std.specs.Prelude.{ℕ, Bool, true, false, ℤ, pos, negsuc, List, [], ◌∷◌, ◌++◌, replicate, Option, Some, None, codes}
 use Rattle.kz_types.specs.declared.id.Id.{Id}
 use Rattle.kz_types.specs.declared.record.MetaRecord.{MetaRecord}
 use Rattle.kz_types.specs.declared.record.MetaRecord.TheVariants as meta
@@ -36,3 +36,7 @@ entry n kind name = meta.AccessControlEntry (record { id = id n; resource_type =
 
 abbrev pub block : ℤ → MetaRecord
 block next = meta.ProducerIds (record { broker_id = negsuc 0; broker_epoch = negsuc 0; next = next })
+
+-- a registration of a broker that is ready to migrate, in this epoch
+abbrev pub registration : ℤ → ℤ → MetaRecord
+registration broker epoch = meta.RegisterBroker (record { broker_id = broker; migrating = true; incarnation = id 7; broker_epoch = epoch; endpoints = []; features = []; rack = None; fenced = false; in_shutdown = false })

@@ -17,7 +17,7 @@ use Rattle.kz_types.specs.Quotas.{is_quota}
 use Rattle.kz_types.specs.Paths.{is_topic_name, is_not_negative, is_legal, has_path, path_of, is_among}
 use Rattle.kz_spec_values.specs.Credentials.{quota_keys}
 use Rattle.kz_spec_stores.specs.Metadata.{Image}
-use Rattle.kz_spec_stores.specs.ImageRules.{is_empty, is_zero, is_broker_name, is_mechanism, is_user, are_codes, is_resource, is_row, is_operation, is_permission, max_next}
+use Rattle.kz_spec_stores.specs.ImageRules.{is_empty, is_zero, is_broker_name, is_mechanism, is_user, are_codes, is_resource, is_epoch, is_row, is_operation, is_permission, max_next}
 
 -- ---- topics and configurations
 
@@ -83,9 +83,9 @@ pub record IsAcl (a : AclEntry) : Type 0 where
   pub operation : is_operation a.row.operation ≡ true
   pub permission : is_permission a.row.permission ≡ true
 
--- A broker's id isn't negative.
+-- A broker's id isn't negative, and its registration has an epoch.
 abbrev pub IsBroker : RegisterBrokerRecord → Type 0
-IsBroker b = is_not_negative b.broker_id ≡ true
+IsBroker b = (is_not_negative b.broker_id ≡ true) × (is_epoch b.broker_epoch ≡ true)
 
 -- A next producer id is in range.
 abbrev pub IsNext : Option ℤ → Type 0

@@ -1,7 +1,7 @@
 -- A committed metadata log, and a view of it.
-use Rattle.std.specs.Prelude.{◌≡◌, ◌⊎◌, ℕ, ◌+◌, ◌<◌, ◌≤◌, ⊤, Bool, nat_lt, ℤ, pos, negsuc, ◌+ℤ◌, ◌-ℤ◌, ◌≤ℤ◌, ◌<ℤ◌, int_le, int_lt, List, [], ◌∷◌, ◌++◌, length, map, Option, Some, None, Result, Ok, Err, if◌then◌else◌}
+use Rattle.std.specs.Prelude.{◌≡◌, ◌⊎◌, ℕ, ◌+◌, ◌<◌, ◌≤◌, ⊤, Bool, not, ◌&&◌, nat_lt, ℤ, pos, negsuc, ◌+ℤ◌, ◌-ℤ◌, ◌≤ℤ◌, ◌<ℤ◌, int_le, int_lt, List, [], ◌∷◌, ◌++◌, length, map, Option, Some, None, Result, Ok, Err, if◌then◌else◌}
 use Rattle.std.specs.Ordering.{int_eq}
-use Rattle.std.specs.List.{filter, sum_by, flat_map}
+use Rattle.std.specs.List.{filter, list_any, sum_by, flat_map}
 use Rattle.kz_types.specs.declared.limits.Limit.TheVariants as limits
 use Rattle.kz_types.specs.Limits.{number_of_limit}
 use Rattle.kz_types.specs.declared.limits.TheConstants.{MAX_EPOCH, MAX_LONG, MAX_RECORDS}
@@ -108,6 +108,10 @@ commit_of l = commit (entries l.batches)
 
 -- ---- appends
 
+-- the log with a batch more, whose epoch is the log's from then on
+abbrev pub with_row : Log → BatchRow → Log
+with_row l b = record l { epoch = b.epoch; batches = l.batches ++ b ∷ [] }
+
 abbrev pub new_batch : Log → ℤ → ℤ → List MetaRecord → BatchRow
 new_batch l epoch now items = record { first = end_of l +ℤ pos 1; epoch = epoch; time = now; items = items }
 
@@ -145,6 +149,14 @@ elect l now items =
 -- the log without its batches and without a base, whose epoch stays
 abbrev pub reset : Log → Log
 reset l = record empty_log { epoch = l.epoch }
+
+-- whether the log may be cut at an offset: a batch end at which no transaction is open
+abbrev pub may_be_base : Log → ℤ → Bool
+may_be_base l at = list_any (int_eq at) (batch_ends l) && not (is_open (entries l.batches) at)
+
+-- The log that is its metadata alone up to an offset.
+abbrev pub snapshot : Log → ℤ → Log
+snapshot l at = record l { base = at; base_image = image_at l at; batches = filter (λ (b : BatchRow). int_lt at b.first) l.batches }
 
 -- ---- views
 

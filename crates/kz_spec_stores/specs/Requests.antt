@@ -41,6 +41,7 @@ pub data LogChange : Type 0 where
   Append : ℤ → ℤ → List MetaRecord → LogChange  -- the epoch, the time, the records
   Elect : ℤ → List MetaRecord → LogChange
   Reset : LogChange
+  Snapshot : ℤ → LogChange  -- the offset
 
 -- a file after one more frame, whose payload has so many bytes
 abbrev pub with_frame : ℕ → StoreFile → StoreFile

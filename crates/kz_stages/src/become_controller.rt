@@ -15,7 +15,7 @@ ghost use Rattle.kz_stages.specs.Checks.{bad_epoch_reply, after_check, StageCanC
 ghost use Rattle.kz_stages.specs.Claims.{claimer_of, claim_outcome, after_claim_outcome};
 ghost use Rattle.kz_stages.specs.Rows.{driver_of, stage_of};
 
-use crate::row::{DriverRow, Stage, begin_again, resign, views_migrated};
+use crate::row::{DriverRow, Stage, begin_again, epoch_of, resign, views_migrated};
 use kz_fence::{ClaimFault, Claimer, check_claim, claim_ops, claimed_number, claimed_version};
 use kz_paths::{control_and_base_paths, epoch_path};
 use kz_requests::{StepFault, multi, path_at, rows_at};
@@ -32,7 +32,7 @@ pub fn claimer_of(driver: &DriverRow, now: i64) -> Claimer
 {
     Claimer {
         id: driver.id,
-        epoch: driver.epoch.unwrap_or(0),
+        epoch: epoch_of(driver),
         now,
         migrated: views_migrated(driver),
     }

@@ -4,7 +4,7 @@ ghost use Rattle.std.specs.Ordering.{int_eq};
 ghost use Rattle.kz_types.specs.declared.codes.TheConstants.{POST_MIGRATION};
 ghost use Rattle.kz_spec_stores.specs.Requests.{Done, ReadsDisk};
 ghost use Rattle.kz_spec_stores.specs.Log.{IsViewOf};
-ghost use Rattle.kz_spec_machine.specs.Driver.{driver_at_log_end, resigned_driver, begins_again, views_migrated};
+ghost use Rattle.kz_spec_machine.specs.Driver.{driver_at_log_end, epoch_or_zero, resigned_driver, begins_again, views_migrated};
 ghost use Rattle.kz_requests.specs.Fares.{Fares};
 ghost use Rattle.kz_requests.specs.Disks.{LogDisk};
 ghost use Rattle.kz_stages.specs.Rows.{driver_of};
@@ -92,6 +92,13 @@ pub fn is_finalised(row: &DriverRow) -> bool
     ensures { result ≡ int_eq row.now.view.image.state POST_MIGRATION }
 {
     row.view.image().state() == POST_MIGRATION
+}
+
+/// The epoch of a driver, 0 where it has none.
+pub fn epoch_of(row: &DriverRow) -> i32
+    ensures { result ≡ epoch_or_zero row.now.epoch }
+{
+    row.epoch.unwrap_or(0)
 }
 
 /// Whether the driver has read that the migration is committed.

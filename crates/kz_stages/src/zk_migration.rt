@@ -20,7 +20,7 @@ ghost use Rattle.kz_stages.specs.Drivers.{HasRisen, shared_of};
 ghost use Rattle.kz_stages.specs.Migrations.{IsBegun, BeginFares, BeginDisk, BeginStop};
 ghost use Rattle.kz_stages.specs.Rows.{driver_of, stage_of, KnowsSame};
 
-use crate::row::{DriverRow, Stage, resign};
+use crate::row::{DriverRow, Stage, epoch_of, resign};
 use kz_log::{LogWire, MetaLog};
 use kz_reader::{ReadFault, translate};
 use kz_requests::{StepFault, append, page};
@@ -109,13 +109,6 @@ pub fn scan_for_migration<T: ZTree>(
 }
 
 // ---- appends
-
-// The epoch of a driver, 0 where it has none.
-fn epoch_of(driver: &DriverRow) -> i32
-    ensures { result ≡ epoch_or_zero driver.now.epoch }
-{
-    driver.epoch.unwrap_or(0)
-}
 
 // A driver appends records, and is told the last offset or the refusal.
 fn append_batch<L: MetaLog>(

@@ -13,3 +13,5 @@ mod entities;
 mod exits;
 #[cfg(test)]
 mod made;
+#[cfg(test)]
+mod snapshots;

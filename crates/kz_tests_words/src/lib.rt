@@ -15,3 +15,5 @@ mod made;
 mod mixed;
 #[cfg(test)]
 mod reports;
+#[cfg(test)]
+mod snapshots;

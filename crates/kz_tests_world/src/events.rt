@@ -416,6 +416,20 @@ fn a_migration_is_taken_back_once_no_controller_runs(rt: HostRuntime) {
 }
 
 #[test]
+fn a_log_is_cut_where_an_offset_is_recorded(rt: HostRuntime) {
+    let mut world = started(&rt, rt.alloc());
+    let early = world.event(&Event::Snapshot);
+    assert!(rt; matches!(early, Answer::TooEarly));
+    drop(world.event(&ELECT));
+    drop(world.event(&TURN));
+    let told = world.event(&Event::Snapshot);
+    assert!(rt; matches!(told, Answer::Done));
+    assert!(rt; world.end() == 4);
+    drop([early, told]);
+    drop(world);
+}
+
+#[test]
 fn a_session_begins_once_and_ends_once(rt: HostRuntime) {
     let alloc = rt.alloc();
     let mut world = World::new(alloc, MemoryTree::new(alloc), MemoryLog::new(alloc));

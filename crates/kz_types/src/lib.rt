@@ -5,6 +5,7 @@
 #![tactic(auto)]
 
 mod bodies;
+mod bodies_at;
 mod codes;
 mod driver;
 mod duplicate;
@@ -37,6 +38,7 @@ pub use bodies::Body;
 pub use bodies::Pair;
 pub use bodies::QuotaRow;
 pub use bodies::ScramPair;
+pub use bodies_at::Bodies;
 pub use codes::BAD_VERSION;
 pub use codes::MIGRATION;
 pub use codes::NO_CHILDREN_FOR_EPHEMERALS;
@@ -94,6 +96,7 @@ pub use limits::MAX_ZNODES;
 pub use limits::OP_BYTES;
 pub use log::BatchRow;
 pub use log::Entry;
+pub use log::EpochRecord;
 pub use machine::AheadPath;
 pub use machine::Answer;
 pub use machine::DriverState;

@@ -31,3 +31,10 @@ pub struct Entry {
     pub epoch: i32,
     pub item: MetaRecord,
 }
+
+/// A record of a snapshot, and the epoch of its batch.
+#[derive(Drop)]
+pub struct EpochRecord {
+    pub epoch: i32,
+    pub item: MetaRecord,
+}

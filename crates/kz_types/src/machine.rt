@@ -168,6 +168,8 @@ pub enum Event {
     },
     /// Takes the migration back: the log is reset, and ZooKeeper is given back.
     Rollback,
+    /// Cuts the log at the offset that is recorded: up to it, the log is its metadata alone from then on.
+    Snapshot,
     /// Compares the tree with the log.
     Check,
     /// A ZooKeeper session begins. Sessions are at least 1.

@@ -14,7 +14,7 @@ use Rattle.kz_types.specs.declared.plan.Plan.{Plan}
 use Rattle.kz_spec_stores.specs.Tree.{Tree, begin_session, end_session, multi}
 use Rattle.kz_spec_stores.specs.Log.{Log}
 use Rattle.kz_spec_machine.specs.Driver.{Shared, Driver, StepResult, planned_step, step}
-use Rattle.kz_spec_machine.specs.Machine.{World, next, running_ids, driver_of, with_driver, running_refusal, outcome_unless, unless_refused, ends, TurnResult, turn, with_reply, work, step_result, turn_result, moved_world, client_refusal, client_world, quorum_refusal, declared_world, start_refusal, started_world, stop_refusal, stopped_world, election_refusal, elected_world, election_answer, change_refusal, changed_world, register_refusal, final_records, finalise_refusal, exit_ops, tree_after_ops, reset_world, given_back, rollback_refusal, is_rollback, registration}
+use Rattle.kz_spec_machine.specs.Machine.{World, next, running_ids, driver_of, with_driver, running_refusal, outcome_unless, unless_refused, ends, TurnResult, turn, with_reply, work, step_result, turn_result, moved_world, client_refusal, client_world, quorum_refusal, declared_world, start_refusal, started_world, stop_refusal, stopped_world, election_refusal, elected_world, election_answer, change_refusal, changed_world, register_refusal, final_records, finalise_refusal, exit_ops, tree_after_ops, reset_world, given_back, rollback_refusal, is_rollback, registration, snapshot_refusal, cut_world}
 use Rattle.kz_spec_machine.specs.Failures.{is_failed_step, is_failure, IsCutOff, CutOffTurn, IsLeftByTurn, IsLeftByStep, IsLeftByTree, IsLeftByLog, IsLeftOutOfMemory, IsLeft}
 use Rattle.kz_spec_machine.specs.Sound.{IsTime, IsLawful, Sound}
 use Rattle.kz_laws_fence.specs.Fence.{IsOfFence}
@@ -266,6 +266,7 @@ told_fence w (event.Change id records now) new t fence h = ap shared_in (outcome
 told_fence w (event.Register id broker migrating now) new t fence h = ap shared_in (outcome_leaves w (register_refusal w id (registration broker migrating)) (changed_world w (registration broker migrating) now) new _ (answer.Step t) (λ is. absurd (cc)) h)
 told_fence w (event.Finalise id now) new t fence h = ap shared_in (outcome_leaves w (finalise_refusal w id) (changed_world w final_records now) new _ (answer.Step t) (λ is. absurd (cc)) h)
 told_fence w event.Rollback new t fence h = ap shared_in (rollback_leaves w (rollback_refusal w) (tree_after_ops w.shared.tree (exit_ops w.shared.tree)) new t h)
+told_fence w event.Snapshot new t fence h = ap shared_in (outcome_leaves w (snapshot_refusal w) (cut_world w) new answer.Done (answer.Step t) (λ is. absurd (cc)) h)
 told_fence w event.Check new t fence h = absurd (let said = ap (λ (p : World × Answer). p.1) h in cc)
 told_fence w (event.ZkOpen session) new t fence h = ap shared_in (moved_leaves w (begin_session w.shared.tree session) new t h)
 told_fence w (event.ZkExpire session) new t fence h = ap shared_in (moved_leaves w (end_session w.shared.tree session) new t h)

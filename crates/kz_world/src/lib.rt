@@ -12,6 +12,7 @@ mod registration;
 mod rollback;
 mod sessions;
 mod single_steps;
+mod snapshot;
 mod turns;
 
 pub use bound::WorkFault;

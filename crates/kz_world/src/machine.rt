@@ -25,6 +25,7 @@ use crate::registration::register;
 use crate::rollback::roll_back;
 use crate::sessions::{expire, open};
 use crate::single_steps::step_of;
+use crate::snapshot::snapshot;
 use crate::turns::turn_of;
 use kz_log::{LogWire, MetaLog, View};
 use kz_session::ZSessions;
@@ -96,6 +97,7 @@ fn happen<T: ZSessions, L: MetaLog>(
         } => register(alloc, parts, *controller, *broker, *migrating, *now),
         Event::Finalise { controller, now } => finalise(parts, *controller, *now),
         Event::Rollback => unreachable!(),
+        Event::Snapshot => snapshot(alloc, parts),
         Event::Check => compare(alloc, parts),
         Event::ZkOpen { session } => open(parts, *session),
         Event::ZkExpire { session } => expire(parts, *session),

@@ -11,18 +11,18 @@ use Rattle.kz_types.specs.declared.machine.Event.TheVariants as event
 use Rattle.kz_types.specs.declared.machine.Answer.{Answer}
 use Rattle.kz_types.specs.declared.machine.Answer.TheVariants as answer
 use Rattle.kz_types.specs.declared.move_fault.MoveFault.{MoveFault}
-use Rattle.kz_spec_stores.specs.Tree.{Tree, multi, begin_session, end_session}
+use Rattle.kz_spec_stores.specs.Tree.{Tree, multi, begin_session, end_session, migration_record}
 use Rattle.kz_spec_stores.specs.Log.{Log, append, elect, begun_of, image_of}
-use Rattle.kz_spec_stores.specs.Requests.{Disk, StoreAnswer, Done, Multi, BeginSession, EndSession, Append, Elect, IsTaken, ChangesDisk, ReadsDisk, answer_of_tree_fault, answer_of_log_fault}
+use Rattle.kz_spec_stores.specs.Requests.{Disk, StoreAnswer, Done, Multi, BeginSession, EndSession, Append, Elect, IsTaken, ChangesDisk, ReadsDisk, answer_of_tree_fault, answer_of_log_fault, Snapshot}
 use Rattle.kz_spec_machine.specs.Driver.{Driver, least}
-use Rattle.kz_spec_machine.specs.Machine.{World, running_refusal, leader_refusal, client_refusal, driver_of, running_ids, election_records, registration, final_records, is_rollback}
+use Rattle.kz_spec_machine.specs.Machine.{World, running_refusal, leader_refusal, client_refusal, driver_of, running_ids, election_records, registration, final_records, is_rollback, snapshot_refusal, snapshot_offset}
 use Rattle.kz_spec_machine.specs.Failures.{is_tree_failure, is_log_failure, is_failure, IsLeftByTree, IsLeftByLog, IsLeftOutOfMemory, IsLeft}
 use Rattle.kz_requests.specs.Disks.{answer_of_made}
 use Rattle.kz_driver.specs.Disks.{Disks, Payloads}
 use Rattle.kz_world_parts.specs.declared.faults.EventFault.{EventFault}
 use Rattle.kz_world_parts.specs.declared.faults.EventFault.TheVariants as event_fault
 use Rattle.kz_world_parts.specs.Stores.{OnTreeFault, OnLogFault, IsTreeChange, IsLogChange, AsksNothing, ChangesLog}
-use Rattle.kz_log.specs.Requests.{IsRefusal as IsLogRefusal}
+use Rattle.kz_log.specs.Requests.{IsRefusal as IsLogRefusal, made_by_snapshot}
 use Rattle.kz_tree.specs.Requests.{IsRefusal as IsTreeRefusal}
 use Rattle.kz_session.specs.declared.sessions.SessionFault.{SessionFault}
 use Rattle.kz_session.specs.declared.sessions.SessionFault.TheVariants as session_fault
@@ -30,7 +30,7 @@ use Rattle.kz_session.specs.Sessions.{answer_of_session_fault, IsRefusal as IsSe
 use Rattle.kz_exit.specs.declared.faults.ExitFault.{ExitFault}
 use Rattle.kz_exit.specs.declared.faults.ExitFault.TheVariants as exit
 use Rattle.kz_world_parts.specs.Faults.{result_of_answer, answer_of_fault, after_log_fault, after_tree_fault, after_session_fault, after_exit}
-use Rattle.kz_world_parts.specs.Disks.{UnlessRefused, TurnEventDisks, DriverStepDisks, TakesBack, ResultDisks}
+use Rattle.kz_world_parts.specs.Disks.{UnlessRefused, TurnEventDisks, DriverStepDisks, TakesBack, ResultDisks, CutsLog}
 use Rattle.kz_world_parts.specs.Refusals.{records_refusal, end_refusal}
 
 -- ---- answers that tell a fault
@@ -111,6 +111,11 @@ exit_told (Err (exit.Log f)) g is = log_by_failure (is_log_failure f) f g refl (
 exit_told (Err (exit.Tree f)) g is = tree_by_failure (is_tree_failure f) f g refl (sym is)
 exit_told (Err exit.NoMemory) g is = subst IsTold (let one : event_fault.NoMemory ≡ g = cc in one) no_memory_told
 
+-- the fault of a snapshot that isn't refused
+cut_told : (l : Log) (at : Option ℤ) (payloads : Payloads) (f : EventFault) (old new : Disks) → CutsLog l at payloads (Err f) old new → IsTold f
+cut_told l None payloads f old new h = log_read_told f old.log new.log h.0
+cut_told l (Some at) payloads f old new h = log_changed_told (made_by_snapshot l at) (payloads.log l (Snapshot at)) f old new h
+
 -- the fault of an event
 pub event_told : (w : World) (e : Event) (payloads : Payloads) (f : EventFault) (old new : Disks) → ResultDisks w e payloads (Err f) old new → IsTold f
 event_told w (event.Quorum ids) payloads f old new h = nothing_told Answer f old new h
@@ -129,6 +134,8 @@ event_told w (event.Finalise id now) payloads f old new h =
     unless_told (leader_refusal w id) _ _ f (unless_told (end_refusal w id) _ _ f (log_changed_told (append w.shared.log w.shared.log.epoch now final_records) (payloads.log w.shared.log (Append w.shared.log.epoch now final_records)) f old new) (λ k. log_read_told f old.log new.log k.0)) (nothing_told Answer f old new) h
 event_told w event.Rollback payloads f old new h =
     unless_told (option_map (λ id. answer.Running id) (least (running_ids w.drivers))) _ _ f (λ (k : TakesBack w.shared payloads (Err f) old new). exit_told k.result f k.told) (nothing_told Answer f old new) h
+event_told w event.Snapshot payloads f old new h =
+    unless_told (snapshot_refusal w) _ _ f (cut_told w.shared.log (snapshot_offset (migration_record w.shared.tree) w.shared.log) payloads f old new) (λ k. log_read_told f old.log new.log k.0) h
 event_told w event.Check payloads f old new h = log_read_told f old.log new.log h.0
 event_told w (event.ZkOpen session) payloads f old new h = tree_change_told (begin_session w.shared.tree session) (payloads.tree w.shared.tree (BeginSession session)) f old.tree new.tree h.0
 event_told w (event.ZkExpire session) payloads f old new h = tree_change_told (end_session w.shared.tree session) (payloads.tree w.shared.tree (EndSession session)) f old.tree new.tree h.0

@@ -7,12 +7,13 @@ use Rattle.kz_types.specs.declared.machine.Event.TheVariants as event
 use Rattle.kz_types.specs.declared.machine.Answer.{Answer}
 use Rattle.kz_types.specs.declared.machine.Answer.TheVariants as answer
 use Rattle.kz_types.specs.declared.record.MetaRecord.{MetaRecord}
-use Rattle.kz_spec_stores.specs.Requests.{Disk, Multi, BeginSession, EndSession, Append, Elect, Reset}
-use Rattle.kz_spec_stores.specs.Tree.{multi, begin_session, end_session}
+use Rattle.kz_spec_stores.specs.Requests.{Disk, Multi, BeginSession, EndSession, Append, Elect, Reset, Snapshot}
+use Rattle.kz_spec_stores.specs.Tree.{multi, begin_session, end_session, migration_record}
 use Rattle.kz_spec_stores.specs.Log.{Log, append, elect, image_of, begun_of}
 use Rattle.kz_spec_machine.specs.Driver.{Shared, Driver, least}
-use Rattle.kz_spec_machine.specs.Machine.{World, running_ids, driver_of, running_refusal, leader_refusal, client_refusal, election_records, registration, final_records, exit_ops}
+use Rattle.kz_spec_machine.specs.Machine.{World, running_ids, driver_of, running_refusal, leader_refusal, client_refusal, election_records, registration, final_records, exit_ops, snapshot_refusal, snapshot_offset}
 use Rattle.kz_world_parts.specs.declared.faults.EventFault.{EventFault}
+use Rattle.kz_log.specs.Requests.{made_by_snapshot}
 use Rattle.kz_driver.specs.Disks.{Disks, disks_of, Payloads}
 use Rattle.kz_turns.specs.Disks.{StepRequestDisks, TurnDisks}
 use Rattle.kz_exit.specs.declared.faults.ExitFault.{ExitFault}
@@ -57,6 +58,11 @@ AppendsRecords log records now payloads r old new = ChangesLog (append log log.e
 abbrev pub ElectsController : Log → ℤ → Payloads → Result Answer EventFault → Disks → Disks → Type 0
 ElectsController log now payloads r old new = ChangesLog (elect log now (election_records log)) (payloads.log log (Elect now (election_records log))) r old new
 
+-- the log is cut at this offset; without one it is only read
+abbrev pub CutsLog : Log → Option ℤ → Payloads → Result Answer EventFault → Disks → Disks → Type 0
+CutsLog log None payloads r old new = ReadsLog r old new
+CutsLog log (Some at) payloads r old new = ChangesLog (made_by_snapshot log at) (payloads.log log (Snapshot at)) r old new
+
 -- A rollback by its own result: what it did to the log's disk, and then to the tree's.
 pub record TakesBack (s : Shared) (payloads : Payloads) (r : Result Answer EventFault) (old new : Disks) : Type 0 where
   pub result : Result ⊤ ExitFault
@@ -97,6 +103,9 @@ ResultDisks w (event.Finalise id now) payloads r old new = UnlessRefused (leader
 ResultDisks w event.Rollback payloads r old new = UnlessRefused (option_map (λ id. answer.Running id) (least (running_ids w.drivers)))
     (TakesBack w.shared payloads r old new)
     (AsksNothing r old new)
+ResultDisks w event.Snapshot payloads r old new = UnlessRefused (snapshot_refusal w)
+    (CutsLog w.shared.log (snapshot_offset (migration_record w.shared.tree) w.shared.log) payloads r old new)
+    (ReadsLog r old new)
 ResultDisks w event.Check payloads r old new = ReadsLog r old new
 ResultDisks w (event.ZkOpen session) payloads r old new = ChangesTree (begin_session w.shared.tree session) (payloads.tree w.shared.tree (BeginSession session)) r old new
 ResultDisks w (event.ZkExpire session) payloads r old new = ChangesTree (end_session w.shared.tree session) (payloads.tree w.shared.tree (EndSession session)) r old new

@@ -28,4 +28,4 @@ returns-clause-read c =
     let named : has_quota (Some k) name ≡ true = ap (λ found. has_quota found name) (c.in-Some.ensures ∙ ap quota_key c.as_slice.ensures.value) ∙ c.requires.named in
     let read : is_some (key_of c.bytes.result.now) ≡ true =
     ap (λ path. is_some (key_of path)) (c.bytes.ensures.value ∙ c.in-Some-path_of.ensures.path) ∙ ap is_some (c.in-Some-path_of.ensures.read (quota_legal k name named)) in
-    rw c.in_ok-change_under.ensures.ok (changed_is_read c.args.change.now c.bytes.result.now c.args.entries.now.items read c.requires.read)
+    rw c.in_ok-change_under.ensures.ok (changed_is_read c.args.change.now c.bytes.result.now c.args.entries.now read c.requires.read)

@@ -1,11 +1,14 @@
-use Rattle.std.proofs.Common.{◌∙◌}
-use Rattle.kz_image_lists.proofs.QuotaLists.{insert_quotas, absent_quotas}
+use Rattle.std.proofs.Common.{sym, subst}
+use Rattle.kz_ordered.specs.Order.{bytes_cmp}
+use Rattle.kz_ordered.specs.Ordered.{find, Rises}
+use Rattle.kz_spec_stores.specs.Metadata.{key_of_quota, path_of_quotas}
+use Rattle.kz_spec_stores.specs.InOrder.{IsQuotaFilled}
+use Rattle.kz_laws_images.proofs.Entries.{found_has}
+use Rattle.kz_laws_images.proofs.QuotaLists.{found_rows_rise}
 use Rattle.kz_image_lists.proofs.quotas.change_under.Goals as goal
 
-pub returns-then-change-clause-ok : goal.returns-then-change-clause-ok
-returns-then-change-clause-ok c =
-    absent_quotas c.args.change.now c.args.path.now c.args.entries.now.items c.in-Err.place (rw c.deref.ensures.value at c.in-Err.ensures) c.if-change.true
-
-pub returns-in_ok-insert-in-Err-clause-ok : goal.returns-in_ok-insert-in-Err-clause-ok
-returns-in_ok-insert-in-Err-clause-ok c =
-    c.in_ok-insert-in-Err.ensures.items ∙ insert_quotas c.args.change.now c.args.path.now c.args.entries.now.items c.in-Err.place c.in_ok-entry-in-Err.entry (rw c.deref.ensures.value at c.in-Err.ensures) c.if-change.false c.in_ok-entry-in-Err.ensures
+pub change_rows-requires : goal.change_rows-requires
+change_rows-requires c =
+    let entries = c.args.entries.now in
+    let found = find bytes_cmp path_of_quotas c.args.path.now entries in
+    subst (Rises bytes_cmp key_of_quota) (sym c.in_ok-rows.ensures) (found_rows_rise found (found_has IsQuotaFilled bytes_cmp path_of_quotas c.args.path.now entries c.requires.order.filled))

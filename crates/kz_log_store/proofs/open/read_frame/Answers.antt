@@ -5,7 +5,7 @@ use Rattle.kz_log_store.proofs.open.read_frame.Goals as goal
 
 pub returns-clause-answer : goal.returns-clause-answer
 returns-clause-answer g c = λ file told.
-    next_steps c.next-found.result c.take_next.result file c.args.journal.now c.next-found.new.self c.args.log.now.log c.take_next.new.log.log (g.D.Disk.told (disk_of c.next-found.new.self)) c.requires.letter
+    next_steps c.next-found.result c.take_next.result file c.args.journal.now c.next-found.new.self c.args.log.now c.take_next.new.log (g.D.Disk.told (disk_of c.next-found.new.self)) c.requires.letter
     (c.next-found.ensures.answer file told) c.take_next.ensures
 
 pub returns-clause-letter : goal.returns-clause-letter
@@ -13,12 +13,12 @@ returns-clause-letter g c = c.next-found.ensures.letter ∙ c.requires.letter
 
 pub returns-clause-ended : goal.returns-clause-ended
 returns-clause-ended g c =
-    next_ends c.next-found.result c.take_next.result c.args.log.now.log c.take_next.new.log.log (has_ended c.args.journal.now) (has_ended c.next-found.new.self) (bytes_left c.args.journal.now) (bytes_left c.next-found.new.self)
+    next_ends c.next-found.result c.take_next.result c.args.log.now c.take_next.new.log (has_ended c.args.journal.now) (has_ended c.next-found.new.self) (bytes_left c.args.journal.now) (bytes_left c.next-found.new.self)
     c.next-found.ensures.ended c.next-found.ensures.fewer c.take_next.ensures
 
 pub returns-clause-cause : goal.returns-clause-cause
 returns-clause-cause g c =
-    next_cause c.next-found.result c.take_next.result c.args.log.now.log c.take_next.new.log.log (disk_state g.D.Disk.faults c.args.journal.now) (disk_state g.D.Disk.faults c.next-found.new.self) (g.D.Disk.last_failed (disk_of c.next-found.new.self))
+    next_cause c.next-found.result c.take_next.result c.args.log.now c.take_next.new.log (disk_state g.D.Disk.faults c.args.journal.now) (disk_state g.D.Disk.faults c.next-found.new.self) (g.D.Disk.last_failed (disk_of c.next-found.new.self))
     c.requires.up c.next-found.ensures.cause c.take_next.ensures
 
 pub returns-clause-stop : goal.returns-clause-stop

@@ -12,7 +12,7 @@ invariant-frames g l = record {
   faults : (disk_state g.D.Disk.faults l.journal).faults ≡ (disk_state g.D.Disk.faults l.fn.journal).faults;
   told : StaysTold (g.D.Disk.told (disk_of l.fn.journal)) (g.D.Disk.told (disk_of l.journal));
   same : (file : List ℕ) → g.D.Disk.told (disk_of l.fn.journal) ≡ Some file → g.D.Disk.told (disk_of l.journal) ≡ Some file;
-  read : (file : List ℕ) → g.D.Disk.told (disk_of l.fn.journal) ≡ Some file → HasRead l.log.log l.fresh (unread l.fn.journal file) (unread l.journal file);
+  read : (file : List ℕ) → g.D.Disk.told (disk_of l.fn.journal) ≡ Some file → HasRead l.log l.fresh (unread l.fn.journal file) (unread l.journal file);
 }
 
 abbrev pub decreases-frames : goal.decreases-frames

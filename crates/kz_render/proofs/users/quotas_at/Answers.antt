@@ -10,4 +10,4 @@ use Rattle.kz_render.proofs.users.quotas_at.Goals as goal
 pub returns-in-Some-clause-range : goal.returns-in-Some-clause-range
 returns-in-Some-clause-range c =
     let is : c.as_slice.result.now ≡ quotas_in (find bytes_cmp path_of_quotas c.args.path.now c.args.entries.now) = search rules in
-    subst (λ qs. are_quotas qs ≡ true) (sym is) (found_quotas c.args.path.now c.args.entries.now c.requires.legal)
+    subst (λ qs. are_quotas qs ≡ true) (sym is) (found_quotas c.args.path.now c.args.entries.now c.requires)

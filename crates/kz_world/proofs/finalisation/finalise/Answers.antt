@@ -1,22 +1,19 @@
-use Rattle.std.proofs.Common.{◌≡◌, ℕ, ℤ, Option, Some, None, Err, false, ◌∙◌, sym, ap, subst, w32, w64, to_z, of_z}
+use Rattle.std.proofs.Common.{◌≡◌, ℤ, Option, Err, false, ◌∙◌, sym, ap, subst, w32, w64, to_z, of_z}
 use Rattle.std.specs.Prelude.{IfSome}
 use Rattle.std.proofs.lemmas.Int.{to_z-of_z}
-use Rattle.kz_types.specs.declared.fault.LogFault.TheVariants as log_fault
 use Rattle.kz_types.specs.declared.machine.Answer.{Answer}
 use Rattle.kz_types.specs.declared.machine.Event.TheVariants as event
-use Rattle.kz_spec_stores.specs.Requests.{Disk, ChangesDisk, ReadsDisk}
 use Rattle.kz_spec_machine.specs.Failures.{is_failure}
 use Rattle.kz_spec_machine.specs.Machine.{World, leader_refusal, final_records, next, event_pairs}
-use Rattle.kz_world_parts.specs.declared.faults.EventFault.{EventFault}
 use Rattle.kz_world_parts.specs.declared.faults.EventFault.TheVariants as event_fault
-use Rattle.kz_world_parts.specs.Disks.{disks_in, UnlessRefused}
+use Rattle.kz_world_parts.specs.Disks.{disks_in}
 use Rattle.kz_world_parts.specs.Refusals.{end_refusal}
-use Rattle.kz_world_parts.specs.Stores.{OnLogFault}
 use Rattle.kz_world_parts.specs.Stops.{append_pairs}
 use Rattle.kz_world_parts.specs.Worlds.{world_of_parts, world_of, world_after_append}
 use Rattle.kz_world_parts.proofs.Outcomes.{told_by, unless_none, finalise_refused, finalise_appends, finalise_pairs}
 use Rattle.kz_world_parts.proofs.Stops.{read_failure, still_failure, later_leaves}
 use Rattle.kz_world_parts.proofs.Views.{read_keeps}
+use Rattle.kz_world.proofs.Unread.{either, unread}
 use Rattle.kz_world.proofs.finalisation.finalise.Goals as goal
 
 -- what is asked of the world after the log was read
@@ -48,21 +45,6 @@ returns-in-Ok-Some-clause-ok g c =
       finalise_refused w id c.args.now refusal leads refused ∙ ap (λ (x : World). (x, refusal)) (sym c.read.ensures.world),
       subst (λ (o : Option Answer). IfSome o (λ a. is_failure a ≡ false)) c.in-Ok-Some.field-0-is c.in-Ok-Some.ensures.no_failure,
     )
-
--- a log that wasn't read tells what it would tell of an append
-unread : (taken : Type 0) (payload : ℕ) (f : EventFault) (old new : Disk) → OnLogFault (λ a. ReadsDisk a old new) f → OnLogFault (λ a. ChangesDisk taken payload a old new) f
-unread taken payload (event_fault.Tree f) old new h = h
-unread taken payload (event_fault.Log (log_fault.Stale epoch)) old new h = absurd h.0
-unread taken payload (event_fault.Log log_fault.Failed) old new h = absurd h.1
-unread taken payload (event_fault.Log (log_fault.Limit number)) old new h = absurd h.0
-unread taken payload (event_fault.Log log_fault.NoMemory) old new h = absurd h.0
-unread taken payload (event_fault.Log log_fault.Down) old new h = h
-unread taken payload (event_fault.Log (log_fault.Full length)) old new h = absurd h.1
-unread taken payload event_fault.NoMemory old new h = h
-
-either : (o : Option Answer) (asked refused : Type 0) → asked → refused → UnlessRefused o asked refused
-either None asked refused h k = h
-either (Some r) asked refused h k = k
 
 pub returns-in-Err-clause-disks : goal.returns-in-Err-clause-disks
 returns-in-Err-clause-disks g c =

@@ -120,6 +120,16 @@ returns-in-Finalise-clause-stop g c = λ sound.
     (ap (λ x. event.Finalise x (to_z w64 (of_z w64 c.in-Finalise.now))) (to_z-of_z w32 c.in-Finalise.controller controller_fits) ∙ ap (λ x. event.Finalise c.in-Finalise.controller x) (to_z-of_z w64 c.in-Finalise.now now_fits) ∙ sym c.in-Finalise.is)
     c.finalise.ensures.stop
 
+pub returns-in-Snapshot-clause-stop : goal.returns-in-Snapshot-clause-stop
+returns-in-Snapshot-clause-stop g c = λ sound.
+    let p = c.args.parts.now in
+    let q = c.snapshot.new.parts in
+    let w = world_of g.T.ZTree.tree g.L.MetaLog.log p in
+    let disks = disks_in g.T.ZTree.disk g.L.MetaLog.disk (world_of_parts p) in
+    event_later w w event.Snapshot c.args.event.now c.snapshot.result disks disks (g.T.ZTree.left q.tree.inner) (g.L.MetaLog.left q.log.inner) refl refl
+    (sym c.in-Snapshot.is)
+    c.snapshot.ensures.stop
+
 pub returns-in-Check-clause-stop : goal.returns-in-Check-clause-stop
 returns-in-Check-clause-stop g c = λ sound.
     let p = c.args.parts.now in

@@ -1,5 +1,4 @@
 use Rattle.std.proofs.Common.{subst, sym}
-use Rattle.std.specs.List.{All}
 use Rattle.kz_ordered.specs.Order.{bytes_cmp}
 use Rattle.kz_spec_stores.specs.Metadata.{name_of_user}
 use Rattle.kz_spec_stores.specs.InOrder.{IsUserFilled}
@@ -8,5 +7,4 @@ use Rattle.kz_image.proofs.image.Image.scram.Goals as goal
 
 pub scram_at-requires : goal.scram_at-requires
 scram_at-requires c =
-    let filled : All IsUserFilled c.deref.result.now = subst (All IsUserFilled) (sym c.deref.ensures.value) c.self.invariant.users.filled in
-    rw c.as_slice.ensures (subst (HasIfFound IsUserFilled) (sym c.in-Some.ensures) (found_has IsUserFilled bytes_cmp name_of_user c.bytes.result.now c.deref.result.now filled)).1
+    rw c.as_slice.ensures (subst (HasIfFound IsUserFilled) (sym c.in-Some.ensures) (found_has IsUserFilled bytes_cmp name_of_user c.bytes.result.now c.self.inside.users c.self.invariant.users.filled)).1

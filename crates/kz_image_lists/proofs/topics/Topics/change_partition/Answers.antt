@@ -1,15 +1,23 @@
 use Rattle.std.proofs.Common.{sym, subst}
-use Rattle.kz_ordered.specs.Order.{bytes_cmp}
-use Rattle.kz_ordered.specs.Ordered.{Rises}
-use Rattle.kz_spec_stores.specs.Metadata.{name_of_topic}
-use Rattle.kz_spec_stores.specs.Legal.{AreApart}
+use Rattle.std.specs.List.{find as find_by}
+use Rattle.kz_spec_stores.specs.InOrder.{IsTopicInOrder}
+use Rattle.kz_laws_images.proofs.Entries.{HasIfFound, found_by_has}
+use Rattle.kz_laws_images.proofs.TopicFinds.{has_id}
 use Rattle.kz_laws_images.proofs.Topics.{among_with, partition_changed_leaves}
-use Rattle.kz_image_lists.proofs.TopicNames.{names_stay}
+use Rattle.kz_image_lists.specs.Names.{AreNames}
+use Rattle.kz_image_lists.proofs.TopicNames.{names_changed}
 use Rattle.kz_image_lists.proofs.topics.Topics.change_partition.Goals as goal
 
-pub invariant_of-self-in-Some : goal.invariant_of-self-in-Some
-invariant_of-self-in-Some c =
-    let items = c.self.inside.topics.items in
-    let rises : Rises bytes_cmp name_of_topic items = subst (Rises bytes_cmp name_of_topic) (sym c.self.view_is) c.requires.order.rising in
-    let apart : AreApart items = subst AreApart (sym c.self.view_is) c.requires.apart in
-    rw c.in_ok-change_at-in-Some.ensures.ok (names_stay c.self.inside.names.items items c.self.invariant rises apart _ (partition_changed_leaves _ c.args.change.now) _ (among_with c.args.change.now.topic_id items))
+pub with_partition_changed-requires-clause-rising : goal.with_partition_changed-requires-clause-rising
+with_partition_changed-requires-clause-rising c =
+    let topics = c.args.self.now in
+    let in_order : IsTopicInOrder c.in-Some.topic.now = subst (HasIfFound IsTopicInOrder) (sym c.in-Some.ensures) (found_by_has IsTopicInOrder (has_id c.args.change.now.topic_id) topics c.requires.order.within) in
+    in_order.0
+
+pub invariant_of-self-2 : goal.invariant_of-self-2
+invariant_of-self-2 c =
+    let topics = c.args.self.now in
+    let names = c.self.inside.names in
+    let are : AreNames names topics = subst (AreNames names) c.self.view_is c.self.invariant in
+    rw (c.in_ok-put.ensures.ok, c.self.view_is) (names_changed names topics are c.requires.order.rising c.requires.apart _ (partition_changed_leaves _ c.args.change.now) (find_by (has_id c.args.change.now.topic_id) topics) (among_with c.args.change.now.topic_id topics)
+    c.in-Some.topic.now c.in_ok-changed-in-Some.changed (sym c.in-Some.ensures) c.in_ok-changed-in-Some.ensures)

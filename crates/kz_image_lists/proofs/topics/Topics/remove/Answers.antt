@@ -1,17 +1,20 @@
-use Rattle.std.proofs.Common.{◌∙◌, ap, sym, subst, remove}
-use Rattle.kz_image_lists.specs.Places.{AreNames}
-use Rattle.kz_image_lists.proofs.TopicNames.{names_removed, removed_at_place, without_absent_topic}
+use Rattle.std.proofs.Common.{sym, subst}
+use Rattle.kz_image_lists.specs.Names.{AreNames}
+use Rattle.kz_image_lists.proofs.TopicNames.{names_removed, removed_named, without_absent_topic}
 use Rattle.kz_image_lists.proofs.topics.Topics.remove.Goals as goal
 
-pub returns-in-Some : goal.returns-in-Some
-returns-in-Some c = c.remove-removed.ensures.items ∙ ap (λ xs. remove xs c.in-Some.place) c.self.view_is ∙ removed_at_place c.args.id c.args.self.now c.in-Some.place c.in-Some.ensures c.requires.apart
+pub returns-in-None-clause-ok : goal.returns-in-None-clause-ok
+returns-in-None-clause-ok c = sym (without_absent_topic c.args.id c.args.self.now (sym c.in-None.ensures))
 
-pub invariant_of-self : goal.invariant_of-self
-invariant_of-self c =
-    let names = c.self.inside.names.items in
-    let are : AreNames names c.args.self.now = subst (AreNames names) c.self.view_is c.self.invariant in
-    let removed = c.remove-removed.ensures.items ∙ ap (λ xs. remove xs c.in-Some.place) c.self.view_is ∙ removed_at_place c.args.id c.args.self.now c.in-Some.place c.in-Some.ensures c.requires.apart in
-    rw (c.without.ensures, removed) (names_removed c.args.id names c.args.self.now are)
+pub invariant_of-self-2 : goal.invariant_of-self-2
+invariant_of-self-2 c =
+    let names = c.self.inside.names in
+    let topics = c.args.self.now in
+    let are : AreNames names topics = subst (AreNames names) c.self.view_is c.self.invariant in
+    let t = c.in-Some.topic.now in
+    let removed = removed_named c.args.id t topics c.requires.rising c.requires.apart (sym c.in-Some.ensures) in
+    rw (c.in_ok-without-2.ensures.ok, c.in_ok-without.ensures.ok, c.in_ok-names.ensures, c.bytes.ensures, c.in_ok-name-in-Some.ensures, c.self.view_is, removed) (names_removed c.args.id names topics are)
 
-pub returns-in_default : goal.returns-in_default
-returns-in_default c = sym (without_absent_topic c.args.id c.args.self.now c.in_default.ensures)
+pub returns-clause-ok : goal.returns-clause-ok
+returns-clause-ok c =
+    rw (c.in_ok-without-2.ensures.ok, c.bytes.ensures, c.in_ok-name-in-Some.ensures, c.self.view_is) (removed_named c.args.id c.in-Some.topic.now c.args.self.now c.requires.rising c.requires.apart (sym c.in-Some.ensures))

@@ -18,7 +18,7 @@ invariant_of-self g c =
       letter = c.write_seal.ensures.kept.0 ∙ s.letter;
       down_is = s.down_is ∙ sym (seal_up c.in-Ok.done old new c.in-Ok.ensures.disk);
       ended = λ h. c.write_seal.ensures.kept.1;
-      same = λ h. same_sealed s.rows.log s.fresh c.in-Ok.done (g.D.Disk.told (disk_of s.journal)) (g.D.Disk.told (disk_of c.write_seal.new.journal)) c.write_seal.ensures.told (s.same up)
+      same = λ h. same_sealed s.rows s.fresh c.in-Ok.done (g.D.Disk.told (disk_of s.journal)) (g.D.Disk.told (disk_of c.write_seal.new.journal)) c.write_seal.ensures.told (s.same up)
           (λ file is. subst (λ n. AnswersSeal n file (Ok c.in-Ok.done) (g.D.Disk.told (disk_of c.write_seal.new.journal))) s.letter (c.in-Ok.ensures.sealed file is));
     }
 
@@ -70,7 +70,7 @@ pub returns-in-Ok-clause-stop : goal.returns-in-Ok-clause-stop
 returns-in-Ok-clause-stop g c = λ h.
     let s = c.args.self.now in
     let up : is_down s.journal ≡ false = sym s.down_is ∙ c.if-self.false in
-    left_by_seal s.rows.log s.fresh (g.D.Disk.told (disk_of s.journal)) (g.D.Disk.told (disk_of c.write_seal.new.journal)) (g.D.Disk.may_leave (disk_of c.write_seal.new.journal)) c.write_seal.ensures.told (s.same up)
+    left_by_seal s.rows s.fresh (g.D.Disk.told (disk_of s.journal)) (g.D.Disk.told (disk_of c.write_seal.new.journal)) (g.D.Disk.may_leave (disk_of c.write_seal.new.journal)) c.write_seal.ensures.told (s.same up)
     (λ file is left may. subst (λ n. LeftBySeal n (journal_of n file) left) s.letter (c.write_seal.ensures.stop file is left may))
 
 pub returns-in-Err-Failed-clause-disk : goal.returns-in-Err-Failed-clause-disk
@@ -85,7 +85,7 @@ pub returns-in-Err-Failed-clause-stop : goal.returns-in-Err-Failed-clause-stop
 returns-in-Err-Failed-clause-stop g c = λ h.
     let s = c.args.self.now in
     let up : is_down s.journal ≡ false = sym s.down_is ∙ c.if-self.false in
-    left_by_seal s.rows.log s.fresh (g.D.Disk.told (disk_of s.journal)) (g.D.Disk.told (disk_of c.write_seal.new.journal)) (g.D.Disk.may_leave (disk_of c.write_seal.new.journal)) c.write_seal.ensures.told (s.same up)
+    left_by_seal s.rows s.fresh (g.D.Disk.told (disk_of s.journal)) (g.D.Disk.told (disk_of c.write_seal.new.journal)) (g.D.Disk.may_leave (disk_of c.write_seal.new.journal)) c.write_seal.ensures.told (s.same up)
     (λ file is left may. subst (λ n. LeftBySeal n (journal_of n file) left) s.letter (c.write_seal.ensures.stop file is left may))
 
 pub returns-in-Err-Full-clause-disk : goal.returns-in-Err-Full-clause-disk
@@ -100,5 +100,5 @@ pub returns-in-Err-Full-clause-stop : goal.returns-in-Err-Full-clause-stop
 returns-in-Err-Full-clause-stop g c = λ h.
     let s = c.args.self.now in
     let up : is_down s.journal ≡ false = sym s.down_is ∙ c.if-self.false in
-    left_by_seal s.rows.log s.fresh (g.D.Disk.told (disk_of s.journal)) (g.D.Disk.told (disk_of c.write_seal.new.journal)) (g.D.Disk.may_leave (disk_of c.write_seal.new.journal)) c.write_seal.ensures.told (s.same up)
+    left_by_seal s.rows s.fresh (g.D.Disk.told (disk_of s.journal)) (g.D.Disk.told (disk_of c.write_seal.new.journal)) (g.D.Disk.may_leave (disk_of c.write_seal.new.journal)) c.write_seal.ensures.told (s.same up)
     (λ file is left may. subst (λ n. LeftBySeal n (journal_of n file) left) s.letter (c.write_seal.ensures.stop file is left may))

@@ -1,31 +1,35 @@
 use Rattle.std.specs.Prelude.{⊤}
-use Rattle.std.proofs.Common.{◌≡◌, ◌≤◌, false, length, Ok, Err, refl, sym, ap, ◌∙◌, subst}
+use Rattle.std.proofs.Common.{◌≡◌, ◌≤◌, false, length, Ok, Err, refl, sym, ap, ◌∙◌, subst, w32, rules}
+use Rattle.std.proofs.lemmas.Int.{to_z-of_z}
+use mir.Val.{SFits}
+use Rattle.kz_spec_stores.specs.Log.{IsLog, with_row}
 use Rattle.kz_types.specs.declared.limits.TheConstants.{MAX_FILE_BYTES}
 use Rattle.kz_spec_stores.specs.Requests.{Disk, ChangesDisk}
 use Rattle.kz_spec_stores.specs.Requests as answers
 use Rattle.kz_spec_files.specs.Frames.{journal_of, LeftByAppend}
-use Rattle.kz_spec_files.specs.LogFile.{batch_payload, with_row}
+use Rattle.kz_spec_files.specs.LogFile.{batch_payload}
 use Rattle.kz_journal.specs.Held.{disk_of, is_down, disk_state}
 use Rattle.kz_store_file.specs.Changes.{answer_of_change_fault, IfUnwritten, HasFrame}
+use Rattle.kz_log_store.specs.Opened.{IsLogFile}
 use Rattle.kz_log_store.proofs.Changing.{frame_fits, resized}
 use Rattle.kz_log_store.proofs.Frames.{same_after, left_by_change}
 use Rattle.kz_log_store.proofs.store.LogStore.write.Goals as goal
 
-pub invariant_of-self : goal.invariant_of-self
-invariant_of-self g c =
+pub invariant_of-self-in-Ok-write_frame : goal.invariant_of-self-in-Ok-write_frame
+invariant_of-self-in-Ok-write_frame g c =
     let s = c.args.self.now in
-    let disk = c.in-Ok.ensures.disk in
+    let disk = c.in-Ok-write_frame.ensures.disk in
     let payload = c.args.payload.now in
     let up : is_down s.journal ≡ false = sym s.down_is ∙ c.requires.up in
     let few : length payload ≤ MAX_FILE_BYTES = frame_fits (length payload) (disk_state g.D.Disk.faults s.journal) _ refl disk.1 in
     record {
-      is_log = c.push.ensures.is_log;
+      is_log = c.in-Ok.ensures.is_log;
       letter = c.write_frame.ensures.kept.0 ∙ s.letter;
       down_is = s.down_is ∙ sym (ap (λ (d : Disk). d.down) disk.2);
       ended = λ h. c.write_frame.ensures.kept.1;
-      same = λ h. same_after s.rows.log c.push.new.self.log s.fresh payload (g.D.Disk.told (disk_of s.journal)) (g.D.Disk.told (disk_of c.write_frame.new.journal)) c.write_frame.ensures.told (s.same up)
-          (λ file is. subst (λ n. HasFrame n payload file (g.D.Disk.told (disk_of c.write_frame.new.journal))) s.letter (c.in-Ok.ensures.appended file is))
-          (c.requires.spelled.read few s.rows.log c.requires.follows ∙ ap Ok (sym c.push.ensures.log));
+      same = λ h. same_after s.rows c.push.new.self s.fresh payload (g.D.Disk.told (disk_of s.journal)) (g.D.Disk.told (disk_of c.write_frame.new.journal)) c.write_frame.ensures.told (s.same up)
+          (λ file is. subst (λ n. HasFrame n payload file (g.D.Disk.told (disk_of c.write_frame.new.journal))) s.letter (c.in-Ok-write_frame.ensures.appended file is))
+          (c.requires.spelled.read few s.rows c.requires.follows ∙ ap Ok (sym c.in-Ok.ensures.ok));
     }
 
 pub invariant_of-self-in-Err-Failed : goal.invariant_of-self-in-Err-Failed
@@ -35,28 +39,32 @@ invariant_of-self-in-Err-Failed g c =
     let new = disk_state g.D.Disk.faults c.write_frame.new.journal in
     let disk = subst (λ e. ChangesDisk ⊤ (length c.args.payload.now) (answer_of_change_fault e) old new) c.in-Err-Failed.field-0-is c.in-Err-Failed.ensures.disk in
     let down = disk.4 in
+    let fits : SFits w32 c.epoch-epoch.result = search rules in
+    let popped = c.pop.ensures s.rows c.args.row (sym (to_z-of_z w32 c.epoch-epoch.result fits ∙ c.epoch-epoch.ensures)) c.in-Ok.ensures.ok in
     record {
-      is_log = s.is_log;
+      is_log = subst IsLog (sym popped) s.is_log;
       letter = c.write_frame.ensures.kept.0 ∙ s.letter;
       down_is = sym down;
       ended = λ up. c.write_frame.ensures.kept.1;
       same = λ up. absurd (cc);
     }
 
-pub invariant_of-self-in-Full-1 : goal.invariant_of-self-in-Full-1
-invariant_of-self-in-Full-1 g c =
+pub invariant_of-self-in-Err-Full : goal.invariant_of-self-in-Err-Full
+invariant_of-self-in-Err-Full g c =
     let s = c.args.self.now in
     let old = disk_state g.D.Disk.faults s.journal in
     let new = disk_state g.D.Disk.faults c.write_frame.new.journal in
     let disk = subst (λ e. ChangesDisk ⊤ (length c.args.payload.now) (answer_of_change_fault e) old new) c.in-Err-Full.field-0-is c.in-Err-Full.ensures.disk in
     let same = subst (λ e. IfUnwritten {T = Unit {0}} (Err e) (disk_of c.write_frame.new.journal ≡ disk_of s.journal)) c.in-Err-Full.field-0-is c.in-Err-Full.ensures.untouched in
     let up : is_down s.journal ≡ false = sym s.down_is ∙ c.requires.up in
+    let fits : SFits w32 c.epoch-epoch.result = search rules in
+    let popped = c.pop-in-Err-Full.ensures s.rows c.args.row (sym (to_z-of_z w32 c.epoch-epoch.result fits ∙ c.epoch-epoch.ensures)) c.in-Ok.ensures.ok in
     record {
-      is_log = s.is_log;
+      is_log = subst IsLog (sym popped) s.is_log;
       letter = c.write_frame.ensures.kept.0 ∙ s.letter;
       down_is = s.down_is ∙ sym (ap (λ (d : Disk). d.down) disk.3);
       ended = λ h. c.write_frame.ensures.kept.1;
-      same = λ h file is. s.same up file (sym (ap g.D.Disk.told same) ∙ is);
+      same = λ h file is. subst (λ m. IsLogFile file m s.fresh) (sym popped) (s.same up file (sym (ap g.D.Disk.told same) ∙ is));
     }
 
 pub invariant_of-self-in-Err-NoMemory : goal.invariant_of-self-in-Err-NoMemory
@@ -67,17 +75,19 @@ invariant_of-self-in-Err-NoMemory g c =
     let disk = subst (λ e. ChangesDisk ⊤ (length c.args.payload.now) (answer_of_change_fault e) old new) c.in-Err-NoMemory.field-0-is c.in-Err-NoMemory.ensures.disk in
     let same = subst (λ e. IfUnwritten {T = Unit {0}} (Err e) (disk_of c.write_frame.new.journal ≡ disk_of s.journal)) c.in-Err-NoMemory.field-0-is c.in-Err-NoMemory.ensures.untouched in
     let up : is_down s.journal ≡ false = sym s.down_is ∙ c.requires.up in
+    let fits : SFits w32 c.epoch-epoch.result = search rules in
+    let popped = c.pop-in-Err-NoMemory.ensures s.rows c.args.row (sym (to_z-of_z w32 c.epoch-epoch.result fits ∙ c.epoch-epoch.ensures)) c.in-Ok.ensures.ok in
     record {
-      is_log = s.is_log;
+      is_log = subst IsLog (sym popped) s.is_log;
       letter = c.write_frame.ensures.kept.0 ∙ s.letter;
       down_is = s.down_is ∙ sym (ap (λ (d : Disk). d.down) disk);
       ended = λ h. c.write_frame.ensures.kept.1;
-      same = λ h file is. s.same up file (sym (ap g.D.Disk.told same) ∙ is);
+      same = λ h file is. subst (λ m. IsLogFile file m s.fresh) (sym popped) (s.same up file (sym (ap g.D.Disk.told same) ∙ is));
     }
 
-pub returns-in-Ok-clause-disk : goal.returns-in-Ok-clause-disk
-returns-in-Ok-clause-disk g c =
-    resized ⊤ (length c.args.payload.now) (length (batch_payload c.args.row)) answers.Done (disk_state g.D.Disk.faults c.args.self.now.journal) (disk_state g.D.Disk.faults c.write_frame.new.journal) c.requires.spelled.size c.in-Ok.ensures.disk
+pub returns-in-Ok-write_frame-clause-disk : goal.returns-in-Ok-write_frame-clause-disk
+returns-in-Ok-write_frame-clause-disk g c =
+    resized ⊤ (length c.args.payload.now) (length (batch_payload c.args.row)) answers.Done (disk_state g.D.Disk.faults c.args.self.now.journal) (disk_state g.D.Disk.faults c.write_frame.new.journal) c.requires.spelled.size c.in-Ok-write_frame.ensures.disk
 
 pub returns-in-Err-Failed-clause-disk : goal.returns-in-Err-Failed-clause-disk
 returns-in-Err-Failed-clause-disk g c =
@@ -102,6 +112,6 @@ returns-in-Err-Failed-clause-stop g c = λ failed.
     let disk = subst (λ e. ChangesDisk ⊤ (length payload) (answer_of_change_fault e) old new) c.in-Err-Failed.field-0-is c.in-Err-Failed.ensures.disk in
     let up : is_down s.journal ≡ false = sym s.down_is ∙ c.requires.up in
     let few : length payload ≤ MAX_FILE_BYTES = frame_fits (length payload) old _ refl disk.2 in
-    left_by_change s.rows.log (with_row s.rows.log c.args.row) s.fresh payload (g.D.Disk.told (disk_of s.journal)) (g.D.Disk.told (disk_of c.write_frame.new.journal)) (g.D.Disk.may_leave (disk_of c.write_frame.new.journal)) c.write_frame.ensures.told (s.same up)
+    left_by_change s.rows (with_row s.rows c.args.row) s.fresh payload (g.D.Disk.told (disk_of s.journal)) (g.D.Disk.told (disk_of c.write_frame.new.journal)) (g.D.Disk.may_leave (disk_of c.write_frame.new.journal)) c.write_frame.ensures.told (s.same up)
     (λ file is left may. subst (λ n. LeftByAppend n payload (journal_of n file) left) s.letter (c.write_frame.ensures.stop file is left may))
-    (c.requires.spelled.read few s.rows.log c.requires.follows)
+    (c.requires.spelled.read few s.rows c.requires.follows)

@@ -7,7 +7,7 @@ use Rattle.kz_log_store.proofs.store.LogStoreMetaLog.append.Goals as goal
 
 pub returns-in-Err-Failed-clause-stop : goal.returns-in-Err-Failed-clause-stop
 returns-in-Err-Failed-clause-stop g c = λ failed.
-    let l = c.args.self.now.rows.log in
+    let l = c.args.self.now.rows in
     let same : c.args.epoch ≡ l.epoch = search rules in
     let free : full_log l c.args.items.now ≡ None = search rules in
     stop_between l (append l c.args.epoch c.args.now c.args.items.now) c.args.items.now c.args.epoch c.args.now _ _ (left_of g.D.Disk.told g.D.Disk.may_leave c.add.new.self) (append_made l c.args.epoch c.args.now c.args.items.now same free)

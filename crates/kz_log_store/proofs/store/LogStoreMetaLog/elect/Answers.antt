@@ -9,7 +9,7 @@ use Rattle.kz_log_store.proofs.store.LogStoreMetaLog.elect.Goals as goal
 
 pub returns-in-Err-Failed-clause-stop : goal.returns-in-Err-Failed-clause-stop
 returns-in-Err-Failed-clause-stop g c = λ failed.
-    let l = c.args.self.now.rows.log in
+    let l = c.args.self.now.rows in
     let free : full_log l c.args.items.now ≡ None = search rules in
     let is = c.epoch.ensures in
     let fits : SFits w32 c.epoch.result = search rules in

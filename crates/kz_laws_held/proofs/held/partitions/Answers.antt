@@ -1,0 +1,12 @@
+use Rattle.std.proofs.Common.{sym, subst}
+use Rattle.std.specs.List.{All}
+use Rattle.std.proofs.lemmas.List.{take_all}
+use Rattle.std.proofs.lemmas.List.Elements.{All-more}
+use Rattle.kz_laws_znodes.specs.RoundTrip.{IsPartitionWritable}
+use Rattle.kz_laws_held.proofs.held.partitions.Goals as goal
+
+pub loop-item-preserved : goal.loop-item-preserved
+loop-item-preserved c = All-more IsPartitionWritable c.args.items.now c.loop-item.item-index c.item-item.result c.loop-item-test.true c.loop-item.invariant (subst IsPartitionWritable c.item-item.is c.partition.ensures)
+
+pub returns : goal.returns
+returns c = subst (All IsPartitionWritable) (take_all c.loop-item.item-index c.args.items.now c.loop-item-test.false) c.loop-item.invariant

@@ -1,0 +1,9 @@
+pub mod Allowed
+pub mod Commits
+pub mod Cut
+pub mod Divided
+pub mod Drivers
+pub mod Images
+pub mod OpenRecords
+pub mod Settled
+pub mod Worlds

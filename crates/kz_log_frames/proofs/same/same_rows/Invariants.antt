@@ -1,0 +1,7 @@
+use Rattle.std.proofs.Common.{◌≡◌, drop}
+use Rattle.kz_spec_snapshots.specs.Batches.{records_of_batches}
+use Rattle.kz_spec_files.specs.LogFile.{same_records}
+use Rattle.kz_log_frames.proofs.same.same_rows.Given as goal
+
+abbrev pub invariant-loop-row : goal.invariant-loop-row
+invariant-loop-row l = same_records (records_of_batches (drop l.row-index l.rows)) l.rest ≡ same_records (records_of_batches l.rows) l.others

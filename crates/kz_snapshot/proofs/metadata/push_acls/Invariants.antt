@@ -1,0 +1,7 @@
+use Rattle.std.proofs.Common.{◌≡◌, ◌++◌, map}
+use Rattle.std.specs.List.{flat_map}
+use Rattle.kz_spec_snapshots.specs.Records.{in_epoch, record_of_acl}
+use Rattle.kz_snapshot.proofs.metadata.push_acls.Given as goal
+
+abbrev pub invariant-loop-entry : goal.invariant-loop-entry
+invariant-loop-entry l = l.records.items ++ map (in_epoch l.epoch) (map record_of_acl l.entry-iterator) ≡ l.fn.records.items ++ map (in_epoch l.epoch) (map record_of_acl l.fn.entries)
