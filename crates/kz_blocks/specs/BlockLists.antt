@@ -1,5 +1,5 @@
 -- A list that is kept as blocks: it is the items of all blocks, one block after another. `cmp` orders the keys, and `key` gives the key of an item.
-use Rattle.std.specs.Prelude.{ℕ, ◌+◌, ◌<◌, ◌≤◌, List, [], ◌∷◌, ◌++◌, length, take, drop, All}
+use Rattle.std.specs.Prelude.{ℕ, ◌+◌, ◌<◌, ◌≤◌, List, [], ◌∷◌, ◌++◌, ◌≡◌, length, set, take, drop, All}
 use Rattle.std.specs.declared.cmp.Ordering.{Ordering}
 use Rattle.kz_ordered.specs.Ordered.{Rises, RisesAbove, AllBelow}
 use Rattle.kz_blocks.specs.declared.limits.TheConstants.{MAX_BLOCK_ITEMS}
@@ -27,3 +27,8 @@ pub record AreBlocks {A K : Type 0} (cmp : K → K → Ordering) (key : A → K)
 pub record IsBlockFor {A K : Type 0} (cmp : K → K → Ordering) (key : A → K) (k : K) (bs : List (List A)) (i : ℕ) : Type 0 where
   pub below : AllBelow cmp key (items_of (take i bs)) k
   pub above : RisesAbove cmp key k (items_of (drop (i + 1) bs))
+
+-- Of these blocks, at most the one at this place has changed.
+pub record IsOneChanged {A : Type 0} (i : ℕ) (old new : List (List A)) : Type 0 where
+  pub block : List A
+  pub made : new ≡ set old i block

@@ -2,7 +2,7 @@
 ghost use Rattle.std.specs.Prelude.{◌≡◌, ◌≢◌, ◌<◌, [], None, length, slice_index_or, OnOk, OnErr};
 ghost use Rattle.kz_ordered.specs.Order.{bytes_cmp};
 ghost use Rattle.kz_ordered.specs.Ordered.{find as find_in, put as put_in, without as without_in};
-ghost use Rattle.kz_blocks.specs.BlockLists.{items_of, AreBlocks, IsBlockFor};
+ghost use Rattle.kz_blocks.specs.BlockLists.{items_of, AreBlocks, IsBlockFor, IsOneChanged};
 
 use crate::block::Block;
 use crate::limits::{HALF_BLOCK_ITEMS, MAX_BLOCK_ITEMS};
@@ -12,8 +12,8 @@ use kz_sorted::Keyed;
 use kz_types::NoMemory;
 use std::alloc::Global;
 
-// Puts the first item of all.
-fn put_first<T: Keyed + Drop>(
+/// Puts the first item of all. At `Err`, memory ran out, and the list is as it was.
+pub fn put_first<T: Keyed + Drop>(
     alloc: Global,
     blocks: &mut Vec<Block<T>>,
     item: Shared<T>,
@@ -29,8 +29,8 @@ fn put_first<T: Keyed + Drop>(
     Ok(())
 }
 
-// Puts an item into a block that has room for one more.
-fn put_in_block<T: Keyed + Drop>(
+/// Puts an item into a block that has room for one more. No other block changes. At `Err`, memory ran out, and the list is as it was.
+pub fn put_in_block<T: Keyed + Drop>(
     alloc: Global,
     blocks: &mut Vec<Block<T>>,
     place: usize,
@@ -43,12 +43,13 @@ fn put_in_block<T: Keyed + Drop>(
     ensures ok { OnOk result (items_of blocks.new.items ≡ put_in bytes_cmp T.key item (items_of blocks.old.items)) }
     ensures err { OnErr result (items_of blocks.new.items ≡ items_of blocks.old.items) }
     ensures kept { AreBlocks bytes_cmp T.key blocks.new.items }
+    ensures one { IsOneChanged place blocks.old.items blocks.new.items }
 {
     blocks[place].put(alloc, item)
 }
 
-// Puts an item into a full block. Two blocks of half its size come in its place, so that at `Err` nothing has to be undone.
-fn put_in_full_block<T: Keyed + Drop>(
+/// Puts an item into a full block. Two blocks of half its size come in its place, so that at `Err` nothing has to be undone.
+pub fn put_in_full_block<T: Keyed + Drop>(
     alloc: Global,
     blocks: &mut Vec<Block<T>>,
     place: usize,
@@ -92,8 +93,8 @@ pub fn put_item<T: Keyed + Drop>(
     put_in_full_block(alloc, blocks, place, item)
 }
 
-// Takes the one item of a block out, and the block with it.
-fn remove_block<T: Keyed + Drop>(blocks: &mut Vec<Block<T>>, place: usize, key: &[u8])
+/// Takes the one item of a block out, and the block with it.
+pub fn remove_block<T: Keyed + Drop>(blocks: &mut Vec<Block<T>>, place: usize, key: &[u8])
     requires blocks { AreBlocks bytes_cmp T.key blocks.old.items }
     requires within { place < length blocks.old.items }
     requires block { IsBlockFor bytes_cmp T.key key.now blocks.old.items place }
@@ -105,8 +106,8 @@ fn remove_block<T: Keyed + Drop>(blocks: &mut Vec<Block<T>>, place: usize, key: 
     let _removed = blocks.remove(place);
 }
 
-// Takes one of several items of a block out.
-fn remove_from_block<T: Keyed + Drop>(
+/// Takes one of several items of a block out. No other block changes. At `Err`, memory ran out, and the list is as it was.
+pub fn remove_from_block<T: Keyed + Drop>(
     alloc: Global,
     blocks: &mut Vec<Block<T>>,
     place: usize,
@@ -119,6 +120,7 @@ fn remove_from_block<T: Keyed + Drop>(
     ensures ok { OnOk result (items_of blocks.new.items ≡ without_in bytes_cmp T.key key.now (items_of blocks.old.items)) }
     ensures err { OnErr result (items_of blocks.new.items ≡ items_of blocks.old.items) }
     ensures kept { AreBlocks bytes_cmp T.key blocks.new.items }
+    ensures one { IsOneChanged place blocks.old.items blocks.new.items }
 {
     blocks[place].remove(alloc, key)
 }

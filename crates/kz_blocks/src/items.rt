@@ -29,8 +29,8 @@ impl<'a, T> Model for Items<'a, T> {
 }
 
 impl<'a, T> Items<'a, T> {
-    // These items, and after them those of the blocks.
-    pub(crate) fn new(items: &'a [Shared<T>], blocks: &'a [Block<T>]) -> Self
+    /// These items, and after them those of the blocks.
+    pub fn new(items: &'a [Shared<T>], blocks: &'a [Block<T>]) -> Self
         ensures { result ≡ items.entry.now ++ items_of blocks.entry.now }
     {
         Items { items, blocks }

@@ -1,4 +1,5 @@
-//! Lists by rising keys that are kept as blocks of shared items: a copy shares the blocks, and a change copies at most one.
+//! Lists by rising keys that are kept as blocks of shared items: a copy shares the blocks, and a change copies at most one. The blocks and
+//! the changes of one block are here for lists that keep something with each block.
 #![tactic(auto)]
 
 mod block;
@@ -9,6 +10,10 @@ mod limits;
 mod search;
 mod shared;
 
+pub use block::Block;
 pub use blocks::Blocks;
-pub use items::Items;
+pub use change::{put_first, put_in_block, put_in_full_block, remove_block, remove_from_block};
+pub use items::{Items, items_after};
 pub use limits::MAX_BLOCK_ITEMS;
+pub use search::block_for;
+pub use shared::Shared;

@@ -13,12 +13,18 @@ ghost use Rattle.kz_spec_stores.specs.InOrder.{AreTopicsInOrder, AreInOrder, Are
 ghost use Rattle.kz_spec_stores.specs.Legal.{AreTopics, IsConfiguration, IsQuotaEntry, IsScramEntry, IsAcl, IsBroker, IsNext};
 ghost use Rattle.kz_image.specs.Faults.{IsFirstBad};
 ghost use Rattle.kz_image_lists.specs.QuotaPaths.{IsEntityRead};
+ghost use Rattle.kz_laws_writable.specs.Writable.{IsHeld};
 
 use crate::rules::{broken, refused};
 use kz_blocks::Blocks;
 use kz_image_lists::{
     QuotaList, Topics, configure, is_migrating, partition_at, register, remove_scram, scram_at,
     set_scram,
+};
+use kz_laws_writable::{
+    held_config_is_writable, held_credential_is_writable, held_entry_is_writable,
+    held_name_is_text, held_partition_change_is_writable, held_partition_is_writable,
+    held_quota_is_writable, held_topic_is_writable,
 };
 use kz_types::{
     AccessControlEntryRecord, AclEntry, AclRow, ClientQuotaRecord, ConfigRecord, Configuration,
@@ -42,7 +48,6 @@ pub type Brokers = Sequence<RegisterBrokerRecord>;
 /// The metadata of the cluster: topics, configurations of brokers, quotas, credentials, access control entries, the
 /// registered brokers, the next producer id, and the state of the migration. A copy has the same blocks of entries: it costs a
 /// pointer for each, and the registrations of the brokers.
-#[derive(Drop)]
 pub struct Image {
     alloc: Global,
     topics: Topics,
@@ -55,9 +60,26 @@ pub struct Image {
     state: i8,
 }
 
+// Written out, so that it is proved here once: a derived one is proved in each crate that holds metadata.
+impl Drop for Image {
+    fn drop(self) {
+        let Image {
+            alloc: _,
+            topics: _topics,
+            broker_configs: _broker_configs,
+            quotas: _quotas,
+            users: _users,
+            acls: _acls,
+            brokers: _brokers,
+            next_producer: _,
+            state: _,
+        } = self;
+    }
+}
+
 impl Model for Image {
     ghost use Rattle.kz_spec_stores.specs.Metadata.{Image as ImageValue};
-    ghost use Rattle.kz_spec_stores.specs.InOrder.{IsInOrder};
+    ghost use Rattle.kz_laws_writable.specs.Writable.{IsHeld};
 
     ghost Value = { ImageValue };
 
@@ -72,7 +94,7 @@ impl Model for Image {
       state = i.state;
     } };
 
-    ghost invariant = { λ i. IsInOrder (record {
+    ghost invariant = { λ i. IsHeld (record {
       topics = i.topics;
       broker_configs = i.broker_configs;
       quotas = i.quotas;
@@ -120,6 +142,14 @@ impl Image {
             next_producer: None,
             state: NO_MIGRATION,
         }
+    }
+
+    /// Metadata that a program holds is in order, and its values are in the ranges of their types: no law of it asks for that. It does
+    /// nothing.
+    pub fn is_held(&self)
+        ensures { IsHeld self.now }
+    {
+        let _state = self.state;
     }
 
     // ---- look-ups
@@ -314,6 +344,7 @@ impl Image {
         ensures ok { OnOk result (self.new ≡ record self.old { topics = put_topic (new_topic change.now) self.old.topics }) }
         ensures err { OnErr result (self.new ≡ self.old) }
     {
+        held_topic_is_writable(change);
         self.topics.make(self.alloc, change)?;
         Ok(())
     }
@@ -323,6 +354,7 @@ impl Image {
         ensures ok { OnOk result (self.new ≡ effect epoch (meta.Partition change.now) self.old) }
         ensures err { OnErr result (self.new ≡ self.old) }
     {
+        held_partition_is_writable(change);
         self.topics.make_partition(self.alloc, epoch, change)?;
         Ok(())
     }
@@ -332,6 +364,7 @@ impl Image {
         ensures ok { OnOk result (self.new ≡ record self.old { topics = with_changed (topic_configured change.now) (topic_named change.now.resource_name self.old) self.old.topics }) }
         ensures err { OnErr result (self.new ≡ self.old) }
     {
+        held_config_is_writable(change);
         self.topics.configure(self.alloc, change)?;
         Ok(())
     }
@@ -342,6 +375,7 @@ impl Image {
         ensures ok { OnOk result (self.new ≡ record self.old { broker_configs = configurations_after change.now self.old.broker_configs }) }
         ensures err { OnErr result (self.new ≡ self.old) }
     {
+        held_config_is_writable(change);
         configure(self.alloc, &mut self.broker_configs, change)?;
         Ok(())
     }
@@ -367,6 +401,7 @@ impl Image {
         ensures ok { OnOk result (self.new ≡ effect epoch (meta.PartitionChange change.now) self.old) }
         ensures err { OnErr result (self.new ≡ self.old) }
     {
+        held_partition_change_is_writable(change);
         self.topics.change_partition(self.alloc, epoch, change)?;
         Ok(())
     }
@@ -384,6 +419,7 @@ impl Image {
         ensures ok { OnOk result (self.new ≡ record self.old { users = scram_set change.now self.old.users }) }
         ensures err { OnErr result (self.new ≡ self.old) }
     {
+        held_credential_is_writable(change);
         set_scram(self.alloc, &mut self.users, change)?;
         Ok(())
     }
@@ -392,6 +428,7 @@ impl Image {
         ensures ok { OnOk result (self.new ≡ record self.old { users = scram_removed name.now mechanism self.old.users }) }
         ensures err { OnErr result (self.new ≡ self.old) }
     {
+        held_name_is_text(name);
         remove_scram(self.alloc, &mut self.users, name, mechanism)?;
         Ok(())
     }
@@ -401,6 +438,7 @@ impl Image {
         ensures ok { OnOk result (self.new ≡ record self.old { quotas = quota_changed change.now (quota_key change.now.entity) self.old.quotas }) }
         ensures err { OnErr result (self.new ≡ self.old) }
     {
+        held_quota_is_writable(change);
         self.quotas.change(self.alloc, change)?;
         Ok(())
     }
@@ -410,6 +448,7 @@ impl Image {
         ensures ok { OnOk result (self.new ≡ record self.old { acls = put_in bytes_cmp id_of_acl (record { id = change.now.id; row = acl_row change.now }) self.old.acls }) }
         ensures err { OnErr result (self.new ≡ self.old) }
     {
+        held_entry_is_writable(change);
         let entry = acl_entry(self.alloc, change)?;
         self.acls.put(entry)?;
         Ok(())

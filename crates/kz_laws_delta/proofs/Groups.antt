@@ -1,6 +1,6 @@
 -- Znodes that stand for keys of one kind: each has the path of a good key and what the key holds, and each good key that holds
 -- something has one.
-use Rattle.std.proofs.Common.{◌≡◌, ℕ, List, [], ◌∷◌, map, Option, Some, None, Contains, refl, sym, ap, ◌∙◌}
+use Rattle.std.proofs.Common.{◌≡◌, ℕ, List, Option, Some, None, Contains, refl, sym, ap, ◌∙◌}
 use Rattle.kz_types.specs.declared.tree.Rendered.{Rendered}
 use Rattle.kz_ordered.proofs.Lookup.{same_some}
 use Rattle.kz_spec_stores.specs.Tree.{path_of_rendered}

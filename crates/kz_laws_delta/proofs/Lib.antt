@@ -12,4 +12,6 @@ pub mod Alike
 pub mod Effects
 pub mod Configurations
 pub mod Stays
+pub mod AllKeys
 pub mod Touched
+pub mod Suffice

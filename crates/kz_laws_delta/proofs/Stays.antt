@@ -1,11 +1,14 @@
 -- What stays of the metadata along records that don't speak of it.
-use Rattle.std.proofs.Common.{◌≡◌, ◌≢◌, ◌⊎◌, ℕ, ℤ, pos, Bool, true, false, ◌&&◌, cond, List, [], ◌∷◌, Option, Some, None, Contains, refl, sym, ap, ◌∙◌, subst, inl, inr}
-use Rattle.std.specs.Prelude.{⊤, int_le, option_map, option_to_list}
+use Rattle.std.proofs.Common.{◌≡◌, ◌≢◌, ◌⊎◌, ℕ, ℤ, pos, Bool, true, false, not, ◌&&◌, cond, List, [], ◌∷◌, Option, Some, None, Contains, refl, sym, ap, ◌∙◌, subst, inl, inr}
+use Rattle.std.specs.Prelude.{⊤, int_le, int_lt, option_map, option_and_then, option_to_list}
 use Rattle.std.specs.Ordering.{int_cmp, int_eq}
+use Rattle.std.proofs.lemmas.Bool.{false≢true}
+use Rattle.std.proofs.lemmas.List.Elements.{All-contains}
 use Rattle.kz_types.specs.declared.codes.TheConstants.{NO_MIGRATION, POST_MIGRATION}
 use Rattle.kz_types.specs.declared.id.Id.{Id}
 use Rattle.kz_types.specs.declared.image.AclEntry.{AclEntry}
 use Rattle.kz_types.specs.declared.image.Configuration.{Configuration}
+use Rattle.kz_types.specs.declared.image.PartitionEntry.{PartitionEntry}
 use Rattle.kz_types.specs.declared.image.QuotaEntry.{QuotaEntry}
 use Rattle.kz_types.specs.declared.image.ScramEntry.{ScramEntry}
 use Rattle.kz_types.specs.declared.image.TopicEntry.{TopicEntry}
@@ -13,26 +16,54 @@ use Rattle.kz_types.specs.declared.key.EntityKey.{EntityKey}
 use Rattle.kz_types.specs.declared.row.PartitionRow.{PartitionRow}
 use Rattle.kz_types.specs.declared.record.ConfigRecord.{ConfigRecord}
 use Rattle.kz_types.specs.declared.record.ClientQuotaRecord.{ClientQuotaRecord}
+use Rattle.kz_types.specs.declared.record.PartitionRecord.{PartitionRecord}
+use Rattle.kz_types.specs.declared.record.PartitionChangeRecord.{PartitionChangeRecord}
 use Rattle.kz_types.specs.declared.record.MetaRecord.{MetaRecord}
 use Rattle.kz_types.specs.declared.record.MetaRecord.TheVariants as meta
-use Rattle.kz_types.specs.Paths.{path_of}
+use Rattle.kz_types.proofs.PathRules.{both_hold}
+use Rattle.kz_spec_values.specs.Credentials.{quota_keys}
+use Rattle.kz_types.specs.Paths.{is_not_negative, path_of, is_legal, has_path, is_among}
 use Rattle.kz_ordered.specs.Order.{bytes_cmp}
 use Rattle.kz_ordered.specs.Ordered.{find, put, without}
-use Rattle.kz_ordered.proofs.Order.{bytes_order}
+use Rattle.kz_ordered.proofs.Order.{bytes_order, int_order}
 use Rattle.kz_ordered.proofs.Lookup.{same_some, found_is_contained, key_of_found, contained_is_found, find-put_other, find-without_other, Contains-head}
-use Rattle.kz_spec_stores.specs.Metadata.{Image, name_of_topic, name_of_configuration, path_of_quotas, name_of_user, mechanism_of_pair, id_of_acl, topic_named, topic_with, topic_name_of}
-use Rattle.kz_spec_stores.specs.ImageRules.{quota_key, broken_rule, new_row}
+use Rattle.kz_spec_stores.specs.Metadata.{Image, name_of_topic, name_of_configuration, path_of_quotas, name_of_user, mechanism_of_pair, id_of_acl, topic_named, topic_with, topic_name_of, number_of_partition, partition_at}
+use Rattle.kz_spec_stores.specs.ImageRules.{quota_key, broken_rule, new_row, is_row, leaves_row, has_quota}
 use Rattle.kz_spec_stores.specs.Image.{new_topic, with_changed, put_partition, partition_changed, topic_configured, configurations_after, with_member, pairs_at, quotas_in, with_quota, quota_changed, scrams_at, scram_row, acl_row, effect}
 use Rattle.kz_spec_stores.specs.InOrder.{IsInOrder}
+use Rattle.kz_spec_stores.specs.Legal.{IsPartition, IsTopic}
 use Rattle.kz_laws_images.proofs.Entries.{HasIfFound}
 use Rattle.kz_laws_images.proofs.QuotaLists.{quotas_hold}
 use Rattle.kz_laws_images.proofs.UserLists.{users_hold}
 use Rattle.kz_laws_images.proofs.TopicFinds.{has_id, same_id-Decides, found_passes, found_by_id}
+use Rattle.kz_laws_images.proofs.Unbroken.{unbroken, neither_holds, not_less, change_unbroken, quota_unbroken}
 use Rattle.kz_laws_images.proofs.Legal.{topic_id}
 use Rattle.kz_laws_images.proofs.Topics.{LeavesKeys, partition_put_leaves, partition_changed_leaves, topic_configured_leaves, among_with, among_named, alike_by_name}
 use Rattle.kz_spec_delta.specs.Touched.{Lead}
 use Rattle.kz_laws_delta.proofs.Effects.{found_elsewhere, changed_elsewhere, removed_elsewhere, stays_along}
 use Rattle.kz_laws_delta.proofs.Configurations.{configurations_hold}
+
+-- ---- the numbers of partitions
+
+-- a new partition's isn't negative
+new_number : (m : Image) (r : PartitionRecord) → broken_rule m (meta.Partition r) ≡ None → is_not_negative r.partition_id ≡ true
+new_number m r fine = not_less r.partition_id (pos 0) (neither_holds (int_lt r.partition_id (pos 0)) (not (is_row (new_row (pos 0) r))) (unbroken m (meta.Partition r) fine).2).0
+
+-- that of one which is there isn't, either
+changed_number : (m : Image) → IsInOrder m → (r : PartitionChangeRecord) → broken_rule m (meta.PartitionChange r) ≡ None → is_not_negative r.partition_id ≡ true
+changed_number m order r fine = by (topic_with r.topic_id m) (among_with r.topic_id m.topics) (change_unbroken m r fine)
+  where
+    of_topic : (t : TopicEntry) → Contains m.topics t → (found : Option PartitionEntry) → find int_cmp number_of_partition r.partition_id t.partitions ≡ found
+        → leaves_row r (option_map (λ (p : PartitionEntry). p.row) found) ≡ true → is_not_negative r.partition_id ≡ true
+    of_topic t has None is left = absurd (false≢true left)
+    of_topic t has (Some p) is left =
+        let legal = All-contains IsTopic m.topics t order.legal.topics.each has in
+        let low = All-contains IsPartition t.partitions p legal.each_partition (found_is_contained int_order number_of_partition r.partition_id t.partitions p is) in
+        subst (λ n. is_not_negative n ≡ true) (key_of_found int_order number_of_partition r.partition_id t.partitions p is) low.0
+
+    by : (found : Option TopicEntry) → HasIfFound (Contains m.topics) found → leaves_row r (option_and_then (λ (t : TopicEntry). partition_at r.partition_id t.partitions) found) ≡ true → is_not_negative r.partition_id ≡ true
+    by None has left = absurd (false≢true left)
+    by (Some t) has left = of_topic t has (find int_cmp number_of_partition r.partition_id t.partitions) refl left
 
 -- ---- topics
 
@@ -67,12 +98,13 @@ module _ (old : Image) (oo : IsInOrder old) (name : List ℕ) where
     abbrev Leaves : (TopicEntry → TopicEntry) → Type 0
     Leaves change = (t : TopicEntry) → look (Some (change t)) ≡ look (Some t)
 
-    -- A record that doesn't make or remove the topic, and whose change of a topic is of another, or leaves what is looked up.
+    -- A record that doesn't make or remove the topic, and whose change of a topic is of another, or leaves what is looked up. One of
+    -- a partition of a negative number is refused.
     abbrev pub SparesTopic : MetaRecord → Type 0
     SparesTopic (meta.Topic r) = Contains (r.name ∷ []) name → ⊥
     SparesTopic (meta.RemoveTopic id) = Contains (option_to_list (topic_name_of id old)) name → ⊥
-    SparesTopic (meta.Partition r) = (Contains (option_to_list (topic_name_of r.topic_id old)) name → ⊥) ⊎ ((row : PartitionRow) → Leaves (put_partition r.partition_id row))
-    SparesTopic (meta.PartitionChange r) = (Contains (option_to_list (topic_name_of r.topic_id old)) name → ⊥) ⊎ ((epoch : ℤ) → Leaves (partition_changed epoch r))
+    SparesTopic (meta.Partition r) = is_not_negative r.partition_id ≡ true → (Contains (option_to_list (topic_name_of r.topic_id old)) name → ⊥) ⊎ ((row : PartitionRow) → Leaves (put_partition r.partition_id row))
+    SparesTopic (meta.PartitionChange r) = is_not_negative r.partition_id ≡ true → (Contains (option_to_list (topic_name_of r.topic_id old)) name → ⊥) ⊎ ((epoch : ℤ) → Leaves (partition_changed epoch r))
     SparesTopic (meta.Config r) = int_eq r.resource_type (pos 2) ≡ true → (name ≢ r.resource_name) ⊎ Leaves (topic_configured r)
     SparesTopic r = ⊤
 
@@ -102,9 +134,9 @@ module _ (old : Image) (oo : IsInOrder old) (name : List ℕ) where
     topic_step : (m : Image) (epoch : ℤ) (r : MetaRecord) → IsInOrder m → look (topic_named name m) ≡ look (topic_named name old) → SparesTopic r → broken_rule m r ≡ None → look (topic_named name (effect epoch r m)) ≡ look (topic_named name m)
     topic_step m epoch (meta.RegisterBroker r) order is spared fine = refl
     topic_step m epoch (meta.Topic r) order is spared fine = ap look (find-put_other bytes_order name_of_topic (new_topic r) m.topics name (λ e. spared (subst (λ n. Contains (r.name ∷ []) n) (sym e) (Contains-head r.name []))))
-    topic_step m epoch (meta.Partition r) order is spared fine = changed_by_id m order is r.topic_id (put_partition r.partition_id (new_row epoch r)) (partition_put_leaves r.partition_id (new_row epoch r)) (elim spared [ inl other ↦ inl other | inr alike ↦ inr (alike (new_row epoch r)) ])
+    topic_step m epoch (meta.Partition r) order is spared fine = changed_by_id m order is r.topic_id (put_partition r.partition_id (new_row epoch r)) (partition_put_leaves r.partition_id (new_row epoch r)) (elim (spared (new_number m r fine)) [ inl other ↦ inl other | inr alike ↦ inr (alike (new_row epoch r)) ])
     topic_step m epoch (meta.Config r) order is spared fine = configured_if m order r (int_eq r.resource_type (pos 2)) spared
-    topic_step m epoch (meta.PartitionChange r) order is spared fine = changed_by_id m order is r.topic_id (partition_changed epoch r) (partition_changed_leaves epoch r) (elim spared [ inl other ↦ inl other | inr alike ↦ inr (alike epoch) ])
+    topic_step m epoch (meta.PartitionChange r) order is spared fine = changed_by_id m order is r.topic_id (partition_changed epoch r) (partition_changed_leaves epoch r) (elim (spared (changed_number m order r fine)) [ inl other ↦ inl other | inr alike ↦ inr (alike epoch) ])
     topic_step m epoch (meta.RemoveTopic id) order is spared fine =
         ap look (removed_elsewhere name id m.topics order.topics.rising
         (λ t found same. spared (named_by_id id (sym (says (topic_named name m) (topic_named name old) is) ∙ ap said_id found ∙ ap (λ i. Some i) same))))
@@ -174,12 +206,14 @@ module _ (path : List ℕ) where
 
   -- a record that isn't a quota under this path
   abbrev pub SparesQuotas : MetaRecord → Type 0
-  SparesQuotas (meta.ClientQuota r) = (k : EntityKey) → quota_key r.entity ≡ Some k → path ≢ path_of k
+  SparesQuotas (meta.ClientQuota r) = (k : EntityKey) → quota_key r.entity ≡ Some k → is_legal k ≡ true → path ≢ path_of k
   SparesQuotas r = ⊤
 
-  quota_changed_by : (m : Image) (r : ClientQuotaRecord) (o : Option EntityKey) → ((k : EntityKey) → o ≡ Some k → path ≢ path_of k) → find bytes_cmp path_of_quotas path (quota_changed r o m.quotas) ≡ quota_found m
-  quota_changed_by m r None spared = refl
-  quota_changed_by m r (Some k) spared = found_elsewhere quotas_hold path (path_of k) (with_quota r (quotas_in (find bytes_cmp path_of_quotas (path_of k) m.quotas))) m.quotas (spared k refl)
+  quota_changed_by : (m : Image) (r : ClientQuotaRecord) (o : Option EntityKey) → has_quota o r.key ≡ true → ((k : EntityKey) → o ≡ Some k → is_legal k ≡ true → path ≢ path_of k) → find bytes_cmp path_of_quotas path (quota_changed r o m.quotas) ≡ quota_found m
+  quota_changed_by m r None named spared = refl
+  quota_changed_by m r (Some k) named spared =
+      found_elsewhere quotas_hold path (path_of k) (with_quota r (quotas_in (find bytes_cmp path_of_quotas (path_of k) m.quotas))) m.quotas
+      (spared k refl (both_hold (is_legal k) (has_path k) (both_hold (is_legal k && has_path k) (is_among (quota_keys k) r.key) named).0).0)
 
   quota_configured : (m : Image) (r : ConfigRecord) (b : Bool)
       → quota_found (cond b (record m { topics = with_changed (topic_configured r) (topic_named r.resource_name m) m.topics }) (record m { broker_configs = configurations_after r m.broker_configs })) ≡ quota_found m
@@ -198,7 +232,7 @@ module _ (path : List ℕ) where
   quota_step was m epoch (meta.PartitionChange r) order is spared fine = refl
   quota_step was m epoch (meta.RemoveTopic id) order is spared fine = refl
   quota_step was m epoch (meta.UserScramCredential r) order is spared fine = refl
-  quota_step was m epoch (meta.ClientQuota r) order is spared fine = quota_changed_by m r (quota_key r.entity) spared
+  quota_step was m epoch (meta.ClientQuota r) order is spared fine = quota_changed_by m r (quota_key r.entity) (quota_unbroken m r fine) spared
   quota_step was m epoch (meta.ProducerIds r) order is spared fine = refl
   quota_step was m epoch (meta.AccessControlEntry r) order is spared fine = refl
   quota_step was m epoch (meta.RemoveAccessControlEntry id) order is spared fine = refl

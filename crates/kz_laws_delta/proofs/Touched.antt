@@ -1,11 +1,11 @@
--- The keys that records touch span all paths of the keys at which the two metadata differ.
+-- The legal keys that records touch span all paths of the keys at which the two metadata differ.
 use Rattle.std.proofs.Common.{◌≡◌, ◌≢◌, ◌⊎◌, ℕ, ℤ, pos, negsuc, Bool, true, false, cond, List, [], ◌∷◌, ◌++◌, map, filter, Option, Some, None, Contains, refl, sym, ap, ◌∙◌, subst, inl, inr}
 use Rattle.std.specs.Prelude.{◌+ℤ◌, option_map, option_and_then, option_to_list}
 use Rattle.std.specs.List.{flat_map}
 use Rattle.std.specs.Str.{bytes_eq}
 use Rattle.std.specs.Bool.{Decides}
-use Rattle.std.specs.Ordering.{int_cmp, int_eq}
-use Rattle.std.proofs.lemmas.Bool.{false≢true}
+use Rattle.std.specs.Ordering.{int_eq}
+use Rattle.std.proofs.lemmas.Bool.{and_from, false≢true}
 use Rattle.std.proofs.lemmas.Bool.Decides.{Decides-int_eq}
 use Rattle.std.proofs.lemmas.Slice.Eq.{bytes_eq-Decides}
 use Rattle.std.proofs.lemmas.List.Elements.{Contains-append_left, Contains-append_right}
@@ -15,7 +15,6 @@ use Rattle.kz_types.specs.declared.bodies.Pair.{Pair}
 use Rattle.kz_types.specs.declared.row.PartitionRow.{PartitionRow}
 use Rattle.kz_types.specs.declared.id.Id.{Id}
 use Rattle.kz_types.specs.declared.image.AclEntry.{AclEntry}
-use Rattle.kz_types.specs.declared.image.Configuration.{Configuration}
 use Rattle.kz_types.specs.declared.image.PartitionEntry.{PartitionEntry}
 use Rattle.kz_types.specs.declared.image.TopicEntry.{TopicEntry}
 use Rattle.kz_types.specs.declared.key.EntityKey.{EntityKey}
@@ -25,11 +24,11 @@ use Rattle.kz_types.specs.declared.record.MetaRecord.{MetaRecord}
 use Rattle.kz_types.specs.declared.record.PartitionRecord.{PartitionRecord}
 use Rattle.kz_types.specs.declared.record.PartitionChangeRecord.{PartitionChangeRecord}
 use Rattle.kz_types.specs.declared.record.MetaRecord.TheVariants as meta
-use Rattle.kz_types.specs.Paths.{is_legal, key_of, path_of}
+use Rattle.kz_types.specs.Paths.{is_topic_name, is_not_negative, is_legal, key_of, path_of}
 use Rattle.kz_ordered.specs.Order.{bytes_cmp}
 use Rattle.kz_ordered.specs.Ordered.{find}
 use Rattle.kz_ordered.proofs.Order.{bytes_order, int_order}
-use Rattle.kz_ordered.proofs.Lookup.{found_is_contained, key_of_found, same_items, find-put_other, Contains-head, Contains-tail, Contains-nil, Contains-cons_cases}
+use Rattle.kz_ordered.proofs.Lookup.{found_is_contained, same_items, find-put_other, Contains-head, Contains-tail, Contains-nil, Contains-cons_cases}
 use Rattle.kz_ordered.proofs.Maps.{Rises-filter, find-filter_found, find-filter_absent}
 use Rattle.kz_spec_stores.specs.Metadata.{Image, number_of_partition, id_of_acl, topic_named, topic_name_of, partition_at, acl_of}
 use Rattle.kz_spec_stores.specs.InOrder.{IsInOrder}
@@ -39,16 +38,15 @@ use Rattle.kz_spec_znodes.specs.Rendering.{broker_key, acl_key, row_of_acl, stat
 use Rattle.kz_spec_znodes.specs.Translation.{broker_name}
 use Rattle.kz_laws_paths.specs.TextKeys.{HasTexts}
 use Rattle.kz_laws_paths.proofs.Legal.{IsGoodKey}
-use Rattle.kz_laws_paths.proofs.Keys.{path_holds, one_key}
+use Rattle.kz_laws_paths.proofs.Keys.{path_holds}
 use Rattle.kz_laws_znodes.specs.RoundTrip.{IsWritable}
-use Rattle.kz_laws_znodes.proofs.Within.{from_flat, to_flat, to_map}
-use Rattle.kz_laws_znodes.proofs.BrokerWalk.{IsBrokerKey, named_back, name_is_legal}
-use Rattle.kz_laws_znodes.proofs.Held.{broker_in, facts_of_acl}
-use Rattle.kz_ordered.proofs.Lookup.{same_some}
+use Rattle.kz_laws_znodes.proofs.Within.{from_flat, to_flat}
+use Rattle.kz_laws_znodes.proofs.BrokerWalk.{IsBrokerKey}
 use Rattle.kz_spec_delta.specs.Entities.{topic_body, config_body, quota_body, quotas_at, acl_body, entity}
-use Rattle.kz_spec_delta.specs.Spans.{spanned_paths, all_spanned_paths}
-use Rattle.kz_spec_delta.specs.Touched.{Lead, topics_made_or_removed, partition_keys, keys_of_topic, keys_of_partition, keys_of_entry, keys_spoken_of, keys_touched_by, touched_keys}
-use Rattle.kz_laws_delta.specs.Delta.{HaveDifference}
+use Rattle.kz_spec_delta.specs.Spans.{spanned_paths}
+use Rattle.kz_spec_delta.specs.Touched.{Lead, topics_made_or_removed, partition_keys, keys_of_topic, keys_of_partition, keys_of_entry, key_of_quota, keys_spoken_of, keys_touched_by, touched_keys}
+use Rattle.kz_laws_delta.proofs.AllKeys.{no_partition, is_at, of_other}
+use Rattle.kz_laws_delta.proofs.Configurations.{broker_back, broker_is_good}
 use Rattle.kz_laws_delta.proofs.Spans.{second_of, topic_within}
 use Rattle.kz_laws_delta.proofs.Stays.{said_id, SparesTopic, topic_stays, SparesConfig, config_stays, SparesQuotas, quotas_stay, SparesUser, user_stays, SparesEntry, entry_stays, SparesProducer, next_stays}
 use Rattle.kz_spec_stores.specs.Metadata.{pairs_of, pairs_of_topic}
@@ -66,18 +64,6 @@ contained_or_not x (y ∷ ys) = by (bytes_eq y x) (bytes_eq-Decides y x).0 (byte
       | inl e ↦ absurd (let tied : false ≡ true = back e in cc (tied))
       | inr later ↦ none later
     ])
-
--- the key of a broker's configuration by its name
-broker_back : (b : Option ℤ) → IsBrokerKey b → broker_key (broker_name b) ≡ key.BrokerConfig b
-broker_back b good =
-    let c : Configuration = record { name = broker_name b; pairs = [] } in
-    let n = broker_in c (name_is_legal b good) in
-    let same : n.0 ≡ b = same_some n.0 b (sym n.2 ∙ named_back b good) in
-    n.1 ∙ ap (λ k. key.BrokerConfig k) same
-
-pub broker_is_good : (b : Option ℤ) → is_legal (key.BrokerConfig b) ≡ true → HasTexts (key.BrokerConfig b) → IsBrokerKey b
-unfolding is_legal
-broker_is_good b legal texts = (legal, texts)
 
 module _ (old new : Image) (oo : IsInOrder old) (wo : IsWritable old) (on : IsInOrder new) (wn : IsWritable new) (rs : List MetaRecord) (lead : Lead old rs new) where
   -- a key that isn't touched isn't touched by any of the records
@@ -106,8 +92,8 @@ module _ (old new : Image) (oo : IsInOrder old) (wo : IsWritable old) (on : IsIn
   -- What is looked up in the topic of a name, by which its id is known, where no record makes or removes the topic or changes what is looked up.
   module _ (name : List ℕ) {V : Type 0} (look : Option TopicEntry → V) (says : (a b : Option TopicEntry) → look a ≡ look b → said_id a ≡ said_id b)
       (made : (r : MetaRecord) → Contains rs r → Contains (topics_made_or_removed old r) name → ⊥)
-      (new_one : (r : PartitionRecord) → Contains rs (meta.Partition r) → (Contains (option_to_list (topic_name_of r.topic_id old)) name → ⊥) ⊎ ((row : PartitionRow) (t : TopicEntry) → look (Some (put_partition r.partition_id row t)) ≡ look (Some t)))
-      (altered : (r : PartitionChangeRecord) → Contains rs (meta.PartitionChange r) → (Contains (option_to_list (topic_name_of r.topic_id old)) name → ⊥) ⊎ ((epoch : ℤ) (t : TopicEntry) → look (Some (partition_changed epoch r t)) ≡ look (Some t)))
+      (new_one : (r : PartitionRecord) → Contains rs (meta.Partition r) → is_not_negative r.partition_id ≡ true → (Contains (option_to_list (topic_name_of r.topic_id old)) name → ⊥) ⊎ ((row : PartitionRow) (t : TopicEntry) → look (Some (put_partition r.partition_id row t)) ≡ look (Some t)))
+      (altered : (r : PartitionChangeRecord) → Contains rs (meta.PartitionChange r) → is_not_negative r.partition_id ≡ true → (Contains (option_to_list (topic_name_of r.topic_id old)) name → ⊥) ⊎ ((epoch : ℤ) (t : TopicEntry) → look (Some (partition_changed epoch r t)) ≡ look (Some t)))
       (configured : (r : ConfigRecord) → Contains rs (meta.Config r) → int_eq r.resource_type (pos 2) ≡ true → (name ≢ r.resource_name) ⊎ ((t : TopicEntry) → look (Some (topic_configured r t)) ≡ look (Some t))) where
     spares_topic : (r : MetaRecord) → Contains rs r → SparesTopic old oo name look says r
     spares_topic (meta.RegisterBroker r) has = tt
@@ -132,12 +118,12 @@ module _ (old new : Image) (oo : IsInOrder old) (wo : IsWritable old) (on : IsIn
     looked_up_alike = sym (topic_stays old oo name look says rs new spares_topic lead)
 
   -- the topic's own body, where neither it nor any of its partitions is touched
-  same_topic : (name : List ℕ) → (Contains (touched_keys old new rs) (key.Topic name) → ⊥) → ((number : ℤ) → Contains (touched_keys old new rs) (key.Partition name number) → ⊥) → entity old (key.Topic name) ≡ entity new (key.Topic name)
+  same_topic : (name : List ℕ) → (Contains (touched_keys old new rs) (key.Topic name) → ⊥) → ((number : ℤ) → is_not_negative number ≡ true → Contains (touched_keys old new rs) (key.Partition name number) → ⊥) → entity old (key.Topic name) ≡ entity new (key.Topic name)
   same_topic name none others =
       ap (λ x. x.1) (looked_up_alike name look (λ a b e. ap (λ x. x.0) e)
       (λ r has within. untouched (key.Topic name) none r has (of_topic (key.Topic name) name (Contains-head (key.Topic name) (key.TopicConfig name ∷ (partition_keys name (topic_named name old) ++ partition_keys name (topic_named name new)))) r within))
-      (λ r has. inl (λ said. untouched (key.Partition name r.partition_id) (others r.partition_id) (meta.Partition r) has (spoken_right (meta.Partition r) (key.Partition name r.partition_id) (of_partition r.topic_id name r.partition_id said))))
-      (λ r has. inl (λ said. untouched (key.Partition name r.partition_id) (others r.partition_id) (meta.PartitionChange r) has (spoken_right (meta.PartitionChange r) (key.Partition name r.partition_id) (of_partition r.topic_id name r.partition_id said))))
+      (λ r has low. inl (λ said. untouched (key.Partition name r.partition_id) (others r.partition_id low) (meta.Partition r) has (spoken_right (meta.Partition r) (key.Partition name r.partition_id) (of_partition r.topic_id name r.partition_id said))))
+      (λ r has low. inl (λ said. untouched (key.Partition name r.partition_id) (others r.partition_id low) (meta.PartitionChange r) has (spoken_right (meta.PartitionChange r) (key.Partition name r.partition_id) (of_partition r.topic_id name r.partition_id said))))
       (λ r has is. inr (λ t. refl)))
     where
       look : Option TopicEntry → Option Id × Option Body
@@ -147,8 +133,8 @@ module _ (old new : Image) (oo : IsInOrder old) (wo : IsWritable old) (on : IsIn
   same_topic_config name none =
       ap (λ x. config_body x.1) (looked_up_alike name look (λ a b e. ap (λ x. x.0) e)
       (λ r has within. untouched (key.TopicConfig name) none r has (of_topic (key.TopicConfig name) name (second_of (key.Topic name) (key.TopicConfig name) (partition_keys name (topic_named name old) ++ partition_keys name (topic_named name new))) r within))
-      (λ r has. inr (λ row t. refl))
-      (λ r has. inr (λ epoch t. left r.partition_id (changed_row epoch r) (partition_at r.partition_id t.partitions) t))
+      (λ r has low. inr (λ row t. refl))
+      (λ r has low. inr (λ epoch t. left r.partition_id (changed_row epoch r) (partition_at r.partition_id t.partitions) t))
       (λ r has is. inl (λ e. untouched (key.TopicConfig name) none (meta.Config r) has (spoken_right (meta.Config r) (key.TopicConfig name) (named r is e)))))
     where
       look : Option TopicEntry → Option Id × List Pair
@@ -163,29 +149,13 @@ module _ (old new : Image) (oo : IsInOrder old) (wo : IsWritable old) (on : IsIn
           subst (λ b. Contains (cond b (key.TopicConfig r.resource_name ∷ []) (broker_key r.resource_name ∷ [])) (key.TopicConfig name)) (sym is)
           (subst (λ n. Contains (key.TopicConfig r.resource_name ∷ []) (key.TopicConfig n)) (sym e) (Contains-head (key.TopicConfig r.resource_name) []))
 
-  -- no partition of the number
-  no_partition : (i : Image) (name : List ℕ) (number : ℤ) → (Contains (partition_keys name (topic_named name i)) (key.Partition name number) → ⊥) → entity i (key.Partition name number) ≡ None
-  no_partition i name number none = by (topic_named name i) refl
-    where
-      found_by : (t : TopicEntry) → topic_named name i ≡ Some t → (q : Option PartitionEntry) → find int_cmp number_of_partition number t.partitions ≡ q → option_map state_body (option_map (λ (p : PartitionEntry). p.row) q) ≡ None
-      found_by t is None e = refl
-      found_by t is (Some q) e =
-          let has : Contains t.partitions q = found_is_contained int_order number_of_partition number t.partitions q e in
-          let at : q.number ≡ number = key_of_found int_order number_of_partition number t.partitions q e in
-          let key_of_q : Contains (partition_keys name (Some t)) (key.Partition name q.number) = to_map (λ (p : PartitionEntry). key.Partition name p.number) t.partitions q has in
-          absurd (none (subst (λ f. Contains (partition_keys name f) (key.Partition name number)) (sym is) (subst (λ n. Contains (partition_keys name (Some t)) (key.Partition name n)) at key_of_q)))
-
-      by : (found : Option TopicEntry) → topic_named name i ≡ found → option_map state_body (option_and_then (λ (t : TopicEntry). partition_at number t.partitions) (topic_named name i)) ≡ None
-      by None e = ap (λ f. option_map state_body (option_and_then (λ (t : TopicEntry). partition_at number t.partitions) f)) e
-      by (Some t) e = ap (λ f. option_map state_body (option_and_then (λ (t : TopicEntry). partition_at number t.partitions) f)) e ∙ found_by t e (find int_cmp number_of_partition number t.partitions) refl
-
   -- a partition that isn't touched, of a topic that no record makes or removes
   silent_partition : (name : List ℕ) (number : ℤ) → (Contains (touched_keys old new rs) (key.Partition name number) → ⊥) → ((r : MetaRecord) → Contains rs r → Contains (topics_made_or_removed old r) name → ⊥)
       → entity old (key.Partition name number) ≡ entity new (key.Partition name number)
   silent_partition name number none made =
       ap (λ x. option_map state_body x.1) (looked_up_alike name look (λ a b e. ap (λ x. x.0) e) made
-      (λ r has. put_by r has (int_eq r.partition_id number) (Decides-int_eq r.partition_id number))
-      (λ r has. changed_by r has (int_eq r.partition_id number) (Decides-int_eq r.partition_id number))
+      (λ r has low. put_by r has (int_eq r.partition_id number) (Decides-int_eq r.partition_id number))
+      (λ r has low. changed_by r has (int_eq r.partition_id number) (Decides-int_eq r.partition_id number))
       (λ r has is. inr (λ t. refl)))
     where
       look : Option TopicEntry → Option Id × Option PartitionRow
@@ -262,7 +232,9 @@ module _ (old new : Image) (oo : IsInOrder old) (wo : IsWritable old) (on : IsIn
   spares_quotas k good (meta.PartitionChange r) none = tt
   spares_quotas k good (meta.RemoveTopic id) none = tt
   spares_quotas k good (meta.UserScramCredential r) none = tt
-  spares_quotas k good (meta.ClientQuota r) none = λ j is e. none (subst (λ o. Contains (option_to_list (option_and_then (λ l. key_of (path_of l)) o)) k) (sym is) (subst (λ o. Contains (option_to_list o) k) (sym (ap key_of (sym e) ∙ path_holds k good.0 good.1)) (Contains-head k [])))
+  spares_quotas k good (meta.ClientQuota r) none = λ j is legal e.
+      let read : key_of_quota j ≡ Some k = ap (λ b. cond b (key_of (path_of j)) None) legal ∙ ap key_of (sym e) ∙ path_holds k good.0 good.1 in
+      none (subst (λ o. Contains (option_to_list (option_and_then key_of_quota o)) k) (sym is) (subst (λ o. Contains (option_to_list o) k) (sym read) (Contains-head k [])))
   spares_quotas k good (meta.ProducerIds r) none = tt
   spares_quotas k good (meta.AccessControlEntry r) none = tt
   spares_quotas k good (meta.RemoveAccessControlEntry id) none = tt
@@ -355,26 +327,13 @@ module _ (old new : Image) (oo : IsInOrder old) (wo : IsWritable old) (on : IsIn
   spares_entry bytes meta.EndTransaction none = tt
   spares_entry bytes (meta.AbortTransaction reason) none = tt
 
-  abbrev is_at : EntityKey → AclEntry → Bool
-  is_at k a = bytes_eq (path_of (acl_key a.row)) (path_of k)
-
-  -- an entry whose id is spoken of is of no resource that isn't touched
-  of_other : (k : EntityKey) → IsGoodKey k → (bytes : List ℕ) (i : Image) → IsInOrder i → IsWritable i → (a : AclEntry) → find bytes_cmp id_of_acl bytes i.acls ≡ Some a → (acl_key a.row ≡ k → ⊥) → is_at k a ≡ false
-  of_other k good bytes i o w a e other = by (is_at k a) (bytes_eq-Decides (path_of (acl_key a.row)) (path_of k)).0
-    where
-      by : (b : Bool) → (b ≡ true → path_of (acl_key a.row) ≡ path_of k) → b ≡ false
-      by true is =
-          let g = (facts_of_acl i o w a (found_is_contained bytes_order id_of_acl bytes i.acls a e)).good in
-          absurd (other (one_key (acl_key a.row) k g.0 g.1 good.0 good.1 (is refl)))
-      by false is = refl
-
   none_of : (k : EntityKey) → IsGoodKey k → (bytes : List ℕ) (i : Image) → IsInOrder i → IsWritable i → ((a : AclEntry) → find bytes_cmp id_of_acl bytes i.acls ≡ Some a → acl_key a.row ≡ k → ⊥)
       → find bytes_cmp id_of_acl bytes (filter (is_at k) i.acls) ≡ None
   none_of k good bytes i o w other = by (find bytes_cmp id_of_acl bytes i.acls) refl
     where
       by : (found : Option AclEntry) → find bytes_cmp id_of_acl bytes i.acls ≡ found → find bytes_cmp id_of_acl bytes (filter (is_at k) i.acls) ≡ None
       by None e = find-filter_absent bytes_order id_of_acl (is_at k) bytes i.acls e
-      by (Some a) e = find-filter_found bytes_order id_of_acl (is_at k) bytes i.acls a o.acls e ∙ ap (λ b. cond b (Some a) None) (of_other k good bytes i o w a e (other a e))
+      by (Some a) e = find-filter_found bytes_order id_of_acl (is_at k) bytes i.acls a o.acls e ∙ ap (λ b. cond b (Some a) None) (of_other i o w k good a (found_is_contained bytes_order id_of_acl bytes i.acls a e) (other a e))
 
   filtered_alike : (k : EntityKey) (bytes : List ℕ) → find bytes_cmp id_of_acl bytes old.acls ≡ find bytes_cmp id_of_acl bytes new.acls
       → find bytes_cmp id_of_acl bytes (filter (is_at k) old.acls) ≡ find bytes_cmp id_of_acl bytes (filter (is_at k) new.acls)
@@ -437,22 +396,20 @@ module _ (old new : Image) (oo : IsInOrder old) (wo : IsWritable old) (on : IsIn
 
   -- ---- all keys
 
-  -- at a path that no touched key spans, each key that spans it holds the same
-  module _ (p : List ℕ) (outside : Contains (all_spanned_paths (touched_keys old new rs)) p → ⊥) where
-    not_touched : (k : EntityKey) → Contains (spanned_paths k) p → Contains (touched_keys old new rs) k → ⊥
-    not_touched k within has = outside (to_flat spanned_paths (touched_keys old new rs) k p has within)
+  partition_legal : (name : List ℕ) (number : ℤ) → is_legal (key.Topic name) ≡ true → is_not_negative number ≡ true → is_legal (key.Partition name number) ≡ true
+  unfolding is_legal
+  partition_legal name number legal low = and_from (is_topic_name name) (is_not_negative number) legal low
 
+  -- at a path that no legal key that is touched spans, each key that spans it holds the same
+  module _ (p : List ℕ) (outside : (k : EntityKey) → is_legal k ≡ true → Contains (spanned_paths k) p → Contains (touched_keys old new rs) k → ⊥) where
     pub same_at : (k : EntityKey) → is_legal k ≡ true → HasTexts k → Contains (spanned_paths k) p → entity old k ≡ entity new k
-    same_at (key.Topic name) legal texts within = same_topic name (not_touched (key.Topic name) within) (λ number. not_touched (key.Partition name number) (topic_within name number p within))
-    same_at (key.Partition topic number) legal texts within = same_partition topic number (not_touched (key.Partition topic number) within)
-    same_at (key.TopicConfig name) legal texts within = same_topic_config name (not_touched (key.TopicConfig name) within)
-    same_at (key.BrokerConfig broker) legal texts within = same_config broker (broker_is_good broker legal texts) (not_touched (key.BrokerConfig broker) within)
-    same_at (key.Client client) legal texts within = ap (λ qs. quota_body qs []) (same_quotas (key.Client client) (legal, texts) (not_touched (key.Client client) within))
-    same_at (key.User user) legal texts within = same_user user (legal, texts) (not_touched (key.User user) within)
-    same_at (key.UserClient user client) legal texts within = ap (λ qs. quota_body qs []) (same_quotas (key.UserClient user client) (legal, texts) (not_touched (key.UserClient user client) within))
-    same_at (key.Ip address) legal texts within = ap (λ qs. quota_body qs []) (same_quotas (key.Ip address) (legal, texts) (not_touched (key.Ip address) within))
-    same_at (key.Acl pattern kind name) legal texts within = ap (λ rows. acl_body (map row_of_acl rows)) (same_entries (key.Acl pattern kind name) (legal, texts) (not_touched (key.Acl pattern kind name) within))
-    same_at key.Producer legal texts within = same_producer (not_touched key.Producer within)
-
-  pub have_difference : HaveDifference (touched_keys old new rs) old new
-  have_difference k legal texts p within outside = same_at p outside k legal texts within
+    same_at (key.Topic name) legal texts within = same_topic name (outside (key.Topic name) legal within) (λ number low. outside (key.Partition name number) (partition_legal name number legal low) (topic_within name number p within))
+    same_at (key.Partition topic number) legal texts within = same_partition topic number (outside (key.Partition topic number) legal within)
+    same_at (key.TopicConfig name) legal texts within = same_topic_config name (outside (key.TopicConfig name) legal within)
+    same_at (key.BrokerConfig broker) legal texts within = same_config broker (broker_is_good broker legal texts) (outside (key.BrokerConfig broker) legal within)
+    same_at (key.Client client) legal texts within = ap (λ qs. quota_body qs []) (same_quotas (key.Client client) (legal, texts) (outside (key.Client client) legal within))
+    same_at (key.User user) legal texts within = same_user user (legal, texts) (outside (key.User user) legal within)
+    same_at (key.UserClient user client) legal texts within = ap (λ qs. quota_body qs []) (same_quotas (key.UserClient user client) (legal, texts) (outside (key.UserClient user client) legal within))
+    same_at (key.Ip address) legal texts within = ap (λ qs. quota_body qs []) (same_quotas (key.Ip address) (legal, texts) (outside (key.Ip address) legal within))
+    same_at (key.Acl pattern kind name) legal texts within = ap (λ rows. acl_body (map row_of_acl rows)) (same_entries (key.Acl pattern kind name) (legal, texts) (outside (key.Acl pattern kind name) legal within))
+    same_at key.Producer legal texts within = same_producer (outside key.Producer legal within)

@@ -1,7 +1,6 @@
 -- The keys at which two metadata differ, and the paths at which their renderings do.
 use Rattle.std.specs.Prelude.{◌≡◌, ℕ, true, List, Contains}
 use Rattle.kz_types.specs.declared.key.EntityKey.{EntityKey}
-use Rattle.kz_types.specs.declared.record.MetaRecord.{MetaRecord}
 use Rattle.kz_types.specs.declared.tree.Rendered.{Rendered}
 use Rattle.kz_types.specs.Paths.{is_legal}
 use Rattle.kz_ordered.specs.Order.{bytes_cmp}
@@ -10,11 +9,12 @@ use Rattle.kz_ordered.specs.Covering.{at_keys}
 use Rattle.kz_spec_stores.specs.Tree.{path_of_rendered}
 use Rattle.kz_spec_stores.specs.Metadata.{Image}
 use Rattle.kz_spec_stores.specs.InOrder.{IsInOrder}
+use Rattle.kz_spec_stores.specs.Log.{Feed}
 use Rattle.kz_spec_znodes.specs.Rendering.{render}
 use Rattle.kz_spec_znodes.specs.Difference.{diff}
 use Rattle.kz_spec_delta.specs.Entities.{entity}
 use Rattle.kz_spec_delta.specs.Spans.{spanned_paths, all_spanned_paths, CoverDifference}
-use Rattle.kz_spec_delta.specs.Touched.{Lead, touched_keys}
+use Rattle.kz_spec_delta.specs.Touched.{AreTouched, Leads}
 use Rattle.kz_laws_paths.specs.TextKeys.{HasTexts}
 use Rattle.kz_laws_znodes.specs.RoundTrip.{IsWritable}
 
@@ -27,9 +27,13 @@ HaveDifference ks old new = (k : EntityKey) → is_legal k ≡ true → HasTexts
 abbrev pub KeysCoverRenderings : Type 0
 KeysCoverRenderings = (old new : Image) → IsInOrder old → IsWritable old → IsInOrder new → IsWritable new → (ks : List EntityKey) → HaveDifference ks old new → CoverDifference ks (render old) (render new)
 
--- The keys that records touch have the difference of the metadata that they lead from and of those that they lead to.
-abbrev pub TouchedKeysSuffice : Type 0
-TouchedKeysSuffice = (old new : Image) → IsInOrder old → IsWritable old → IsInOrder new → IsWritable new → (rs : List MetaRecord) → Lead old rs new → HaveDifference (touched_keys old new rs) old new
+-- The keys that a feed touches have the difference of the metadata that it leads from and of those that it leads to.
+abbrev pub TouchedSuffices : Type 0
+TouchedSuffices = (old new : Image) → IsInOrder old → IsWritable old → IsInOrder new → IsWritable new → (f : Feed) → Leads old f new → (ks : List EntityKey) → AreTouched old f new ks → HaveDifference ks old new
+
+-- So they cover the difference of the renderings.
+abbrev pub TouchedCover : Type 0
+TouchedCover = (old new : Image) → IsInOrder old → IsWritable old → IsInOrder new → IsWritable new → (f : Feed) → Leads old f new → (ks : List EntityKey) → AreTouched old f new ks → CoverDifference ks (render old) (render new)
 
 -- The znodes of a rendering at these paths.
 abbrev pub znodes_at : List (List ℕ) → Image → List Rendered

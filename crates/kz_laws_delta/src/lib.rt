@@ -3,4 +3,4 @@
 
 mod delta;
 
-pub use delta::{delta_is_difference, keys_cover_renderings, touched_keys_suffice};
+pub use delta::{delta_is_difference, keys_cover_renderings, touched_cover, touched_suffices};

@@ -1,26 +1,26 @@
 -- What is read of a log after a view leads from its metadata to those at the log's end.
-use Rattle.std.proofs.Common.{◌≡◌, inl, inr, ℤ, pos, negsuc, ◌+ℤ◌, ◌≤ℤ◌, Bool, true, false, cond, List, [], ◌∷◌, ◌++◌, map, filter, None, is_some, refl, sym, ap, ◌∙◌, subst}
+use Rattle.std.proofs.Common.{◌≡◌, inl, inr, ℤ, pos, ◌+ℤ◌, ◌≤ℤ◌, ◌<ℤ◌, Bool, true, false, cond, List, [], ◌∷◌, ◌++◌, map, filter, Option, Some, None, is_some, refl, sym, ap, ◌∙◌, subst}
 use Rattle.std.specs.List.{flat_map}
 use Rattle.std.proofs.lemmas.List.{map-append}
 use Rattle.kz_types.specs.declared.log.BatchRow.{BatchRow}
 use Rattle.kz_types.specs.declared.log.Entry.{Entry}
 use Rattle.kz_types.specs.declared.record.MetaRecord.{MetaRecord}
-use Rattle.kz_spec_stores.specs.Settlement.{is_counted, is_open, counting_records, open_begin, records_of_open}
+use Rattle.kz_spec_stores.specs.Settlement.{is_counted, is_open, counting_records, open_begin}
 use Rattle.kz_spec_stores.specs.Image.{Image, image_with}
-use Rattle.kz_spec_stores.specs.Log.{Log, IsLog, View, new_view, IsAt, Follow, last_of, last_end, end_of, begins_after, entries_at_offsets, entries_of_batch, entries, entries_by, all_entries_applied, image_at, image_of}
+use Rattle.kz_spec_stores.specs.Log.{Log, IsLog, View, IsAt, Follow, read_view, feed_from, last_end, end_of, begins_after, entries_at_offsets, entries_of_batch, entries, entries_by, all_entries_applied, image_at, image_of}
 use Rattle.kz_spec_machine.specs.Sound.{IsBatchEnd}
 use Rattle.kz_spec_delta.specs.Touched.{Lead}
-use Rattle.kz_laws_drivers.proofs.Numbers.{at_least_itself}
-use Rattle.kz_laws_trees.proofs.Ends.{counted_up, end_counts, end_is_batch_end, entries_after, empty_before}
+use Rattle.kz_laws_trees.proofs.Ends.{counted_up, end_counts, end_is_batch_end}
 use Rattle.kz_laws_logs.proofs.Rising.{RisesAfter, all_before}
-use Rattle.kz_laws_logs.proofs.Begun.{begin_in, begun_is, inside_begun, open_kept}
+use Rattle.kz_laws_logs.proofs.Begun.{less_is, begin_in, begun_is, inside_begun, open_kept}
 use Rattle.kz_laws_snapshots.specs.Snapshots.{MayBeBase}
 use Rattle.kz_laws_snapshots.proofs.Divided.{Divided, divided, later_follows, later_is, entries_are, earlier_up_to, later_after, all_rise}
 use Rattle.kz_laws_snapshots.proofs.Settled.{front_rises}
 use Rattle.kz_laws_snapshots.proofs.OpenRecords.{front_by}
 use Rattle.kz_laws_snapshots.proofs.Images.{image_stays}
 use Rattle.kz_laws_snapshots.proofs.Cut.{end_is}
-use Rattle.kz_laws_feeds.specs.Feeds.{FeedLeads, FeedLeadsEmpty}
+use Rattle.kz_laws_delta.proofs.Suffice.{touched_cover}
+use Rattle.kz_laws_feeds.specs.Feeds.{FeedLeads, FeedTouches}
 
 -- ---- records of which some are taken in
 
@@ -110,23 +110,17 @@ module _ (l : Log) (v : View) (log : IsLog l) (is : IsAt l v) (none : v.begun �
       subst (λ (i : Image). Lead v.image (flat_map (λ (b : BatchRow). b.items) later) i) image_is
       (subst (λ (rs : List MetaRecord). Lead v.image rs (all_entries_applied (counting_records (entries later) (end_of l)) v.image)) (items_are later) all)
 
+-- where a log's base has passed a view, the base is read
+has_base : (l : Log) (v : View) → v.position <ℤ l.base → (feed_from l v.position).base ≡ None → ⊥
+has_base l v below none =
+    let base : Option (ℤ × Image) = Some (l.base, l.base_image) in
+    let there : base ≡ None = sym (ap (λ b. cond b base None) (less_is v.position l.base below)) ∙ none in
+    absurd (cc (there))
+
 pub feed_leads : FeedLeads
-feed_leads l v log is none = leads l v log is none
+feed_leads l v log (inl below) none = λ whole. absurd (has_base l v below whole)
+feed_leads l v log (inr is) none = λ whole. leads l v log is none
 
--- ---- a view that knows nothing
-
-none_by : (l : Log) → IsLog l → l.base ≡ negsuc 0 → entries_by (negsuc 0) (entries l.batches) ≡ []
-none_by l log first =
-    let follow : Follow (negsuc 0) l.batches = subst (λ (o : ℤ). Follow o l.batches) first log.follow in
-    front_by (negsuc 0) [] (entries l.batches) tt (entries_after (negsuc 0) (negsuc 0) l.batches (at_least_itself (negsuc 0)) follow)
-
-pub new_is_at : (l : Log) → IsLog l → l.base ≡ negsuc 0 → IsAt l new_view
-new_is_at l log first = record {
-  end = ([], map last_of l.batches, ap (λ (o : ℤ). o ∷ map last_of l.batches) first);
-  image = sym (empty_before l log first);
-  begun = sym (ap open_begin (none_by l log first));
-  kept = sym (ap records_of_open (none_by l log first));
-}
-
-pub feed_leads_empty : FeedLeadsEmpty
-feed_leads_empty l log first = feed_leads l new_view log (new_is_at l log first) refl
+pub feed_touches : FeedTouches
+feed_touches l v log is none oo wo on wn ks touched =
+    touched_cover v.image (read_view l v).image oo wo on wn (feed_from l v.position) (feed_leads l v log is none) ks touched

@@ -3,17 +3,16 @@
 //! A law is the contract of a function that does nothing.
 #![tactic(auto)]
 
-ghost use Rattle.kz_laws_feeds.specs.Feeds.{FeedLeads, FeedLeadsEmpty, FeedTouches};
+ghost use Rattle.kz_laws_feeds.specs.Feeds.{FeedLeads, FeedTouches};
 
-/// What is read of a log after a view leads, record by record, from the metadata of the view to those at the log's end: each record is
-/// taken in, in a batch of some epoch, or is passed over. The view knows of no open transaction. One that knows nothing is such a view
-/// where the log begins with its first record.
+/// What is read of a log after a view of it leads from the metadata of the view to those at the log's end. Where the log's base has
+/// passed the view, a base is read. Else each record is taken in, in a batch of some epoch, or is passed over. The view knows of no
+/// open transaction. One that knows nothing is a view of each log.
 pub fn feed_leads()
-    ensures leads { FeedLeads }
-    ensures empty { FeedLeadsEmpty }
+    ensures { FeedLeads }
 {}
 
-/// So the keys that these records touch have the difference of the two metadata.
+/// So the keys that are touched by what is read span every path at which the renderings of the two metadata differ.
 pub fn feed_touches()
     ensures { FeedTouches }
 {}

@@ -5,7 +5,7 @@
 mod held;
 mod worked;
 
-pub use held::{held_is_writable, one_rendering, round_trip};
+pub use held::{one_rendering, round_trip};
 pub use worked::worked_is_made;
 
 #[cfg(test)]

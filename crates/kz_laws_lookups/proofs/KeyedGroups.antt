@@ -33,7 +33,7 @@ use Rattle.kz_spec_delta.specs.Entities.{config_body, quotas_at, scrams_of_user,
 use Rattle.kz_laws_delta.proofs.ConfigsAlike.{filled_body, body_filled}
 use Rattle.kz_laws_delta.proofs.EntriesAlike.{some_entry, some_rows, body_of_rows, rows_of_body}
 use Rattle.kz_laws_delta.proofs.QuotasAlike.{own_body, own_filled, own_is, user_body, user_filled, user_is}
-use Rattle.kz_laws_delta.proofs.Touched.{broker_is_good}
+use Rattle.kz_laws_delta.proofs.Configurations.{broker_is_good}
 use Rattle.kz_laws_lookups.specs.Lookups.{AreKeysRead}
 use Rattle.kz_laws_lookups.proofs.Facts.{quota_placed, quota_good, quota_kind, acl_good, user_good}
 use Rattle.kz_laws_lookups.proofs.Settled.{Keyed}

@@ -21,6 +21,7 @@ use Rattle.kz_types.specs.declared.record.MetaRecord.{MetaRecord}
 use Rattle.kz_types.specs.Paths.{key_of}
 use Rattle.kz_spec_stores.specs.Image.{Image, empty_image, all_applied}
 use Rattle.kz_spec_stores.specs.InOrder.{IsInOrder}
+pub use Rattle.kz_laws_writable.specs.Writable.{IsText, FitsInt, IsPartitionWritable, IsMemberWritable, IsTopicWritable, IsConfigWritable, IsQuotaWritable, AreQuotasWritable, IsScramWritable, IsUserWritable, IsAclWritable, IsWritable}
 use Rattle.kz_spec_znodes.specs.Rendering.{is_of_resource, row_of_acl, render, excess}
 use Rattle.kz_spec_znodes.specs.Translation.{all_records, further_records, translate}
 
@@ -32,71 +33,6 @@ new_znode r = record { path = r.path; body = r.body; version = pos 0; owner = No
 
 abbrev pub znodes_of : Image → List Row
 znodes_of i = map new_znode (render i)
-
--- ---- values that a program's always are
-
--- bytes that are a text
-abbrev pub IsText : List ℕ → Type 0
-IsText bytes = is_utf8 bytes ≡ true
-
--- a number of 32 bits, as far as it isn't negative
-abbrev pub FitsInt : ℤ → Type 0
-FitsInt n = n ≤ℤ pos 2147483647
-
--- The numbers of a partition, those of its brokers among them, fit 32 bits.
-pub record IsPartitionWritable (p : PartitionEntry) : Type 0 where
-  pub number : FitsInt p.number
-  pub brokers : All FitsInt p.row.replicas
-  pub epoch : FitsInt p.row.controller_epoch
-
--- The name and the value of a member are texts.
-abbrev pub IsMemberWritable : Pair → Type 0
-IsMemberWritable p = IsText p.name × IsText p.value
-
--- A topic's id has 16 bytes, and its name and members are texts.
-pub record IsTopicWritable (t : TopicEntry) : Type 0 where
-  pub name : IsText t.name
-  pub bytes : IsBytes t.id.bytes
-  pub sixteen : length t.id.bytes ≡ 16
-  pub partitions : All IsPartitionWritable t.partitions
-  pub members : All IsMemberWritable t.pairs
-
-abbrev pub IsConfigWritable : Configuration → Type 0
-IsConfigWritable c = All IsMemberWritable c.pairs
-
--- the whole part of a quota fits 64 bits
-abbrev pub IsQuotaWritable : QuotaRow → Type 0
-IsQuotaWritable q = q.value.whole ≤ℤ pos 9223372036854775807
-
--- The path of an entity's quotas is read as that of an entity, whose names are then texts.
-pub record AreQuotasWritable (q : QuotaEntry) : Type 0 where
-  pub entity : EntityKey
-  pub read : key_of q.path ≡ Some entity
-  pub each : All IsQuotaWritable q.quotas
-
--- A credential is of bytes, and its iterations fit 32 bits.
-pub record IsScramWritable (s : ScramPair) : Type 0 where
-  pub salt : IsBytes s.value.salt
-  pub stored_key : IsBytes s.value.stored_key
-  pub server_key : IsBytes s.value.server_key
-  pub iterations : FitsInt s.value.iterations
-
-abbrev pub IsUserWritable : ScramEntry → Type 0
-IsUserWritable u = IsText u.name × All IsScramWritable u.scrams
-
--- The names of an access control entry are texts.
-pub record IsAclWritable (a : AclEntry) : Type 0 where
-  pub name : IsText a.row.name
-  pub principal : IsText a.row.principal
-  pub host : IsText a.row.host
-
--- Texts are UTF-8, bytes are bytes, and numbers are in the range of their types, as those of a program's metadata always are.
-pub record IsWritable (i : Image) : Type 0 where
-  pub topics : All IsTopicWritable i.topics
-  pub configs : All IsConfigWritable i.broker_configs
-  pub quotas : All AreQuotasWritable i.quotas
-  pub users : All IsUserWritable i.users
-  pub acls : All IsAclWritable i.acls
 
 -- ---- what may return
 

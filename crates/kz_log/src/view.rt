@@ -14,13 +14,25 @@ use std::marker::Model;
 
 /// What a controller knows of a log: up to which offset, the epoch of the last batch that it took, the metadata there, and,
 /// where a transaction is open there, the offset of its Begin and its records.
-#[derive(Drop)]
 pub struct View {
     alloc: Global,
     position: i64,
     epoch: i32,
     image: Image,
     settler: Settler,
+}
+
+// Written out, so that it is proved here once: a derived one is proved in each crate that holds a view.
+impl Drop for View {
+    fn drop(self) {
+        let View {
+            alloc: _,
+            position: _,
+            epoch: _,
+            image: _image,
+            settler: _settler,
+        } = self;
+    }
 }
 
 impl Model for View {

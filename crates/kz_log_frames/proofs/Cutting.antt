@@ -1,15 +1,13 @@
 -- What the fields of a snapshot make of a log.
-use Rattle.std.proofs.Common.{◌≡◌, ℕ, ◌+◌, ◌<◌, ◌≤◌, nat_lt, Bool, true, false, ◌&&◌, ◌||◌, ◌==◌, ℤ, pos, negsuc, ◌+ℤ◌, int_le, cond, List, [], ◌∷◌, ◌++◌, length, map, take, drop, Result, Ok, Err, refl, sym, ap, ◌∙◌, subst, append-nil, arith, w32, w64}
+use Rattle.std.proofs.Common.{◌≡◌, ℕ, ◌<◌, ◌≤◌, nat_lt, Bool, true, false, ◌&&◌, ◌||◌, ◌==◌, ℤ, pos, negsuc, int_le, cond, List, [], ◌∷◌, ◌++◌, length, map, take, drop, Result, Ok, Err, refl, sym, ap, ◌∙◌, subst, append-nil, arith, w32, w64}
 use Rattle.std.specs.Int.{from_be_bytes}
-use Rattle.std.specs.List.{flat_map}
 use Rattle.std.specs.Ordering.{int_eq}
 use Rattle.std.proofs.lemmas.Int.{ints}
 use Rattle.std.proofs.lemmas.Bool.Decides.{nat_tests}
 use Rattle.kz_types.specs.declared.log.BatchRow.{BatchRow}
-use Rattle.kz_types.specs.declared.log.EpochRecord.{EpochRecord}
 use Rattle.kz_spec_values.specs.Fields.{◌>>=◌}
 use Rattle.kz_spec_values.specs.Batches.{signed_at}
-use Rattle.kz_spec_stores.specs.Metadata.{Image, empty_image}
+use Rattle.kz_spec_stores.specs.Metadata.{empty_image}
 use Rattle.kz_spec_stores.specs.Log.{Log, may_be_base}
 use Rattle.kz_spec_snapshots.specs.Records.{image_after, in_epoch, snapshot_records}
 use Rattle.kz_spec_snapshots.specs.Batches.{records_of_batches}
@@ -20,7 +18,7 @@ use Rattle.kz_log_frames.specs.declared.fault.FrameFault.{FrameFault}
 use Rattle.kz_log_frames.specs.declared.fault.FrameFault.TheVariants.{Why, NoMemory}
 use Rattle.kz_log_frames.specs.declared.pieces.Found.{Found}
 use Rattle.kz_log_frames.specs.Taken.{Says}
-use Rattle.kz_log_frames.specs.Pieces.{row_of_piece, AreFound, ReadsBatches, image_of_rows, is_allowed, are_own_records, cut_or_not}
+use Rattle.kz_log_frames.specs.Pieces.{row_of_piece, AreFound, ReadsBatches, image_of_rows, is_allowed, cut_or_not}
 
 and_true : (a : Bool) → (a && true) ≡ a
 and_true true = refl

@@ -1,11 +1,10 @@
 -- The payload of a snapshot, batch after batch, and that it is read as the log that is cut.
-use Rattle.std.proofs.Common.{◌≡◌, ℕ, zero, suc, ◌+◌, ◌-◌, ◌^◌, ◌<◌, ◌≤◌, ℤ, true, List, [], ◌∷◌, ◌++◌, length, get_or, map, take, drop, Ok, refl, sym, ap, ◌∙◌, subst, append-nil, append_assoc, length-append, arith, w32, FitsSigned}
+use Rattle.std.proofs.Common.{◌≡◌, ℕ, ◌+◌, ◌-◌, ◌^◌, ◌<◌, ◌≤◌, ℤ, true, List, [], ◌∷◌, ◌++◌, length, get_or, map, take, drop, Ok, sym, ap, ◌∙◌, subst, append-nil, append_assoc, length-append, arith, w32, FitsSigned}
 use Rattle.std.specs.Int.{to_be_bytes}
 use Rattle.std.specs.List.{All, flat_map}
-use Rattle.std.proofs.lemmas.List.{take_more, take_all}
+use Rattle.std.proofs.lemmas.List.{take_more}
 use Rattle.std.proofs.lemmas.List.Concat.{flat_map-append}
 use Rattle.std.proofs.lemmas.List.Elements.{All-nil, All-cons, All-head, All-tail, All-more}
-use Rattle.kz_types.specs.declared.limits.TheConstants.{MAX_FILE_BYTES}
 use Rattle.kz_types.specs.declared.log.BatchRow.{BatchRow}
 use Rattle.kz_types.specs.declared.record.MetaRecord.{MetaRecord}
 use Rattle.kz_spec_values.specs.Records.{bytes_of_record, record_of}
@@ -17,7 +16,7 @@ use Rattle.kz_spec_snapshots.specs.Batches.{snapshot_batches}
 use Rattle.kz_spec_files.specs.LogFile.{after_payload, batch_payload, piece_written, snapshot_payload}
 use Rattle.kz_laws_records.specs.Texts.{AreBytes}
 use Rattle.kz_laws_znodes.specs.RoundTrip.{IsWritable}
-use Rattle.kz_laws_snapshot_files.specs.ReadBack.{IsReadBack, IsBatchReadBack, MayBeWritten, BatchesAreReadBack}
+use Rattle.kz_laws_snapshot_files.specs.ReadBack.{IsReadBack, IsBatchReadBack, BatchesAreReadBack}
 use Rattle.kz_log_frames.specs.Payloads.{IsValueOf, AreValuesOf, IsPayloadOf, Grows, IsHeadOf, snapshot_head, written_snapshot, IsSnapshotOf}
 
 -- ---- records that are read back

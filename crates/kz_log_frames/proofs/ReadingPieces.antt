@@ -1,9 +1,11 @@
 -- The pieces and batches in the frame of a snapshot, one after another.
-use Rattle.std.proofs.Common.{◌≡◌, ℕ, suc, ◌+◌, ◌<◌, ◌≤◌, Bool, true, false, not, ◌&&◌, nat_lt, ℤ, pos, negsuc, ◌+ℤ◌, cond, List, [], ◌∷◌, ◌++◌, length, map, take, drop, Some, Result, Ok, Err, refl, sym, ap, ◌∙◌, subst, append-nil, append_assoc, arith}
+use Rattle.std.proofs.Common.{◌≡◌, ℕ, suc, ◌+◌, ◌<◌, ◌≤◌, Bool, true, false, not, ◌&&◌, nat_lt, pos, negsuc, ◌+ℤ◌, cond, List, [], ◌∷◌, ◌++◌, length, take, drop, Some, Result, Ok, Err, refl, sym, ap, ◌∙◌, subst, append-nil, append_assoc, arith}
 use Rattle.std.specs.Int.{w32, from_be_bytes}
 use Rattle.std.specs.Ordering.{int_eq}
 use Rattle.std.proofs.lemmas.Bool.Decides.{nat_tests}
+use Rattle.std.specs.List.{All}
 use Rattle.std.proofs.lemmas.List.{map-append}
+use Rattle.std.proofs.lemmas.List.Elements.{All-nil, All-cons, All-append}
 use Rattle.kz_types.specs.declared.log.BatchRow.{BatchRow}
 use Rattle.kz_types.specs.declared.record.MetaRecord.{MetaRecord}
 use Rattle.kz_types.specs.declared.record.BatchFault.{BatchFault}
@@ -15,8 +17,7 @@ use Rattle.kz_spec_files.specs.LogFile.{Piece, with_why, read_values, read_piece
 use Rattle.kz_log_frames.specs.declared.fault.FrameFault.{FrameFault}
 use Rattle.kz_log_frames.specs.declared.fault.FrameFault.TheVariants.{Why, NoMemory}
 use Rattle.kz_log_frames.specs.declared.pieces.Found.{Found}
-use Rattle.kz_log_frames.specs.Taken.{Says}
-use Rattle.kz_log_frames.specs.Pieces.{IsSplit, row_of_piece, read_batch, AreFound, ReadsBatch, ReadsBatches}
+use Rattle.kz_log_frames.specs.Pieces.{IsShortRecord, HaveShortRecords, IsSplit, row_of_piece, read_batch, AreFound, ReadsBatch, ReadsBatches}
 
 -- ---- a piece
 
@@ -126,7 +127,7 @@ all_read all f had = (had.ps, sym had.same ∙ ap Ok (append-nil had.ps), had.fo
 pub starts : (all : List (List ℕ)) (f : Found) → f.rows.items ≡ [] → f.last ≡ negsuc 0 → f.fits ≡ true → HasRead all all f
 starts all f rows last fits = record {
   ps = [];
-  found = record { rows = rows; fits = λ more. ap (λ o. true && are_snapshot_batches (o +ℤ pos 1) more) (sym last) ∙ ap (λ t. t && are_snapshot_batches (f.last +ℤ pos 1) more) (sym fits) };
+  found = record { rows = rows; short = subst HaveShortRecords (sym rows) (All-nil (λ (b : BatchRow). All IsShortRecord b.items)); fits = λ more. ap (λ o. true && are_snapshot_batches (o +ℤ pos 1) more) (sym last) ∙ ap (λ t. t && are_snapshot_batches (f.last +ℤ pos 1) more) (sym fits) };
   same = batches_none (read_batches all);
 }
 
@@ -149,13 +150,17 @@ and_assoc : (a b c : Bool) → (a && (b && c)) ≡ ((a && b) && c)
 and_assoc true b c = refl
 and_assoc false b c = refl
 
+short_more : (bs : List BatchRow) (b : BatchRow) → HaveShortRecords bs → All IsShortRecord b.items → HaveShortRecords (bs ++ b ∷ [])
+short_more bs b short few = All-append (λ (x : BatchRow). All IsShortRecord x.items) bs (b ∷ []) short (All-cons (λ (x : BatchRow). All IsShortRecord x.items) b [] few (All-nil (λ (x : BatchRow). All IsShortRecord x.items)))
+
 -- one batch more
 pub found_more : (old new : Found) (ps : List Piece) (b : BatchContents) (items : List MetaRecord) → new.rows.items ≡ old.rows.items ++ row_of_piece (b, items) ∷ [] → new.last ≡ b.last
-    → new.fits ≡ (old.fits && (not b.control && nat_lt 0 (length b.values) && int_eq b.first (old.last +ℤ pos 1) && int_eq b.time (pos 0))) → AreFound old ps → AreFound new (ps ++ (b, items) ∷ [])
-found_more old new ps b items rows last fits had =
+    → new.fits ≡ (old.fits && (not b.control && nat_lt 0 (length b.values) && int_eq b.first (old.last +ℤ pos 1) && int_eq b.time (pos 0))) → All IsShortRecord items → AreFound old ps → AreFound new (ps ++ (b, items) ∷ [])
+found_more old new ps b items rows last fits few had =
     let test : Bool = not b.control && nat_lt 0 (length b.values) && int_eq b.first (old.last +ℤ pos 1) && int_eq b.time (pos 0) in
     record {
       rows = rows ∙ ap (λ bs. bs ++ row_of_piece (b, items) ∷ []) had.rows ∙ sym (map-append row_of_piece ps ((b, items) ∷ []));
+      short = subst HaveShortRecords (sym rows) (short_more old.rows.items (row_of_piece (b, items)) had.short few);
       fits = λ more.
           ap (are_snapshot_batches (pos 0)) (append_assoc ps ((b, items) ∷ []) more)
           ∙ had.fits ((b, items) ∷ more)

@@ -1,10 +1,9 @@
 -- What the payloads of frames make of a log.
-use Rattle.std.proofs.Common.{◌≡◌, ℕ, zero, suc, ◌-◌, ◌<◌, Bool, true, false, not, ◌&&◌, nat_lt, ◌==◌, ℤ, pos, negsuc, ◌+ℤ◌, ◌≤ℤ◌, int_le, cond, List, [], ◌∷◌, ◌++◌, length, map, Result, Ok, Err, refl, sym, ap, ◌∙◌, subst, append-nil, append_assoc, arith}
+use Rattle.std.proofs.Common.{◌≡◌, ℕ, zero, suc, ◌-◌, ◌<◌, Bool, true, false, not, ◌&&◌, nat_lt, ◌==◌, ℤ, pos, negsuc, ◌+ℤ◌, int_le, cond, List, [], ◌∷◌, ◌++◌, length, map, Result, Ok, Err, refl, sym, ap, ◌∙◌, subst, append-nil, append_assoc, arith}
 use Rattle.std.specs.Ordering.{int_eq}
 use Rattle.std.proofs.lemmas.Int.{ints}
 use Rattle.std.proofs.lemmas.Bool.Decides.{Decides-int_eq, nat_tests}
 use Rattle.kz_types.specs.declared.limits.TheConstants.{MAX_LONG}
-use Rattle.kz_types.specs.declared.log.BatchRow.{BatchRow}
 use Rattle.kz_types.specs.declared.record.MetaRecord.{MetaRecord}
 use Rattle.kz_types.specs.declared.record.BatchFault.{BatchFault}
 use Rattle.kz_types.specs.declared.record.BatchFault.TheVariants.{Short, BadMagic, BadCrc, Compressed, BadCount, BadOrder}

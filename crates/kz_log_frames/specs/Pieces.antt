@@ -1,11 +1,12 @@
 -- How the frame of a snapshot is read.
-use Rattle.std.specs.Prelude.{◌≡◌, ℕ, suc, Bool, ◌&&◌, ◌||◌, ◌==◌, ℤ, pos, ◌+ℤ◌, int_le, List, [], ◌∷◌, ◌++◌, length, map, Option, Some, None, Result, Ok, Err, ⊤, if◌then◌else◌}
+use Rattle.std.specs.Prelude.{◌≡◌, ℕ, suc, Bool, ◌&&◌, ◌||◌, ◌==◌, ℤ, pos, ◌+ℤ◌, ◌<◌, ◌^◌, int_le, List, [], ◌∷◌, ◌++◌, length, map, Option, Some, None, Result, Ok, Err, ⊤, if◌then◌else◌}
+use Rattle.std.specs.List.{All}
 use Rattle.std.specs.Ordering.{int_eq}
 use Rattle.kz_types.specs.declared.log.BatchRow.{BatchRow}
-use Rattle.kz_types.specs.declared.log.EpochRecord.{EpochRecord}
 use Rattle.kz_types.specs.declared.record.MetaRecord.{MetaRecord}
 use Rattle.kz_spec_values.specs.Fields.{◌>>=◌}
 use Rattle.kz_spec_values.specs.Batches.{batch_of}
+use Rattle.kz_spec_values.specs.Records.{bytes_of_record}
 use Rattle.kz_spec_stores.specs.Metadata.{Image, empty_image}
 use Rattle.kz_spec_stores.specs.Log.{Log, may_be_base}
 use Rattle.kz_spec_snapshots.specs.Records.{image_after, snapshot_records}
@@ -34,9 +35,19 @@ row_of_piece p = batch_row p.0 p.1
 abbrev pub read_batch : List ℕ → Result Piece LogWhy
 read_batch bytes = with_why Batch (batch_of bytes) >>= λ b. read_values b.values >>= λ items. Ok (b, items)
 
--- These batches were read: what is held of them, the last offset of the last, and whether each is one of a snapshot.
+-- A record has fewer than 2^32 bytes.
+abbrev pub IsShortRecord : MetaRecord → Type 0
+IsShortRecord r = length (bytes_of_record r) < 2 ^ 32
+
+-- Each record of these batches has fewer than 2^32 bytes.
+abbrev pub HaveShortRecords : List BatchRow → Type 0
+HaveShortRecords bs = All (λ (b : BatchRow). All IsShortRecord b.items) bs
+
+-- These batches were read: what is held of them, with records of fewer than 2^32 bytes each, the last offset of the last, and
+-- whether each is one of a snapshot.
 pub record AreFound (f : Found) (ps : List Piece) : Type 0 where
   pub rows : f.rows.items ≡ map row_of_piece ps
+  pub short : HaveShortRecords f.rows.items
   pub fits : (more : List Piece) → are_snapshot_batches (pos 0) (ps ++ more) ≡ (f.fits && are_snapshot_batches (f.last +ℤ pos 1) more)
 
 -- A batch was read after these, unless memory ran out.

@@ -60,8 +60,8 @@ fn is_byte(_byte: u8)
     ensures { _byte < 256 }
 {}
 
-// Bytes are numbers below 256.
-fn are_bytes(bytes: &[u8])
+/// Bytes are numbers below 256.
+pub(crate) fn are_bytes(bytes: &[u8])
     ensures { AreBytes bytes.now }
 {
     for byte in bytes {

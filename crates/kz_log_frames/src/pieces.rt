@@ -1,15 +1,18 @@
 //! The batches in the frame of a snapshot.
 ghost use Rattle.std.specs.Prelude.{◌≡◌, ◌≤◌, ◌+ℤ◌, ◌&&◌, ◌∷◌, [], ◌++◌, nat_lt, not, pos, List, length, map, take, option_map, Ok, IfOk};
+ghost use Rattle.std.specs.List.{All};
 ghost use Rattle.std.specs.Int.{w32, from_be_bytes};
 ghost use Rattle.std.specs.Ordering.{int_eq};
 ghost use Rattle.kz_spec_values.specs.Batches.{batch_of};
 ghost use Rattle.kz_spec_files.specs.LogFile.{Piece, read_values, read_pieces, read_batches};
 ghost use Rattle.kz_log_frames.specs.Taken.{Says};
-ghost use Rattle.kz_log_frames.specs.Pieces.{IsSplit, AreFound, read_batch, ReadsBatch, ReadsBatches};
+ghost use Rattle.kz_log_frames.specs.Pieces.{IsShortRecord, IsSplit, AreFound, read_batch, ReadsBatch, ReadsBatches};
 
 use crate::fault::FrameFault;
+use crate::payload::are_bytes;
 use crate::take::{read_items, row_of};
 use kz_batch::Batch;
+use kz_laws_lengths::{records_are_shortest, values_are_short};
 use kz_types::{BatchRow, LogWhy, MetaRecord, NoMemory};
 use std::alloc::Global;
 
@@ -110,7 +113,8 @@ fn do_fit(found: &Found, batch: &Batch<'_>, count: usize) -> bool
 
 // The batches that were read, and one more.
 fn with_batch(found: Found, batch: &Batch<'_>, items: Vec<MetaRecord>) -> Result<Found, NoMemory>
-    requires { read_values batch.now.values ≡ Ok items.items }
+    requires values { read_values batch.now.values ≡ Ok items.items }
+    requires short { All IsShortRecord items.items }
     ensures { IfOk result (λ made. (ps : List Piece) → AreFound found ps → AreFound made (ps ++ (batch.now, items.items) ∷ [])) }
 {
     let fits = do_fit(&found, batch, items.len());
@@ -118,6 +122,18 @@ fn with_batch(found: Found, batch: &Batch<'_>, items: Vec<MetaRecord>) -> Result
     let Found { mut rows, .. } = found;
     rows.push(row_of(batch, items))?;
     Ok(Found { rows, last, fits })
+}
+
+// Each record that was read of a batch's values has fewer than 2^32 bytes: it has at most as many as its value, which has fewer
+// than 2^31.
+fn are_short(piece: &[u8], batch: &Batch<'_>, items: &[MetaRecord])
+    requires batch { batch_of piece.now ≡ Ok batch.now }
+    requires values { read_values batch.now.values ≡ Ok items.now }
+    ensures { All IsShortRecord items.now }
+{
+    are_bytes(piece);
+    values_are_short();
+    records_are_shortest();
 }
 
 // Reads a batch after those that were read.
@@ -129,10 +145,13 @@ fn read_piece(alloc: Global, found: Found, piece: &[u8]) -> Result<Found, FrameF
         Err(fault) => return Err(FrameFault::Why(LogWhy::Batch(fault))),
     };
     match read_items(alloc, batch.values()) {
-        Ok(items) => match with_batch(found, &batch, items) {
-            Ok(made) => Ok(made),
-            Err(NoMemory) => Err(FrameFault::NoMemory),
-        },
+        Ok(items) => {
+            are_short(piece, &batch, &items);
+            match with_batch(found, &batch, items) {
+                Ok(made) => Ok(made),
+                Err(NoMemory) => Err(FrameFault::NoMemory),
+            }
+        }
         Err(fault) => Err(fault),
     }
 }

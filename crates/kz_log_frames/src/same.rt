@@ -1,26 +1,25 @@
 //! Whether the records of batches are others, byte for byte.
 ghost use Rattle.std.specs.Prelude.{◌≡◌, ◌++◌, false, List, map, bytes_eq, MatchOption, IfOk};
+ghost use Rattle.std.specs.List.{All};
 ghost use Rattle.kz_types.specs.declared.log.EpochRecord.{EpochRecord as EpochRecordValue};
 ghost use Rattle.kz_spec_values.specs.Records.{bytes_of_record};
 ghost use Rattle.kz_spec_snapshots.specs.Records.{in_epoch};
 ghost use Rattle.kz_spec_snapshots.specs.Batches.{records_of_batches};
 ghost use Rattle.kz_spec_files.specs.LogFile.{same_records};
+ghost use Rattle.kz_log_frames.specs.Pieces.{IsShortRecord, HaveShortRecords};
 
 use crate::payload::short_value;
 use kz_codec::value_size;
 use kz_types::{BatchRow, EpochRecord, MetaRecord, NoMemory};
 use std::alloc::Global;
 
-// Whether two records have the same bytes. `NoMemory` also where each has 2^32 bytes or more.
+// Whether two records have the same bytes.
 fn same_item(alloc: Global, one: &MetaRecord, other: &MetaRecord) -> Result<bool, NoMemory>
+    requires { IsShortRecord one.now }
     ensures { IfOk result (λ same. same ≡ bytes_eq (bytes_of_record one.now) (bytes_of_record other.now)) }
 {
-    let size = value_size(one);
-    if size != value_size(other) {
+    if value_size(one) != value_size(other) {
         return Ok(false);
-    }
-    if size > u32::MAX as u128 {
-        return Err(NoMemory);
     }
     let one_bytes = short_value(alloc, one)?;
     let other_bytes = short_value(alloc, other)?;
@@ -34,6 +33,7 @@ fn after_batch<'a>(
     items: &[MetaRecord],
     others: &'a [EpochRecord],
 ) -> Result<Option<&'a [EpochRecord]>, NoMemory>
+    requires { All IsShortRecord items.now }
     ensures { IfOk result (λ left. (more : List EpochRecordValue) → MatchOption left
         (same_records (map (in_epoch epoch) items.now ++ more) others.now ≡ false)
         (λ rest. same_records (map (in_epoch epoch) items.now ++ more) others.now ≡ same_records more rest.now)) }
@@ -60,6 +60,7 @@ pub(crate) fn same_rows(
     rows: &[BatchRow],
     others: &[EpochRecord],
 ) -> Result<bool, NoMemory>
+    requires { HaveShortRecords rows.now }
     ensures { IfOk result (λ same. same ≡ same_records (records_of_batches rows.now) others.now) }
 {
     let mut rest = others;

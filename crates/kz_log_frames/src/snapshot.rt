@@ -4,7 +4,7 @@ ghost use Rattle.std.specs.Int.{w64};
 ghost use Rattle.kz_spec_values.specs.Batches.{signed_at};
 ghost use Rattle.kz_spec_files.specs.LogFile.{after_snapshot};
 ghost use Rattle.kz_log_frames.specs.Taken.{Says};
-ghost use Rattle.kz_log_frames.specs.Pieces.{image_of_rows, is_allowed, are_own_records, cut_or_not};
+ghost use Rattle.kz_log_frames.specs.Pieces.{HaveShortRecords, image_of_rows, is_allowed, are_own_records, cut_or_not};
 
 use crate::fault::FrameFault;
 use crate::pieces::{Found, number_in, read_all, split_pieces};
@@ -75,7 +75,8 @@ fn has_records(
     rows: &[BatchRow],
     image: &Image,
 ) -> Result<bool, NoMemory>
-    requires { image.now ≡ image_of_rows rows.now }
+    requires image { image.now ≡ image_of_rows rows.now }
+    requires short { HaveShortRecords rows.now }
     ensures { IfOk result (λ same. same ≡ are_own_records epoch rows.now) }
 {
     let own = records(alloc, image, epoch)?;
@@ -91,6 +92,7 @@ fn cut_by(
     found: &Found,
     rest: usize,
 ) -> Result<(), FrameFault>
+    requires { HaveShortRecords found.now.rows.items }
     ensures { Says (λ done. log.new) result (cut_or_not log.old epoch base found.now.rows.items found.now.fits rest) }
 {
     let Ok(allowed) = is_allowed(alloc, log, epoch, base, found, rest) else {

@@ -10,7 +10,6 @@ ghost use Rattle.kz_log_frames.specs.Payloads.{Grows, IsHeadOf, IsSnapshotOf, wr
 
 use crate::payload::batch_bytes;
 use kz_image::Image;
-use kz_laws_held::held_is_writable;
 use kz_laws_snapshot_files::snapshot_is_read_back;
 use kz_log::LogRows;
 use kz_snapshot::to_rows;
@@ -90,7 +89,7 @@ pub fn cut_and_bytes(
     rows.is_log();
     let cut = rows.cut(alloc, offset)?;
     let image = cut.base_image();
-    held_is_writable(image);
+    image.is_held();
     let payload = payload_bytes(alloc, rows.epoch(), offset, image)?;
     snapshot_is_read_back();
     Ok((cut, payload))

@@ -7,7 +7,7 @@ mod names;
 pub use keys::key_of;
 pub use kinds::kind;
 pub use names::{restore, sanitise};
-pub use paths::path_of;
+pub use paths::{path_of, path_text};
 
 mod entities;
 mod keys;

@@ -127,9 +127,9 @@ fn acl_text(alloc: Global, pattern: i8, kind: i8, name: &[u8]) -> Result<Vec<u8>
     Ok(text)
 }
 
-/// The text of the path of an entity.
+/// The text of the path of an entity, which may break the rule of paths.
 #[tactic(auto, unfolding(kz_types::specs::Paths::path_of))]
-fn text_of(alloc: Global, key: &EntityKey) -> Result<Vec<u8>, NoMemory>
+pub fn path_text(alloc: Global, key: &EntityKey) -> Result<Vec<u8>, NoMemory>
     ensures { IfOk result (λ text. text.items ≡ path_of key.now) }
 {
     match key {
@@ -168,7 +168,7 @@ pub fn path_of(alloc: Global, key: &EntityKey) -> Result<ZPath, PathFault>
     requires { is_legal key.now ≡ true }
     ensures { MatchResult result (λ path. (path ≡ path_of key.now) × (is_path (path_of key.now) ≡ true)) (IsPathFault (path_of key.now)) }
 {
-    match text_of(alloc, key) {
+    match path_text(alloc, key) {
         Ok(text) => ZPath::new(alloc, &text),
         Err(NoMemory) => Err(PathFault::NoMemory),
     }

@@ -6,5 +6,4 @@ pub mod QuotaPaths
 pub mod Entities
 pub mod Going
 pub mod Gathered
-pub mod Ties
 pub mod TopicPaths

@@ -11,7 +11,6 @@ mod quota_body;
 mod quotas;
 mod resources;
 mod roots;
-mod sorted;
 mod topic_paths;
 mod topics;
 mod users;
@@ -19,5 +18,9 @@ mod znodes;
 
 pub use kz_types::Rendered;
 pub use limits::{Excess, FitFault, first_excess, fits, whole_path};
+pub use producer::block_text;
+pub use quota_body::quota_text;
 pub use roots::bare_roots;
-pub use znodes::{render, render_one};
+pub use topics::{state_body, topic_body};
+pub use users::quotas_at;
+pub use znodes::render;

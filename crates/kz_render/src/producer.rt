@@ -21,9 +21,9 @@ fn block_end(start: i64) -> i64
     start + 999
 }
 
-// The text of the block that begins at this id, which no broker holds.
+/// The text of the block that begins at this id, which no broker holds.
 #[tactic(auto, unfolding(kz_spec_values::specs::Bodies::text_of_body))]
-fn block_text(alloc: Global, start: i64) -> Result<String, NoMemory>
+pub fn block_text(alloc: Global, start: i64) -> Result<String, NoMemory>
     requires { int_le start max_next ≡ true }
     ensures { IfOk result (λ text. string_bytes text ≡ text_of_body (body.Producer (negsuc 0) start (start +ℤ pos 999))) }
 {

@@ -43,18 +43,18 @@ fn assignments_of(
     Ok(rows)
 }
 
-// The text of a topic's body.
+/// The text of a topic's body.
 #[tactic(auto, unfolding(kz_spec_values::specs::Bodies::text_of_body))]
-fn topic_body(alloc: Global, topic: &TopicEntry) -> Result<String, NoMemory>
+pub fn topic_body(alloc: Global, topic: &TopicEntry) -> Result<String, NoMemory>
     ensures { IfOk result (λ text. string_bytes text ≡ text_of_body (body.Topic topic.now.id (map assignment_of topic.now.partitions))) }
 {
     let rows = assignments_of(alloc, topic.partitions.as_slice())?;
     topic_text(alloc, &topic.id, &rows)
 }
 
-// The text of the body of a partition's state.
+/// The text of the body of a partition's state.
 #[tactic(auto, unfolding(kz_spec_values::specs::Bodies::text_of_body))]
-fn state_body(alloc: Global, row: &PartitionRow) -> Result<String, NoMemory>
+pub fn state_body(alloc: Global, row: &PartitionRow) -> Result<String, NoMemory>
     ensures { IfOk result (λ text. string_bytes text ≡ text_of_body (state_body row.now)) }
 {
     state_text(

@@ -32,8 +32,8 @@ fn user_path(alloc: Global, name: &Text) -> Result<ZPath, NoMemory>
     entity_path(alloc, &key)
 }
 
-// The quotas of the entity at a path, where it has some.
-fn quotas_at<'a>(entries: &'a Blocks<QuotaEntry>, path: &[u8]) -> &'a [QuotaRow]
+/// The quotas of the entity at a path, where it has some.
+pub fn quotas_at<'a>(entries: &'a Blocks<QuotaEntry>, path: &[u8]) -> &'a [QuotaRow]
     requires { All IsQuotaEntry entries.now }
     ensures quotas { result.now ≡ quotas_in (find_in bytes_cmp path_of_quotas path.now entries.entry.now) }
     ensures range { are_quotas result.now ≡ true }

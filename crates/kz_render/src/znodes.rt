@@ -1,10 +1,10 @@
 //! All znodes of the metadata.
-ghost use Rattle.std.specs.Prelude.{◌≡◌, ◌++◌, IfOk, OnOk, map, option_map};
+ghost use Rattle.std.specs.Prelude.{◌≡◌, ◌++◌, IfOk, OnOk, map};
 ghost use Rattle.std.specs.List.{flat_map};
 ghost use Rattle.kz_ordered.specs.Order.{bytes_cmp};
 ghost use Rattle.kz_ordered.specs.Ordered.{Rises};
 ghost use Rattle.kz_spec_stores.specs.Tree.{path_of_rendered};
-ghost use Rattle.kz_spec_znodes.specs.Rendering.{topic_znodes, config_znode, quota_znodes, entity_znodes, render, body_at_path};
+ghost use Rattle.kz_spec_znodes.specs.Rendering.{topic_znodes, config_znode, quota_znodes, entity_znodes, render};
 ghost use Rattle.kz_render.specs.Gathered.{PutAlike};
 
 use crate::acls::push_acls;
@@ -12,11 +12,10 @@ use crate::configs::push_configs;
 use crate::producer::push_producer;
 use crate::quotas::push_quotas;
 use crate::roots::bare_roots;
-use crate::sorted::put_all;
 use crate::topics::push_topics;
 use kz_image::Image;
-use kz_sorted::find;
-use kz_types::{NoMemory, Rendered, ZPath, copy_all};
+use kz_sorting::put_all;
+use kz_types::{NoMemory, Rendered};
 use std::alloc::Global;
 
 // Adds the znodes of topics, of brokers' configurations, of quotas and of users.
@@ -48,16 +47,4 @@ pub fn render(alloc: Global, image: &Image) -> Result<Vec<Rendered>, NoMemory>
     push_entities(alloc, &mut znodes, image)?;
     let znodes = put_all(alloc, znodes)?;
     Ok(znodes)
-}
-
-/// The data that a path is rendered with, where it is rendered. All znodes are rendered for it. `NoMemory` is the only
-/// error.
-pub fn render_one(alloc: Global, image: &Image, path: &ZPath) -> Result<Option<Vec<u8>>, NoMemory>
-    ensures { IfOk result (λ body. option_map (λ bytes. bytes.items) body ≡ body_at_path image.now path.now) }
-{
-    let znodes = render(alloc, image)?;
-    match find(&znodes, path.bytes()) {
-        Some(znode) => Ok(Some(copy_all(alloc, znode.body.as_slice())?)),
-        None => Ok(None),
-    }
 }

@@ -8,5 +8,5 @@ mod log_requests;
 mod tree_requests;
 
 pub use fault::StepFault;
-pub use log_requests::{append, read};
+pub use log_requests::{append, read, read_feed};
 pub use tree_requests::{broker_ids, multi, page, path_at, path_of_op, rows_at};

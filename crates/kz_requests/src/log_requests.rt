@@ -1,14 +1,15 @@
 //! Requests of the log.
 ghost use Rattle.std.specs.Prelude.{◌≡◌, ◌<◌, ◌≤ℤ◌, true, false, pos, IfOk, OnOk, OnErr, IsErrOf, if◌then◌else◌, length};
 ghost use Rattle.kz_spec_stores.specs.Requests.{Append, Done, Either, IsTaken, ChangesDisk, ReadsDisk};
-ghost use Rattle.kz_spec_stores.specs.Log.{View as ViewValue, IsViewOf, append, read_view};
+ghost use Rattle.kz_spec_stores.specs.Log.{View as ViewValue, IsViewOf, append, feed_from, read_view};
+ghost use Rattle.kz_log.specs.Requests.{IsFeed};
 ghost use Rattle.kz_spec_machine.specs.Driver.{is_limit, reaches};
 ghost use Rattle.kz_requests.specs.Fares.{Fares, IsAfterRequest, fault_of_log_read};
 ghost use Rattle.kz_requests.specs.Appends.{IsAppendAnswer, log_after};
 ghost use Rattle.kz_requests.specs.Disks.{answer_of_made, LogDisk};
 
 use crate::fault::StepFault;
-use kz_log::{LogWire, LogWireFault, MetaLog, View};
+use kz_log::{Feed, LogWire, LogWireFault, MetaLog, View};
 use kz_types::{LogFault, MetaRecord, NoMemory};
 
 // Why a read of the log has no answer.
@@ -19,6 +20,19 @@ fn read_fault(fault: LogWireFault) -> StepFault
         LogWireFault::Lost => StepFault::Lost,
         LogWireFault::Log(LogFault::NoMemory) => StepFault::NoMemory,
         LogWireFault::Log(other) => StepFault::Log(other),
+    }
+}
+
+/// What a log holds after a view of it. `Lost` by the plan of the connection; `Log`: the store failed; `NoMemory`.
+pub fn read_feed<L: MetaLog>(view: &View, log: &mut LogWire<L>) -> Result<Feed, StepFault>
+    ensures ok { IfOk result (IsFeed (feed_from (L.log log.old.inner) view.now.position)) }
+    ensures same { L.log log.new.inner ≡ L.log log.old.inner }
+    ensures fares { Fares true false result log.old log.new }
+    ensures disk { LogDisk ReadsDisk Done log.old.plan result (L.disk log.old.inner) (L.disk log.new.inner) }
+{
+    match log.read_from(view.position()) {
+        Ok(feed) => Ok(feed),
+        Err(fault) => Err(read_fault(fault)),
     }
 }
 
@@ -33,9 +47,9 @@ pub fn read<L: MetaLog>(view: &mut View, log: &mut LogWire<L>) -> Result<(), Ste
     ensures fares { Fares true false result log.old log.new }
     ensures disk { LogDisk ReadsDisk Done log.old.plan result (L.disk log.old.inner) (L.disk log.new.inner) }
 {
-    let feed = match log.read_from(view.position()) {
+    let feed = match read_feed(view, log) {
         Ok(feed) => feed,
-        Err(fault) => return Err(read_fault(fault)),
+        Err(fault) => return Err(fault),
     };
     match view.advance(feed) {
         Ok(()) => Ok(()),

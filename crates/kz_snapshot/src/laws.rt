@@ -5,12 +5,11 @@ ghost use Rattle.kz_spec_snapshots.specs.Records.{image_after};
 ghost use Rattle.kz_spec_snapshots.specs.Batches.{snapshot_batches, records_of_batches};
 
 use kz_image::Image;
-use kz_laws_held::held_is_writable;
 
 /// The batches of a snapshot make the metadata again: what `from_rows` makes of the rows that `to_rows` answers is the metadata
 /// that they are of.
 pub fn rows_return(image: &Image, _epoch: i32)
     ensures { image_after (records_of_batches (snapshot_batches _epoch image.now)) empty_image ≡ image.now }
 {
-    held_is_writable(image);
+    image.is_held();
 }

@@ -2,10 +2,9 @@
 ghost use Rattle.std.specs.Prelude.{◌≡◌, true, false, IfOk, OnOk, OnErr};
 ghost use Rattle.kz_types.specs.declared.driver.Stage.TheVariants as stage;
 ghost use Rattle.kz_spec_stores.specs.Requests.{Done, ReadsDisk};
-ghost use Rattle.kz_spec_znodes.specs.Difference.{diff};
 ghost use Rattle.kz_spec_stores.specs.Log.{Log, IsViewOf, read_view};
-ghost use Rattle.kz_spec_znodes.specs.Rendering.{render};
 ghost use Rattle.kz_spec_machine.specs.Driver.{at_stage, target_of, driver_at_log_end, is_recorded_at, after_rest};
+ghost use Rattle.kz_view_delta.specs.Reads.{WasRead};
 ghost use Rattle.kz_stages.specs.Drivers.{IsElected, IsKept};
 ghost use Rattle.kz_requests.specs.Fares.{Fares};
 ghost use Rattle.kz_requests.specs.Disks.{LogDisk};
@@ -14,41 +13,13 @@ ghost use Rattle.kz_stages.specs.Rows.{driver_of, stage_of};
 
 use crate::row::{DriverRow, Stage, resign};
 use crate::sync_kraft_to_zk::target_of;
-use kz_image::Image;
+use kz_image::Feed;
 use kz_log::{LogWire, MetaLog, View};
-use kz_render::render;
-use kz_requests::{StepFault, read};
+use kz_requests::StepFault;
 use kz_resync::Remaining;
-use kz_types::{DriverState, Duplicate, NoMemory, Op, POST_MIGRATION, Reply};
-use kz_writer::diff_renderings;
+use kz_types::{DriverState, NoMemory, Op, POST_MIGRATION, Reply};
+use kz_view_delta::{delta, read_to_end};
 use std::alloc::Global;
-
-// The view that has read to the log's end. The one before it stays.
-fn view_at_end<L: MetaLog>(
-    alloc: Global,
-    view: &View,
-    log: &mut LogWire<L>,
-) -> Result<View, StepFault>
-    requires { IsViewOf (L.log log.old.inner) view.now }
-    ensures ok { IfOk result (λ made. made ≡ read_view (L.log log.old.inner) view.now) }
-    ensures view { IfOk result (λ made. IsViewOf (L.log log.new.inner) made) }
-    ensures same { L.log log.new.inner ≡ L.log log.old.inner }
-    ensures fares { Fares true false result log.old log.new }
-    ensures disk { LogDisk ReadsDisk Done log.old.plan result (L.disk log.old.inner) (L.disk log.new.inner) }
-{
-    let mut made = view.copy(alloc)?;
-    read(&mut made, log)?;
-    Ok(made)
-}
-
-// The operations that make the znodes of some metadata those of other metadata.
-fn delta(alloc: Global, before: &Image, after: &Image) -> Result<Vec<Op>, NoMemory>
-    ensures { IfOk result (λ ops. ops.items ≡ diff (render before.now) (render after.now)) }
-{
-    let have = render(alloc, before)?;
-    let want = render(alloc, after)?;
-    diff_renderings(alloc, &have, &want)
-}
 
 // Whether this offset was recorded last.
 fn is_recorded_at(recorded: Option<i64>, offset: i64) -> bool
@@ -77,8 +48,10 @@ fn begin_delta(row: &mut DriverRow, view: View, ops: Vec<Op>)
 fn after_log_in_dual_write(
     alloc: Global,
     row: &mut DriverRow,
+    feed: &Feed,
     view: View,
 ) -> Result<Reply, NoMemory>
+    requires { WasRead row.old.view feed.now view }
     ensures ok { (l : Log) → view ≡ read_view l row.old.view → IfOk result (λ told. after_rest row.old.view.image (driver_at_log_end l (driver_of row.old)) ≡ (driver_of row.new, told)) }
     ensures view { OnOk result (row.new.view ≡ view) }
     ensures kept { IsKept row.old.epoch row.old.view (stage_of row.old.stage) → row.old.stage ≡ held.DualWrite → IsKept row.new.epoch row.new.view (stage_of row.new.stage) }
@@ -94,7 +67,7 @@ fn after_log_in_dual_write(
         row.view = view;
         return Ok(Reply::Idle);
     }
-    let ops = delta(alloc, row.view.image(), view.image())?;
+    let ops = delta(alloc, &row.view, feed, &view)?;
     begin_delta(row, view, ops);
     Ok(Reply::Looked)
 }
@@ -115,6 +88,6 @@ pub fn read_log_in_dual_write<L: MetaLog>(
     ensures disk { LogDisk ReadsDisk Done log.old.plan result (L.disk log.old.inner) (L.disk log.new.inner) }
     ensures id { row.new.id ≡ row.old.id }
 {
-    let view = view_at_end(alloc, &row.view, log)?;
-    Ok(after_log_in_dual_write(alloc, row, view)?)
+    let (view, feed) = read_to_end(alloc, &row.view, log)?;
+    Ok(after_log_in_dual_write(alloc, row, &feed, view)?)
 }

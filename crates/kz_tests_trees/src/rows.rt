@@ -134,3 +134,83 @@ fn znodes_are_read(rt: HostRuntime) {
     drop(area);
     drop(rows);
 }
+
+// How many znodes of the next test stand below `/brokers/topics`: those of three blocks or more.
+const TOPICS: i64 = 1024;
+
+// The path of a znode below `/brokers/topics`. Paths rise as their numbers do.
+fn topic_path(rt: &impl Abort, alloc: Global, number: i64) -> String {
+    made(rt, format!(in alloc; "/brokers/topics/{number:04}"))
+}
+
+// Puts the znode of a number, as it was written by a transaction.
+fn put_topic(rt: &impl Abort, alloc: Global, rows: &mut Rows, number: i64, zxid: i64) {
+    let path = topic_path(rt, alloc, number);
+    made(rt, rows.put(row_of(rt, alloc, path.as_str(), zxid)));
+}
+
+// The first migrated znode that was written after a transaction, by a look at each.
+fn first_by_scan(rows: &Rows, zxid: i64) -> Option<&Row> {
+    for row in rows.items() {
+        if is_migrated(row.path.bytes()) && (row.mzxid > zxid || row.pzxid > zxid) {
+            return Some(row);
+        }
+    }
+    None
+}
+
+// The first znode after a transaction is that of a scan.
+fn finds_first(rows: &Rows, zxid: i64) -> bool {
+    match first_by_scan(rows, zxid) {
+        Some(row) => is_at(rows.first_later(zxid), row.path.as_str()),
+        None => rows.first_later(zxid).is_none(),
+    }
+}
+
+// Puts the znodes below `/brokers/topics` one by one.
+fn put_topics(rt: &impl Abort, alloc: Global, rows: &mut Rows) {
+    for number in 0..TOPICS {
+        put_topic(rt, alloc, rows, number, number.wrapping_mul(5) % TOPICS);
+        assert!(rt; finds_first(rows, number));
+    }
+}
+
+// Takes them out from the last on.
+fn take_topics_out(rt: &impl Abort, alloc: Global, rows: &mut Rows) {
+    for number in (0..TOPICS).rev() {
+        let path = topic_path(rt, alloc, number);
+        made(rt, rows.take_out(path.as_bytes()));
+        assert!(rt; finds_first(rows, number));
+    }
+}
+
+// Blocks come and go, and the numbers of each are those of its znodes.
+#[test]
+fn the_first_later_znode_is_found(rt: HostRuntime) {
+    let alloc = rt.alloc();
+    let mut rows = Rows::new(alloc);
+    made(&rt, rows.put(row_of(&rt, alloc, "/brokers/topics", 1)));
+    put_topics(&rt, alloc, &mut rows);
+    assert!(rt; rows.count() == 1025 && rows.migrated_count() == 1025);
+    let copy = made(&rt, rows.copy(alloc));
+    take_topics_out(&rt, alloc, &mut rows);
+    assert!(rt; rows.count() == 1);
+    assert!(rt; rows.first_later(0).is_some() && rows.first_later(1).is_none());
+    assert!(rt; copy.count() == 1025 && finds_first(&copy, 1022));
+    drop(copy);
+    drop(rows);
+}
+
+// A znode that is put in the place of one that was written later.
+#[test]
+fn an_older_znode_takes_the_place_of_a_later(rt: HostRuntime) {
+    let alloc = rt.alloc();
+    let mut rows = Rows::new(alloc);
+    put_topic(&rt, alloc, &mut rows, 3, 2000);
+    put_topic(&rt, alloc, &mut rows, 4, 5);
+    assert!(rt; finds_first(&rows, 1500) && rows.first_later(1500).is_some());
+    put_topic(&rt, alloc, &mut rows, 3, 2);
+    assert!(rt; rows.first_later(1500).is_none());
+    assert!(rt; finds_first(&rows, 3) && rows.first_later(3).is_some());
+    drop(rows);
+}

@@ -24,12 +24,23 @@ use std::marker::Model;
 
 /// A tree of znodes: the last zxid, the live sessions, and the znodes but the root, by rising path. The root has no znode
 /// of its own here.
-#[derive(Drop)]
 pub struct Tree {
     alloc: Global,
     zxid: i64,
     sessions: Vec<i64>,
     rows: Rows,
+}
+
+// Written out, so that it is proved here once: a derived one is proved in each crate that holds a tree.
+impl Drop for Tree {
+    fn drop(self) {
+        let Tree {
+            alloc: _,
+            zxid: _,
+            sessions: _sessions,
+            rows: _rows,
+        } = self;
+    }
 }
 
 impl Model for Tree {

@@ -1,5 +1,7 @@
 pub mod ChildPaths
 pub mod Counts
 pub mod LastSlash
+pub mod LaterLemmas
 pub mod Looks
+pub mod Numbering
 pub mod Pages

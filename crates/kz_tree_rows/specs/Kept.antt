@@ -1,5 +1,5 @@
 -- What is true of the znodes of every tree.
-use Rattle.std.specs.Prelude.{◌≡◌, ℕ, List, length}
+use Rattle.std.specs.Prelude.{◌≡◌, ◌<◌, ◌^◌, ℕ, List, length}
 use Rattle.std.specs.List.{count_by}
 use Rattle.kz_types.specs.Paths.{is_migrated}
 use Rattle.kz_types.specs.declared.tree.Row.{Row}
@@ -11,8 +11,8 @@ use Rattle.kz_spec_stores.specs.Tree.{path_of_row}
 abbrev pub AreRows : List Row → Type 0
 AreRows rows = Rises bytes_cmp path_of_row rows
 
--- the znodes rise, and these are their number and the number of those in the migrated area
-pub record AreCounted (rows : List Row) (count migrated : ℕ) : Type 0 where
+-- the znodes rise, a `usize` can count them, and this is the number of those in the migrated area
+pub record AreCounted (rows : List Row) (migrated : ℕ) : Type 0 where
   pub rise : AreRows rows
-  pub all : count ≡ length rows
+  pub fits : length rows < 2 ^ 64
   pub inside : migrated ≡ count_by (λ (r : Row). is_migrated r.path) rows

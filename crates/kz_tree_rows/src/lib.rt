@@ -1,9 +1,13 @@
 //! The znodes of a tree by rising path, and what is read of them.
 #![tactic(auto)]
 
+mod changes;
 mod children;
+mod later;
 mod migrated;
 mod names;
+mod numbered;
+mod numbers;
 pub mod reads;
 mod rows;
 

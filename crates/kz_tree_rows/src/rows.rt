@@ -2,21 +2,21 @@
 ghost use Rattle.std.specs.Prelude.{◌≡◌, ◌≢◌, [], None, length, option_map, Some, IfOk, OnOk, OnErr, if◌then◌else◌};
 ghost use Rattle.std.specs.List.{filter, count_by};
 ghost use Rattle.kz_types.specs.Paths.{is_migrated};
-ghost use Rattle.kz_spec_stores.specs.Tree.{row_at, put_row, without_row, with_child_change, is_after, first_row, count_beside};
+ghost use Rattle.kz_spec_stores.specs.Tree.{row_at, put_row, without_row, with_child_change, is_after, is_later, first_row, count_beside};
 ghost use Rattle.kz_tree_rows.specs.Kept.{AreRows};
 
 use crate::migrated::is_migrated;
-use kz_blocks::{Blocks, Items};
+use crate::numbered::NumberedRows;
+use kz_blocks::Items;
 use kz_types::{Duplicate, NoMemory, Row, ZPath};
 use std::alloc::Global;
 use std::marker::Model;
 
-/// Znodes by rising path, no two with one path, and how many there are. A copy has the same blocks of znodes: it costs a
-/// pointer for each. Contracts see the list of the znodes.
+/// Znodes by rising path, no two with one path, and no more than a `usize` can count. A copy has the same blocks of znodes:
+/// it costs a pointer and some numbers for each. Contracts see the list of the znodes.
 #[derive(Drop)]
 pub struct Rows {
-    list: Blocks<Row>,
-    count: usize,
+    list: NumberedRows,
     migrated: usize,
 }
 
@@ -29,7 +29,7 @@ impl Model for Rows {
 
     ghost view = { λ r. r.list };
 
-    ghost invariant = { λ r. AreCounted r.list r.count r.migrated };
+    ghost invariant = { λ r. AreCounted r.list r.migrated };
 }
 
 // 1 for a path of the migrated area, and 0 for another.
@@ -54,8 +54,7 @@ impl Rows {
         ensures { result ≡ [] }
     {
         Rows {
-            list: Blocks::new(alloc),
-            count: 0,
+            list: NumberedRows::new(alloc),
             migrated: 0,
         }
     }
@@ -64,7 +63,7 @@ impl Rows {
     pub fn count(&self) -> usize
         ensures { result ≡ length self.now }
     {
-        self.count
+        self.list.count()
     }
 
     /// How many of them are in the migrated area.
@@ -81,7 +80,7 @@ impl Rows {
         if is_migrated(path) {
             self.migrated
         } else {
-            self.count - self.migrated
+            self.list.count() - self.migrated
         }
     }
 
@@ -106,8 +105,8 @@ impl Rows {
         ensures rise { AreRows self.now }
     {
         match after {
-            None => self.list.items_after(None),
-            Some(path) => self.list.items_after(Some(path.bytes())),
+            None => self.list.items(),
+            Some(path) => self.list.items_after(path.bytes()),
         }
     }
 
@@ -116,7 +115,7 @@ impl Rows {
         ensures items { result ≡ filter (is_after (Some bytes.now)) self.now }
         ensures rise { AreRows self.now }
     {
-        self.list.items_after(Some(bytes))
+        self.list.items_after(bytes)
     }
 
     /// The first znode after a path, or the first of all.
@@ -125,6 +124,14 @@ impl Rows {
     {
         let mut items = self.items_after(after);
         items.next()
+    }
+
+    /// The first migrated znode that was written after a transaction, or whose children were. It looks at few numbers and at
+    /// the znodes of one block.
+    pub fn first_later(&self, zxid: i64) -> Option<&Row>
+        ensures { option_map (λ row. row.now) result ≡ first_row (filter (is_later zxid) (filter (λ row. is_migrated row.path) self.now)) }
+    {
+        self.list.first_later(zxid)
     }
 
     // Puts a znode in the place of the one with its path.
@@ -142,12 +149,11 @@ impl Rows {
         ensures ok { OnOk result (self.new ≡ put_row row self.old) }
         ensures err { OnErr result (self.new ≡ self.old) }
     {
-        let Some(count) = self.count.checked_add(1) else {
+        if self.list.count() == usize::MAX {
             return Err(NoMemory);
-        };
+        }
         let migrated = self.migrated + migrated_part(row.path.bytes());
         self.list.put(row)?;
-        self.count = count;
         self.migrated = migrated;
         Ok(())
     }
@@ -181,8 +187,7 @@ impl Rows {
         ensures ok { OnOk result (self.new ≡ without_row path.now self.old) }
         ensures err { OnErr result (self.new ≡ self.old) }
     {
-        self.list.without(path)?;
-        self.count -= 1;
+        self.list.take_out(path)?;
         self.migrated -= migrated_part(path);
         Ok(())
     }
@@ -204,7 +209,6 @@ impl Duplicate for Rows {
     fn copy(&self, alloc: Global) -> Result<Self, NoMemory> {
         Ok(Rows {
             list: self.list.copy(alloc)?,
-            count: self.count,
             migrated: self.migrated,
         })
     }

@@ -38,12 +38,7 @@ pub fn change<T: ZTree, L: MetaLog>(
         Ok(()) => {}
         Err(fault) => return Err(fault),
     }
-    match records_refusal(
-        alloc,
-        parts.log.inner().epoch(),
-        parts.view.image(),
-        records,
-    ) {
+    match records_refusal(alloc, parts.log.inner().epoch(), &mut parts.view, records) {
         Ok(None) => append(parts, records, now),
         Ok(Some(refusal)) => Ok(refusal),
         Err(NoMemory) => Err(EventFault::NoMemory),

@@ -8,7 +8,8 @@ ghost use Rattle.kz_world_parts.specs.Disks.{disks_in, ElectsController, ResultD
 ghost use Rattle.kz_world_parts.specs.Stops.{EventLeaves};
 ghost use Rattle.kz_world_parts.specs.Worlds.{world_of, world_of_parts, records_on_election, IsDone, AreKept};
 
-use kz_log::{MetaLog, View};
+use kz_counted_view::CountedView;
+use kz_log::MetaLog;
 use kz_tree::ZTree;
 use kz_types::{Answer, MetaRecord, NO_MIGRATION, NoMemory, PRE_MIGRATION};
 use kz_world_parts::{EventFault, Parts, after_log_fault, elect_driver, read, running_refusal};
@@ -26,7 +27,7 @@ fn push_if(items: &mut Vec<MetaRecord>, wanted: bool, item: MetaRecord) -> Resul
 
 // What an election writes, by what is known of the log: a record of nothing; the end of a transaction that has begun; and
 // the first state of the migration, where it has none.
-fn election_records(alloc: Global, view: &View) -> Result<Vec<MetaRecord>, NoMemory>
+fn election_records(alloc: Global, view: &CountedView) -> Result<Vec<MetaRecord>, NoMemory>
     ensures { IfOk result (λ items. items.items ≡ records_on_election view.now.begun view.now.image.state) }
 {
     let mut items = Vec::new(alloc);

@@ -27,7 +27,8 @@ use crate::sessions::{expire, open};
 use crate::single_steps::step_of;
 use crate::snapshot::snapshot;
 use crate::turns::turn_of;
-use kz_log::{LogWire, MetaLog, View};
+use kz_counted_view::CountedView;
+use kz_log::{LogWire, MetaLog};
 use kz_session::ZSessions;
 use kz_tree::Wire;
 use kz_types::{Answer, Event, NoMemory, Recorded, Sequence};
@@ -137,7 +138,7 @@ impl<T: ZSessions, L: MetaLog> World<T, L> {
                 declared: Sequence::new(alloc),
                 tree: Wire::new(tree),
                 log: LogWire::new(log),
-                view: View::new(alloc),
+                view: CountedView::new(alloc),
                 drivers: Vec::new(alloc),
             },
         }

@@ -8,8 +8,9 @@ ghost use Rattle.kz_world_parts.specs.Faults.{answer_of_fault};
 ghost use Rattle.kz_world_parts.specs.Stops.{EventLeaves};
 ghost use Rattle.kz_world_parts.specs.Worlds.{world_of, world_of_parts, IsDone, AreKept};
 
+use kz_counted_view::CountedView;
 use kz_exit::rollback;
-use kz_log::{MetaLog, View};
+use kz_log::MetaLog;
 use kz_tree::ZTree;
 use kz_types::Answer;
 use kz_world_parts::{EventFault, Parts, after_exit, least_running};
@@ -31,6 +32,6 @@ pub fn roll_back<T: ZTree, L: MetaLog>(
     if let Some(id) = least_running(&parts.drivers) {
         return Ok(Answer::Running { id });
     }
-    parts.view = View::new(alloc);
+    parts.view = CountedView::new(alloc);
     after_exit(rollback(alloc, parts.tree.inner_mut(), parts.log.inner_mut()))
 }

@@ -1,6 +1,7 @@
 //! The parts of a world.
+use kz_counted_view::CountedView;
 use kz_driver::Driver;
-use kz_log::{LogWire, View};
+use kz_log::LogWire;
 use kz_tree::Wire;
 use kz_types::Sequence;
 
@@ -11,6 +12,6 @@ pub struct Parts<T, L> {
     pub declared: Sequence<i32>,
     pub tree: Wire<T>,
     pub log: LogWire<L>,
-    pub view: View,
+    pub view: CountedView,
     pub drivers: Vec<Driver>,
 }

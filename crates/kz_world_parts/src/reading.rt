@@ -7,7 +7,8 @@ ghost use Rattle.kz_world_parts.specs.Worlds.{world_of, world_of_parts, AreKept}
 
 use crate::faults::EventFault;
 use crate::parts::Parts;
-use kz_log::{MetaLog, read_to_end};
+use kz_counted_view::read_to_end;
+use kz_log::MetaLog;
 use kz_tree::ZTree;
 use kz_types::LogFault;
 

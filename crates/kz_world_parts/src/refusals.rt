@@ -9,13 +9,13 @@ ghost use Rattle.kz_world_parts.specs.Worlds.{world_of};
 
 use crate::drivers::{is_one_of, is_running, least_running, place_of};
 use crate::parts::Parts;
+use kz_counted_view::CountedView;
 use kz_image::{Image, valid};
 use kz_log::MetaLog;
-use kz_render::{FitFault, fits};
 use kz_tree::ZTree;
 use kz_types::{
-    Answer, Duplicate, ImageFault, ImageRule, Limit, MAX_CHANGE_RECORDS, MAX_CONTROLLERS,
-    MIGRATION, MetaRecord, NoMemory,
+    Answer, ImageFault, ImageRule, Limit, MAX_CHANGE_RECORDS, MAX_CONTROLLERS, MIGRATION,
+    MetaRecord, NoMemory,
 };
 use std::alloc::Global;
 
@@ -147,35 +147,33 @@ fn bad_record(
 
 // The metadata would pass a limit once these records are applied.
 fn excess_refusal(
-    alloc: Global,
     epoch: i32,
-    image: &Image,
+    view: &mut CountedView,
     records: &[MetaRecord],
 ) -> Result<Option<Answer>, NoMemory>
-    ensures refusal { IfOk result (λ refusal. refusal ≡ over_excess (excess (all_applied epoch records.now image.now))) }
+    ensures refusal { IfOk result (λ refusal. refusal ≡ over_excess (excess (all_applied epoch records.now view.old.image))) }
     ensures no_failure { IfOk result (λ refusal. IfSome refusal (λ answer. is_failure answer ≡ false)) }
+    ensures same { view.new ≡ view.old }
 {
-    let mut after = image.copy(alloc)?;
-    after.apply_all(epoch, records)?;
-    match fits(alloc, &after) {
-        Ok(()) => Ok(None),
-        Err(FitFault::Over { number, .. }) => Ok(Some(Answer::Over { number })),
-        Err(FitFault::NoMemory) => Err(NoMemory),
+    match view.limit_after(epoch, records)? {
+        Some(number) => Ok(Some(Answer::Over { number })),
+        None => Ok(None),
     }
 }
 
-/// The migration isn't committed in this metadata, the records are too many, one of them breaks a rule, or the metadata
+/// The migration isn't committed in the metadata of this view, the records are too many, one of them breaks a rule, or the metadata
 /// would pass a limit once they are applied in a log of this epoch.
 pub fn records_refusal(
     alloc: Global,
     epoch: i32,
-    image: &Image,
+    view: &mut CountedView,
     records: &[MetaRecord],
 ) -> Result<Option<Answer>, NoMemory>
-    ensures refusal { IfOk result (λ refusal. refusal ≡ records_refusal epoch image.now records.now) }
+    ensures refusal { IfOk result (λ refusal. refusal ≡ records_refusal epoch view.old.image records.now) }
     ensures no_failure { IfOk result (λ refusal. IfSome refusal (λ answer. is_failure answer ≡ false)) }
+    ensures same { view.new ≡ view.old }
 {
-    if image.state() < MIGRATION {
+    if view.image().state() < MIGRATION {
         return Ok(Some(Answer::NotMigrated));
     }
     if records.len() > MAX_CHANGE_RECORDS {
@@ -183,8 +181,8 @@ pub fn records_refusal(
             number: Limit::ChangeRecords.number(),
         }));
     }
-    match bad_record(alloc, image, records)? {
+    match bad_record(alloc, view.image(), records)? {
         Some(refusal) => Ok(Some(refusal)),
-        None => excess_refusal(alloc, epoch, image, records),
+        None => excess_refusal(epoch, view, records),
     }
 }

@@ -1,3 +1,4 @@
+use Rattle.std.proofs.Common.{refl}
 use Rattle.std.proofs.lemmas.Result.{on_ok_weaker}
 use Rattle.kz_ordered.proofs.Order.{bytes_order}
 use Rattle.kz_blocks.proofs.Changes.{at_either, read_rises, put_in_set, put_in_set_kept, same_kept}
@@ -16,3 +17,6 @@ returns-clause-kept g c =
     at_either c.put.result _ _ _ c.put.ensures.ok c.put.ensures.err
     (put_in_set_kept bytes_order key c.args.item c.args.blocks.now.items c.args.place c.index_mut.result.now c.put.new.self c.requires.blocks c.requires.within c.requires.block c.requires.room c.index_mut.ensures.value)
     (same_kept bytes_order key c.args.blocks.now.items c.args.place c.index_mut.result.now c.put.new.self c.requires.blocks c.requires.within c.index_mut.ensures.value)
+
+pub returns-clause-one : goal.returns-clause-one
+returns-clause-one g c = record { block = c.put.new.self; made = refl }

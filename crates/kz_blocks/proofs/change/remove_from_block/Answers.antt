@@ -1,3 +1,4 @@
+use Rattle.std.proofs.Common.{refl}
 use Rattle.std.proofs.lemmas.Result.{on_ok_weaker}
 use Rattle.kz_ordered.proofs.Order.{bytes_order}
 use Rattle.kz_blocks.proofs.Changes.{at_either, read_rises, without_in_set, without_in_set_kept, same_kept}
@@ -16,3 +17,6 @@ returns-clause-kept g c =
     at_either c.remove.result _ _ _ c.remove.ensures.ok c.remove.ensures.err
     (without_in_set_kept bytes_order key c.args.key.now c.args.blocks.now.items c.args.place c.index_mut.result.now c.remove.new.self c.requires.blocks c.requires.within c.requires.block c.requires.several c.index_mut.ensures.value)
     (same_kept bytes_order key c.args.blocks.now.items c.args.place c.index_mut.result.now c.remove.new.self c.requires.blocks c.requires.within c.index_mut.ensures.value)
+
+pub returns-clause-one : goal.returns-clause-one
+returns-clause-one g c = record { block = c.remove.new.self; made = refl }

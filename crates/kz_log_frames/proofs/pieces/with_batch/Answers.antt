@@ -12,9 +12,9 @@ returns c = λ ps had.
     let found = c.args.found in
     let b = c.args.batch.now in
     let items = c.args.items.items in
-    let count = as_many b.values items c.requires in
+    let count = as_many b.values items c.requires.values in
     let len = c.len.ensures in
     let counted : c.len.result ≡ length b.values = omega (arith, len, count, c.args.items.ok.0) in
     let last : SFits w128 c.last-last.result = search rules in
     found_more found _ ps b items (c.in_ok-push.ensures.items ∙ ap (λ r. found.rows.items ++ r ∷ []) c.row_of.ensures) (to_z-of_z w128 c.last-last.result last ∙ c.last-last.ensures)
-    (c.do_fit-fits.ensures ∙ ap (λ n. found.fits && (not b.control && nat_lt 0 n && int_eq b.first (found.last +ℤ pos 1) && int_eq b.time (pos 0))) counted) had
+    (c.do_fit-fits.ensures ∙ ap (λ n. found.fits && (not b.control && nat_lt 0 n && int_eq b.first (found.last +ℤ pos 1) && int_eq b.time (pos 0))) counted) c.requires.short had

@@ -1,4 +1,4 @@
-use Rattle.std.proofs.Common.{◌≡◌, ◌++◌, [], ◌∷◌, false, map, sym, ◌∙◌, subst, to_z, of_z, w32, rules}
+use Rattle.std.proofs.Common.{◌≡◌, ◌++◌, ◌∷◌, false, map, sym, ◌∙◌, subst, to_z, of_z, w32, rules}
 use Rattle.std.specs.Ordering.{int_eq}
 use Rattle.std.specs.Str.{bytes_eq}
 use Rattle.std.proofs.lemmas.Int.{to_z-of_z}

@@ -1,4 +1,4 @@
-use Rattle.std.proofs.Common.{◌≡◌, ◌+◌, drop, sym, ◌∙◌, w32, rules}
+use Rattle.std.proofs.Common.{◌+◌, drop, sym, ◌∙◌, w32, rules}
 use Rattle.std.proofs.lemmas.Int.{to_z-of_z}
 use mir.Val.{SFits}
 use Rattle.kz_spec_snapshots.specs.Batches.{records_of_batches}

@@ -1,4 +1,4 @@
-use Rattle.std.proofs.Common.{◌≡◌, ◌≤◌, length, map, take, drop, refl, sym, ap, ◌∙◌, w32, w64, rules, arith}
+use Rattle.std.proofs.Common.{◌≤◌, length, map, take, drop, refl, sym, ap, ◌∙◌, w32, w64, rules, arith}
 use Rattle.std.specs.Int.{from_be_bytes}
 use Rattle.std.proofs.lemmas.Int.{to_z-of_z}
 use mir.Val.{SFits}

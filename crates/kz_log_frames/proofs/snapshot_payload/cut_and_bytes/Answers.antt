@@ -12,4 +12,4 @@ returns-clause-payload c =
     let fits : FitsSigned w32 l.epoch = search rules in
     let epoch : to_z w32 (of_z w32 c.epoch.result) ≡ l.epoch = search rules in
     snapshot_made_by l c.in_ok-cut.cut c.args.offset _ _ c.base_image-image.result.now c.in_ok-payload.payload.items c.is_log.ensures c.requires fits epoch at cut (c.base_image-image.ensures ∙ ap (λ (m : Log). m.base_image) cut)
-    c.held_is_writable.ensures.order c.held_is_writable.ensures.writable c.in_ok-payload.ensures.payload c.in_ok-payload.ensures.records c.snapshot_is_read_back.ensures.batches
+    c.is_held.ensures.order c.is_held.ensures.writable c.in_ok-payload.ensures.payload c.in_ok-payload.ensures.records c.snapshot_is_read_back.ensures.batches

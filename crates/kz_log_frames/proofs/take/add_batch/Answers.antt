@@ -1,5 +1,4 @@
 use Rattle.std.proofs.Common.{sym, subst, arith, rules}
-use Rattle.kz_spec_files.specs.LogFile.{batch_row}
 use Rattle.kz_log.specs.Rows.{GoesOn}
 use Rattle.kz_log_frames.proofs.Taking.{as_many, goes_on}
 use Rattle.kz_log_frames.proofs.take.add_batch.Goals as goal

@@ -1,25 +1,16 @@
-use Rattle.std.proofs.Common.{rules, ◌≡◌, inr, sym, subst, w64, to_z, of_z}
-use Rattle.kz_spec_stores.specs.Log.{feed_from, IsViewOf}
-use Rattle.kz_log.specs.Requests.{IsFeed}
+use Rattle.std.proofs.Common.{inr, sym, subst}
+use Rattle.kz_spec_stores.specs.Log.{IsViewOf}
 use Rattle.kz_log.proofs.Views.{feed_fits, read_is_view}
 use Rattle.kz_requests.proofs.log_requests.read.Goals as goal
 
 pub advance-requires : goal.advance-requires
-advance-requires g c =
-    let l = g.L.MetaLog.log c.args.log.now.inner in
-    let at : to_z w64 (of_z w64 c.position.result) ≡ c.args.view.now.position = search rules in
-    feed_fits l c.args.view.now c.in-Ok.feed (g.met.L.MetaLog.is_log c.args.log.now.inner) c.requires (subst (λ p. IsFeed (feed_from l p) c.in-Ok.feed) at c.in-Ok.ensures.ok)
+advance-requires g c = feed_fits (g.L.MetaLog.log c.args.log.now.inner) c.args.view.now c.in-Ok.feed (g.met.L.MetaLog.is_log c.args.log.now.inner) c.requires c.in-Ok.ensures.ok
 
 pub returns-in-Ok-advance-clause-ok : goal.returns-in-Ok-advance-clause-ok
-returns-in-Ok-advance-clause-ok g c =
-    let l = g.L.MetaLog.log c.args.log.now.inner in
-    let at : to_z w64 (of_z w64 c.position.result) ≡ c.args.view.now.position = search rules in
-    c.in-Ok-advance.ensures.reads l (g.met.L.MetaLog.is_log c.args.log.now.inner) c.requires (subst (λ p. IsFeed (feed_from l p) c.in-Ok.feed) at c.in-Ok.ensures.ok)
+returns-in-Ok-advance-clause-ok g c = c.in-Ok-advance.ensures.reads (g.L.MetaLog.log c.args.log.now.inner) (g.met.L.MetaLog.is_log c.args.log.now.inner) c.requires c.in-Ok.ensures.ok
 
 pub returns-in-Ok-advance-clause-view : goal.returns-in-Ok-advance-clause-view
 returns-in-Ok-advance-clause-view g c =
     let l = g.L.MetaLog.log c.args.log.now.inner in
-    let at : to_z w64 (of_z w64 c.position.result) ≡ c.args.view.now.position = search rules in
-    let read = subst (λ p. IsFeed (feed_from l p) c.in-Ok.feed) at c.in-Ok.ensures.ok in
-    let is = c.in-Ok-advance.ensures.reads l (g.met.L.MetaLog.is_log c.args.log.now.inner) c.requires read in
-    subst (λ m. IsViewOf m c.advance.new.self) (sym c.in-Ok.ensures.same) (subst (IsViewOf l) (sym is) (inr (read_is_view l c.args.view.now (g.met.L.MetaLog.is_log c.args.log.now.inner))))
+    let is = c.in-Ok-advance.ensures.reads l (g.met.L.MetaLog.is_log c.args.log.now.inner) c.requires c.in-Ok.ensures.ok in
+    subst (λ m. IsViewOf m c.advance.new.self) (sym c.read_feed.ensures.same) (subst (IsViewOf l) (sym is) (inr (read_is_view l c.args.view.now (g.met.L.MetaLog.is_log c.args.log.now.inner))))

@@ -2,4 +2,4 @@ use Rattle.kz_laws_snapshot_records.proofs.Batches.{batches_return}
 use Rattle.kz_snapshot.proofs.laws.rows_return.Goals as goal
 
 pub returns : goal.returns
-returns c = batches_return c.args.image.now c.held_is_writable.ensures.order c.held_is_writable.ensures.writable c.args._epoch
+returns c = batches_return c.args.image.now c.is_held.ensures.order c.is_held.ensures.writable c.args._epoch

@@ -1,4 +1,4 @@
-use Rattle.std.proofs.Common.{◌≡◌, Bool, true, false, cond, List, sym, ap, ◌∙◌, rules}
+use Rattle.std.proofs.Common.{◌≡◌, Bool, true, false, cond, List, sym, ap, ◌∙◌, subst, rules}
 use Rattle.std.specs.Ordering.{int_eq}
 use Rattle.kz_types.specs.declared.codes.TheConstants.{POST_MIGRATION}
 use Rattle.kz_types.specs.declared.tree.Op.{Op}
@@ -11,7 +11,8 @@ use Rattle.kz_spec_stores.specs.Log.{Log, View, read_view}
 use Rattle.kz_spec_znodes.specs.Difference.{diff}
 use Rattle.kz_spec_znodes.specs.Rendering.{render}
 use Rattle.kz_spec_machine.specs.Driver.{Driver, at_stage, target_of, driver_at_log_end, is_recorded_at, after_rest, resigned_driver}
-use Rattle.kz_stages.specs.Rows.{driver_of}
+use Rattle.kz_stages.specs.Drivers.{HasEpoch}
+use Rattle.kz_stages.specs.Rows.{driver_of, stage_of}
 use Rattle.kz_stages.proofs.dual_write.after_log_in_dual_write.Goals as goal
 
 -- a driver that has read this much
@@ -48,3 +49,6 @@ returns-clause-ok c = λ l is.
     ∙ ap (λ (os : List Op). (at_stage (stage.WriteDelta (target_of (reading d v)) os) (reading d v), reply.Looked)) (sym ops)
     ∙ ap (λ w. (at_stage (stage.WriteDelta (target_of (reading d w)) c.in_ok-ops.ops.items) (reading d w), reply.Looked)) is
     ∙ ap (λ x. (x, reply.Looked)) (c.begin_delta.ensures.driver l is)
+
+pub returns-clause-kept : goal.returns-clause-kept
+returns-clause-kept c = λ kept at. c.begin_delta.ensures.kept (subst (λ s. HasEpoch c.args.row.now.epoch (stage_of s)) at kept.elected)

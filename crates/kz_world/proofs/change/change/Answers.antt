@@ -35,7 +35,7 @@ returns-in-Ok-None-clause-ok g c =
     let fits : SFits w32 c.epoch.result = search rules in
     let epoch_is = to_z-of_z w32 c.epoch.result fits ∙ c.epoch.ensures ∙ ap (λ x. (g.L.MetaLog.log x).epoch) c.inner.ensures ∙ ap (λ (m : Log). m.epoch) c.read.ensures.same in
     let leads = ap (leader_refusal w) (sym (to_z-of_z w32 id c.ranges.id)) ∙ sym c.leader_refusal.ensures.refusal ∙ c.in_default.is in
-    let taken = asked l records _ _ _ _ epoch_is (c.image.ensures ∙ c.in-Ok.ensures.image) c.in-Ok-None.ensures.refusal c.in-Ok-None.field-0-is in
+    let taken = asked l records _ _ _ _ epoch_is c.in-Ok.ensures.image c.in-Ok-None.ensures.refusal c.in-Ok-None.field-0-is in
     told_by c.append.result (next w (event.Change id records c.args.now)) (world_after_append (world_of g.T.ZTree.tree g.L.MetaLog.log c.read.new.parts) records now) (world_of g.T.ZTree.tree g.L.MetaLog.log c.append.new.parts)
     (ap (λ n. next w (event.Change id records n)) (sym (to_z-of_z w64 c.args.now c.ranges.now)) ∙ change_appends w id now records leads taken ∙ ap (λ (x : World). world_after_append x records now) (sym c.read.ensures.world)) c.append.ensures.ok
 
@@ -49,7 +49,7 @@ returns-in-Ok-Some-clause-ok g c =
     let fits : SFits w32 c.epoch.result = search rules in
     let epoch_is = to_z-of_z w32 c.epoch.result fits ∙ c.epoch.ensures ∙ ap (λ x. (g.L.MetaLog.log x).epoch) c.inner.ensures ∙ ap (λ (m : Log). m.epoch) c.read.ensures.same in
     let leads = ap (leader_refusal w) (sym (to_z-of_z w32 id c.ranges.id)) ∙ sym c.leader_refusal.ensures.refusal ∙ c.in_default.is in
-    let refused = asked l records _ _ _ _ epoch_is (c.image.ensures ∙ c.in-Ok.ensures.image) c.in-Ok-Some.ensures.refusal c.in-Ok-Some.field-0-is in (
+    let refused = asked l records _ _ _ _ epoch_is c.in-Ok.ensures.image c.in-Ok-Some.ensures.refusal c.in-Ok-Some.field-0-is in (
       change_refused w id c.args.now records refusal leads refused ∙ ap (λ (x : World). (x, refusal)) (sym c.read.ensures.world),
       subst (λ (o : Option Answer). IfSome o (λ a. is_failure a ≡ false)) c.in-Ok-Some.field-0-is c.in-Ok-Some.ensures.no_failure,
     )
@@ -87,7 +87,7 @@ returns-in-Ok-None-clause-stop g c =
     let fits : SFits w32 c.epoch.result = search rules in
     let epoch_is = to_z-of_z w32 c.epoch.result fits ∙ c.epoch.ensures ∙ ap (λ x. (g.L.MetaLog.log x).epoch) c.inner.ensures ∙ ap (λ (m : Log). m.epoch) c.read.ensures.same in
     let leads = ap (leader_refusal w) (sym (to_z-of_z w32 id c.ranges.id)) ∙ sym c.leader_refusal.ensures.refusal ∙ c.in_default.is in
-    let taken = asked w.shared.log records _ _ _ _ epoch_is (c.image.ensures ∙ c.in-Ok.ensures.image) c.in-Ok-None.ensures.refusal c.in-Ok-None.field-0-is in
+    let taken = asked w.shared.log records _ _ _ _ epoch_is c.in-Ok.ensures.image c.in-Ok-None.ensures.refusal c.in-Ok-None.field-0-is in
     let same = read_keeps (disks (world_of_parts p)) (disks (world_of_parts q)) c.in-Ok.ensures.disks.0.1 c.in-Ok.ensures.disks.1 in
     let pairs = ap (λ (x : World). append_pairs x records n) c.read.ensures.world ∙ ap (append_pairs w records) (to_z-of_z w64 c.args.now c.ranges.now) ∙ change_pairs w id c.args.now records leads taken in
     later_leaves w (world q) (append_pairs (world q) records n) (event_pairs w (event.Change id records c.args.now)) c.append.result (disks (world_of_parts p)) (disks (world_of_parts q)) (g.T.ZTree.left later.tree.inner) (g.L.MetaLog.left later.log.inner) c.read.ensures.world same pairs c.append.ensures.stop

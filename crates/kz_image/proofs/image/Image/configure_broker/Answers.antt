@@ -1,5 +1,5 @@
-use Rattle.kz_laws_images.proofs.Kept.{broker_configuration_kept}
+use Rattle.kz_laws_writable.proofs.HeldStays.{broker_configured_held}
 use Rattle.kz_image.proofs.image.Image.configure_broker.Goals as goal
 
 pub invariant_of-self-2 : goal.invariant_of-self-2
-invariant_of-self-2 c = rw c.in_ok-configure.ensures.ok (broker_configuration_kept _ c.self.invariant c.args.change.now c.requires.resource c.requires.member)
+invariant_of-self-2 c = rw c.in_ok-configure.ensures.ok (broker_configured_held _ c.self.invariant c.args.change.now c.held_config_is_writable.ensures c.requires.resource c.requires.member)

@@ -1,5 +1,5 @@
-use Rattle.kz_laws_images.proofs.Kept.{acl_removed_kept}
+use Rattle.kz_laws_writable.proofs.HeldStays.{acl_removed_held}
 use Rattle.kz_image.proofs.image.Image.remove_acl.Goals as goal
 
 pub invariant_of-self-2 : goal.invariant_of-self-2
-invariant_of-self-2 c = rw c.in_ok-without.ensures.ok (acl_removed_kept _ c.self.invariant _)
+invariant_of-self-2 c = rw c.in_ok-without.ensures.ok (acl_removed_held _ c.self.invariant _)

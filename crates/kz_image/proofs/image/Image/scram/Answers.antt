@@ -7,4 +7,4 @@ use Rattle.kz_image.proofs.image.Image.scram.Goals as goal
 
 pub scram_at-requires : goal.scram_at-requires
 scram_at-requires c =
-    rw c.as_slice.ensures (subst (HasIfFound IsUserFilled) (sym c.in-Some.ensures) (found_has IsUserFilled bytes_cmp name_of_user c.bytes.result.now c.self.inside.users c.self.invariant.users.filled)).1
+    rw c.as_slice.ensures (subst (HasIfFound IsUserFilled) (sym c.in-Some.ensures) (found_has IsUserFilled bytes_cmp name_of_user c.bytes.result.now c.self.inside.users c.self.invariant.order.users.filled)).1

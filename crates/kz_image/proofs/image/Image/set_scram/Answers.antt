@@ -1,7 +1,6 @@
-use Rattle.std.specs.Prelude.{pos}
 use Rattle.kz_types.specs.declared.record.MetaRecord.TheVariants as meta
-use Rattle.kz_laws_images.proofs.Kept.{kept}
+use Rattle.kz_laws_writable.proofs.HeldStays.{held_at_zero}
 use Rattle.kz_image.proofs.image.Image.set_scram.Goals as goal
 
 pub invariant_of-self-2 : goal.invariant_of-self-2
-invariant_of-self-2 c = rw c.in_ok-set_scram.ensures.ok (kept _ c.self.invariant (pos 0) (meta.UserScramCredential c.args.change.now) (rw (← c.self.view_is) at c.requires))
+invariant_of-self-2 c = rw c.in_ok-set_scram.ensures.ok (held_at_zero _ c.self.invariant (meta.UserScramCredential c.args.change.now) c.held_credential_is_writable.ensures (rw (← c.self.view_is) at c.requires))

@@ -5,4 +5,4 @@ use Rattle.kz_spec_stores.specs.Legal.{IsScramEntry}
 use Rattle.kz_image.proofs.image.Image.users.Goals as goal
 
 pub returns-clause-legal : goal.returns-clause-legal
-returns-clause-legal c = subst (λ (i : Image). All IsScramEntry i.users) c.self.view_is c.self.invariant.legal.users
+returns-clause-legal c = subst (λ (i : Image). All IsScramEntry i.users) c.self.view_is c.self.invariant.order.legal.users

@@ -4,17 +4,15 @@ use Rattle.kz_spec_stores.specs.Tree.{row_at}
 use Rattle.kz_tree_rows.proofs.Counts.{counted_less, counted_without}
 use Rattle.kz_tree_rows.proofs.rows.Rows.remove.Goals as goal
 
-pub overflow_sub-self-2 : goal.overflow_sub-self-2
-overflow_sub-self-2 c =
+pub overflow_sub-self : goal.overflow_sub-self
+overflow_sub-self c =
     let known : row_at c.args.path.now c.self.inside.list ≢ None = λ none. c.requires (sym (ap (row_at c.args.path.now) c.self.view_is) ∙ none) in
-    let less = counted_less c.self.inside.list c.self.inside.count c.self.inside.migrated c.args.path.now c.self.invariant known in
+    let less = counted_less c.self.inside.list c.self.inside.migrated c.args.path.now c.self.invariant known in
     omega (arith, c.migrated_part.ensures, less.inside)
 
 pub invariant_of-self-2 : goal.invariant_of-self-2
 invariant_of-self-2 c =
     let known : row_at c.args.path.now c.self.inside.list ≢ None = λ none. c.requires (sym (ap (row_at c.args.path.now) c.self.view_is) ∙ none) in
-    let less = counted_less c.self.inside.list c.self.inside.count c.self.inside.migrated c.args.path.now c.self.invariant known in
-    let all : c.self.inside.count - 1 + 1 ≡ c.self.inside.count = omega (arith, less.all) in
+    let less = counted_less c.self.inside.list c.self.inside.migrated c.args.path.now c.self.invariant known in
     let inside : c.self.inside.migrated - c.migrated_part.result + cond (is_migrated c.args.path.now) 1 0 ≡ c.self.inside.migrated = omega (arith, c.migrated_part.ensures, less.inside) in
-    rw c.in_ok-without.ensures.ok
-    (counted_without c.self.inside.list c.self.inside.count c.self.inside.migrated (c.self.inside.count - 1) (c.self.inside.migrated - c.migrated_part.result) c.args.path.now c.self.invariant less all inside)
+    rw c.in_ok-take_out.ensures.ok (counted_without c.self.inside.list c.self.inside.migrated (c.self.inside.migrated - c.migrated_part.result) c.args.path.now c.self.invariant less inside)

@@ -1,0 +1,25 @@
+use Rattle.std.proofs.Common.{◌≡◌, inr, sym, subst, w64, to_z, of_z, rules}
+use Rattle.kz_spec_stores.specs.Log.{feed_from, IsViewOf}
+use Rattle.kz_log.specs.Requests.{IsFeed}
+use Rattle.kz_log.proofs.Views.{read_is_view}
+use Rattle.kz_counted_view.proofs.reading.read_to_end.Goals as goal
+
+pub take-requires : goal.take-requires
+take-requires g c =
+    let l = g.L.MetaLog.log c.args.log.now in
+    let at : to_z w64 (of_z w64 c.position.result) ≡ c.args.view.now.position = search rules in
+    record { log = l; is_log = g.met.L.MetaLog.is_log c.args.log.now; view = c.requires; feed = subst (λ p. IsFeed (feed_from l p) c.in-Ok.feed) at c.in-Ok.ensures.ok }
+
+pub returns-in-Ok-take-clause-ok : goal.returns-in-Ok-take-clause-ok
+returns-in-Ok-take-clause-ok g c =
+    let l = g.L.MetaLog.log c.args.log.now in
+    let at : to_z w64 (of_z w64 c.position.result) ≡ c.args.view.now.position = search rules in
+    c.in-Ok-take.ensures.made l (g.met.L.MetaLog.is_log c.args.log.now) c.requires (subst (λ p. IsFeed (feed_from l p) c.in-Ok.feed) at c.in-Ok.ensures.ok)
+
+pub returns-in-Ok-take-clause-is_view : goal.returns-in-Ok-take-clause-is_view
+returns-in-Ok-take-clause-is_view g c =
+    let l = g.L.MetaLog.log c.args.log.now in
+    let log = g.met.L.MetaLog.is_log c.args.log.now in
+    let at : to_z w64 (of_z w64 c.position.result) ≡ c.args.view.now.position = search rules in
+    let is = c.in-Ok-take.ensures.made l log c.requires (subst (λ p. IsFeed (feed_from l p) c.in-Ok.feed) at c.in-Ok.ensures.ok) in
+    subst (λ m. IsViewOf m c.take.new.self) (sym c.in-Ok.ensures.same) (subst (IsViewOf l) (sym is) (inr (read_is_view l c.args.view.now log)))

@@ -1,7 +1,0 @@
-use Rattle.std.proofs.Common.{take}
-use Rattle.std.specs.List.{All}
-use Rattle.kz_laws_znodes.specs.RoundTrip.{IsScramWritable}
-use Rattle.kz_laws_held.proofs.held.scrams.Given as goal
-
-abbrev pub invariant-loop-item : goal.invariant-loop-item
-invariant-loop-item l = All IsScramWritable (take l.item-index l.items)

@@ -1,0 +1,9 @@
+use Rattle.std.proofs.Common.{sym, subst}
+use Rattle.kz_spec_stores.specs.Log.{View, IsViewOf}
+use Rattle.kz_log.proofs.Views.{new_is_view}
+use Rattle.kz_tests_delta.proofs.reads.started.Goals as goal
+
+pub returns : goal.returns
+returns g c =
+    let log = c.new.result.inner in
+    subst (λ (v : View). IsViewOf log.rows v) (sym c.new-2.ensures) (new_is_view log.rows log.is_log)

@@ -1,0 +1,22 @@
+use Rattle.std.proofs.Common.{◌≡◌, ◌<◌, List, None, length, sym, ◌∙◌, subst, rules}
+use Rattle.kz_types.specs.declared.tree.Row.{Row}
+use Rattle.kz_ordered.specs.Order.{bytes_cmp}
+use Rattle.kz_ordered.proofs.Order.{bytes_order}
+use Rattle.kz_ordered.proofs.Append.{without_absent}
+use Rattle.kz_blocks.specs.BlockLists.{items_of, IsBlockFor}
+use Rattle.kz_blocks.proofs.Changes.{read_rises, read_found}
+use Rattle.kz_spec_stores.specs.Tree.{path_of_row, row_at}
+use Rattle.kz_tree_rows.proofs.changes.take_out.Goals as goal
+
+pub find-requires : goal.find-requires
+find-requires c =
+    let within : c.block_for-place.result < length c.args.blocks.now.items = search rules in
+    read_rises bytes_order path_of_row c.args.blocks.now.items c.block_for-place.result c.index.result.now c.requires.blocks within c.index.ensures
+
+pub returns-then-is_none-clause-ok : goal.returns-then-is_none-clause-ok
+returns-then-is_none-clause-ok c =
+    let bs = c.args.blocks.now.items in
+    let within : c.block_for-place.result < length bs = search rules in
+    let for_path : IsBlockFor bytes_cmp path_of_row c.args.path.now bs c.block_for-place.result = subst (λ (xs : List (List Row)). IsBlockFor bytes_cmp path_of_row c.args.path.now xs c.block_for-place.result) c.deref.ensures.value c.block_for-place.ensures.block in
+    let absent : row_at c.args.path.now c.index.result.now ≡ None = search rules in
+    sym (without_absent bytes_order path_of_row c.args.path.now (items_of bs) (read_found bytes_order path_of_row c.args.path.now bs c.block_for-place.result c.index.result.now within c.index.ensures for_path ∙ absent))

@@ -1,0 +1,27 @@
+-- The numbers of znodes, and of the blocks that they are kept in.
+use Rattle.std.specs.Prelude.{◌≡◌, ℤ, List, map, Option, Some, None, if◌then◌else◌}
+use Rattle.std.specs.Int.{int_max}
+use Rattle.kz_types.specs.Paths.{is_migrated}
+use Rattle.kz_types.specs.declared.tree.Row.{Row}
+use Rattle.kz_ordered.specs.Order.{bytes_cmp}
+use Rattle.kz_blocks.specs.BlockLists.{AreBlocks}
+use Rattle.kz_segments.specs.declared.numbers.Numbers.{Numbers}
+use Rattle.kz_segments.specs.Joins.{all_joined}
+use Rattle.kz_spec_stores.specs.Tree.{path_of_row}
+
+-- the last transaction that wrote a migrated znode, or its children
+abbrev pub latest_of : Row → Option ℤ
+latest_of r = if is_migrated r.path then Some (int_max r.mzxid r.pzxid) else None
+
+-- the numbers of one znode
+abbrev pub numbers_of_row : Row → Numbers
+numbers_of_row r = record { rows = 1; latest = latest_of r }
+
+-- the numbers of these znodes together
+abbrev pub numbers_of : List Row → Numbers
+numbers_of rows = all_joined (map numbers_of_row rows)
+
+-- The znodes of the blocks stand by rising path, and these are the blocks' numbers.
+pub record AreNumbered (bs : List (List Row)) (ns : List Numbers) : Type 0 where
+  pub blocks : AreBlocks bytes_cmp path_of_row bs
+  pub numbers : ns ≡ map numbers_of bs

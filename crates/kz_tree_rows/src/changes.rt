@@ -1,0 +1,219 @@
+//! Changes of blocks of znodes and of their numbers.
+ghost use Rattle.std.specs.Prelude.{◌≡◌, ◌≢◌, ◌<◌, [], None, ◌+◌, length, slice_index_or, set, insert, remove, IfOk, OnOk, OnErr};
+ghost use Rattle.kz_ordered.specs.Order.{bytes_cmp};
+ghost use Rattle.kz_blocks.specs.BlockLists.{items_of, AreBlocks, IsBlockFor};
+ghost use Rattle.kz_blocks.specs.declared.limits.TheConstants.{MAX_BLOCK_ITEMS};
+ghost use Rattle.kz_spec_stores.specs.Tree.{path_of_row, row_at, put_row, without_row};
+ghost use Rattle.kz_tree_rows.specs.Numbered.{numbers_of, AreNumbered};
+
+use crate::numbers::{numbers_of, numbers_with, segments_of};
+use kz_blocks::{
+    Block, MAX_BLOCK_ITEMS, Shared, block_for, put_first, put_in_block, remove_from_block,
+};
+use kz_segments::{Numbers, Segments};
+use kz_sorted::Keyed;
+use kz_types::{NoMemory, Row};
+use std::alloc::Global;
+
+// The znodes that the first of two blocks has, where the two come in place of a full one.
+const HALF_BLOCK: usize = MAX_BLOCK_ITEMS / 2;
+
+// Puts the first znode of all.
+fn put_first_row(
+    alloc: Global,
+    blocks: &mut Vec<Block<Row>>,
+    segments: &mut Segments,
+    row: Shared<Row>,
+) -> Result<(), NoMemory>
+    requires numbered { AreNumbered blocks.old.items segments.old }
+    requires none { length blocks.old.items ≡ 0 }
+    ensures ok { OnOk result (items_of blocks.new.items ≡ put_row row (items_of blocks.old.items)) }
+    ensures err { OnErr result (items_of blocks.new.items ≡ items_of blocks.old.items) }
+    ensures kept { AreNumbered blocks.new.items segments.new }
+{
+    let mut changed = Vec::new(alloc);
+    put_first(alloc, &mut changed, row)?;
+    *segments = segments_of(alloc, &changed)?;
+    *blocks = changed;
+    Ok(())
+}
+
+// Takes the numbers of a block anew. It looks at each of its znodes.
+fn number_anew(blocks: &[Block<Row>], segments: &mut Segments, place: usize)
+    requires block { place < length blocks.now }
+    requires numbers { place < length segments.old }
+    ensures { segments.new ≡ set segments.old place (numbers_of (slice_index_or blocks.now place [])) }
+{
+    segments.set(place, numbers_of(blocks[place].items()));
+}
+
+// Puts a znode into a block that has room for one more.
+fn put_with_room(
+    alloc: Global,
+    blocks: &mut Vec<Block<Row>>,
+    segments: &mut Segments,
+    place: usize,
+    row: Shared<Row>,
+) -> Result<(), NoMemory>
+    requires numbered { AreNumbered blocks.old.items segments.old }
+    requires within { place < length blocks.old.items }
+    requires block { IsBlockFor bytes_cmp path_of_row row.path blocks.old.items place }
+    requires room { length (slice_index_or blocks.old.items place []) < MAX_BLOCK_ITEMS }
+    ensures ok { OnOk result (items_of blocks.new.items ≡ put_row row (items_of blocks.old.items)) }
+    ensures err { OnErr result (items_of blocks.new.items ≡ items_of blocks.old.items) }
+    ensures kept { AreNumbered blocks.new.items segments.new }
+{
+    let replaced = blocks[place].find(row.key());
+    let numbers = numbers_with(segments.at(place), replaced, row.get());
+    put_in_block(alloc, blocks, place, row)?;
+    match numbers {
+        Some(numbers) => segments.set(place, numbers),
+        None => number_anew(blocks, segments, place),
+    }
+    Ok(())
+}
+
+// The numbers with two in the place of one.
+fn with_two(
+    alloc: Global,
+    segments: &Segments,
+    place: usize,
+    first: Numbers,
+    second: Numbers,
+) -> Result<Segments, NoMemory>
+    requires { place < length segments.now }
+    ensures { IfOk result (λ made. made ≡ set (insert segments.now place first) (place + 1) second) }
+{
+    let mut numbers = segments.numbers(alloc)?;
+    numbers.insert(place, first)?;
+    numbers[place + 1] = second;
+    Segments::of(alloc, numbers)
+}
+
+// The numbers without those at a place.
+fn without_one(alloc: Global, segments: &Segments, place: usize) -> Result<Segments, NoMemory>
+    requires { place < length segments.now }
+    ensures { IfOk result (λ made. made ≡ remove segments.now place) }
+{
+    let mut numbers = segments.numbers(alloc)?;
+    let _gone = numbers.remove(place);
+    Segments::of(alloc, numbers)
+}
+
+// Puts a znode into a full block. Two blocks of half its size come in its place. The other blocks keep their numbers.
+fn put_in_two(
+    alloc: Global,
+    blocks: &mut Vec<Block<Row>>,
+    segments: &mut Segments,
+    place: usize,
+    row: Shared<Row>,
+) -> Result<(), NoMemory>
+    requires numbered { AreNumbered blocks.old.items segments.old }
+    requires within { place < length blocks.old.items }
+    requires block { IsBlockFor bytes_cmp path_of_row row.path blocks.old.items place }
+    requires full { length (slice_index_or blocks.old.items place []) ≡ MAX_BLOCK_ITEMS }
+    ensures ok { OnOk result (items_of blocks.new.items ≡ put_row row (items_of blocks.old.items)) }
+    ensures err { OnErr result (items_of blocks.new.items ≡ items_of blocks.old.items) }
+    ensures kept { AreNumbered blocks.new.items segments.new }
+{
+    let mut rows = blocks[place].items_with(alloc, row)?;
+    let rest = rows.split_off(HALF_BLOCK)?;
+    let changed = with_two(alloc, segments, place, numbers_of(&rows), numbers_of(&rest))?;
+    let second = Block::new(alloc, rest)?;
+    let first = Block::new(alloc, rows)?;
+    blocks.insert(place, first)?;
+    blocks[place + 1] = second;
+    *segments = changed;
+    Ok(())
+}
+
+/// Puts a znode at its place, instead of the one with its path. At `Err`, memory ran out, and the znodes are as they were.
+pub fn put(
+    alloc: Global,
+    blocks: &mut Vec<Block<Row>>,
+    segments: &mut Segments,
+    row: Shared<Row>,
+) -> Result<(), NoMemory>
+    requires { AreNumbered blocks.old.items segments.old }
+    ensures ok { OnOk result (items_of blocks.new.items ≡ put_row row (items_of blocks.old.items)) }
+    ensures err { OnErr result (items_of blocks.new.items ≡ items_of blocks.old.items) }
+    ensures kept { AreNumbered blocks.new.items segments.new }
+{
+    if blocks.is_empty() {
+        return put_first_row(alloc, blocks, segments, row);
+    }
+    let place = block_for(blocks, row.key());
+    if blocks[place].items().len() < MAX_BLOCK_ITEMS {
+        return put_with_room(alloc, blocks, segments, place, row);
+    }
+    put_in_two(alloc, blocks, segments, place, row)
+}
+
+// Takes the one znode of a block out, and the block with it.
+fn take_block(
+    alloc: Global,
+    blocks: &mut Vec<Block<Row>>,
+    segments: &mut Segments,
+    place: usize,
+    path: &[u8],
+) -> Result<(), NoMemory>
+    requires numbered { AreNumbered blocks.old.items segments.old }
+    requires within { place < length blocks.old.items }
+    requires block { IsBlockFor bytes_cmp path_of_row path.now blocks.old.items place }
+    requires found { row_at path.now (slice_index_or blocks.old.items place []) ≢ None }
+    requires one { length (slice_index_or blocks.old.items place []) ≡ 1 }
+    ensures ok { OnOk result (items_of blocks.new.items ≡ without_row path.now (items_of blocks.old.items)) }
+    ensures err { OnErr result (items_of blocks.new.items ≡ items_of blocks.old.items) }
+    ensures kept { AreNumbered blocks.new.items segments.new }
+{
+    let changed = without_one(alloc, segments, place)?;
+    let _taken = blocks.remove(place);
+    *segments = changed;
+    Ok(())
+}
+
+// Takes one of several znodes of a block out.
+fn take_from_block(
+    alloc: Global,
+    blocks: &mut Vec<Block<Row>>,
+    segments: &mut Segments,
+    place: usize,
+    path: &[u8],
+) -> Result<(), NoMemory>
+    requires numbered { AreNumbered blocks.old.items segments.old }
+    requires within { place < length blocks.old.items }
+    requires block { IsBlockFor bytes_cmp path_of_row path.now blocks.old.items place }
+    requires several { 1 < length (slice_index_or blocks.old.items place []) }
+    ensures ok { OnOk result (items_of blocks.new.items ≡ without_row path.now (items_of blocks.old.items)) }
+    ensures err { OnErr result (items_of blocks.new.items ≡ items_of blocks.old.items) }
+    ensures kept { AreNumbered blocks.new.items segments.new }
+{
+    remove_from_block(alloc, blocks, place, path)?;
+    number_anew(blocks, segments, place);
+    Ok(())
+}
+
+/// Takes the znode of a path out, where there is one. At `Err`, memory ran out, and the znodes are as they were.
+pub fn take_out(
+    alloc: Global,
+    blocks: &mut Vec<Block<Row>>,
+    segments: &mut Segments,
+    path: &[u8],
+) -> Result<(), NoMemory>
+    requires { AreNumbered blocks.old.items segments.old }
+    ensures ok { OnOk result (items_of blocks.new.items ≡ without_row path.now (items_of blocks.old.items)) }
+    ensures err { OnErr result (items_of blocks.new.items ≡ items_of blocks.old.items) }
+    ensures kept { AreNumbered blocks.new.items segments.new }
+{
+    if blocks.is_empty() {
+        return Ok(());
+    }
+    let place = block_for(blocks, path);
+    if blocks[place].find(path).is_none() {
+        return Ok(());
+    }
+    if blocks[place].items().len() == 1 {
+        return take_block(alloc, blocks, segments, place, path);
+    }
+    take_from_block(alloc, blocks, segments, place, path)
+}

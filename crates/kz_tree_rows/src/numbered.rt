@@ -1,0 +1,131 @@
+//! Znodes by rising path, with the numbers of each block.
+ghost use Rattle.std.specs.Prelude.{◌≡◌, [], Some, length, min, option_map, IfOk, OnOk, OnErr};
+ghost use Rattle.std.specs.List.{filter};
+ghost use Rattle.kz_types.specs.Paths.{is_migrated};
+ghost use Rattle.kz_spec_stores.specs.Tree.{row_at, put_row, without_row, is_after, is_later, first_row};
+ghost use Rattle.kz_tree_rows.specs.Kept.{AreRows};
+
+use crate::changes;
+use crate::later::first_later;
+use kz_blocks::{Block, Items, Shared, block_for, items_after};
+use kz_segments::Segments;
+use kz_types::{Duplicate, NoMemory, Row, copy_all};
+use std::alloc::Global;
+use std::marker::Model;
+
+/// Znodes by rising path, no two with one path. Contracts see the list of the znodes.
+///
+/// They are kept as shared blocks, and the numbers of the blocks as segments. A copy costs a pointer and the numbers of each
+/// block. A change of a block puts new numbers in place of its old ones. Where a block comes or goes, the segments are made
+/// anew from its numbers and those of the other blocks.
+#[derive(Drop)]
+pub struct NumberedRows {
+    alloc: Global,
+    blocks: Vec<Block<Row>>,
+    segments: Segments,
+}
+
+impl Model for NumberedRows {
+    ghost use Rattle.std.specs.Prelude.{List};
+    ghost use Rattle.kz_types.specs.declared.tree.Row.{Row};
+    ghost use Rattle.kz_blocks.specs.BlockLists.{items_of};
+    ghost use Rattle.kz_tree_rows.specs.Numbered.{AreNumbered};
+
+    ghost Value = { List Row };
+
+    ghost view = { λ n. items_of n.blocks.items };
+
+    ghost invariant = { λ n. AreNumbered n.blocks.items n.segments };
+}
+
+impl NumberedRows {
+    /// No znode. It takes no memory.
+    pub fn new(alloc: Global) -> NumberedRows
+        ensures { result ≡ [] }
+    {
+        NumberedRows {
+            alloc,
+            blocks: Vec::new(alloc),
+            segments: Segments::new(alloc),
+        }
+    }
+
+    /// How many znodes there are, or the greatest `usize` where there are more.
+    pub fn count(&self) -> usize
+        ensures { result ≡ min (length self.now) usize.MAX }
+    {
+        self.segments.whole().rows
+    }
+
+    /// The znode at a path. The block is found by halves, and the znode in it, too.
+    pub fn find(&self, path: &[u8]) -> Option<&Row>
+        ensures { option_map (λ row. row.now) result ≡ row_at path.now self.now }
+    {
+        if self.blocks.is_empty() {
+            return None;
+        }
+        let place = block_for(&self.blocks, path);
+        self.blocks[place].find(path)
+    }
+
+    /// All znodes, by rising path.
+    pub fn items(&self) -> Items<'_, Row>
+        ensures items { result ≡ self.now }
+        ensures rise { AreRows self.now }
+    {
+        Items::new(&[], &self.blocks)
+    }
+
+    /// The znodes after these bytes, by rising path. Their begin is found as a znode is by `find`.
+    pub fn items_after(&self, path: &[u8]) -> Items<'_, Row>
+        ensures items { result ≡ filter (is_after (Some path.now)) self.now }
+        ensures rise { AreRows self.now }
+    {
+        if self.blocks.is_empty() {
+            return self.items();
+        }
+        let place = block_for(&self.blocks, path);
+        let items = items_after(self.blocks[place].items(), path);
+        Items::new(items, &self.blocks[place + 1..])
+    }
+
+    /// The first migrated znode that was written after a transaction, or whose children were. Its block is found by numbers
+    /// of few blocks, and then each znode of that block may be looked at.
+    pub fn first_later(&self, zxid: i64) -> Option<&Row>
+        ensures { option_map (λ row. row.now) result ≡ first_row (filter (is_later zxid) (filter (λ row. is_migrated row.path) self.now)) }
+    {
+        let Some(place) = self.segments.first_later(zxid) else {
+            return None;
+        };
+        first_later(self.blocks[place].items(), zxid)
+    }
+
+    /// Puts a znode at its place, instead of the one with its path. At `Err`, memory ran out, and the znodes are as they
+    /// were.
+    pub fn put(&mut self, row: Row) -> Result<(), NoMemory>
+        ensures ok { OnOk result (self.new ≡ put_row row self.old) }
+        ensures err { OnErr result (self.new ≡ self.old) }
+    {
+        let row = Shared::new(self.alloc, row)?;
+        changes::put(self.alloc, &mut self.blocks, &mut self.segments, row)
+    }
+
+    /// Takes the znode of a path out, where there is one. At `Err`, memory ran out, and the znodes are as they were.
+    pub fn take_out(&mut self, path: &[u8]) -> Result<(), NoMemory>
+        ensures ok { OnOk result (self.new ≡ without_row path.now self.old) }
+        ensures err { OnErr result (self.new ≡ self.old) }
+    {
+        changes::take_out(self.alloc, &mut self.blocks, &mut self.segments, path)
+    }
+}
+
+impl Duplicate for NumberedRows {
+    // The same znodes in the same blocks.
+    fn copy(&self, alloc: Global) -> Result<Self, NoMemory> {
+        Ok(NumberedRows {
+            alloc,
+            blocks: copy_all(alloc, &self.blocks)?,
+            segments: self.segments.copy(alloc)?,
+        })
+    }
+}
