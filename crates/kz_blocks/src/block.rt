@@ -4,9 +4,8 @@ ghost use Rattle.kz_ordered.specs.Order.{bytes_cmp};
 ghost use Rattle.kz_ordered.specs.Ordered.{put as put_in, without as without_in, find as find_in, Rises};
 ghost use Rattle.kz_blocks.specs.BlockLists.{first_key, items_of};
 
-use crate::shared::Shared;
 use kz_sorted::{Keyed, find, put, without};
-use kz_types::{Duplicate, NoMemory, copy_all};
+use kz_types::{Duplicate, NoMemory, Shared, copy_all};
 use std::alloc::Global;
 use std::marker::Model;
 use std::rc::Rc;

@@ -8,9 +8,8 @@ use crate::block::{Block, count_of_items};
 use crate::change::{put_item, remove_item};
 use crate::items::{Items, items_after};
 use crate::search::block_for;
-use crate::shared::Shared;
 use kz_sorted::Keyed;
-use kz_types::{Duplicate, NoMemory, copy_all};
+use kz_types::{Duplicate, NoMemory, Shared, copy_all};
 use std::alloc::Global;
 use std::marker::Model;
 

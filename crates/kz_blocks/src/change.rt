@@ -7,9 +7,8 @@ ghost use Rattle.kz_blocks.specs.BlockLists.{items_of, AreBlocks, IsBlockFor, Is
 use crate::block::Block;
 use crate::limits::{HALF_BLOCK_ITEMS, MAX_BLOCK_ITEMS};
 use crate::search::block_for;
-use crate::shared::Shared;
 use kz_sorted::Keyed;
-use kz_types::NoMemory;
+use kz_types::{NoMemory, Shared};
 use std::alloc::Global;
 
 /// Puts the first item of all. At `Err`, memory ran out, and the list is as it was.
@@ -48,8 +47,8 @@ pub fn put_in_block<T: Keyed + Drop>(
     blocks[place].put(alloc, item)
 }
 
-/// Puts an item into a full block. Two blocks of half its size come in its place, so that at `Err` nothing has to be undone.
-pub fn put_in_full_block<T: Keyed + Drop>(
+// Puts an item into a full block. Two blocks of half its size come in its place, so that at `Err` nothing has to be undone.
+fn put_in_full_block<T: Keyed + Drop>(
     alloc: Global,
     blocks: &mut Vec<Block<T>>,
     place: usize,
@@ -93,8 +92,8 @@ pub fn put_item<T: Keyed + Drop>(
     put_in_full_block(alloc, blocks, place, item)
 }
 
-/// Takes the one item of a block out, and the block with it.
-pub fn remove_block<T: Keyed + Drop>(blocks: &mut Vec<Block<T>>, place: usize, key: &[u8])
+// Takes the one item of a block out, and the block with it.
+fn remove_block<T: Keyed + Drop>(blocks: &mut Vec<Block<T>>, place: usize, key: &[u8])
     requires blocks { AreBlocks bytes_cmp T.key blocks.old.items }
     requires within { place < length blocks.old.items }
     requires block { IsBlockFor bytes_cmp T.key key.now blocks.old.items place }

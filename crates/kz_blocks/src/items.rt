@@ -7,8 +7,8 @@ ghost use Rattle.kz_blocks.specs.After.{items_after};
 ghost use Rattle.kz_blocks.specs.BlockLists.{items_of};
 
 use crate::block::Block;
-use crate::shared::Shared;
 use kz_sorted::{Keyed, spot};
+use kz_types::Shared;
 use std::marker::Model;
 
 /// The items of a list that are still to come, in their order, each as a reference. Contracts see the list of them. It takes

@@ -8,12 +8,11 @@ mod change;
 mod items;
 mod limits;
 mod search;
-mod shared;
 
 pub use block::Block;
 pub use blocks::Blocks;
-pub use change::{put_first, put_in_block, put_in_full_block, remove_block, remove_from_block};
+pub use change::{put_first, put_in_block, remove_from_block};
 pub use items::{Items, items_after};
-pub use limits::MAX_BLOCK_ITEMS;
+pub use kz_types::Shared;
+pub use limits::{HALF_BLOCK_ITEMS, MAX_BLOCK_ITEMS};
 pub use search::block_for;
-pub use shared::Shared;

@@ -5,7 +5,7 @@ ghost use Rattle.kz_spec_stores.specs.Metadata.{topic_named};
 ghost use Rattle.kz_spec_delta.specs.Touched.{partition_keys, keys_of_topic, keys_of_partition};
 
 use kz_image::Image;
-use kz_types::{Duplicate, EntityKey, Id, NoMemory, PartitionEntry, Text, TopicEntry};
+use kz_types::{Duplicate, EntityKey, Id, NoMemory, PartitionEntry, Shared, Text, TopicEntry};
 use std::alloc::Global;
 
 // The topic of a name.
@@ -36,12 +36,12 @@ pub(crate) fn push_partitions(
     alloc: Global,
     keys: &mut Vec<EntityKey>,
     name: &Text,
-    partitions: &[PartitionEntry],
+    partitions: &[Shared<PartitionEntry>],
 ) -> Result<(), NoMemory>
     ensures { OnOk result (keys.new.items ≡ keys.old.items ++ map (λ p. key.Partition name.now p.number) partitions.now) }
 {
     for partition in partitions {
-        push_partition(alloc, keys, name, partition.number)?;
+        push_partition(alloc, keys, name, partition.get().number)?;
     }
     Ok(())
 }

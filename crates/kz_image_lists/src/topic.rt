@@ -12,43 +12,51 @@ use crate::configurations::change_pairs;
 use kz_image_rules::changed_row;
 use kz_types::{
     ConfigRecord, Duplicate, NoMemory, PartitionChangeRecord, PartitionEntry, PartitionRow,
-    Sequence, TopicEntry,
+    Sequence, Shared, TopicEntry,
 };
 use std::alloc::Global;
 
 // ---- look-ups
 
 // Where the partition of this number stands, or would stand.
-fn partition_place(partitions: &[PartitionEntry], number: i32) -> Result<usize, usize>
+fn partition_place(partitions: &[Shared<PartitionEntry>], number: i32) -> Result<usize, usize>
     requires { Rises int_cmp number_of_partition partitions.now }
     ensures { IsSpot int_cmp number_of_partition number partitions.now result }
 {
-    partitions.binary_search_by_key(&number, |partition: &PartitionEntry| partition.number)
+    partitions.binary_search_by_key(
+        &number,
+        |partition: &Shared<PartitionEntry>| partition.get().number,
+    )
 }
 
 /// The partition of a number.
-pub fn partition_at<'a>(partitions: &'a [PartitionEntry], number: i32) -> Option<&'a PartitionRow>
+pub fn partition_at<'a>(
+    partitions: &'a [Shared<PartitionEntry>],
+    number: i32,
+) -> Option<&'a PartitionRow>
     requires { Rises int_cmp number_of_partition partitions.now }
     ensures { option_map (λ row. row.now) result ≡ partition_at number partitions.entry.now }
 {
     match partition_place(partitions, number) {
-        Ok(place) => Some(&partitions[place].row),
+        Ok(place) => Some(&partitions[place].get().row),
         Err(_) => None,
     }
 }
 
 // ---- partitions
 
-// Puts a partition in the place of the one of its number.
+// Puts a partition of a number, instead of the one that has it. At `Err`, memory ran out, and the partitions are as they were.
 fn place_partition(
-    partitions: &mut Vec<PartitionEntry>,
-    partition: PartitionEntry,
+    partitions: &mut Vec<Shared<PartitionEntry>>,
+    number: i32,
+    partition: Shared<PartitionEntry>,
 ) -> Result<(), NoMemory>
-    requires { Rises int_cmp number_of_partition partitions.old.items }
+    requires rises { Rises int_cmp number_of_partition partitions.old.items }
+    requires number { partition.number ≡ number }
     ensures ok { OnOk result (partitions.new.items ≡ put_in int_cmp number_of_partition partition partitions.old.items) }
     ensures err { OnErr result (partitions.new.items ≡ partitions.old.items) }
 {
-    match partition_place(partitions, partition.number) {
+    match partition_place(partitions, number) {
         Ok(place) => {
             partitions[place] = partition;
             Ok(())
@@ -71,7 +79,8 @@ pub fn with_partition(
     ensures { IfOk result (λ made. made ≡ put_partition number row topic.now) }
 {
     let mut partitions = topic.partitions.copy(alloc)?.into_vec();
-    place_partition(&mut partitions, PartitionEntry { number, row })?;
+    let partition = Shared::new(alloc, PartitionEntry { number, row })?;
+    place_partition(&mut partitions, number, partition)?;
     Ok(TopicEntry {
         name: topic.name.copy(alloc)?,
         id: topic.id,

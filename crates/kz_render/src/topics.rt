@@ -12,7 +12,7 @@ use crate::topic_paths::{number_path, partitions_path, state_path, topic_config_
 use kz_blocks::Blocks;
 use kz_json::{PartitionState, config_text, state_text, topic_text};
 use kz_types::{
-    AssignmentRow, Duplicate, NoMemory, Pair, PartitionEntry, PartitionRow, Rendered, Text,
+    AssignmentRow, Duplicate, NoMemory, Pair, PartitionEntry, PartitionRow, Rendered, Shared, Text,
     TopicEntry, ZPath,
 };
 use std::alloc::Global;
@@ -32,13 +32,13 @@ fn assignment_of(alloc: Global, partition: &PartitionEntry) -> Result<Assignment
 // What a topic's body says of its partitions.
 fn assignments_of(
     alloc: Global,
-    partitions: &[PartitionEntry],
+    partitions: &[Shared<PartitionEntry>],
 ) -> Result<Vec<AssignmentRow>, NoMemory>
     ensures { IfOk result (λ rows. rows.items ≡ map assignment_of partitions.now) }
 {
     let mut rows = Vec::new(alloc);
     for partition in partitions {
-        rows.push(assignment_of(alloc, partition)?)?;
+        rows.push(assignment_of(alloc, partition.get())?)?;
     }
     Ok(rows)
 }
@@ -111,7 +111,7 @@ fn push_partitions(
     znodes: &mut Vec<Rendered>,
     name: &Text,
     path: &ZPath,
-    partitions: &[PartitionEntry],
+    partitions: &[Shared<PartitionEntry>],
 ) -> Result<(), NoMemory>
     requires named { is_topic_name name.now ≡ true }
     requires legal { All IsPartition partitions.now }
@@ -119,7 +119,7 @@ fn push_partitions(
     ensures { OnOk result (znodes.new.items ≡ znodes.old.items ++ flat_map (partition_znodes name.now) partitions.now) }
 {
     for partition in partitions {
-        push_partition(alloc, znodes, name, path, partition)?;
+        push_partition(alloc, znodes, name, path, partition.get())?;
     }
     Ok(())
 }

@@ -13,8 +13,8 @@ use kz_path::key_of;
 use kz_types::{
     AccessControlEntryRecord, AclEntry, Configuration, Duplicate, EntityKey, EpochRecord, Id,
     MetaRecord, NO_MIGRATION, NoMemory, Pair, PartitionEntry, PartitionRecord, ProducerIdsRecord,
-    QuotaEntry, QuotaRow, RegisterBrokerRecord, ScramEntry, ScramPair, Sequence, Text, TopicEntry,
-    TopicRecord,
+    QuotaEntry, QuotaRow, RegisterBrokerRecord, ScramEntry, ScramPair, Sequence, Shared, Text,
+    TopicEntry, TopicRecord,
 };
 use std::alloc::Global;
 
@@ -55,12 +55,12 @@ fn push_partitions(
     alloc: Global,
     records: &mut Vec<EpochRecord>,
     id: Id,
-    partitions: &[PartitionEntry],
+    partitions: &[Shared<PartitionEntry>],
 ) -> Result<(), NoMemory>
     ensures { OnOk result (records.new.items ≡ records.old.items ++ map (partition_of_topic id) partitions.now) }
 {
     for partition in partitions {
-        records.push(partition_record(alloc, id, partition)?)?;
+        records.push(partition_record(alloc, id, partition.get())?)?;
     }
     Ok(())
 }

@@ -2,7 +2,8 @@
 ghost use Rattle.std.specs.Prelude.{◌≡◌, List, ℕ};
 
 use kz_types::{
-    AclEntry, Configuration, Pair, QuotaEntry, QuotaRow, Rendered, Row, ScramEntry, TopicEntry,
+    AclEntry, Configuration, Pair, QuotaEntry, QuotaRow, Rendered, Row, ScramEntry, Shared,
+    TopicEntry,
 };
 
 /// What has a key of bytes, by which lists of it are ordered.
@@ -84,5 +85,13 @@ impl Keyed for AclEntry {
 
     fn key(&self) -> &[u8] {
         &self.id.bytes
+    }
+}
+
+impl<T: Keyed> Keyed for Shared<T> {
+    ghost key = { λ s. T.key s };
+
+    fn key(&self) -> &[u8] {
+        self.get().key()
     }
 }

@@ -1,5 +1,5 @@
 //! Lists in the order of their keys.
-ghost use Rattle.std.specs.Prelude.{◌≡◌, ◌≤◌, ◌<◌, length, option_map, OnOk, OnErr};
+ghost use Rattle.std.specs.Prelude.{◌≡◌, ◌≤◌, ◌<◌, true, Err, length, option_map, OnOk, OnErr};
 ghost use Rattle.kz_ordered.specs.Order.{bytes_cmp};
 ghost use Rattle.kz_ordered.specs.Ordered.{find as find_in, put as put_in, without as without_in, Rises};
 ghost use Rattle.kz_ordered.specs.Spot.{IsSpot};
@@ -8,8 +8,8 @@ use crate::Keyed;
 use kz_types::NoMemory;
 use std::cmp::Ordering;
 
-/// The place of the item with this key, or, where there is none, that of the first item with a greater key.
-pub fn spot<T: Keyed>(items: &[T], key: &[u8]) -> Result<usize, usize>
+// The place of the item with this key, or, where there is none, that of the first item with a greater key, found by halves.
+fn spot_by_halves<T: Keyed>(items: &[T], key: &[u8]) -> Result<usize, usize>
     requires { Rises bytes_cmp T.key items.now }
     ensures { IsSpot bytes_cmp T.key key.now items.now result }
 {
@@ -24,6 +24,34 @@ pub fn spot<T: Keyed>(items: &[T], key: &[u8]) -> Result<usize, usize>
         }
     }
     Err(low)
+}
+
+// Whether there are items, and the key of the last is below this one.
+fn is_after_last<T: Keyed>(items: &[T], key: &[u8]) -> bool
+    requires { Rises bytes_cmp T.key items.now }
+    ensures { result ≡ true → IsSpot bytes_cmp T.key key.now items.now (Err (length items.now)) }
+{
+    let count = items.len();
+    if count == 0 {
+        return false;
+    }
+    match items[count - 1].key().cmp(key) {
+        Ordering::Less => true,
+        Ordering::Equal => false,
+        Ordering::Greater => false,
+    }
+}
+
+/// The place of the item with this key, or, where there is none, that of the first item with a greater key. A key after that of
+/// the last item costs one comparison, so that a list that is made in its order isn't searched.
+pub fn spot<T: Keyed>(items: &[T], key: &[u8]) -> Result<usize, usize>
+    requires { Rises bytes_cmp T.key items.now }
+    ensures { IsSpot bytes_cmp T.key key.now items.now result }
+{
+    if is_after_last(items, key) {
+        return Err(items.len());
+    }
+    spot_by_halves(items, key)
 }
 
 /// The item with this key, if there is one.

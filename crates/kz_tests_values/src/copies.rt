@@ -5,7 +5,7 @@ use kz_types::{
     ConfigRecord, Configuration, Duplicate, Endpoint, Feature, Id, MetaRecord, NoMemory, Op, Pair,
     PartitionChangeRecord, PartitionEntry, PartitionRecord, PartitionRow, ProducerIdsRecord,
     QuotaEntities, QuotaEntity, QuotaEntry, QuotaRow, QuotaValue, RegisterBrokerRecord, Rendered,
-    Row, ScramEntry, ScramPair, ScramRow, Sequence, TopicEntry, TopicRecord,
+    Row, ScramEntry, ScramPair, ScramRow, Sequence, Shared, TopicEntry, TopicRecord,
     UserScramCredentialRecord, ZPath,
 };
 use std::alloc::{AllocError, Global};
@@ -331,7 +331,7 @@ fn topic_entry(rt: &impl Abort, alloc: Global) -> TopicEntry {
     TopicEntry {
         name: text_of(rt, alloc, "orders"),
         id: ID,
-        partitions: one(rt, alloc, partition),
+        partitions: one(rt, alloc, made(rt, Shared::new(alloc, partition))),
         pairs: one(rt, alloc, pair(rt, alloc)),
     }
 }

@@ -8,7 +8,7 @@ ghost use Rattle.kz_spec_files.specs.Loads.{rise_from, is_header, is_before, are
 ghost use Rattle.kz_tree.specs.Loads.{IsRowFaultOf};
 
 use crate::load::LoadFault;
-use crate::refusals::{has_parent, is_ephemeral, is_full_beside, limit_beside, may_own};
+use crate::refusals::{is_full_beside, is_root, limit_beside, may_own};
 use kz_path::kind;
 use kz_paths::{is_base, is_controller_path, is_epoch_path, is_migration_path};
 use kz_state::read_control;
@@ -44,13 +44,22 @@ fn is_after_all(path: &ZPath, rows: &Rows) -> bool
     rows.find(path.bytes()).is_none() && rows.next_after(Some(path)).is_none()
 }
 
+// Whether the parent of a path is there and ends with no session. It is looked for once.
+fn has_lasting_parent(path: &[u8], rows: &Rows) -> bool
+    ensures { result ≡ (has_parent path.now rows.now && not (is_ephemeral (row_at (parent_of path.now) rows.now))) }
+{
+    let parent = parent_of(path);
+    match rows.find(parent) {
+        Some(row) => row.owner.is_none(),
+        None => is_root(parent),
+    }
+}
+
 // Whether a path comes after the paths of all znodes, and its parent is there and ends with no session.
 fn is_next(path: &ZPath, rows: &Rows) -> bool
     ensures { result ≡ (list_all (is_before path.now) rows.now && has_parent path.now rows.now && not (is_ephemeral (row_at (parent_of path.now) rows.now))) }
 {
-    is_after_all(path, rows)
-        && has_parent(path.bytes(), rows)
-        && !is_ephemeral(rows.find(parent_of(path.bytes())))
+    is_after_all(path, rows) && has_lasting_parent(path.bytes(), rows)
 }
 
 // Whether a znode was made at 1 or later, and was set and got or lost children no earlier.

@@ -28,14 +28,15 @@ pub fn may_own(owner: Option<i64>, sessions: &[i64]) -> bool
     }
 }
 
-fn is_root(path: &[u8]) -> bool
+/// Whether a path is that of the root, which is empty.
+pub fn is_root(path: &[u8]) -> bool
     ensures { result ≡ is_root path.now }
 {
     path.is_empty()
 }
 
-/// Whether the parent of a path is there.
-pub fn has_parent(path: &[u8], rows: &Rows) -> bool
+// Whether the parent of a path is there.
+fn has_parent(path: &[u8], rows: &Rows) -> bool
     ensures { result ≡ has_parent path.now rows.now }
 {
     let parent = parent_of(path);

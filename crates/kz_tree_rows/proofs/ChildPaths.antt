@@ -59,12 +59,12 @@ slashed (b ∷ bs) ne = slashed_by b bs (any_slash bs) refl ne
 same_first : (p : ℕ) (xs ys : List ℕ) → bytes_cmp (p ∷ xs) (p ∷ ys) ≡ bytes_cmp xs ys
 same_first p xs ys = rw (nat_order.itself p) refl
 
-child_from : (path name : List ℕ) → bytes_cmp (path ++ 47 ∷ name) (path ++ 47 ∷ []) ≢ Less
+pub child_from : (path name : List ℕ) → bytes_cmp (path ++ 47 ∷ name) (path ++ 47 ∷ []) ≢ Less
 child_from [] [] h = cc
 child_from [] (x ∷ xs) h = cc
 child_from (p ∷ ps) name h = child_from ps name (sym (same_first p (ps ++ 47 ∷ name) (ps ++ 47 ∷ [])) ∙ h)
 
-child_before : (path name : List ℕ) → bytes_cmp (path ++ 47 ∷ name) (path ++ 48 ∷ []) ≡ Less
+pub child_before : (path name : List ℕ) → bytes_cmp (path ++ 47 ∷ name) (path ++ 48 ∷ []) ≡ Less
 child_before [] name = refl
 child_before (p ∷ ps) name = same_first p (ps ++ 47 ∷ name) (ps ++ 48 ∷ []) ∙ child_before ps name
 
@@ -88,7 +88,7 @@ module _ (path : List ℕ) (ne : path ≢ []) where
       let form = parted r.path (slashed r.path (λ nil. ne (sym is ∙ nil))) in
       absurd (none form.0 (form.1 ∙ ap (λ p. p ++ 47 ∷ form.0) is))
 
-  no_child : (r : Row) → ((name : List ℕ) → r.path ≡ path ++ 47 ∷ name → ⊥) → bytes_eq (parent_of r.path) path ≡ false
+  pub no_child : (r : Row) → ((name : List ℕ) → r.path ≡ path ++ 47 ∷ name → ⊥) → bytes_eq (parent_of r.path) path ≡ false
   no_child r none = no_child_by r (bytes_eq (parent_of r.path) path) refl none
 
   -- a znode at the path and a slash would be a child

@@ -1,3 +1,4 @@
+pub mod BrokerPaths
 pub mod ChildPaths
 pub mod Counts
 pub mod LastSlash

@@ -8,15 +8,13 @@ ghost use Rattle.kz_tree_rows.specs.Numbered.{numbers_of, AreNumbered};
 
 use crate::numbers::{numbers_of, numbers_with, segments_of};
 use kz_blocks::{
-    Block, MAX_BLOCK_ITEMS, Shared, block_for, put_first, put_in_block, remove_from_block,
+    Block, HALF_BLOCK_ITEMS, MAX_BLOCK_ITEMS, Shared, block_for, put_first, put_in_block,
+    remove_from_block,
 };
 use kz_segments::{Numbers, Segments};
 use kz_sorted::Keyed;
 use kz_types::{NoMemory, Row};
 use std::alloc::Global;
-
-// The znodes that the first of two blocks has, where the two come in place of a full one.
-const HALF_BLOCK: usize = MAX_BLOCK_ITEMS / 2;
 
 // Puts the first znode of all.
 fn put_first_row(
@@ -117,7 +115,7 @@ fn put_in_two(
     ensures kept { AreNumbered blocks.new.items segments.new }
 {
     let mut rows = blocks[place].items_with(alloc, row)?;
-    let rest = rows.split_off(HALF_BLOCK)?;
+    let rest = rows.split_off(HALF_BLOCK_ITEMS)?;
     let changed = with_two(alloc, segments, place, numbers_of(&rows), numbers_of(&rest))?;
     let second = Block::new(alloc, rest)?;
     let first = Block::new(alloc, rows)?;

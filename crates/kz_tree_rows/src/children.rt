@@ -10,8 +10,8 @@ use kz_types::{NoMemory, copy_all};
 use std::alloc::Global;
 use std::cmp::Ordering;
 
-// A path and one more byte.
-fn with_byte(alloc: Global, path: &[u8], byte: u8) -> Result<Vec<u8>, NoMemory>
+/// A path and one more byte.
+pub(crate) fn with_byte(alloc: Global, path: &[u8], byte: u8) -> Result<Vec<u8>, NoMemory>
     ensures { IfOk result (λ made. made.items ≡ path.now ++ byte ∷ []) }
 {
     let mut made = copy_all(alloc, path)?;
@@ -19,8 +19,8 @@ fn with_byte(alloc: Global, path: &[u8], byte: u8) -> Result<Vec<u8>, NoMemory>
     Ok(made)
 }
 
-// Whether a path comes before another.
-fn is_before(path: &[u8], other: &[u8]) -> bool
+/// Whether a path comes before another.
+pub(crate) fn is_before(path: &[u8], other: &[u8]) -> bool
     ensures { result ≡ match_ordering (bytes_cmp path.now other.now) true false false }
 {
     match path.cmp(&other) {

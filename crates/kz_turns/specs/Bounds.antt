@@ -1,7 +1,9 @@
 -- What a turn knows of the bound on its steps.
-use Rattle.std.specs.Prelude.{◌≡◌, ◌<◌, ℕ, Option, Some, None}
+use Rattle.std.specs.Prelude.{◌≡◌, ◌<◌, ◌≤◌, ℕ}
+use Rattle.kz_turns.specs.declared.steps.StepBound.{StepBound}
+use Rattle.kz_turns.specs.declared.steps.StepBound.TheVariants.{AtLeast, Exactly}
 
--- The bound isn't known before the last of the steps that every turn may have.
-abbrev pub IsKnown : ℕ → ℕ → Option ℕ → Type 0
-IsKnown most done None = done < 20
-IsKnown most done (Some known) = known ≡ most
+-- The bound itself is known, or a lesser number that allows the next step.
+abbrev pub IsKnown : ℕ → ℕ → StepBound → Type 0
+IsKnown most done (AtLeast least) = (least ≤ most) × (done < least)
+IsKnown most done (Exactly bound) = bound ≡ most

@@ -72,33 +72,49 @@ fn without_last(replies: Vec<Reply>) -> Vec<Reply>
 // So many steps every turn may have.
 const LEAST_STEPS: u128 = 20;
 
-// Whether a turn may have a further step after so many. Its bound isn't computed before the last of the steps that every turn
-// may have, and once: it is kept in `most`. At `Err` there is no memory for it, and the turn may have a further step.
+/// What a turn knows of the bound on its steps.
+#[derive(Clone, Copy)]
+pub enum StepBound {
+    /// It is so many, or more.
+    AtLeast(u128),
+    /// It is so many.
+    Exactly(u128),
+}
+
+// Whether a turn may have a further step after so many. Its bound is computed where what is known of it allows no step after the
+// further one, and once: before that, a lesser number is taken for which nothing is translated or rendered. At `Err` there is no
+// memory for the bound, and the turn may have a further step.
 fn may_step(
     alloc: Global,
     start: &TurnStart,
     image: &Image,
     done: u128,
-    most: &mut Option<u128>,
+    known: &mut StepBound,
 ) -> Result<bool, NoMemory>
-    requires { IsKnown (most_from start.now image.now) done most.old }
+    requires { IsKnown (most_from start.now image.now) done known.old }
     ensures may { IfOk result (λ may. may ≡ nat_lt done (most_from start.now image.now)) }
-    ensures known { IfOk result (λ may. may ≡ true → (done + 1 < 2 ^ 128) × IsKnown (most_from start.now image.now) (done + 1) most.new) }
+    ensures known { IfOk result (λ may. may ≡ true → (done + 1 < 2 ^ 128) × IsKnown (most_from start.now image.now) (done + 1) known.new) }
     ensures err { OnErr result (done < most_from start.now image.now) }
 {
-    if done < LEAST_STEPS - 1 {
+    let least = match *known {
+        StepBound::AtLeast(least) => least,
+        StepBound::Exactly(bound) => return Ok(done < bound),
+    };
+    if done < least - 1 {
         return Ok(true);
     }
-    let bound = match *most {
-        Some(bound) => bound,
-        None => start.most_steps(alloc, image)?,
-    };
-    *most = Some(bound);
+    let least = start.least_steps();
+    if done < least - 1 {
+        *known = StepBound::AtLeast(least);
+        return Ok(true);
+    }
+    let bound = start.most_steps(alloc, image)?;
+    *known = StepBound::Exactly(bound);
     Ok(done < bound)
 }
 
 /// At most as many steps of a driver as the bound allows that its start gives, with these metadata at the end of the log, up to
-/// and with the first whose reply ends the turn. The bound is computed by a turn of twenty steps and more alone. Where a step
+/// and with the first whose reply ends the turn. The bound is computed only where a turn comes near a number of steps that it has in any case. Where a step
 /// fails or is out of memory, its reply tells so after those of the steps before; where a disk failed in it, a stop leaves the
 /// tree and the log from before it, or those that it would have made. At `Err` there is no memory for a reply, and nothing has
 /// changed.
@@ -129,10 +145,10 @@ pub fn turn<T: ZTree, L: MetaLog>(
     let mut replies = Vec::new(alloc);
     // the last place is kept for a step that is out of memory
     replies.push(Reply::NoMemory)?;
-    let mut most = None;
+    let mut known = StepBound::AtLeast(LEAST_STEPS);
     let mut done: u128 = 0;
     'steps: loop {
-        let Ok(may) = may_step(alloc, start, image, done, &mut most) else {
+        let Ok(may) = may_step(alloc, start, image, done, &mut known) else {
             return Ok(replies);
         };
         if !may {

@@ -5,15 +5,31 @@ use crate::NoMemory;
 use std::alloc::Global;
 
 /// What can be copied where there is memory.
-pub trait Duplicate: Sized {
+pub trait Duplicate: Sized + Drop {
     /// An equal value, or out of memory.
     fn copy(&self, alloc: Global) -> Result<Self, NoMemory>
         ensures { IfOk result (λ made. made ≡ self.now) };
+
+    /// A copy of each item, in order. Memory for the list is taken once.
+    fn copy_each(alloc: Global, items: &[Self]) -> Result<Vec<Self>, NoMemory>
+        ensures { IfOk result (λ made. made.items ≡ items.now) }
+    {
+        let mut copies = Vec::with_capacity(alloc, items.len())?;
+        for item in items {
+            copies.push(item.copy(alloc)?)?;
+        }
+        Ok(copies)
+    }
 }
 
 impl Duplicate for u8 {
     fn copy(&self, _alloc: Global) -> Result<Self, NoMemory> {
         Ok(*self)
+    }
+
+    // Bytes are copied as a whole.
+    fn copy_each(alloc: Global, items: &[u8]) -> Result<Vec<u8>, NoMemory> {
+        Ok(items.to_vec(alloc)?)
     }
 }
 
@@ -39,12 +55,8 @@ impl<T: Duplicate + Drop> Duplicate for Option<T> {
 }
 
 /// A copy of each item, in order.
-pub fn copy_all<T: Duplicate + Drop>(alloc: Global, items: &[T]) -> Result<Vec<T>, NoMemory>
+pub fn copy_all<T: Duplicate>(alloc: Global, items: &[T]) -> Result<Vec<T>, NoMemory>
     ensures { IfOk result (λ made. made.items ≡ items.now) }
 {
-    let mut copies = Vec::new(alloc);
-    for item in items {
-        copies.push(item.copy(alloc)?)?;
-    }
-    Ok(copies)
+    T::copy_each(alloc, items)
 }

@@ -1,6 +1,7 @@
 //! What the metadata holds of its entities.
 use crate::{
-    AclRow, Duplicate, Id, NoMemory, Pair, PartitionRow, QuotaRow, ScramPair, Sequence, Text, ZPath,
+    AclRow, Duplicate, Id, NoMemory, Pair, PartitionRow, QuotaRow, ScramPair, Sequence, Shared,
+    Text, ZPath,
 };
 use std::alloc::Global;
 
@@ -47,8 +48,8 @@ pub struct TopicEntry {
     pub name: Text,
     /// The topic's id, never zero.
     pub id: Id,
-    /// The partitions.
-    pub partitions: Sequence<PartitionEntry>,
+    /// The partitions, each shared with the copies of the topic: a copy costs a pointer for each.
+    pub partitions: Sequence<Shared<PartitionEntry>>,
     /// The members of the configuration and their values; none where it has none.
     pub pairs: Sequence<Pair>,
 }

@@ -1,6 +1,6 @@
 //! How many steps a turn may have.
-ghost use Rattle.std.specs.Prelude.{◌≡◌, List, ℤ, false, IfOk, if◌then◌else◌};
-ghost use Rattle.kz_spec_stores.specs.Image.{empty_image, all_applied, is_migrated_state};
+ghost use Rattle.std.specs.Prelude.{◌≡◌, ◌≤◌, List, ℤ, false, IfOk, if◌then◌else◌};
+ghost use Rattle.kz_spec_stores.specs.Image.{Image as ImageValue, empty_image, all_applied, is_migrated_state};
 ghost use Rattle.kz_spec_stores.specs.Log.{batch_ends, image_of};
 ghost use Rattle.kz_spec_stores.specs.Tree.{migrated_rows};
 ghost use Rattle.kz_spec_znodes.specs.Rendering.{render};
@@ -194,6 +194,17 @@ impl TurnStart {
             epoch: epoch_or_zero(driver.epoch()),
             remaining,
         })
+    }
+
+    /// How many steps the turn may have at least, whatever the metadata at the end of the log is. It looks at each znode once; nothing
+    /// is translated or rendered.
+    #[tactic(auto, using(crate::proofs::Least::least_of_all))]
+    pub fn least_steps(&self) -> u128
+        ensures least { (image : ImageValue) → result ≤ most_from self.now image }
+        ensures some { 20 ≤ result }
+    {
+        let znodes = amount_of_area(&self.tree);
+        most_steps(&znodes, 0, &Amount::none(), &self.remaining)
     }
 
     /// The most steps of the turn, where these are the metadata at the end of the log before its first step.

@@ -1,4 +1,4 @@
-use Rattle.std.proofs.Common.{ap, sym, subst, w32, Ok, Err}
+use Rattle.std.proofs.Common.{◌≡◌, ◌∙◌, Some, ap, sym, subst, w32, Ok, Err}
 use Rattle.std.proofs.lemmas.Int.{to_z-of_z}
 use mir.Val.{SFits}
 use Rattle.std.specs.Prelude.{option_map}
@@ -14,7 +14,7 @@ pub returns-in-Ok : goal.returns-in-Ok
 returns-in-Ok c =
     let fits : SFits w32 c.args.number = c.ranges.number in
     let spot = subst (λ k. IsSpot int_cmp number_of_partition k c.args.partitions.now (Ok c.in-Ok.place)) (to_z-of_z w32 c.args.number fits) c.in-Ok.ensures in
-    sym (ap (option_map (λ (x : PartitionEntry). x.row)) (find_by_spot int_order number_of_partition c.args.number c.args.partitions.now c.in-Ok.place c.index-partitions-place.result c.requires spot))
+    ap (λ (x : PartitionEntry). Some x.row) (c.get.ensures ∙ c.index-partitions-place.is) ∙ sym (ap (option_map (λ (x : PartitionEntry). x.row)) (find_by_spot int_order number_of_partition c.args.number c.args.partitions.now c.in-Ok.place c.index-partitions-place.result c.requires spot))
 
 pub returns-in-Err : goal.returns-in-Err
 returns-in-Err c =

@@ -36,7 +36,7 @@ steps-init g c = record {
     views = record { same_id = refl; own_view = c.requires.view; views = λ v h. h };
   };
   within = omega (arith);
-  known = omega (arith);
+  known = (omega arith, omega arith);
   tree_plan = c.requires.delivers.0;
   log_plan = c.requires.delivers.1;
 }

@@ -12,7 +12,7 @@ invariant-steps g l = record {
       (moment_over g.T.ZTree.tree g.L.MetaLog.log g.T.ZTree.disk g.L.MetaLog.disk l.peers.declared l.fn.tree l.fn.log l.fn.driver)
       (moment_over g.T.ZTree.tree g.L.MetaLog.log g.T.ZTree.disk g.L.MetaLog.disk l.peers.declared l.tree l.log l.driver);
   within : l.done ≤ most_from l.start l.image;
-  known : IsKnown (most_from l.start l.image) l.done l.most;
+  known : IsKnown (most_from l.start l.image) l.done l.known;
   tree_plan : l.tree.plan ≡ plan.Deliver;
   log_plan : l.log.plan ≡ plan.Deliver;
 }

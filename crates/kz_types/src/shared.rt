@@ -1,8 +1,7 @@
 //! An item that has several owners.
 ghost use Rattle.std.specs.Prelude.{◌≡◌, IfOk};
 
-use kz_sorted::Keyed;
-use kz_types::{Duplicate, NoMemory};
+use crate::{Duplicate, NoMemory};
 use std::alloc::Global;
 use std::marker::Model;
 use std::rc::Rc;
@@ -45,13 +44,5 @@ impl<T: Drop> Duplicate for Shared<T> {
         Ok(Shared {
             item: self.item.clone()?,
         })
-    }
-}
-
-impl<T: Keyed> Keyed for Shared<T> {
-    ghost key = { λ s. T.key s };
-
-    fn key(&self) -> &[u8] {
-        self.get().key()
     }
 }

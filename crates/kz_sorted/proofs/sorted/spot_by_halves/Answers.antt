@@ -2,7 +2,7 @@ use Rattle.std.proofs.Common.{◌≡◌, ◌+◌, ◌-◌, ◌/◌, ◌<◌, Les
 use Rattle.kz_ordered.specs.Order.{bytes_cmp}
 use Rattle.kz_ordered.proofs.Order.{bytes_order}
 use Rattle.kz_sorted.proofs.Halves.{under_more, over_more, holds_here}
-use Rattle.kz_sorted.proofs.sorted.spot.Goals as goal
+use Rattle.kz_sorted.proofs.sorted.spot_by_halves.Goals as goal
 
 pub loop-low-preserved-in-Less : goal.loop-low-preserved-in-Less
 loop-low-preserved-in-Less g c =

@@ -1,5 +1,5 @@
 use Rattle.std.proofs.Common.{◌≡◌, take}
-use Rattle.kz_types.proofs.duplicate.copy_all.Given as goal
+use Rattle.kz_types.proofs.duplicate.Duplicate.copy_each.Given as goal
 
 abbrev pub invariant-loop-item : goal.invariant-loop-item
 invariant-loop-item g l = l.copies.items ≡ take l.item-index l.items

@@ -1,7 +1,7 @@
 use Rattle.std.proofs.Common.{◌-◌, ◌≡◌, ◌≤◌, Less, length}
 use Rattle.std.specs.List.{AllWithin}
 use Rattle.kz_ordered.specs.Order.{bytes_cmp}
-use Rattle.kz_sorted.proofs.sorted.spot.Given as goal
+use Rattle.kz_sorted.proofs.sorted.spot_by_halves.Given as goal
 
 abbrev pub invariant-loop-low : goal.invariant-loop-low
 invariant-loop-low g l = record {
