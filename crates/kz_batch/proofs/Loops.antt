@@ -4,9 +4,9 @@ use Rattle.std.specs.Ordering.{int_eq}
 use Rattle.std.proofs.lemmas.List.{append-nil, length-append}
 use Rattle.std.proofs.Math.Bool.{and_assoc}
 use Rattle.kz_types.specs.declared.record.BatchFault.{BatchFault}
-use Rattle.kz_spec_values.specs.Fields.{Reading, ◌>>=◌}
-use Rattle.kz_spec_values.specs.Forms.{items_at}
-use Rattle.kz_spec_values.specs.Batches.{Content, entry, delta_of, value_of, is_numbered}
+use Rattle.kz_spec_data.specs.Fields.{Reading, ◌>>=◌}
+use Rattle.kz_spec_data.specs.Forms.{items_at}
+use Rattle.kz_spec_data.specs.Batches.{Content, entry, delta_of, value_of, is_numbered}
 use Rattle.kz_batch.specs.Answers.{values_read, values_in}
 
 -- what was read before, and what is still read

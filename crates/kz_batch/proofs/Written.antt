@@ -2,8 +2,8 @@
 use Rattle.std.proofs.Common.{◌≡◌, ℕ, zero, suc, ◌+◌, ◌<◌, ◌^◌, List, [], ◌∷◌, ◌++◌, length, map, take, get_or, refl, sym, ap, ◌∙◌, append_assoc, arith}
 use Rattle.std.specs.Global.{Vec}
 use Rattle.std.proofs.lemmas.List.{append-nil, take_more, map_push, length-map, length-take}
-use Rattle.kz_spec_values.specs.Forms.{AllFit}
-use Rattle.kz_spec_values.specs.Batches.{entry, content_with, records_written, Holds31}
+use Rattle.kz_spec_data.specs.Forms.{AllFit}
+use Rattle.kz_spec_data.specs.Batches.{entry, content_with, records_written, Holds31}
 
 pub records_push : (n : ℕ) (vs : List (List ℕ)) (v : List ℕ) → records_written n (vs ++ v ∷ []) ≡ records_written n vs ++ entry.written (content_with (n + length vs) v)
 records_push n [] v = let e : n ≡ n + 0 = omega arith in append-nil (entry.written (content_with n v)) ∙ ap (λ (k : ℕ). entry.written (content_with k v)) e

@@ -1,9 +1,9 @@
 -- What calls on batches answer, against what reading says.
 use Rattle.std.specs.Prelude.{◌≡◌, ℕ, List, [], map, Bool, Option, Result, Ok, Err, is_ok, true}
 use Rattle.kz_types.specs.declared.record.BatchFault.{BatchFault}
-use Rattle.kz_spec_values.specs.Fields.{Reading}
-use Rattle.kz_spec_values.specs.Forms.{items_at}
-use Rattle.kz_spec_values.specs.Batches.{Content, entry, value_of}
+use Rattle.kz_spec_data.specs.Fields.{Reading}
+use Rattle.kz_spec_data.specs.Forms.{items_at}
+use Rattle.kz_spec_data.specs.Batches.{Content, entry, value_of}
 
 -- What a call answers is what reading says, and the reader stands after it.
 abbrev pub Says : {X Y : Type 0} → (X → Y) → Result X BatchFault → Reading → Result (Y × Reading) BatchFault → Type 0

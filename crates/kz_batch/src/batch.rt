@@ -3,8 +3,8 @@ ghost use Rattle.std.specs.Prelude.{◌≡◌, ◌+◌, ◌<◌, ◌≤◌, ◌+
 ghost use Rattle.std.specs.Bool.{OnFalse};
 ghost use Rattle.std.specs.Ordering.{int_eq};
 ghost use Rattle.std.specs.Int.{w8, w16, w32, w64};
-ghost use Rattle.kz_spec_values.specs.Batches.{number_at, signed_at, base_offset, stated_length, leader_epoch, magic, stated_sum, attributes, compression, is_control, last_delta, base_time, stated_count, holds_whole_batch, bytes_under_sum, summed_rest, is_short, values_of, batch_of, entry};
-ghost use Rattle.kz_spec_values.specs.Forms.{items_at};
+ghost use Rattle.kz_spec_data.specs.Batches.{number_at, signed_at, base_offset, stated_length, leader_epoch, magic, stated_sum, attributes, compression, is_control, last_delta, base_time, stated_count, holds_whole_batch, bytes_under_sum, summed_rest, is_short, values_of, batch_of, entry};
+ghost use Rattle.kz_spec_data.specs.Forms.{items_at};
 ghost use Rattle.kz_batch.specs.Answers.{values_in, HasValues};
 
 use crate::records::{is_done, read_entry, read_records};
@@ -177,7 +177,7 @@ fn count_plain(bytes: &[u8]) -> Result<u32, BatchFault>
 }
 
 // The same of a control batch, whose records aren't read: none.
-#[tactic(auto, unfolding(kz_spec_values::specs::Forms::items_at))]
+#[tactic(auto, unfolding(kz_spec_data::specs::Forms::items_at))]
 fn count_control(bytes: &[u8]) -> Result<u32, BatchFault>
     requires { 61 ≤ length bytes.now }
     ensures { MatchResult result (λ n. HasValues n (values_of true bytes.now) (record { at = 61; left = drop 61 bytes.now })) (λ e. values_of true bytes.now ≡ Err e) }
@@ -203,8 +203,8 @@ pub struct Batch<'a> {
 
 impl<'a> Model for Batch<'a> {
     ghost use Rattle.std.specs.Prelude.{◌≡◌, true, is_ok};
-    ghost use Rattle.kz_spec_values.specs.Forms.{items_at};
-    ghost use Rattle.kz_spec_values.specs.Batches.{BatchContents, entry};
+    ghost use Rattle.kz_spec_data.specs.Forms.{items_at};
+    ghost use Rattle.kz_spec_data.specs.Batches.{BatchContents, entry};
     ghost use Rattle.kz_batch.specs.Answers.{values_in};
 
     ghost Value = { BatchContents };
@@ -220,7 +220,7 @@ impl<'a> Batch<'a> {
     /// The first fault in this order: the bytes end before the header or the stated length does, or that length is
     /// below 49; another format than 2; another sum; compression; records that don't fill the length in their count, or
     /// bytes after it; records out of order. The records of a control batch aren't read.
-    #[tactic(auto, unfolding(kz_spec_values::specs::Batches::batch_of))]
+    #[tactic(auto, unfolding(kz_spec_data::specs::Batches::batch_of))]
     pub fn read(bytes: &'a [u8]) -> Result<Batch<'a>, BatchFault>
         ensures { MatchResult result (λ b. batch_of bytes.now ≡ Ok b) (λ e. batch_of bytes.now ≡ Err e) }
     {
@@ -346,8 +346,8 @@ pub struct Values<'a> {
 
 impl<'a> Model for Values<'a> {
     ghost use Rattle.std.specs.Prelude.{◌≡◌, true, is_ok, List, ℕ};
-    ghost use Rattle.kz_spec_values.specs.Forms.{items_at};
-    ghost use Rattle.kz_spec_values.specs.Batches.{entry};
+    ghost use Rattle.kz_spec_data.specs.Forms.{items_at};
+    ghost use Rattle.kz_spec_data.specs.Batches.{entry};
     ghost use Rattle.kz_batch.specs.Answers.{values_in};
 
     ghost Value = { List (List ℕ) };

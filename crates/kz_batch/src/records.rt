@@ -1,9 +1,9 @@
 //! The records of a batch.
 ghost use Rattle.std.specs.Prelude.{◌≡◌, ◌==◌, ◌&&◌, length, option_map, pos};
 ghost use Rattle.std.specs.Ordering.{int_eq};
-ghost use Rattle.kz_spec_values.specs.Forms.{items_at};
-ghost use Rattle.kz_spec_values.specs.Fields.{varint, varlong};
-ghost use Rattle.kz_spec_values.specs.Batches.{countable, no_attributes, measured_at, measured_or_null, bytes_with_length, header, headers, content, entry, delta_of, value_of, is_numbered};
+ghost use Rattle.kz_spec_data.specs.Forms.{items_at};
+ghost use Rattle.kz_spec_data.specs.Fields.{varint, varlong};
+ghost use Rattle.kz_spec_data.specs.Batches.{countable, no_attributes, measured_at, measured_or_null, bytes_with_length, header, headers, content, entry, delta_of, value_of, is_numbered};
 ghost use Rattle.kz_batch.specs.Answers.{Says, Finds};
 
 use kz_bytes::Reader;

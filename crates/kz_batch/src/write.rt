@@ -1,9 +1,9 @@
 //! A batch of values.
 ghost use Rattle.std.specs.Prelude.{◌≡◌, ◌+◌, ◌*◌, ◌<◌, ◌≤◌, ◌^◌, ◌++◌, ◌+ℤ◌, ℤ, pos, negsuc, length, map, OnOk, IfOk};
 ghost use Rattle.std.specs.Int.{w32, w64, to_be_bytes, cast_unsigned};
-ghost use Rattle.kz_spec_values.specs.Fields.{groups_of};
-ghost use Rattle.kz_spec_values.specs.Batches.{content, entry, content_with, records_written, summed_written, header_written, sealed_written, batch_written, Holds31, BatchFits};
-ghost use Rattle.kz_spec_values.specs.Forms.{AllFit};
+ghost use Rattle.kz_spec_data.specs.Fields.{groups_of};
+ghost use Rattle.kz_spec_data.specs.Batches.{content, entry, content_with, records_written, summed_written, header_written, sealed_written, batch_written, Holds31, BatchFits};
+ghost use Rattle.kz_spec_data.specs.Forms.{AllFit};
 
 use kz_bytes::{put_i32, put_uvarint, uvarint_size};
 use kz_crc::crc32c;
@@ -11,7 +11,7 @@ use kz_types::NoMemory;
 use std::alloc::Global;
 
 // How many bytes a number has, of which at most `more` stand before the last.
-#[tactic(auto, unfolding(kz_spec_values::specs::Fields::groups_of))]
+#[tactic(auto, unfolding(kz_spec_data::specs::Fields::groups_of))]
 fn number_size(number: u128, more: u8) -> u128
     ensures size { result ≡ length (groups_of more number) }
     ensures bound { result ≤ more + 1 }
@@ -34,7 +34,7 @@ fn content_size(index: u64, value: &[u8]) -> u128
 }
 
 // The attributes, the timestamp delta, the key's length and the count of headers.
-#[tactic(auto, unfolding(kz_spec_values::specs::Fields::groups_of))]
+#[tactic(auto, unfolding(kz_spec_data::specs::Fields::groups_of))]
 fn small_size() -> u128
     ensures size { result ≡ 1 + length (groups_of 9 0) + length (groups_of 9 1) + length (groups_of 9 0) }
     ensures bound { result ≡ 4 }

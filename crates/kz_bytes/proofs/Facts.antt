@@ -3,7 +3,7 @@ use Rattle.std.proofs.Common.{◌≡◌, ℕ, zero, suc, ◌+◌, ◌-◌, ◌*�
 use Rattle.std.proofs.lemmas.Bool.{le-ltb}
 use Rattle.std.specs.Int.{w32, to_be_bytes, cast_unsigned}
 use Rattle.std.specs.Prelude.{Some}
-use Rattle.kz_spec_values.specs.Fields.{groups_of, int_bytes, items_with_count}
+use Rattle.kz_spec_data.specs.Fields.{groups_of, int_bytes, items_with_count}
 use Rattle.std.specs.Str.{is_utf8, IsUtf8}
 use Rattle.std.proofs.lemmas.Str.{IsUtf8-from_is_utf8}
 use Rattle.kz_bytes.specs.Groups.{limit}

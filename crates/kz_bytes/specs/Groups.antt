@@ -1,7 +1,7 @@
 -- How numbers of variable size are read and written, group by group.
 use Rattle.std.specs.Prelude.{◌≡◌, ℕ, zero, suc, ◌*◌, List, Result, Ok, Err}
 use Rattle.kz_types.specs.declared.record.ByteFault.{ByteFault}
-use Rattle.kz_spec_values.specs.Fields.{Reading}
+use Rattle.kz_spec_data.specs.Fields.{Reading}
 
 -- what a number of so many groups from 128 on and a last one below `last` stays below
 unfoldable pub limit : ℕ → ℕ → ℕ

@@ -1,6 +1,6 @@
 //! Numbers of variable size: seven bits a byte, the lowest first.
 ghost use Rattle.std.specs.Prelude.{◌≡◌, ℕ, ◌+◌, ◌<◌, ◌≤◌, ◌^◌, length, MatchResult, IfOk, Ok, Err};
-ghost use Rattle.kz_spec_values.specs.Fields.{groups_at};
+ghost use Rattle.kz_spec_data.specs.Fields.{groups_at};
 ghost use Rattle.kz_bytes.specs.Groups.{limit};
 
 use kz_types::ByteFault;
@@ -14,7 +14,7 @@ pub struct Number<'a> {
 }
 
 /// The number at the front of bytes that begin at this place: at most `more` bytes from 128 on, then one below `last`.
-#[tactic(auto, unfolding(kz_spec_values::specs::Fields::groups_at, crate::specs::Groups::limit))]
+#[tactic(auto, unfolding(kz_spec_data::specs::Fields::groups_at, crate::specs::Groups::limit))]
 pub fn read_groups(at: usize, bytes: &[u8], more: u8, last: u8) -> Result<Number<'_>, ByteFault>
     requires fits { limit more last ≤ 2 ^ 64 }
     requires some { 0 < last }

@@ -2,7 +2,7 @@
 ghost use Rattle.std.specs.Prelude.{◌≡◌, ◌+◌, ◌*◌, ◌<◌, ◌≤◌, length, false, Some, option_map, IfOk, IfSome};
 ghost use Rattle.std.specs.Str.{IsUtf8};
 ghost use Rattle.std.specs.Int.{w8, w16, w32, w64};
-ghost use Rattle.kz_spec_values.specs.Fields.{start, Reads, front, uvarint, varint, varlong, signed_number, unsigned_number, id, items_with_count, nullable_bytes, nullable_text, is_null, unzigzag};
+ghost use Rattle.kz_spec_data.specs.Fields.{start, Reads, front, uvarint, varint, varlong, signed_number, unsigned_number, id, items_with_count, nullable_bytes, nullable_text, is_null, unzigzag};
 
 use crate::groups::read_groups;
 use crate::text::text_fault;
@@ -18,7 +18,7 @@ pub struct Reader<'a> {
 
 impl<'a> Model for Reader<'a> {
     ghost use Rattle.std.specs.Prelude.{◌+◌, ◌<◌, ◌^◌, length};
-    ghost use Rattle.kz_spec_values.specs.Fields.{Reading};
+    ghost use Rattle.kz_spec_data.specs.Fields.{Reading};
 
     ghost Value = { Reading };
 

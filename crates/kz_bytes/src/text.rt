@@ -2,7 +2,7 @@
 ghost use Rattle.std.specs.Prelude.{◌≡◌, ◌<◌, ◌≤◌, length, true, false, MatchOption, IfSome};
 ghost use Rattle.std.specs.Str.{IsUtf8, is_utf8};
 ghost use Rattle.std.specs.Str.Lossy.{utf8_error_len};
-ghost use Rattle.kz_spec_values.specs.Fields.{char_size, text_beginning_length, text_fault};
+ghost use Rattle.kz_spec_data.specs.Fields.{char_size, text_beginning_length, text_fault};
 
 // How many bytes a character has that begins with this byte; 0 where none does.
 fn char_size(byte: u8) -> usize

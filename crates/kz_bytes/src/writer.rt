@@ -1,13 +1,13 @@
 //! Fields at the end of bytes.
 ghost use Rattle.std.specs.Prelude.{◌≡◌, ◌+◌, ◌*◌, ◌<◌, ◌≤◌, ◌^◌, ◌++◌, List, ℕ, length, Some, IfSome, option_map, OnOk, OnErr};
 ghost use Rattle.std.specs.Int.{w8, w16, w32, w64};
-ghost use Rattle.kz_spec_values.specs.Fields.{Writes, groups_of, uvarint, varint, varlong, signed_number, unsigned_number, id, items_with_count, nullable_bytes, nullable_text, int_bytes, zigzag};
+ghost use Rattle.kz_spec_data.specs.Fields.{Writes, groups_of, uvarint, varint, varlong, signed_number, unsigned_number, id, items_with_count, nullable_bytes, nullable_text, int_bytes, zigzag};
 ghost use Rattle.kz_bytes.specs.Groups.{limit};
 
 use kz_types::{Id, NoMemory};
 
 // Appends a number of at most `more` bytes from 128 on and a last one. At `Err` some of them stand there.
-#[tactic(auto, unfolding(kz_spec_values::specs::Fields::groups_of, crate::specs::Groups::limit))]
+#[tactic(auto, unfolding(kz_spec_data::specs::Fields::groups_of, crate::specs::Groups::limit))]
 fn push_groups(out: &mut Vec<u8>, number: u64, more: u8) -> Result<(), NoMemory>
     requires { number < limit more 128 }
     ensures ok { OnOk result (out.new.items ≡ out.old.items ++ groups_of more number) }
@@ -22,7 +22,7 @@ fn push_groups(out: &mut Vec<u8>, number: u64, more: u8) -> Result<(), NoMemory>
 }
 
 // How many bytes a number has, of which at most `more` stand before the last.
-#[tactic(auto, unfolding(kz_spec_values::specs::Fields::groups_of, crate::specs::Groups::limit))]
+#[tactic(auto, unfolding(kz_spec_data::specs::Fields::groups_of, crate::specs::Groups::limit))]
 fn groups_size(number: u64, more: u8) -> u8
     requires { more < 255 }
     ensures size { result ≡ length (groups_of more number) }

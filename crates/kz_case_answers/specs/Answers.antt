@@ -8,9 +8,9 @@ use Rattle.kz_types.specs.Ids.{id_of}
 use Rattle.kz_types.specs.declared.row.QuotaValue.{QuotaValue}
 use Rattle.kz_types.specs.declared.value_fault.QuotaFault.{QuotaFault}
 use Rattle.kz_types.specs.declared.value_fault.QuotaFault.TheVariants.{NotNumber, TooFine, TooLarge}
-use Rattle.kz_spec_quotas.specs.Quotas.{quota_of, quota_text}
-use Rattle.kz_spec_lines.specs.Json.{text_member, by_name}
-use Rattle.kz_spec_lines.specs.Members.{with_text, with_whole, with_text_or_null}
+use Rattle.kz_spec_data.specs.Quotas.{quota_of, quota_text}
+use Rattle.kz_spec_data.specs.Json.{text_member, by_name}
+use Rattle.kz_spec_data.specs.Members.{with_text, with_whole, with_text_or_null}
 use Rattle.kz_case_fields.specs.Texts.{hex, given, text_of}
 
 -- ---- answers

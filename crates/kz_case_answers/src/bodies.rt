@@ -1,7 +1,7 @@
 //! Cases of bodies of entities.
 ghost use Rattle.std.specs.Prelude.{◌≡◌};
 ghost use Rattle.kz_types.specs.Quotas.{is_quota};
-ghost use Rattle.kz_spec_values.specs.Bodies.{is_of_kind};
+ghost use Rattle.kz_spec_data.specs.Bodies.{is_of_kind};
 ghost use Rattle.kz_json.specs.Entries.{are_quotas, keeps_quotas};
 
 use kz_case_fields::{body_value, given, key_at, key_value};
@@ -36,7 +36,7 @@ fn keeps_quotas(body: &Body) -> bool
 }
 
 // Whether a body is of its entity's kind.
-#[tactic(auto, unfolding(kz_spec_values::specs::Bodies::is_of_kind))]
+#[tactic(auto, unfolding(kz_spec_data::specs::Bodies::is_of_kind))]
 fn is_of_kind(key: &EntityKey, body: &Body) -> bool
     ensures { result ≡ is_of_kind key.now body.now }
 {

@@ -4,14 +4,14 @@ ghost use Rattle.serde_json.specs.View.{view, members_view};
 ghost use Rattle.kz_types.specs.Ids.{id_of};
 ghost use Rattle.kz_types.specs.Paths.{part_for_name};
 ghost use Rattle.kz_types.specs.Quotas.{is_quota};
-ghost use Rattle.kz_spec_quotas.specs.Quotas.{quota_of};
-ghost use Rattle.kz_spec_lines.specs.Json.{by_name};
+ghost use Rattle.kz_spec_data.specs.Quotas.{quota_of};
+ghost use Rattle.kz_spec_data.specs.Json.{by_name};
 ghost use Rattle.kz_case_fields.specs.Texts.{hex, text_of};
 ghost use Rattle.kz_case_answers.specs.Answers.{name_forms, sanitise_answer, restore_answer, id_answer, quota_answer, quota_members};
 
+use kz_body_parts::QuotaText;
 use kz_case_fields::{given, hex_text};
 use kz_path::{restore, sanitise};
-use kz_quotas::QuotaText;
 use kz_record_fields::{put_text, put_text_or_null, put_whole, text_member};
 use kz_types::{Id, NoMemory, QuotaFault, QuotaValue, Text};
 use serde_json::{Map, Value};

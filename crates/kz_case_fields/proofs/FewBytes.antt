@@ -15,10 +15,10 @@ use Rattle.kz_types.specs.declared.record.AccessControlEntryRecord.{AccessContro
 use Rattle.kz_types.specs.declared.record.MetaRecord.{MetaRecord}
 use Rattle.kz_types.specs.declared.record.MetaRecord.TheVariants.{RegisterBroker, Topic, Partition, Config, PartitionChange, RemoveTopic, UserScramCredential, ClientQuota, ProducerIds, AccessControlEntry, RemoveAccessControlEntry, NoOp, ZkMigrationState, RemoveUserScramCredential, BeginTransaction, EndTransaction, AbortTransaction}
 use Rattle.kz_types.specs.declared.record.CodecFault.{CodecFault}
-use Rattle.kz_spec_values.specs.Fields.{Format, varint, groups_of, int_bytes}
-use Rattle.kz_spec_values.specs.Forms.{◌⊗◌, flag, nullable_ints, items_written, AllFit, list_of, Tag, tags_written, nothing, section, without_tags, plain, text_content}
-use Rattle.kz_spec_values.specs.Records.{int8, int16, uint16, int32, int64, uuid, string, nullable_string, bytes, ints, endpoint, feature, register_broker, topic, partition, partition_tags, config, ints_tag, leader_tag, stated_recovery_tag, change_tags, partition_change, user_scram_credential, quota_entity, quota_entities, client_quota, access_control_entry, name_and_mechanism, text_tags, tagged_text, head_written, bytes_of_record, IsShort, IsShortOrNull, IsFew, FieldFits, ShortEndpoint, ShortFeature, ShortEntity, ShortRegistration, ShortPartition, ShortConfig, ShortChange, ShortCredential, ShortQuota, ShortEntry, LengthsFit}
-use Rattle.kz_spec_values.specs.Batches.{content, entry, content_with, records_written, batch_written, Holds31, BatchFits}
+use Rattle.kz_spec_data.specs.Fields.{Format, varint, groups_of, int_bytes}
+use Rattle.kz_spec_data.specs.Forms.{◌⊗◌, flag, nullable_ints, items_written, AllFit, list_of, Tag, tags_written, nothing, section, without_tags, plain, text_content}
+use Rattle.kz_spec_data.specs.Records.{int8, int16, uint16, int32, int64, uuid, string, nullable_string, bytes, ints, endpoint, feature, register_broker, topic, partition, partition_tags, config, ints_tag, leader_tag, stated_recovery_tag, change_tags, partition_change, user_scram_credential, quota_entity, quota_entities, client_quota, access_control_entry, name_and_mechanism, text_tags, tagged_text, head_written, bytes_of_record, IsShort, IsShortOrNull, IsFew, FieldFits, ShortEndpoint, ShortFeature, ShortEntity, ShortRegistration, ShortPartition, ShortConfig, ShortChange, ShortCredential, ShortQuota, ShortEntry, LengthsFit}
+use Rattle.kz_spec_data.specs.Batches.{content, entry, content_with, records_written, batch_written, Holds31, BatchFits}
 
 abbrev pub AreFew : List ℕ → Type 0
 AreFew text = length text < 2 ^ 32

@@ -2,7 +2,7 @@
 use Rattle.std.specs.Prelude.{ℕ, ◌+◌, ◌/◌, ◌%◌, nat_lt, List, [], ◌∷◌, Option, Some, None, if◌then◌else◌, codes}
 use Rattle.std.specs.Str.{is_utf8}
 use Rattle.serde_json.specs.Data.{Members, no_members}
-use Rattle.kz_spec_lines.specs.Members.{with_text}
+use Rattle.kz_spec_data.specs.Members.{with_text}
 
 -- ---- bytes in hexadecimal
 

@@ -1,5 +1,5 @@
 //! Keys of entities, as cases write them: a list of the entity's name and its fields.
-use kz_members::{number, whole};
+use kz_body_parts::{number, whole};
 use kz_types::{EntityKey, NoMemory, Text};
 use serde_json::Value;
 use std::alloc::Global;

@@ -1,8 +1,8 @@
 //! Whether the lengths and counts of records and batches fit their fields, as writers ask for.
 ghost use Rattle.std.specs.Prelude.{map};
 ghost use Rattle.std.specs.Bool.{OnTrue};
-ghost use Rattle.kz_spec_values.specs.Records.{LengthsFit};
-ghost use Rattle.kz_spec_values.specs.Batches.{BatchFits};
+ghost use Rattle.kz_spec_data.specs.Records.{LengthsFit};
+ghost use Rattle.kz_spec_data.specs.Batches.{BatchFits};
 
 use kz_batch::batch_size;
 use kz_codec::value_size;

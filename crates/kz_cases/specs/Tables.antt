@@ -5,7 +5,7 @@ use Rattle.std.specs.List.{count_by}
 use Rattle.std.specs.Io.KnownBytes.{Appends}
 use Rattle.serde_json.specs.Data.{Data}
 use Rattle.serde_json.specs.Written.{compact_text, has_float, IsInOrder}
-use Rattle.kz_spec_values.specs.Bodies.{json_of}
+use Rattle.kz_spec_data.specs.Bodies.{json_of}
 use Rattle.kz_case_answers.specs.Answers.{IsAnswer}
 
 -- ---- lines

@@ -4,8 +4,8 @@ ghost use Rattle.serde_json.specs.View.{view};
 ghost use Rattle.kz_cases.specs.Tables.{passes, came_text, difference, IsTextOf, IsTextIfAny, IsJudged, IsOutcome};
 ghost use Rattle.kz_cases.specs.Outcomes.{outcome_of};
 
+use kz_body_parts::read_json;
 use kz_case_answers::answered;
-use kz_members::read_json;
 use kz_types::NoMemory;
 use serde_json::Value;
 use std::alloc::Global;

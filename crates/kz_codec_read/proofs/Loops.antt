@@ -3,9 +3,9 @@ use Rattle.std.proofs.Common.{◌≡◌, ℕ, suc, ◌+◌, ◌-◌, ◌<◌, �
 use Rattle.std.proofs.lemmas.List.{append-nil}
 use Rattle.kz_types.specs.declared.record.CodecFault.{CodecFault}
 use Rattle.kz_types.specs.declared.record.CodecFault.TheVariants.{Short, UnknownKey, UnknownVersion, BadField, Rest, NoMemory}
-use Rattle.kz_spec_values.specs.Fields.{Reading, ◌>>=◌}
-use Rattle.kz_spec_values.specs.Forms.{tag_at, tags_at, items_at}
-use Rattle.kz_spec_values.specs.Records.{Fails}
+use Rattle.kz_spec_data.specs.Fields.{Reading, ◌>>=◌}
+use Rattle.kz_spec_data.specs.Forms.{tag_at, tags_at, items_at}
+use Rattle.kz_spec_data.specs.Records.{Fails}
 
 -- a fault of a part is the fault of the whole
 pub fails_as : {Y Z : Type 0} (e : CodecFault) (a : Result Y CodecFault) (b : Result Z CodecFault) → ((f : CodecFault) → a ≡ Err f → b ≡ Err f) → Fails e a → Fails e b

@@ -1,9 +1,9 @@
 //! The fields of a record.
 ghost use Rattle.std.specs.Prelude.{◌≡◌, ◌+◌, length, IfOk, Ok, option_map};
 ghost use Rattle.std.specs.Str.{IsUtf8};
-ghost use Rattle.kz_spec_values.specs.Fields.{uvarint, nullable_text, ints_of};
-ghost use Rattle.kz_spec_values.specs.Forms.{with_field_fault, flag};
-ghost use Rattle.kz_spec_values.specs.Records.{Gives, int8, int16, uint16, int32, int64, uuid, string, nullable_string, bytes, ints};
+ghost use Rattle.kz_spec_data.specs.Fields.{uvarint, nullable_text, ints_of};
+ghost use Rattle.kz_spec_data.specs.Forms.{with_field_fault, flag};
+ghost use Rattle.kz_spec_data.specs.Records.{Gives, int8, int16, uint16, int32, int64, uuid, string, nullable_string, bytes, ints};
 
 use kz_bytes::{ByteFault, Reader};
 use kz_types::{CodecFault, Id, NoMemory, Sequence, Text};

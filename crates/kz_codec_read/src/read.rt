@@ -1,6 +1,6 @@
 //! Whole values.
 ghost use Rattle.std.specs.Prelude.{◌≡◌};
-ghost use Rattle.kz_spec_values.specs.Records.{Gives, version_of, fields_at, record_at, record_of};
+ghost use Rattle.kz_spec_data.specs.Records.{Gives, version_of, fields_at, record_at, record_of};
 
 use crate::fields::uvarint;
 use crate::records::{
@@ -26,7 +26,7 @@ fn version_of(key: u32) -> Option<u32>
 }
 
 // The fields of the record of this key.
-#[tactic(auto, unfolding(kz_spec_values::specs::Records::fields_at))]
+#[tactic(auto, unfolding(kz_spec_data::specs::Records::fields_at))]
 fn read_fields(alloc: Global, key: u32, reader: &mut Reader) -> Result<MetaRecord, CodecFault>
     ensures { Gives (λ x. (x, reader.new)) result (fields_at key reader.old) }
 {
@@ -72,7 +72,7 @@ fn read_fields(alloc: Global, key: u32, reader: &mut Reader) -> Result<MetaRecor
 }
 
 // A record at the front.
-#[tactic(auto, unfolding(kz_spec_values::specs::Records::record_at))]
+#[tactic(auto, unfolding(kz_spec_data::specs::Records::record_at))]
 fn read_record(alloc: Global, reader: &mut Reader) -> Result<MetaRecord, CodecFault>
     ensures { Gives (λ x. (x, reader.new)) result (record_at reader.old) }
 {
@@ -100,7 +100,7 @@ fn read_record(alloc: Global, reader: &mut Reader) -> Result<MetaRecord, CodecFa
 /// The bytes are a frame version 1, the record's key and version, its fields and a tagged section, as Kafka's metadata
 /// log has them (KIP-631). Unknown tags are passed over, and numbers may have more bytes than they need. Every other
 /// deviation is a fault: the first in the order of the bytes.
-#[tactic(auto, unfolding(kz_spec_values::specs::Records::record_of))]
+#[tactic(auto, unfolding(kz_spec_data::specs::Records::record_of))]
 pub fn read_value(alloc: Global, bytes: &[u8]) -> Result<MetaRecord, CodecFault>
     ensures { Gives (λ r. r) result (record_of bytes.now) }
 {

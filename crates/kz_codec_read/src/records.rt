@@ -1,7 +1,7 @@
 //! The records: their fields in order.
 ghost use Rattle.std.specs.Prelude.{◌≡◌, ◌-◌, ◌<◌, ◌^◌};
-ghost use Rattle.kz_spec_values.specs.Forms.{items_at, list_of};
-ghost use Rattle.kz_spec_values.specs.Records.{Gives, endpoint, feature, register_broker, topic, partition, config, partition_change, user_scram_credential, quota_entity, quota_entities, client_quota, producer_ids, access_control_entry, id_alone, state_alone, name_and_mechanism, no_fields};
+ghost use Rattle.kz_spec_data.specs.Forms.{items_at, list_of};
+ghost use Rattle.kz_spec_data.specs.Records.{Gives, endpoint, feature, register_broker, topic, partition, config, partition_change, user_scram_credential, quota_entity, quota_entities, client_quota, producer_ids, access_control_entry, id_alone, state_alone, name_and_mechanism, no_fields};
 
 use crate::fields::{
     bytes, flag, int8, int16, int32, int64, ints, nullable_string, string, uint16, uuid, uvarint,

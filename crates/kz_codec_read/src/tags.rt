@@ -1,9 +1,9 @@
 //! Tagged sections.
 ghost use Rattle.std.specs.Prelude.{◌≡◌, ◌==◌, length, option_map, IfOk};
 ghost use Rattle.std.specs.Int.{w8, w32};
-ghost use Rattle.kz_spec_values.specs.Fields.{Reads, nullable_bytes, signed_number};
-ghost use Rattle.kz_spec_values.specs.Forms.{section, nothing, tag_at, tags_at, plain, text_content, tag_value, nullable_ints};
-ghost use Rattle.kz_spec_values.specs.Records.{Gives, tagged_text, text_tags, partition_tags, change_tags};
+ghost use Rattle.kz_spec_data.specs.Fields.{Reads, nullable_bytes, signed_number};
+ghost use Rattle.kz_spec_data.specs.Forms.{section, nothing, tag_at, tags_at, plain, text_content, tag_value, nullable_ints};
+ghost use Rattle.kz_spec_data.specs.Records.{Gives, tagged_text, text_tags, partition_tags, change_tags};
 ghost use Rattle.kz_codec_read.specs.Changes.{parts_of};
 
 use crate::fields::{ints_or_null, nullable_string, uvarint};

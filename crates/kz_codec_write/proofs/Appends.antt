@@ -2,8 +2,8 @@
 use Rattle.std.proofs.Common.{◌≡◌, ℕ, zero, suc, ◌+◌, ◌*◌, ◌/◌, ◌%◌, ◌^◌, ◌<◌, ℤ, ltb, Bool, true, false, cond, List, [], ◌∷◌, ◌++◌, length, get_or, refl, sym, ap, ◌∙◌, append_assoc, arith}
 use Rattle.std.proofs.lemmas.List.{length-append, append-nil}
 use Rattle.std.specs.Prelude.{Some}
-use Rattle.kz_spec_values.specs.Fields.{groups_of, int_bytes, items_with_count}
-use Rattle.kz_spec_values.specs.Forms.{items_written, AllFit, Tag, tags_written}
+use Rattle.kz_spec_data.specs.Fields.{groups_of, int_bytes, items_with_count}
+use Rattle.kz_spec_data.specs.Forms.{items_written, AllFit, Tag, tags_written}
 
 pub seq : (old a mid b new : List ℕ) → mid ≡ old ++ a → new ≡ mid ++ b → new ≡ old ++ (a ++ b)
 seq old a mid b new e f = f ∙ ap (λ (l : List ℕ). l ++ b) e ∙ append_assoc old a b

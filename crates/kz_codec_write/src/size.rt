@@ -1,8 +1,8 @@
 //! How many bytes a record has.
 ghost use Rattle.std.specs.Prelude.{◌≡◌, ◌+◌, ◌*◌, ◌<◌, ◌≤◌, ◌^◌, ◌++◌, length, Some};
-ghost use Rattle.kz_spec_values.specs.Fields.{uvarint, groups_of};
-ghost use Rattle.kz_spec_values.specs.Forms.{section, nothing, items_written, list_of, nullable_ints, tags_written};
-ghost use Rattle.kz_spec_values.specs.Records.{uuid, no_fields, bytes_of_record, head_written, string, nullable_string, bytes, ints, endpoint, feature, register_broker, topic, partition, config, partition_change, partition_tags, change_tags, leader_tag, stated_recovery_tag, ints_tag, user_scram_credential, quota_entity, quota_entities, client_quota, producer_ids, access_control_entry, id_alone, state_alone, name_and_mechanism, tagged_text};
+ghost use Rattle.kz_spec_data.specs.Fields.{uvarint, groups_of};
+ghost use Rattle.kz_spec_data.specs.Forms.{section, nothing, items_written, list_of, nullable_ints, tags_written};
+ghost use Rattle.kz_spec_data.specs.Records.{uuid, no_fields, bytes_of_record, head_written, string, nullable_string, bytes, ints, endpoint, feature, register_broker, topic, partition, config, partition_change, partition_tags, change_tags, leader_tag, stated_recovery_tag, ints_tag, user_scram_credential, quota_entity, quota_entities, client_quota, producer_ids, access_control_entry, id_alone, state_alone, name_and_mechanism, tagged_text};
 
 use crate::write::change_tag_count;
 use kz_bytes::uvarint_size;
@@ -131,7 +131,7 @@ fn topic_size(r: &TopicRecord) -> u128
     string_size(&r.name) + id_size(&r.topic_id) + 1
 }
 
-#[tactic(auto, unfolding(kz_spec_values::specs::Fields::groups_of))]
+#[tactic(auto, unfolding(kz_spec_data::specs::Fields::groups_of))]
 fn recovery_size(state: i8) -> u128
     ensures size { result ≡ length ((section partition_tags).written state) }
     ensures bound { result ≤ 4 }
@@ -222,7 +222,7 @@ fn name_and_mechanism_size(name: &Text, mechanism: i8) -> u128
 }
 
 // How many bytes a number has, of which at most `more` stand before the last.
-#[tactic(auto, unfolding(kz_spec_values::specs::Fields::groups_of))]
+#[tactic(auto, unfolding(kz_spec_data::specs::Fields::groups_of))]
 fn number_size(number: u128, more: u8) -> u128
     ensures size { result ≡ length (groups_of more number) }
     ensures bound { result ≤ more + 1 }
@@ -253,7 +253,7 @@ fn tagged_text_size(v: &Option<Text>) -> u128
 }
 
 // An empty tagged section.
-#[tactic(auto, unfolding(kz_spec_values::specs::Fields::groups_of))]
+#[tactic(auto, unfolding(kz_spec_data::specs::Fields::groups_of))]
 fn no_tags_size() -> u128
     ensures size { result ≡ length ((section nothing).written tt) }
     ensures one { result ≡ 1 }
@@ -279,7 +279,7 @@ fn list_tag_size(number: u32, list: &Sequence<i32>) -> u128
     uvarint_size(number as u64) as u128 + field_size(ints_size(list))
 }
 
-#[tactic(auto, unfolding(kz_spec_values::specs::Fields::groups_of))]
+#[tactic(auto, unfolding(kz_spec_data::specs::Fields::groups_of))]
 fn leader_tag_size(leader: i32) -> u128
     ensures size { result ≡ length (tags_written (leader_tag.tags leader)) }
     ensures bound { result ≤ 6 }
@@ -287,7 +287,7 @@ fn leader_tag_size(leader: i32) -> u128
     if leader == -2 { 0 } else { 6 }
 }
 
-#[tactic(auto, unfolding(kz_spec_values::specs::Fields::groups_of))]
+#[tactic(auto, unfolding(kz_spec_data::specs::Fields::groups_of))]
 fn state_tag_size(state: i8) -> u128
     ensures size { result ≡ length (tags_written (stated_recovery_tag.tags state)) }
     ensures bound { result ≤ 3 }

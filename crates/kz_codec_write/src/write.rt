@@ -1,9 +1,9 @@
 //! Records at the end of bytes.
 ghost use Rattle.std.specs.Prelude.{◌≡◌, ◌+◌, ◌<◌, ◌≤◌, ◌^◌, ◌*◌, ◌++◌, length, Some, OnOk, IfOk};
 ghost use Rattle.std.specs.Int.{w8, w32};
-ghost use Rattle.kz_spec_values.specs.Fields.{uvarint};
-ghost use Rattle.kz_spec_values.specs.Forms.{section, nothing, items_written, list_of, AllFit, flag, plain, nullable_ints, text_content, tags_written};
-ghost use Rattle.kz_spec_values.specs.Records.{bytes_of_record, head_written, string, nullable_string, bytes, ints, endpoint, feature, register_broker, topic, partition, config, partition_change, partition_tags, change_tags, leader_tag, stated_recovery_tag, ints_tag, user_scram_credential, quota_entity, quota_entities, client_quota, producer_ids, access_control_entry, id_alone, state_alone, name_and_mechanism, no_fields, tagged_text, IsShort, IsShortOrNull, IsFew, FieldFits, ShortEndpoint, ShortFeature, ShortEntity, ShortRegistration, ShortPartition, ShortConfig, ShortChange, ShortCredential, ShortQuota, ShortEntry, LengthsFit};
+ghost use Rattle.kz_spec_data.specs.Fields.{uvarint};
+ghost use Rattle.kz_spec_data.specs.Forms.{section, nothing, items_written, list_of, AllFit, flag, plain, nullable_ints, text_content, tags_written};
+ghost use Rattle.kz_spec_data.specs.Records.{bytes_of_record, head_written, string, nullable_string, bytes, ints, endpoint, feature, register_broker, topic, partition, config, partition_change, partition_tags, change_tags, leader_tag, stated_recovery_tag, ints_tag, user_scram_credential, quota_entity, quota_entities, client_quota, producer_ids, access_control_entry, id_alone, state_alone, name_and_mechanism, no_fields, tagged_text, IsShort, IsShortOrNull, IsFew, FieldFits, ShortEndpoint, ShortFeature, ShortEntity, ShortRegistration, ShortPartition, ShortConfig, ShortChange, ShortCredential, ShortQuota, ShortEntry, LengthsFit};
 
 use kz_bytes::{
     put_byte_field, put_i8, put_i16, put_i32, put_i64, put_id, put_ints, put_nullable_text,

@@ -3,8 +3,8 @@ use Rattle.std.proofs.Common.{◌≡◌, ◌<◌, ℕ, Bool, true, false, List, 
 use Rattle.kz_types.specs.Causes.{Rose}
 use Rattle.kz_types.specs.declared.outside.Status.{Status}
 use Rattle.kz_disk.specs.Disks.{NothingPends}
-use Rattle.kz_spec_files.specs.Frames.{Journal, journal_of}
-use Rattle.kz_spec_commands.specs.Files.{SayTheSame, EndsAtDisk}
+use Rattle.kz_spec_data.specs.Frames.{Journal, journal_of}
+use Rattle.kz_spec_machine.specs.Files.{SayTheSame, EndsAtDisk}
 use Rattle.kz_commands.specs.Stops.{StandsAtStop}
 
 -- ---- disks that are given back

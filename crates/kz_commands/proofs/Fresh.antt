@@ -2,15 +2,15 @@
 use Rattle.std.proofs.Common.{◌≡◌, ℕ, Bool, true, false, not, cond, List, [], ◌∷◌, Option, Some, None, Result, Ok, Err, refl, ap}
 use Rattle.std.specs.Prelude.{⊤, ℤ}
 use Rattle.kz_types.specs.declared.tree.Row.{Row}
-use Rattle.kz_spec_stores.specs.Tree.{Tree, empty_tree}
-use Rattle.kz_spec_files.specs.declared.files.Txn.{Txn}
-use Rattle.kz_spec_files.specs.declared.files.Txn.TheVariants.{Multi, LoadRows, LoadEnd, Begin, End}
-use Rattle.kz_spec_files.specs.Frames.{Framed, Journal}
-use Rattle.kz_spec_files.specs.Transactions.{txn_of}
-use Rattle.kz_spec_files.specs.Loads.{is_load}
-use Rattle.kz_spec_files.specs.TreeFile.{Load, fresh, under_way, over, Stored, nothing_stored, stored_of, load_with_rows, with_load, stored_by_load, after_txn, after_reading, or_damaged, after_frames, whole_or_damaged, stored_in, tree_of_stored, is_fresh}
-use Rattle.kz_spec_commands.specs.Files.{tree_damage}
-use Rattle.kz_spec_commands.specs.Init.{holds_tree}
+use Rattle.kz_spec_data.specs.Tree.{Tree, empty_tree}
+use Rattle.kz_spec_data.specs.declared.files.Txn.{Txn}
+use Rattle.kz_spec_data.specs.declared.files.Txn.TheVariants.{Multi, LoadRows, LoadEnd, Begin, End}
+use Rattle.kz_spec_data.specs.Frames.{Framed, Journal}
+use Rattle.kz_spec_data.specs.Transactions.{txn_of}
+use Rattle.kz_spec_data.specs.Loads.{is_load}
+use Rattle.kz_spec_data.specs.TreeFile.{Load, fresh, under_way, over, Stored, nothing_stored, stored_of, load_with_rows, with_load, stored_by_load, after_txn, after_reading, or_damaged, after_frames, whole_or_damaged, stored_in, tree_of_stored, is_fresh}
+use Rattle.kz_spec_machine.specs.Files.{tree_damage}
+use Rattle.kz_spec_machine.specs.Init.{holds_tree}
 use Rattle.kz_tree_store.specs.Stores.{is_fresh_file}
 
 abbrev FreshIsEmpty : Stored → Type 0

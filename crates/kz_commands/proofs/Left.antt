@@ -3,8 +3,8 @@ use Rattle.std.proofs.Common.{◌≡◌, ◌⊎◌, inl, ℕ, ◌+◌, ◌<◌, 
 use Rattle.std.proofs.lemmas.Bool.{le-leb, leb-true}
 use Rattle.kz_types.specs.declared.outside.Status.{Status}
 use Rattle.kz_disk.specs.Disks.{NothingPends, LeavesNoMore}
-use Rattle.kz_spec_files.specs.Frames.{journal_of}
-use Rattle.kz_spec_commands.specs.Init.{is_short}
+use Rattle.kz_spec_data.specs.Frames.{journal_of}
+use Rattle.kz_spec_machine.specs.Init.{is_short}
 use Rattle.kz_commands.specs.declared.making.Found.{Found}
 use Rattle.kz_commands.specs.declared.making.Found.TheVariants as found
 use Rattle.kz_commands.specs.Making.{IsFound, MakingLeaves}

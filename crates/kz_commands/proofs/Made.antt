@@ -9,14 +9,14 @@ use Rattle.kz_types.specs.declared.fault.LogWhy.{LogWhy}
 use Rattle.kz_types.specs.declared.outside.Status.{Status}
 use Rattle.kz_types.specs.declared.outside.Status.TheVariants as status
 use Rattle.kz_disk.specs.Disks.{with_piece}
-use Rattle.kz_spec_stores.specs.Tree.{Tree, empty_tree}
-use Rattle.kz_spec_stores.specs.Log.{Log, empty_log}
-use Rattle.kz_spec_files.specs.Frames.{Framed, Journal, tree_letter, log_letter, plain_header, closed_gate, new_file, journal_of}
-use Rattle.kz_spec_files.specs.TreeFile.{Stored, stored_in, tree_of_stored, tree_of}
-use Rattle.kz_spec_files.specs.LogFile.{log_in, log_of, after_frames, why_at, whole_or_damaged}
-use Rattle.kz_spec_commands.specs.Files.{tree_damage, log_damage, first_reason, SayTheSame}
-use Rattle.kz_spec_commands.specs.Init.{is_short, is_whole_and_empty, holds_tree, holds_frames, tree_refusal, has_tree, log_refusal, has_log, init_refusal, IsMade, IsUnmade, AreRefused, Inits}
-use Rattle.kz_spec_files.proofs.FilesOnLiterals.{files_on_literals}
+use Rattle.kz_spec_data.specs.Tree.{Tree, empty_tree}
+use Rattle.kz_spec_data.specs.Log.{Log, empty_log}
+use Rattle.kz_spec_data.specs.Frames.{Framed, Journal, tree_letter, log_letter, plain_header, closed_gate, new_file, journal_of}
+use Rattle.kz_spec_data.specs.TreeFile.{Stored, stored_in, tree_of_stored, tree_of}
+use Rattle.kz_spec_data.specs.LogFile.{log_in, log_of, after_frames, why_at, whole_or_damaged}
+use Rattle.kz_spec_machine.specs.Files.{tree_damage, log_damage, first_reason, SayTheSame}
+use Rattle.kz_spec_machine.specs.Init.{is_short, is_whole_and_empty, holds_tree, holds_frames, tree_refusal, has_tree, log_refusal, has_log, init_refusal, IsMade, IsUnmade, AreRefused, Inits}
+use Rattle.kz_spec_data.proofs.FilesOnLiterals.{files_on_literals}
 use Rattle.kz_tree_store.specs.declared.store.TreeStore.{TreeStore}
 use Rattle.kz_tree_store.specs.Stores.{is_fresh_file, held_tree}
 use Rattle.kz_tree_store.specs.Stores.{is_fresh as is_fresh_tree, IsOpened as TreeOpened}

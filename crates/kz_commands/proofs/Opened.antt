@@ -2,14 +2,14 @@
 use Rattle.std.proofs.Common.{◌≡◌, ℕ, Bool, true, false, List, Some, None, Result, Ok, Err, refl, ap, ◌∙◌, if◌then◌else◌}
 use Rattle.kz_types.specs.declared.fault.LogWhy.{LogWhy}
 use Rattle.kz_types.specs.declared.outside.Status.TheVariants as status
-use Rattle.kz_spec_stores.specs.Tree.{Tree}
-use Rattle.kz_spec_stores.specs.Log.{Log, empty_log}
-use Rattle.kz_spec_files.specs.Frames.{Journal, tree_letter, log_letter, journal_of}
-use Rattle.kz_spec_files.specs.TreeFile.{Stored, tree_of, tree_of_stored}
-use Rattle.kz_spec_files.specs.TreeFile as tree_file
-use Rattle.kz_spec_files.specs.LogFile.{log_of}
-use Rattle.kz_spec_files.specs.LogFile as log_file
-use Rattle.kz_spec_commands.specs.Files.{damage, first_reason, tree_damage, log_damage}
+use Rattle.kz_spec_data.specs.Tree.{Tree}
+use Rattle.kz_spec_data.specs.Log.{Log, empty_log}
+use Rattle.kz_spec_data.specs.Frames.{Journal, tree_letter, log_letter, journal_of}
+use Rattle.kz_spec_data.specs.TreeFile.{Stored, tree_of, tree_of_stored}
+use Rattle.kz_spec_data.specs.TreeFile as tree_file
+use Rattle.kz_spec_data.specs.LogFile.{log_of}
+use Rattle.kz_spec_data.specs.LogFile as log_file
+use Rattle.kz_spec_machine.specs.Files.{damage, first_reason, tree_damage, log_damage}
 use Rattle.kz_tree_store.specs.declared.fault.TreeOpenFault.{TreeOpenFault}
 use Rattle.kz_tree_store.specs.declared.fault.TreeOpenFault.TheVariants as tree_fault
 use Rattle.kz_tree_store.specs.Opened as trees_opened

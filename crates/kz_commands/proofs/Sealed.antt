@@ -4,14 +4,14 @@ use Rattle.kz_types.specs.Causes.{Rose}
 use Rattle.kz_types.specs.declared.fault.LogWhy.{LogWhy}
 use Rattle.kz_types.specs.declared.outside.Status.{Status}
 use Rattle.kz_types.specs.declared.outside.Status.TheVariants as status
-use Rattle.kz_spec_stores.specs.Requests.{Only}
-use Rattle.kz_spec_stores.specs.Tree.{Tree}
-use Rattle.kz_spec_stores.specs.Log.{Log}
-use Rattle.kz_spec_files.specs.Frames.{Journal, tree_letter, log_letter, journal_of, HasNoRoomForSeal}
-use Rattle.kz_spec_files.specs.TreeFile.{tree_of}
-use Rattle.kz_spec_files.specs.LogFile.{log_of}
-use Rattle.kz_spec_commands.specs.Files.{SayTheSame}
-use Rattle.kz_spec_commands.specs.Upgrade.{Upgrades, IsSummed}
+use Rattle.kz_spec_data.specs.Requests.{Only}
+use Rattle.kz_spec_data.specs.Tree.{Tree}
+use Rattle.kz_spec_data.specs.Log.{Log}
+use Rattle.kz_spec_data.specs.Frames.{Journal, tree_letter, log_letter, journal_of, HasNoRoomForSeal}
+use Rattle.kz_spec_data.specs.TreeFile.{tree_of}
+use Rattle.kz_spec_data.specs.LogFile.{log_of}
+use Rattle.kz_spec_machine.specs.Files.{SayTheSame}
+use Rattle.kz_spec_machine.specs.Upgrade.{Upgrades, IsSummed}
 use Rattle.kz_journal.specs.Held.{IsSealed}
 use Rattle.kz_tree_store.specs.declared.store.TreeStore.{TreeStore}
 use Rattle.kz_tree_store.specs.Opened.{tree_found, tree_in_file, LeavesTree}

@@ -2,7 +2,7 @@
 use Rattle.std.specs.Prelude.{◌≢◌, ℕ, List}
 use Rattle.kz_types.specs.declared.outside.Status.{Status}
 use Rattle.kz_types.specs.declared.outside.Status.TheVariants as status
-use Rattle.kz_spec_commands.specs.Files.{EndsAtDisk}
+use Rattle.kz_spec_machine.specs.Files.{EndsAtDisk}
 use Rattle.kz_commands.specs.Outside.{Outside, OfFiles}
 
 -- A command does this with the files, and ends with a disk's status exactly where a call of that disk failed.

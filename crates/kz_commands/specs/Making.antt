@@ -2,13 +2,13 @@
 use Rattle.std.specs.Prelude.{◌≡◌, ⊤, ◌||◌, ℕ, Bool, true, false, List, bytes_eq, Option, Some, None, option_map, Ok}
 use Rattle.kz_types.specs.declared.outside.Status.{Status}
 use Rattle.kz_types.specs.declared.outside.Status.TheVariants as status
-use Rattle.kz_spec_stores.specs.Tree.{empty_tree}
-use Rattle.kz_spec_stores.specs.Log.{empty_log}
+use Rattle.kz_spec_data.specs.Tree.{empty_tree}
+use Rattle.kz_spec_data.specs.Log.{empty_log}
 use Rattle.kz_disk.specs.Disks.{with_piece, LeavesNoMore, LeavesTorn}
-use Rattle.kz_spec_files.specs.Frames.{tree_letter, log_letter, new_file}
-use Rattle.kz_spec_files.specs.TreeFile.{tree_of}
-use Rattle.kz_spec_files.specs.LogFile.{log_of}
-use Rattle.kz_spec_commands.specs.Init.{is_short, is_whole_and_empty, tree_refusal, has_tree, log_refusal, has_log, IsMade, IsUnmade}
+use Rattle.kz_spec_data.specs.Frames.{tree_letter, log_letter, new_file}
+use Rattle.kz_spec_data.specs.TreeFile.{tree_of}
+use Rattle.kz_spec_data.specs.LogFile.{log_of}
+use Rattle.kz_spec_machine.specs.Init.{is_short, is_whole_and_empty, tree_refusal, has_tree, log_refusal, has_log, IsMade, IsUnmade}
 use Rattle.kz_commands.specs.declared.making.Found.{Found}
 use Rattle.kz_commands.specs.declared.making.Found.TheVariants as found
 

@@ -2,8 +2,8 @@
 use Rattle.std.specs.Prelude.{◌≡◌, ⊤, ℕ, List, Option, Some}
 use Rattle.kz_types.specs.declared.outside.Status.{Status}
 use Rattle.kz_types.specs.declared.outside.Status.TheVariants as status
-use Rattle.kz_spec_files.specs.Frames.{tree_letter, log_letter}
-use Rattle.kz_spec_commands.specs.Files.{damage, SayTheSame, EndsAtDisk}
+use Rattle.kz_spec_data.specs.Frames.{tree_letter, log_letter}
+use Rattle.kz_spec_machine.specs.Files.{damage, SayTheSame, EndsAtDisk}
 use Rattle.kz_tree_store.specs.declared.fault.TreeOpenFault.{TreeOpenFault}
 use Rattle.kz_tree_store.specs.declared.fault.TreeOpenFault.TheVariants as tree_fault
 use Rattle.kz_tree_store.specs.declared.store.TreeStore.{TreeStore}

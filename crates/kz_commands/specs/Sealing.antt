@@ -6,7 +6,7 @@ use Rattle.kz_types.specs.Limits.{number_of_limit}
 use Rattle.kz_types.specs.declared.limits.TheConstants.{MAX_FILE_BYTES}
 use Rattle.kz_types.specs.declared.outside.Status.{Status}
 use Rattle.kz_types.specs.declared.outside.Status.TheVariants as status
-use Rattle.kz_spec_files.specs.Frames.{journal_of, HasNoRoomForSeal}
+use Rattle.kz_spec_data.specs.Frames.{journal_of, HasNoRoomForSeal}
 use Rattle.kz_commands.specs.declared.sealing.SealFault.{SealFault}
 use Rattle.kz_commands.specs.declared.sealing.SealFault.TheVariants as fault
 

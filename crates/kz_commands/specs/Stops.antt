@@ -1,8 +1,8 @@
 -- What a stop leaves of a file.
 use Rattle.std.specs.Prelude.{◌≡◌, ◌⊎◌, ◌+◌, ◌<◌, ◌≤◌, ◌^◌, ℕ, true, false, List, length, Option, Some}
 use Rattle.kz_disk.specs.Disks.{NothingPends}
-use Rattle.kz_spec_commands.specs.Files.{SayTheSame}
-use Rattle.kz_spec_commands.specs.Init.{is_short}
+use Rattle.kz_spec_machine.specs.Files.{SayTheSame}
+use Rattle.kz_spec_machine.specs.Init.{is_short}
 
 -- What a disk tells of its contents, what a stop may leave of them, and how often a sync has succeeded.
 pub record Contents : Type 1 where

@@ -2,10 +2,10 @@
 ghost use Rattle.std.specs.Prelude.{◌≡◌, ◌≢◌, ◌||◌, bytes_eq, false, List, ℕ, Some, IfOk, IfErr, MatchResult};
 ghost use Rattle.kz_types.specs.Causes.{HasCause, Rose};
 ghost use Rattle.kz_disk.specs.Disks.{StaysTold, LeavesNoMore, NothingPends};
-ghost use Rattle.kz_spec_files.specs.Frames.{tree_letter, log_letter, new_file, journal_of};
-ghost use Rattle.kz_spec_commands.specs.Files.{EndsAtDisk};
+ghost use Rattle.kz_spec_data.specs.Frames.{tree_letter, log_letter, new_file, journal_of};
+ghost use Rattle.kz_spec_machine.specs.Files.{EndsAtDisk};
 ghost use Rattle.kz_tree_store.specs.Opened.{GrowsByOne};
-ghost use Rattle.kz_spec_commands.specs.Init.{is_short, tree_refusal, log_refusal, Inits};
+ghost use Rattle.kz_spec_machine.specs.Init.{is_short, tree_refusal, log_refusal, Inits};
 ghost use Rattle.kz_commands.specs.Outside.{outside};
 ghost use Rattle.kz_commands.specs.Makes.{MakesFiles};
 ghost use Rattle.kz_commands.specs.Making.{IsShortFound, IsTreeFound, IsLogFound, IsRefusedFor, OfFile, MakesFile, MakingLeaves, is_taken, found_by};

@@ -1,7 +1,7 @@
 //! Opening the two files.
 ghost use Rattle.std.specs.Prelude.{◌≡◌, IfOk, IfErr, MatchResult};
-ghost use Rattle.kz_spec_files.specs.TreeFile.{tree_of};
-ghost use Rattle.kz_spec_files.specs.LogFile.{log_of};
+ghost use Rattle.kz_spec_data.specs.TreeFile.{tree_of};
+ghost use Rattle.kz_spec_data.specs.LogFile.{log_of};
 ghost use Rattle.kz_tree_store.specs.Stores as trees;
 ghost use Rattle.kz_log_store.specs.Stores as logs;
 ghost use Rattle.kz_commands.specs.Outside.{outside};

@@ -1,11 +1,11 @@
 //! The command that seals both files.
 ghost use Rattle.std.specs.Prelude.{◌≡◌, ℕ, List, Some, false};
 ghost use Rattle.kz_disk.specs.Disks.{StaysTold};
-ghost use Rattle.kz_spec_stores.specs.Requests.{Only};
-ghost use Rattle.kz_spec_files.specs.Frames.{tree_letter, log_letter};
-ghost use Rattle.kz_spec_files.specs.TreeFile.{tree_of};
-ghost use Rattle.kz_spec_files.specs.LogFile.{log_of};
-ghost use Rattle.kz_spec_commands.specs.Upgrade.{Upgrades};
+ghost use Rattle.kz_spec_data.specs.Requests.{Only};
+ghost use Rattle.kz_spec_data.specs.Frames.{tree_letter, log_letter};
+ghost use Rattle.kz_spec_data.specs.TreeFile.{tree_of};
+ghost use Rattle.kz_spec_data.specs.LogFile.{log_of};
+ghost use Rattle.kz_spec_machine.specs.Upgrade.{Upgrades};
 ghost use Rattle.kz_tree_store.specs.Stores as trees;
 ghost use Rattle.kz_log_store.specs.Stores as logs;
 ghost use Rattle.kz_commands.specs.Outside.{outside};

@@ -3,7 +3,7 @@ use Rattle.std.specs.Prelude.{◌≡◌, ℕ, ⊤}
 use Rattle.kz_types.specs.Causes.{Rose}
 use Rattle.kz_types.specs.declared.plan.Plan.{Plan}
 use Rattle.kz_types.specs.declared.plan.Plan.TheVariants as plan
-use Rattle.kz_spec_stores.specs.Requests.{Disk, StoreAnswer}
+use Rattle.kz_spec_data.specs.Requests.{Disk, StoreAnswer}
 
 -- The store, the plan for the next request, and how often a request wasn't answered.
 pub record Wired (T : Type 0) : Type 0 where

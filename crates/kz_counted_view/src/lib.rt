@@ -1,8 +1,15 @@
-//! What a world knows of the log, and whether a change of it keeps the limits of the rendering.
+//! What a world knows of the log: its view, the counts of a rendering on which the limits depend, what they become where only some
+//! znodes change, and whether a change of the log keeps the limits.
 #![tactic(auto)]
 
+mod after;
+mod counts;
+mod limits;
 mod reading;
 mod view;
 
+pub use after::counts_after;
+pub use counts::{Counts, counts_of};
+pub use limits::passed_limit;
 pub use reading::read_to_end;
 pub use view::CountedView;

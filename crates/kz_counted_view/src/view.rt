@@ -1,12 +1,12 @@
 //! A view of a log with the counts of its rendering.
 ghost use Rattle.std.specs.Prelude.{◌≡◌, option_map, IfOk, OnOk, OnErr};
-ghost use Rattle.kz_spec_stores.specs.Image.{all_applied};
-ghost use Rattle.kz_spec_stores.specs.Log.{new_view};
-ghost use Rattle.kz_spec_znodes.specs.Rendering.{excess};
+ghost use Rattle.kz_spec_data.specs.Image.{all_applied};
+ghost use Rattle.kz_spec_data.specs.Log.{new_view};
+ghost use Rattle.kz_spec_data.specs.Rendering.{excess};
 ghost use Rattle.kz_view_delta.specs.Reads.{IsReadAfter, WasRead, Makes};
 ghost use Rattle.kz_counted_view.specs.Known.{AreCountsOf};
 
-use kz_counts::{Counts, counts_after, counts_of, passed_limit};
+use crate::{Counts, counts_after, counts_of, passed_limit};
 use kz_image::{Feed, Image};
 use kz_log::View;
 use kz_render::{FitFault, fits, render};
@@ -25,7 +25,7 @@ pub struct CountedView {
 }
 
 impl Model for CountedView {
-    ghost use Rattle.kz_spec_stores.specs.Log.{View as ViewValue};
+    ghost use Rattle.kz_spec_data.specs.Log.{View as ViewValue};
     ghost use Rattle.kz_counted_view.specs.Known.{AreCountsOf};
 
     ghost Value = { ViewValue };

@@ -1,7 +1,7 @@
 -- The tables have what 8 to 64 bits make of each byte.
 use Rattle.std.proofs.Common.{◌≡◌, ℕ, zero, suc, ◌+◌, ◌^◌, ◌<◌, Bool, true, false, ◌&&◌, eqb, List, [], ◌∷◌, length, get_or, refl, ap, ◌∙◌, arith}
 use Rattle.std.proofs.lemmas.Bool.{eqb-true}
-use Rattle.kz_spec_values.specs.Checksum.{after_bits}
+use Rattle.kz_spec_data.specs.Checksum.{after_bits}
 use Rattle.kz_crc.proofs.Linear.{after_bits_add}
 use Rattle.kz_crc.specs.declared.tables.TheConstants.{ONE, TWO, THREE, FOUR, FIVE, SIX, SEVEN, EIGHT}
 

@@ -2,7 +2,7 @@
 use Rattle.std.proofs.Common.{◌≡◌, ℕ, List, [], ◌∷◌, ◌++◌, refl, ap, ◌∙◌}
 use Rattle.std.specs.Int.Bits.{bit_xor, xor_assoc, xor_self, xor_zero_r}
 use Rattle.std.specs.Int.RustNames as rust
-use Rattle.kz_spec_values.specs.Checksum.{after_bits, after_bytes}
+use Rattle.kz_spec_data.specs.Checksum.{after_bits, after_bytes}
 
 pub after_pieces : (state : ℕ) (front rest : List ℕ) → after_bytes state (front ++ rest) ≡ after_bytes (after_bytes state front) rest
 unfolding after_bytes

@@ -2,7 +2,7 @@
 #![tactic(auto)]
 
 ghost use Rattle.std.specs.Prelude.{◌≡◌, ℕ, List, ◌∷◌, ◌++◌};
-ghost use Rattle.kz_spec_values.specs.Checksum.{crc32c, after_bits, after_bytes};
+ghost use Rattle.kz_spec_data.specs.Checksum.{crc32c, after_bits, after_bytes};
 
 mod tables;
 

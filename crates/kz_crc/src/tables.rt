@@ -1,6 +1,6 @@
 //! What 8 to 64 bits make of the lowest byte of the state: tables with one number for each byte.
 ghost use Rattle.std.specs.Prelude.{◌≡◌};
-ghost use Rattle.kz_spec_values.specs.Checksum.{after_bits};
+ghost use Rattle.kz_spec_data.specs.Checksum.{after_bits};
 
 static ONE: [u32; 256] = [
     0x00000000, 0xF26B8303, 0xE13B70F7, 0x1350F3F4, 0xC79A971F, 0x35F1141C, 0x26A1E7E8, 0xD4CA64EB,

@@ -1,8 +1,8 @@
 //! The keys of the resources of access control entries.
 ghost use Rattle.std.specs.Prelude.{◌≡◌, ◌++◌, ◌∷◌, [], option_map, option_to_list, OnOk};
-ghost use Rattle.kz_spec_stores.specs.Metadata.{acl_of};
-ghost use Rattle.kz_spec_znodes.specs.Rendering.{acl_key};
-ghost use Rattle.kz_spec_delta.specs.Touched.{keys_of_entry};
+ghost use Rattle.kz_spec_data.specs.Metadata.{acl_of};
+ghost use Rattle.kz_spec_data.specs.Rendering.{acl_key};
+ghost use Rattle.kz_spec_data.specs.Touched.{keys_of_entry};
 
 use kz_image::Image;
 use kz_types::{AclRow, Duplicate, EntityKey, Id, NoMemory};

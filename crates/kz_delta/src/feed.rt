@@ -1,6 +1,6 @@
 //! The keys that a feed touches.
 ghost use Rattle.std.specs.Prelude.{◌≡◌, IfOk};
-ghost use Rattle.kz_spec_delta.specs.Touched.{keys_of_feed, touched_keys, AreTouched};
+ghost use Rattle.kz_spec_data.specs.Touched.{keys_of_feed, touched_keys, AreTouched};
 ghost use Rattle.kz_delta.specs.Feeds.{feed_of};
 ghost use Rattle.kz_delta.specs.Placed.{AreLegalOnes};
 

@@ -1,7 +1,7 @@
 //! The keys of the topics that a record makes or removes.
 ghost use Rattle.std.specs.Prelude.{◌≡◌, ◌++◌, OnOk};
 ghost use Rattle.std.specs.List.{flat_map};
-ghost use Rattle.kz_spec_delta.specs.Touched.{keys_of_topic, topics_made_or_removed};
+ghost use Rattle.kz_spec_data.specs.Touched.{keys_of_topic, topics_made_or_removed};
 
 use crate::topics::push_keys_of_topic;
 use kz_image::Image;

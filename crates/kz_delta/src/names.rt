@@ -2,7 +2,7 @@
 ghost use Rattle.std.specs.Prelude.{◌≡◌, ◌++◌, ◌∷◌, [], Some, pos, if◌then◌else◌, OnOk};
 ghost use Rattle.std.specs.Ordering.{int_eq};
 ghost use Rattle.kz_types.specs.declared.key.EntityKey.TheVariants as key;
-ghost use Rattle.kz_spec_znodes.specs.Rendering.{broker_key};
+ghost use Rattle.kz_spec_data.specs.Rendering.{broker_key};
 
 use kz_types::{ConfigRecord, Duplicate, EntityKey, NoMemory, Text, number_in};
 use std::alloc::Global;

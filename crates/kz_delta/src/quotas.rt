@@ -1,11 +1,11 @@
 //! The key of an entity with a quota.
 ghost use Rattle.std.specs.Prelude.{◌≡◌, ◌++◌, IfOk, OnOk, option_and_then, option_to_list};
-ghost use Rattle.kz_spec_stores.specs.ImageRules.{quota_key};
-ghost use Rattle.kz_spec_delta.specs.Touched.{key_of_quota};
+ghost use Rattle.kz_spec_data.specs.ImageRules.{quota_key};
+ghost use Rattle.kz_spec_data.specs.Touched.{key_of_quota};
 ghost use Rattle.kz_image_rules.specs.QuotaKeys.{entity_of};
 
 use kz_image_rules::{QuotaKey, quota_key};
-use kz_laws_paths::held_key_has_its_path;
+use kz_laws_values::held_key_has_its_path;
 use kz_types::{Duplicate, EntityKey, NoMemory, QuotaEntity};
 use std::alloc::Global;
 

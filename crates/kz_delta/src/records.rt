@@ -1,7 +1,7 @@
 //! The keys that records touch.
 ghost use Rattle.std.specs.Prelude.{◌≡◌, ◌++◌, OnOk};
 ghost use Rattle.std.specs.List.{flat_map};
-ghost use Rattle.kz_spec_delta.specs.Touched.{keys_spoken_of, keys_touched_by, touched_keys};
+ghost use Rattle.kz_spec_data.specs.Touched.{keys_spoken_of, keys_touched_by, touched_keys};
 
 use crate::entries::push_keys_of_entry;
 use crate::made::push_keys_of_topics;

@@ -1,8 +1,8 @@
 //! The keys of topics, of their configurations and of their partitions.
 ghost use Rattle.std.specs.Prelude.{◌≡◌, ◌++◌, ◌∷◌, [], map, option_map, OnOk};
 ghost use Rattle.kz_types.specs.declared.key.EntityKey.TheVariants as key;
-ghost use Rattle.kz_spec_stores.specs.Metadata.{topic_named};
-ghost use Rattle.kz_spec_delta.specs.Touched.{partition_keys, keys_of_topic, keys_of_partition};
+ghost use Rattle.kz_spec_data.specs.Metadata.{topic_named};
+ghost use Rattle.kz_spec_data.specs.Touched.{partition_keys, keys_of_topic, keys_of_partition};
 
 use kz_image::Image;
 use kz_types::{Duplicate, EntityKey, Id, NoMemory, PartitionEntry, Shared, Text, TopicEntry};

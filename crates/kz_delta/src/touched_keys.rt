@@ -1,8 +1,8 @@
 //! Keys that are touched.
 ghost use Rattle.std.specs.Prelude.{◌≡◌, true, All};
 ghost use Rattle.kz_types.specs.Paths.{is_legal, path_of};
-ghost use Rattle.kz_ordered.specs.Order.{bytes_cmp};
-ghost use Rattle.kz_ordered.specs.Ordered.{Rises};
+ghost use Rattle.kz_types.specs.Order.{bytes_cmp};
+ghost use Rattle.kz_types.specs.Ordered.{Rises};
 
 use kz_types::EntityKey;
 use std::marker::Model;
@@ -17,8 +17,8 @@ impl Model for Touched {
     ghost use Rattle.std.specs.Prelude.{List, ◌≡◌, true, All};
     ghost use Rattle.kz_types.specs.declared.key.EntityKey.{EntityKey as EntityKeyValue};
     ghost use Rattle.kz_types.specs.Paths.{is_legal, path_of};
-    ghost use Rattle.kz_ordered.specs.Order.{bytes_cmp};
-    ghost use Rattle.kz_ordered.specs.Ordered.{Rises};
+    ghost use Rattle.kz_types.specs.Order.{bytes_cmp};
+    ghost use Rattle.kz_types.specs.Ordered.{Rises};
 
     ghost Value = { List EntityKeyValue };
 

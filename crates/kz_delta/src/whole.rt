@@ -3,15 +3,15 @@ ghost use Rattle.std.specs.Prelude.{◌≡◌, ◌++◌, map, Some, option_to_li
 ghost use Rattle.std.specs.List.{flat_map};
 ghost use Rattle.kz_types.specs.declared.key.EntityKey.TheVariants as key;
 ghost use Rattle.kz_types.specs.Paths.{key_of};
-ghost use Rattle.kz_spec_znodes.specs.Rendering.{broker_key, acl_key};
-ghost use Rattle.kz_spec_delta.specs.Touched.{keys_of_topic_entry, keys_of_image};
+ghost use Rattle.kz_spec_data.specs.Rendering.{broker_key, acl_key};
+ghost use Rattle.kz_spec_data.specs.Touched.{keys_of_topic_entry, keys_of_image};
 
 use crate::entries::push_key_of_resource;
 use crate::names::{broker_key, push_key_of_user};
 use crate::topics::{push_partitions, push_topic};
-use kz_blocks::Blocks;
 use kz_image::Image;
 use kz_path::key_of;
+use kz_sorted::Blocks;
 use kz_types::{
     AclEntry, Configuration, EntityKey, NoMemory, QuotaEntry, ScramEntry, TopicEntry, ZPath,
 };

@@ -11,10 +11,10 @@ use Rattle.kz_types.specs.declared.machine.Reply.{Reply}
 use Rattle.kz_types.specs.declared.record.MetaRecord.{MetaRecord}
 use Rattle.kz_types.specs.declared.tree.Op.{Op}
 use Rattle.kz_types.specs.declared.tree.Row.{Row}
-use Rattle.kz_spec_stores.specs.Tree.{Tree, multi}
-use Rattle.kz_spec_stores.specs.Log.{Log, append}
-use Rattle.kz_spec_stores.specs.Requests.{Disk, Multi, Append, Done, Either, IsTaken, ChangesDisk, ReadsDisk}
-use Rattle.kz_spec_znodes.specs.Translation.{Unreadable, translate}
+use Rattle.kz_spec_data.specs.Tree.{Tree, multi}
+use Rattle.kz_spec_data.specs.Log.{Log, append}
+use Rattle.kz_spec_data.specs.Requests.{Disk, Multi, Append, Done, Either, IsTaken, ChangesDisk, ReadsDisk}
+use Rattle.kz_spec_data.specs.Translation.{Unreadable, translate}
 use Rattle.kz_spec_machine.specs.Driver.{Shared, Driver, Request, nothing, read_log, write, add, is_of_log, is_limit, hearing_of_request, reaches_store, epoch_or_zero, request_at, begin_record, begin_request, next_records, after_records, after_append, after_translation, after_answer, claim_ops, remaining_at, write_request, write_ops, writes, reaches}
 use Rattle.kz_connection.specs.Connections.{Wired}
 use Rattle.kz_resync.specs.Remainders.{Remainder}

@@ -17,15 +17,15 @@ use Rattle.std.proofs.lemmas.Bool.Decides.{Decides-int_eq}
 use Rattle.kz_types.specs.declared.tree.Row.{Row}
 use Rattle.kz_types.specs.declared.tree.Op.{Op}
 use Rattle.kz_types.specs.declared.machine.Recorded.{Recorded}
-use Rattle.kz_spec_values.specs.Control.{epoch_path}
-use Rattle.kz_spec_stores.specs.Tree.{Tree, row_at, check_refusal, multi}
-use Rattle.kz_spec_stores.specs.Log.{Log, IsViewOf}
-use Rattle.kz_spec_stores.specs.Requests.{Disk, answer_of_tree_fault, answer_of_log_fault}
+use Rattle.kz_spec_data.specs.Control.{epoch_path}
+use Rattle.kz_spec_data.specs.Tree.{Tree, row_at, check_refusal, multi}
+use Rattle.kz_spec_data.specs.Log.{Log, IsViewOf}
+use Rattle.kz_spec_data.specs.Requests.{Disk, answer_of_tree_fault, answer_of_log_fault}
 use Rattle.kz_spec_machine.specs.Driver.{Shared, Driver, StepResult, Request, nothing, read_log, list_brokers, look_up, read_page, write, add, is_of_log, epoch_or_zero, request_at, remaining_at, write_request, write_ops, reaches, without_answer, planned_step}
 use Rattle.kz_spec_machine.specs.Failures.{is_tree_failure, is_log_failure}
 use Rattle.kz_spec_machine.specs.Sound.{IsBelowShown, shown_in, claim_version, IsCurrent, IsClaimOf, Claims, AtStage, IsSoundDriver}
-use Rattle.kz_laws_fence.proofs.Drivers.{check_refused}
-use Rattle.kz_laws_fence.specs.Fence.{IsOfFence, FencedDriversLeave, FencedRepliesLeave}
+use Rattle.kz_laws_machine.proofs.FenceDrivers.{check_refused}
+use Rattle.kz_laws_machine.specs.Fence.{IsOfFence, FencedDriversLeave, FencedRepliesLeave}
 use Rattle.kz_requests.specs.declared.fault.StepFault.{StepFault}
 use Rattle.kz_requests.specs.declared.fault.StepFault.TheVariants as step_fault
 use Rattle.kz_requests.specs.Disks.{IsOfStore, TreeDisk, LogDisk}

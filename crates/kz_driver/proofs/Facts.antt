@@ -9,9 +9,9 @@ use Rattle.kz_types.specs.declared.driver.Stage.{Stage}
 use Rattle.kz_types.specs.declared.machine.Reply.{Reply}
 use Rattle.kz_types.specs.declared.record.MetaRecord.{MetaRecord}
 use Rattle.kz_types.specs.declared.tree.Op.{Op}
-use Rattle.kz_spec_stores.specs.Tree.{Tree, multi}
-use Rattle.kz_spec_stores.specs.Log.{Log, append}
-use Rattle.kz_spec_stores.specs.Requests.{Disk, StoreAnswer, Multi, Append, Done, Either, IsTaken, ChangesDisk, ReadsDisk}
+use Rattle.kz_spec_data.specs.Tree.{Tree, multi}
+use Rattle.kz_spec_data.specs.Log.{Log, append}
+use Rattle.kz_spec_data.specs.Requests.{Disk, StoreAnswer, Multi, Append, Done, Either, IsTaken, ChangesDisk, ReadsDisk}
 use Rattle.kz_spec_machine.specs.Driver.{Shared, Driver, Request, nothing, read_log, list_brokers, look_up, read_page, write, add, is_of_log, is_limit, hearing, hearing_of_request, hears_answer, epoch_or_zero, request_at, reaches, reaches_store, shared_after, with_tree, after_answer}
 use Rattle.kz_requests.specs.declared.fault.StepFault.{StepFault}
 use Rattle.kz_requests.specs.declared.fault.StepFault.TheVariants as step_fault

@@ -8,12 +8,12 @@ use Rattle.kz_types.specs.declared.tree.Row.{Row}
 use Rattle.kz_types.specs.declared.driver.Stage.{Stage}
 use Rattle.kz_types.specs.declared.driver.Stage.TheVariants as stage
 use Rattle.kz_types.specs.declared.machine.Reply.{Reply}
-use Rattle.kz_spec_values.specs.Control.{epoch_path}
-use Rattle.kz_spec_stores.specs.Tree.{row_at, check_refusal}
+use Rattle.kz_spec_data.specs.Control.{epoch_path}
+use Rattle.kz_spec_data.specs.Tree.{row_at, check_refusal}
 use Rattle.kz_spec_machine.specs.Driver.{Shared, Driver, StepResult, planned_step}
 use Rattle.kz_spec_machine.specs.Sound.{IsBelowShown, shown_in, claim_version, IsCurrent, IsClaimOf, Claims, AtStage, IsSoundDriver}
-use Rattle.kz_laws_fence.proofs.Drivers.{check_refused}
-use Rattle.kz_laws_fence.specs.Fence.{IsOfFence, FencedDriversLeave, FencedRepliesLeave}
+use Rattle.kz_laws_machine.proofs.FenceDrivers.{check_refused}
+use Rattle.kz_laws_machine.specs.Fence.{IsOfFence, FencedDriversLeave, FencedRepliesLeave}
 use Rattle.kz_requests.specs.declared.fault.StepFault.{StepFault}
 use Rattle.kz_requests.specs.declared.fault.StepFault.TheVariants as step_fault
 use Rattle.kz_driver.specs.Steps.{AreRemaining, HoldsRemaining, outcome_of, OnMachine, OnFailure, IsStep, LeavesAll, IsFenced}

@@ -11,10 +11,10 @@ use Rattle.kz_types.specs.declared.machine.Recorded.{Recorded}
 use Rattle.kz_types.specs.declared.machine.Reply.{Reply}
 use Rattle.kz_types.specs.declared.fault.TreeFault.{TreeFault}
 use Rattle.kz_types.specs.declared.fault.TreeFault.TheVariants as fault
-use Rattle.kz_spec_values.specs.Control.{epoch_path}
-use Rattle.kz_spec_stores.specs.Tree.{Tree, Refusal, code, row_at, fits_version, check_refusal, multi}
+use Rattle.kz_spec_data.specs.Control.{epoch_path}
+use Rattle.kz_spec_data.specs.Tree.{Tree, Refusal, code, row_at, fits_version, check_refusal, multi}
 use Rattle.kz_spec_machine.specs.Driver.{Driver, write_ops, writes, after_write}
-use Rattle.kz_laws_fence.proofs.Drivers.{multi_refused}
+use Rattle.kz_laws_machine.proofs.FenceDrivers.{multi_refused}
 use Rattle.kz_requests.specs.declared.fault.StepFault.{StepFault}
 use Rattle.kz_requests.specs.Fares.{IsAfterRequest, tree_after}
 use Rattle.kz_resync.specs.Remainders.{Remainder}

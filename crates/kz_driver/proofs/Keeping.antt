@@ -19,11 +19,11 @@ use Rattle.kz_types.specs.declared.fault.LogFault.{LogFault}
 use Rattle.kz_types.specs.declared.fault.LogFault.TheVariants as log_fault
 use Rattle.kz_types.specs.declared.fault.BodyFault.{BodyFault}
 use Rattle.kz_types.specs.declared.record.MetaRecord.{MetaRecord}
-use Rattle.kz_spec_values.specs.Control.{epoch_path, migration_path, read_epoch}
-use Rattle.kz_spec_stores.specs.Tree.{Tree, multi}
-use Rattle.kz_spec_stores.specs.Log.{Log, View, append}
-use Rattle.kz_spec_znodes.specs.Difference.{chunk, after_chunk}
-use Rattle.kz_spec_znodes.specs.Translation.{Unreadable}
+use Rattle.kz_spec_data.specs.Control.{epoch_path, migration_path, read_epoch}
+use Rattle.kz_spec_data.specs.Tree.{Tree, multi}
+use Rattle.kz_spec_data.specs.Log.{Log, View, append}
+use Rattle.kz_spec_data.specs.Difference.{chunk, after_chunk}
+use Rattle.kz_spec_data.specs.Translation.{Unreadable}
 use Rattle.kz_spec_machine.specs.Driver.{Shared, Driver, epoch_or_zero, at_stage, resigned_driver, unless_finalised, wait_or_move, after_quorum, after_brokers, unless_fenced, unless_full_epoch, unless_bad_epoch, unless_full_record, after_look, after_append, after_records, after_translation, views_migrated, shown_by, missing_controller, begin_record, is_last_write, is_claim_refused, begins_again, write_ops, after_write, writes}
 use Rattle.kz_stages.specs.declared.become_controller.ClaimOutcome.{ClaimOutcome}
 use Rattle.kz_stages.specs.declared.become_controller.ClaimOutcome.TheVariants.{Done, Refused, Stopped}

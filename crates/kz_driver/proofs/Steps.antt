@@ -15,8 +15,8 @@ use Rattle.kz_types.specs.declared.record.MetaRecord.{MetaRecord}
 use Rattle.kz_types.specs.declared.fault.TreeFault.{TreeFault}
 use Rattle.kz_types.specs.declared.fault.TreeFault.TheVariants as fault
 use Rattle.kz_types.specs.declared.fault.LogFault.{LogFault}
-use Rattle.kz_spec_stores.specs.Tree.{Tree, multi}
-use Rattle.kz_spec_stores.specs.Log.{Log, View, append}
+use Rattle.kz_spec_data.specs.Tree.{Tree, multi}
+use Rattle.kz_spec_data.specs.Log.{Log, View, append}
 use Rattle.kz_spec_machine.specs.Driver.{Shared, Driver, StepResult, Request, nothing, epoch_or_zero, request_at, shared_after, reaches_store, Hearing, hears_answer, hears_nothing, hears_expiry, hearing, driver_after, without_answer, after_answer, after_claim, after_page, with_tree, with_log, planned_step}
 use Rattle.kz_requests.specs.declared.fault.StepFault.{StepFault}
 use Rattle.kz_requests.specs.declared.fault.StepFault.TheVariants as step_fault

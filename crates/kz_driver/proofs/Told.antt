@@ -19,13 +19,13 @@ use Rattle.kz_types.specs.declared.fault.LogFault.{LogFault}
 use Rattle.kz_types.specs.declared.fault.LogFault.TheVariants as log_fault
 use Rattle.kz_types.specs.declared.fault.BodyFault.{BodyFault}
 use Rattle.kz_types.specs.declared.record.MetaRecord.{MetaRecord}
-use Rattle.kz_spec_values.specs.Control.{epoch_path, migration_path, read_epoch}
-use Rattle.kz_spec_stores.specs.Tree.{Tree, Refusal, code, limit, op_refusal, rows_unless_refused, after_op, after_ops, multi, with_zxid}
-use Rattle.kz_spec_stores.specs.Image.{Image}
-use Rattle.kz_spec_stores.specs.Log.{Log, append, log_unless_limit, full_log, with_batch}
-use Rattle.kz_spec_znodes.specs.Difference.{diff, chunk, after_chunk}
-use Rattle.kz_spec_znodes.specs.Rendering.{render}
-use Rattle.kz_spec_znodes.specs.Translation.{Unreadable, translate}
+use Rattle.kz_spec_data.specs.Control.{epoch_path, migration_path, read_epoch}
+use Rattle.kz_spec_data.specs.Tree.{Tree, Refusal, code, limit, op_refusal, rows_unless_refused, after_op, after_ops, multi, with_zxid}
+use Rattle.kz_spec_data.specs.Image.{Image}
+use Rattle.kz_spec_data.specs.Log.{Log, append, log_unless_limit, full_log, with_batch}
+use Rattle.kz_spec_data.specs.Difference.{diff, chunk, after_chunk}
+use Rattle.kz_spec_data.specs.Rendering.{render}
+use Rattle.kz_spec_data.specs.Translation.{Unreadable, translate}
 use Rattle.kz_spec_machine.specs.Driver.{Shared, Driver, StepResult, epoch_or_zero, at_stage, resigned_driver, begins_again, driver_at_log_end, unless_finalised, wait_or_move, after_quorum, after_brokers, unless_fenced, unless_full_epoch, unless_bad_epoch, unless_full_record, after_look, after_claim, claim_ops, after_append, after_records, next_records, after_translation, after_rest, after_write, writes, write_ops, is_last_write, is_claim_refused, is_recorded_at, target_of, remaining_at, views_migrated, shown_by, seen_in, missing_controller, begin_record, after_answer, step}
 use Rattle.kz_spec_machine.specs.Failures.{is_tree_failure, is_log_failure, is_failed_step}
 use Rattle.kz_requests.specs.declared.fault.StepFault.{StepFault}

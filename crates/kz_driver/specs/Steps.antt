@@ -7,14 +7,14 @@ use Rattle.kz_types.specs.declared.driver.Stage.TheVariants as stage
 use Rattle.kz_types.specs.declared.machine.Reply.{Reply}
 use Rattle.kz_types.specs.declared.machine.Reply.TheVariants as reply
 use Rattle.kz_types.specs.declared.tree.Op.{Op}
-use Rattle.kz_spec_values.specs.Control.{epoch_path}
-use Rattle.kz_spec_stores.specs.Tree.{Tree, row_at, check_refusal}
-use Rattle.kz_spec_stores.specs.Log.{Log, View, IsViewOf}
-use Rattle.kz_spec_stores.specs.Requests.{Disk}
+use Rattle.kz_spec_data.specs.Control.{epoch_path}
+use Rattle.kz_spec_data.specs.Tree.{Tree, row_at, check_refusal}
+use Rattle.kz_spec_data.specs.Log.{Log, View, IsViewOf}
+use Rattle.kz_spec_data.specs.Requests.{Disk}
 use Rattle.kz_spec_machine.specs.Driver.{Shared, Driver, Request, nothing, is_of_log, remaining_at, write_request, reaches_store, shared_after, epoch_or_zero, request_at, without_answer, planned_step}
 use Rattle.kz_spec_machine.specs.Failures.{is_tree_failure, is_log_failure}
 use Rattle.kz_spec_machine.specs.Sound.{IsBelowShown, shown_in, IsSoundDriver}
-use Rattle.kz_laws_fence.specs.Fence.{IsOfFence}
+use Rattle.kz_laws_machine.specs.Fence.{IsOfFence}
 use Rattle.kz_connection.specs.Connections.{Wired}
 use Rattle.kz_requests.specs.declared.fault.StepFault.{StepFault}
 use Rattle.kz_requests.specs.declared.fault.StepFault.TheVariants as step_fault

@@ -1,6 +1,6 @@
 //! The driver of a controller.
 ghost use Rattle.std.specs.Prelude.{◌≡◌, ◌≤ℤ◌, pos, IfSome};
-ghost use Rattle.kz_spec_stores.specs.Log.{IsViewOf};
+ghost use Rattle.kz_spec_data.specs.Log.{IsViewOf};
 ghost use Rattle.kz_spec_machine.specs.Driver.{Driver as DriverValue, state_of, new_driver, elected_driver};
 ghost use Rattle.kz_stages.specs.Disks.{disks_of, payloads_of};
 ghost use Rattle.kz_stages.specs.Drivers.{IsKept, after_uninitialized, after_broker_comm};

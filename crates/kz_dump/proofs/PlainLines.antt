@@ -6,10 +6,10 @@ use Rattle.serde_json.specs.View.{items_of}
 use Rattle.serde_json.specs.Written.{has_float}
 use Rattle.kz_types.specs.declared.log.BatchRow.{BatchRow}
 use Rattle.kz_types.specs.declared.tree.Row.{Row}
-use Rattle.kz_spec_lines.specs.Members.{whole_data}
-use Rattle.kz_spec_lines.specs.Written.{with_owner}
-use Rattle.kz_spec_lines.specs.WrittenRecords.{record_data}
-use Rattle.kz_spec_dumps.specs.Dumps.{tree_head_data, row_data, log_head_data, batch_data}
+use Rattle.kz_spec_data.specs.Members.{whole_data}
+use Rattle.kz_spec_data.specs.Written.{with_owner}
+use Rattle.kz_spec_data.specs.WrittenRecords.{record_data}
+use Rattle.kz_spec_machine.specs.Dumps.{tree_head_data, row_data, log_head_data, batch_data}
 use Rattle.kz_record_fields.proofs.Floats.{Calm, no_members_calm, put_calm, text_no_float, integer_no_float, whole_no_float, bytes_no_float, each_no_float}
 use Rattle.kz_record_json.proofs.PlainRecords.{record_no_float}
 

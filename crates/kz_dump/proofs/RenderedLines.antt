@@ -3,7 +3,7 @@ use Rattle.std.proofs.Common.{◌≡◌, ℕ, List, ◌++◌, ap, sym, ◌∙◌
 use Rattle.json.specs.Print.{quoted}
 use Rattle.json.proofs.OnLiterals.{json_on_literals}
 use Rattle.kz_types.specs.declared.tree.Rendered.{Rendered}
-use Rattle.kz_spec_dumps.specs.Dumps.{rendered_line}
+use Rattle.kz_spec_machine.specs.Dumps.{rendered_line}
 
 -- two texts between others, with one more at the end
 ended : (x mid y last end : List ℕ) → (x ++ (mid ++ (y ++ last))) ++ end ≡ x ++ (mid ++ (y ++ (last ++ end)))

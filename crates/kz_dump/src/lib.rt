@@ -7,7 +7,7 @@ mod load_lines;
 mod quoted;
 mod verdicts;
 
-pub use kz_spec_dumps::{Figures, LoadLine};
+pub use kz_spec_machine::{Figures, LoadLine};
 pub use kz_verdict::verdict;
 pub use lines::{batch_line, log_head, render_line, row_line, tree_head};
 pub use load_lines::read_row_line;

@@ -3,10 +3,10 @@ ghost use Rattle.std.specs.Prelude.{◌≡◌, ◌++◌, IfOk, OnOk, map, false,
 ghost use Rattle.serde_json.specs.Data.{array, no_members, put};
 ghost use Rattle.serde_json.specs.View.{view, members_view, items_of};
 ghost use Rattle.serde_json.specs.Written.{has_float};
-ghost use Rattle.kz_spec_lines.specs.Members.{whole_data, with_text, with_whole, with_bytes};
-ghost use Rattle.kz_spec_lines.specs.Written.{with_owner};
-ghost use Rattle.kz_spec_lines.specs.WrittenRecords.{record_data};
-ghost use Rattle.kz_spec_dumps.specs.Dumps.{line_of, tree_head_data, row_data, log_head_data, batch_data, tree_head_line, row_line, log_head_line, batch_line, rendered_line};
+ghost use Rattle.kz_spec_data.specs.Members.{whole_data, with_text, with_whole, with_bytes};
+ghost use Rattle.kz_spec_data.specs.Written.{with_owner};
+ghost use Rattle.kz_spec_data.specs.WrittenRecords.{record_data};
+ghost use Rattle.kz_spec_machine.specs.Dumps.{line_of, tree_head_data, row_data, log_head_data, batch_data, tree_head_line, row_line, log_head_line, batch_line, rendered_line};
 
 use crate::quoted::push_quoted;
 use kz_record_fields::{put_bytes, put_text, put_whole};
@@ -52,7 +52,7 @@ fn tree_head_value(alloc: Global, sessions: &[i64], zxid: i64) -> Result<Value, 
 /// of an object in the order of their names' bytes, and a line feed.
 ///
 /// `NoMemory`: memory ran out, as for each of these.
-#[tactic(auto, unfolding(kz_spec_dumps::specs::Dumps::tree_head_line))]
+#[tactic(auto, unfolding(kz_spec_machine::specs::Dumps::tree_head_line))]
 pub fn tree_head(alloc: Global, tree: &Tree) -> Result<Vec<u8>, NoMemory>
     ensures { IfOk result (λ line. line.items ≡ tree_head_line tree.now.sessions tree.now.zxid) }
 {
@@ -99,7 +99,7 @@ fn row_value(alloc: Global, row: &Row) -> Result<Value, NoMemory>
 
 /// The line of a znode in a tree's dump: its body in base64 as `bytes`, its path, its version, its owner where it has one,
 /// and the transactions that made it, that set its body last, and that made or deleted a child last.
-#[tactic(auto, unfolding(kz_spec_dumps::specs::Dumps::row_line))]
+#[tactic(auto, unfolding(kz_spec_machine::specs::Dumps::row_line))]
 pub fn row_line(alloc: Global, row: &Row) -> Result<Vec<u8>, NoMemory>
     ensures { IfOk result (λ line. line.items ≡ row_line row.now) }
 {
@@ -120,7 +120,7 @@ fn log_head_value(alloc: Global, base: i64, end: i64, epoch: i32) -> Result<Valu
 }
 
 /// The first line of a log's dump: its base, the offset of its last record, and its epoch.
-#[tactic(auto, unfolding(kz_spec_dumps::specs::Dumps::log_head_line))]
+#[tactic(auto, unfolding(kz_spec_machine::specs::Dumps::log_head_line))]
 pub fn log_head(alloc: Global, base: i64, end: i64, epoch: i32) -> Result<Vec<u8>, NoMemory>
     ensures { IfOk result (λ line. line.items ≡ log_head_line base end epoch) }
 {
@@ -152,7 +152,7 @@ fn batch_value(alloc: Global, batch: &BatchRow) -> Result<Value, NoMemory>
 
 /// The line of a batch in a log's dump: its epoch, the offset of its first record, its records as lines of scripts have
 /// them, and its time.
-#[tactic(auto, unfolding(kz_spec_dumps::specs::Dumps::batch_line))]
+#[tactic(auto, unfolding(kz_spec_machine::specs::Dumps::batch_line))]
 pub fn batch_line(alloc: Global, batch: &BatchRow) -> Result<Vec<u8>, NoMemory>
     ensures { IfOk result (λ line. line.items ≡ batch_line batch.now) }
 {

@@ -1,15 +1,14 @@
 //! What the lines of a tree that is loaded say.
 ghost use Rattle.std.specs.Prelude.{◌≡◌, [], IfOk, None, Some, Err, option_map, pos, codes};
 ghost use Rattle.serde_json.specs.View.{view, items_view};
-ghost use Rattle.kz_spec_lines.specs.Fields.{int64, all_of, list_of, tagged_member};
-ghost use Rattle.kz_spec_dumps.specs.LoadLines.{head_of, owner_of, znode_made, znode_count, znode_fields, znode_of, load_line_of, load_line};
+ghost use Rattle.kz_spec_data.specs.LineFields.{int64, all_of, list_of, tagged_member};
+ghost use Rattle.kz_spec_machine.specs.LoadLines.{head_of, owner_of, znode_made, znode_count, znode_fields, znode_of, load_line_of, load_line};
 
-use kz_members::read_json;
-use kz_record_fields::{member_count, tagged_count, tagged_int32};
+use kz_body_parts::read_json;
+use kz_record_fields::{bodied_count, body_in, member_count, path_in, tagged_count, tagged_int32};
 use kz_record_json::LineFault;
-use kz_spec_dumps::LoadLine;
+use kz_spec_machine::LoadLine;
 use kz_types::{NoMemory, Row, Sequence, ZPath};
-use kz_znode_fields::{bodied_count, body_in, path_in};
 use serde_json::Value;
 use std::alloc::Global;
 
@@ -172,7 +171,7 @@ fn load_line_of(alloc: Global, value: &Value) -> Result<Option<LoadLine>, NoMemo
     }
 }
 
-#[tactic(auto, unfolding(kz_spec_dumps::specs::LoadLines::load_line))]
+#[tactic(auto, unfolding(kz_spec_machine::specs::LoadLines::load_line))]
 fn load_line(alloc: Global, line: &[u8]) -> Result<Option<LoadLine>, NoMemory>
     ensures { IfOk result (λ said. said ≡ load_line line.now) }
 {

@@ -2,11 +2,11 @@
 ghost use Rattle.std.specs.Prelude.{◌≡◌, ◌++◌, IfOk, OnOk, codes, string_bytes};
 ghost use Rattle.std.specs.List.{flat_map};
 ghost use Rattle.kz_types.specs.declared.machine.Verdict.TheVariants.{Ahead};
-ghost use Rattle.kz_spec_lines.specs.Replies.{word_and_count, offset_or_none};
-ghost use Rattle.kz_spec_dumps.specs.Dumps.{ahead_line, verdict_line, check_lines, number_line, figure_lines};
+ghost use Rattle.kz_spec_data.specs.Replies.{word_and_count, offset_or_none};
+ghost use Rattle.kz_spec_machine.specs.Dumps.{ahead_line, verdict_line, check_lines, number_line, figure_lines};
 
 use crate::quoted::push_quoted;
-use kz_spec_dumps::Figures;
+use kz_spec_machine::Figures;
 use kz_types::{AheadPath, NoMemory, Sequence, Verdict};
 use std::alloc::Global;
 
@@ -45,7 +45,7 @@ fn ahead_lines(alloc: Global, offset: i64, paths: &Sequence<AheadPath>) -> Resul
 /// batch end at which it agrees. A path that disagrees prints nothing here: the check ends with it.
 ///
 /// `NoMemory`: memory ran out.
-#[tactic(auto, unfolding(kz_spec_dumps::specs::Dumps::check_lines))]
+#[tactic(auto, unfolding(kz_spec_machine::specs::Dumps::check_lines))]
 pub fn check_lines(alloc: Global, verdict: &Verdict) -> Result<Vec<u8>, NoMemory>
     ensures { IfOk result (λ lines. lines.items ≡ check_lines verdict.now) }
 {
@@ -110,7 +110,7 @@ fn znodes_line(alloc: Global, znodes: usize) -> Result<String, NoMemory>
 /// The lines of the figures: a word and a number each, and `none` where no offset is recorded.
 ///
 /// `NoMemory`: memory ran out.
-#[tactic(auto, unfolding(kz_spec_dumps::specs::Dumps::figure_lines))]
+#[tactic(auto, unfolding(kz_spec_machine::specs::Dumps::figure_lines))]
 pub fn status_lines(alloc: Global, figures: &Figures) -> Result<Vec<u8>, NoMemory>
     ensures { IfOk result (λ lines. lines.items ≡ figure_lines figures.now) }
 {

@@ -1,6 +1,6 @@
 //! The record of a member of a configuration.
 ghost use Rattle.std.specs.Prelude.{◌≡◌, IfOk};
-ghost use Rattle.kz_spec_znodes.specs.Translation.{config_record};
+ghost use Rattle.kz_spec_data.specs.Translation.{config_record};
 
 use kz_types::{ConfigRecord, Duplicate, MetaRecord, NoMemory, Pair, Text};
 use std::alloc::Global;

@@ -1,6 +1,6 @@
 //! The records of quotas and credentials.
 ghost use Rattle.std.specs.Prelude.{◌≡◌, [], ◌∷◌, IfOk, OnOk, ◌++◌};
-ghost use Rattle.kz_spec_znodes.specs.Translation.{quota_entity, quota_record, scram_record};
+ghost use Rattle.kz_spec_data.specs.Translation.{quota_entity, quota_record, scram_record};
 
 use kz_types::{
     ClientQuotaRecord, Duplicate, EntityKey, MetaRecord, NoMemory, QuotaEntities, QuotaEntity,

@@ -1,7 +1,7 @@
 -- The first refusal is told, and the fault is one of the check before a rollback.
 use Rattle.std.proofs.Common.{◌≡◌, None, Option, Result, Ok, Err, IfErr, sym, ap, ◌∙◌, subst}
 use Rattle.kz_types.specs.declared.machine.Answer.{Answer}
-use Rattle.kz_spec_stores.specs.Requests.{Disk, Done, ReadsDisk}
+use Rattle.kz_spec_data.specs.Requests.{Disk, Done, ReadsDisk}
 use Rattle.kz_exit.specs.declared.faults.ExitFault.{ExitFault}
 use Rattle.kz_exit.specs.declared.faults.ExitFault.TheVariants.{Finalised, Unclosed, Behind, Log, Tree, NoMemory}
 use Rattle.kz_exit.specs.Faults.{IsRestFault}

@@ -5,9 +5,9 @@ use Rattle.kz_types.specs.declared.tree.Op.{Op}
 use Rattle.kz_types.specs.declared.fault.TreeFault.{TreeFault}
 use Rattle.kz_types.specs.declared.fault.LogFault.{LogFault}
 use Rattle.kz_types.specs.declared.fault.LogFault.TheVariants as log_fault
-use Rattle.kz_spec_stores.specs.Tree.{Tree as TreeValue}
-use Rattle.kz_spec_stores.specs.Log.{Log as LogValue, reset}
-use Rattle.kz_spec_stores.specs.Requests.{Disk, TreeChange, Done, answer_of_log_fault, ReadsDisk}
+use Rattle.kz_spec_data.specs.Tree.{Tree as TreeValue}
+use Rattle.kz_spec_data.specs.Log.{Log as LogValue, reset}
+use Rattle.kz_spec_data.specs.Requests.{Disk, TreeChange, Done, answer_of_log_fault, ReadsDisk}
 use Rattle.kz_spec_machine.specs.Machine.{exit_refusal, exit_ops, tree_after_ops}
 use Rattle.kz_exit.specs.declared.faults.ExitFault.{ExitFault}
 use Rattle.kz_exit.specs.declared.faults.ExitFault.TheVariants.{Finalised, Unclosed, Behind, Log, Tree, NoMemory}

@@ -2,8 +2,8 @@
 use Rattle.std.proofs.Common.{◌≡◌, ◌==◌, ℕ, suc, true, false, List, [], ◌∷◌, length, Result, Ok, Err, refl, arith}
 use Rattle.std.proofs.lemmas.Bool.{eqb-true}
 use Rattle.kz_types.specs.declared.tree.Op.{Op}
-use Rattle.kz_spec_stores.specs.Tree.{Tree as TreeValue, multi}
-use Rattle.kz_spec_stores.specs.Requests.{Disk, TreeChange, Multi, Done, IsTaken}
+use Rattle.kz_spec_data.specs.Tree.{Tree as TreeValue, multi}
+use Rattle.kz_spec_data.specs.Requests.{Disk, TreeChange, Multi, Done, IsTaken}
 use Rattle.kz_spec_machine.specs.Machine.{tree_after_ops}
 use Rattle.kz_exit.specs.declared.faults.ExitFault.{ExitFault}
 use Rattle.kz_exit.specs.declared.faults.ExitFault.TheVariants.{Finalised, Unclosed, Behind, Log, Tree, NoMemory}

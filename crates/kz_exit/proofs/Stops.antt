@@ -6,9 +6,9 @@ use Rattle.kz_types.specs.declared.fault.TreeFault.{TreeFault}
 use Rattle.kz_types.specs.declared.fault.TreeFault.TheVariants as tree_fault
 use Rattle.kz_types.specs.declared.fault.LogFault.{LogFault}
 use Rattle.kz_types.specs.declared.fault.LogFault.TheVariants as log_fault
-use Rattle.kz_spec_stores.specs.Tree.{Tree as TreeValue}
-use Rattle.kz_spec_stores.specs.Log.{Log as LogValue, reset}
-use Rattle.kz_spec_stores.specs.Requests.{Disk, TreeChange, Done, answer_of_tree_fault, answer_of_log_fault, ReadsDisk, Only, Between}
+use Rattle.kz_spec_data.specs.Tree.{Tree as TreeValue}
+use Rattle.kz_spec_data.specs.Log.{Log as LogValue, reset}
+use Rattle.kz_spec_data.specs.Requests.{Disk, TreeChange, Done, answer_of_tree_fault, answer_of_log_fault, ReadsDisk, Only, Between}
 use Rattle.kz_log.specs.Requests.{made_by_reset}
 use Rattle.kz_spec_machine.specs.Machine.{Pair, exit_ops, tree_after_ops}
 use Rattle.kz_exit.specs.declared.faults.ExitFault.{ExitFault}

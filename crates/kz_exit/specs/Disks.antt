@@ -2,8 +2,8 @@
 -- reset; then the tree is asked for the multi, where there is something to delete.
 use Rattle.std.specs.Prelude.{◌≡◌, ◌⊎◌, ⊤, ℕ, List, [], ◌∷◌, Result, Ok, Err}
 use Rattle.kz_types.specs.declared.tree.Op.{Op}
-use Rattle.kz_spec_stores.specs.Tree.{Tree as TreeValue, multi}
-use Rattle.kz_spec_stores.specs.Requests.{Disk, TreeChange, Multi, StoreAnswer, Done, answer_of_tree_fault, answer_of_log_fault, IsTaken, ChangesDisk, ReadsDisk}
+use Rattle.kz_spec_data.specs.Tree.{Tree as TreeValue, multi}
+use Rattle.kz_spec_data.specs.Requests.{Disk, TreeChange, Multi, StoreAnswer, Done, answer_of_tree_fault, answer_of_log_fault, IsTaken, ChangesDisk, ReadsDisk}
 use Rattle.kz_exit.specs.declared.faults.ExitFault.{ExitFault}
 use Rattle.kz_exit.specs.declared.faults.ExitFault.TheVariants.{Finalised, Unclosed, Behind, Log, Tree, NoMemory}
 

@@ -7,10 +7,10 @@ use Rattle.kz_types.specs.declared.machine.Answer.TheVariants as answer
 use Rattle.kz_types.specs.declared.fault.TreeFault.{TreeFault}
 use Rattle.kz_types.specs.declared.fault.LogFault.{LogFault}
 use Rattle.kz_types.specs.declared.fault.LogFault.TheVariants as log_fault
-use Rattle.kz_spec_stores.specs.Image.{is_migrated_state}
-use Rattle.kz_spec_stores.specs.Log.{View}
-use Rattle.kz_spec_stores.specs.Tree.{Tree as TreeValue}
-use Rattle.kz_spec_stores.specs.Requests.{Disk, Done, answer_of_tree_fault, answer_of_log_fault, ChangesDisk, ReadsDisk}
+use Rattle.kz_spec_data.specs.Image.{is_migrated_state}
+use Rattle.kz_spec_data.specs.Log.{View}
+use Rattle.kz_spec_data.specs.Tree.{Tree as TreeValue}
+use Rattle.kz_spec_data.specs.Requests.{Disk, Done, answer_of_tree_fault, answer_of_log_fault, ChangesDisk, ReadsDisk}
 use Rattle.kz_spec_machine.specs.Machine.{first_of, unless, rest_refusal}
 use Rattle.kz_exit.specs.declared.faults.ExitFault.{ExitFault}
 use Rattle.kz_exit.specs.declared.faults.ExitFault.TheVariants.{Finalised, Unclosed, Behind, Log, Tree, NoMemory}

@@ -2,8 +2,8 @@
 use Rattle.std.specs.Prelude.{◌≡◌, ◌⊎◌, Some, None, Ok}
 use Rattle.kz_types.specs.declared.machine.Answer.{Answer}
 use Rattle.kz_types.specs.declared.machine.Answer.TheVariants as answer
-use Rattle.kz_spec_stores.specs.Tree.{Tree as TreeValue}
-use Rattle.kz_spec_stores.specs.Log.{Log as LogValue, reset}
+use Rattle.kz_spec_data.specs.Tree.{Tree as TreeValue}
+use Rattle.kz_spec_data.specs.Log.{Log as LogValue, reset}
 use Rattle.kz_spec_machine.specs.Machine.{exit_refusal, exit_ops, tree_after_ops}
 use Rattle.kz_exit.specs.declared.faults.ExitFault.{ExitFault}
 use Rattle.kz_exit.specs.declared.faults.ExitFault.TheVariants.{Finalised, Unclosed, Behind, Log, Tree, NoMemory}

@@ -1,9 +1,9 @@
 -- What a stop leaves of the tree and the log where a rollback failed at one of the stores.
 use Rattle.std.specs.Prelude.{◌≡◌, ⊤, false, List, [], ◌∷◌, Contains, Option, Some, Result, Ok, Err}
 use Rattle.kz_types.specs.declared.fault.TreeFault.{TreeFault}
-use Rattle.kz_spec_stores.specs.Tree.{Tree as TreeValue}
-use Rattle.kz_spec_stores.specs.Log.{Log as LogValue, reset}
-use Rattle.kz_spec_stores.specs.Requests.{Disk}
+use Rattle.kz_spec_data.specs.Tree.{Tree as TreeValue}
+use Rattle.kz_spec_data.specs.Log.{Log as LogValue, reset}
+use Rattle.kz_spec_data.specs.Requests.{Disk}
 use Rattle.kz_spec_machine.specs.Machine.{Pair, exit_ops, tree_after_ops}
 use Rattle.kz_exit.specs.declared.faults.ExitFault.{ExitFault}
 use Rattle.kz_exit.specs.declared.faults.ExitFault.TheVariants.{Finalised, Unclosed, Behind, Log, Tree, NoMemory}

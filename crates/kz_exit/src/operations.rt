@@ -1,7 +1,7 @@
 //! The operations that give ZooKeeper the cluster again.
 ghost use Rattle.std.specs.Prelude.{◌≡◌, ◌++◌, is_some, IfOk, OnOk};
-ghost use Rattle.kz_spec_values.specs.Control.{control_path, migration_path};
-ghost use Rattle.kz_spec_stores.specs.Tree.{row_at};
+ghost use Rattle.kz_spec_data.specs.Control.{control_path, migration_path};
+ghost use Rattle.kz_spec_data.specs.Tree.{row_at};
 ghost use Rattle.kz_spec_machine.specs.Machine.{deleted_if, exit_ops, is_held_tree};
 
 use kz_paths::{CONTROL_TEXT, MIGRATION_TEXT, control_path, migration_path};

@@ -1,9 +1,9 @@
 //! The requests of a rollback.
 ghost use Rattle.std.specs.Prelude.{◌≡◌, None, Ok, OnOk, OnErr, IfOk, IfErr, IsErrOf};
-ghost use Rattle.kz_spec_stores.specs.Log as logs;
-ghost use Rattle.kz_spec_stores.specs.Log.{new_view, read_view};
-ghost use Rattle.kz_spec_stores.specs.Requests.{Between, IsTaken, Multi, Reset};
-ghost use Rattle.kz_spec_stores.specs.Tree.{multi};
+ghost use Rattle.kz_spec_data.specs.Log as logs;
+ghost use Rattle.kz_spec_data.specs.Log.{new_view, read_view};
+ghost use Rattle.kz_spec_data.specs.Requests.{Between, IsTaken, Multi, Reset};
+ghost use Rattle.kz_spec_data.specs.Tree.{multi};
 ghost use Rattle.kz_spec_machine.specs.Machine.{exit_refusal, tree_after_ops};
 ghost use Rattle.kz_log.specs.Requests.{made_by_reset};
 ghost use Rattle.kz_exit.specs.Disks.{TreeDisk};

@@ -1,7 +1,7 @@
 //! Whether ZooKeeper has all of the metadata.
 ghost use Rattle.std.specs.Prelude.{◌≡◌, None, OnOk, IfErr, option_map};
 ghost use Rattle.kz_types.specs.declared.machine.Answer.TheVariants.{Unclosed};
-ghost use Rattle.kz_spec_stores.specs.Tree.{unclosed_path};
+ghost use Rattle.kz_spec_data.specs.Tree.{unclosed_path};
 ghost use Rattle.kz_spec_machine.specs.Machine.{behind_refusal, rest_refusal};
 ghost use Rattle.kz_exit.specs.Faults.{IsRestFault};
 

@@ -1,6 +1,6 @@
 //! Taking a migration back.
 ghost use Rattle.std.specs.Prelude.{◌≡◌, None, OnOk, IfErr};
-ghost use Rattle.kz_spec_stores.specs.Requests.{Reset};
+ghost use Rattle.kz_spec_data.specs.Requests.{Reset};
 ghost use Rattle.kz_spec_machine.specs.Machine.{exit_ops, exit_refusal};
 ghost use Rattle.kz_exit.specs.Disks.{LogDisk, TreeDisk};
 ghost use Rattle.kz_exit.specs.Rollbacks.{IsLeft, IsTakenBack};

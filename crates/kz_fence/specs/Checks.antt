@@ -6,7 +6,7 @@ use Rattle.kz_types.specs.declared.limits.TheConstants.{MAX_VERSION}
 use Rattle.kz_types.specs.declared.tree.Row.{Row}
 use Rattle.kz_types.specs.declared.driver.ClaimSeen.{ClaimSeen}
 use Rattle.kz_types.specs.declared.fault.BodyFault.{BodyFault}
-use Rattle.kz_spec_values.specs.Control.{epoch_path, migration_path, read_epoch}
+use Rattle.kz_spec_data.specs.Control.{epoch_path, migration_path, read_epoch}
 use Rattle.kz_spec_machine.specs.Driver.{shown_by, claimed_number, claimed_version}
 use Rattle.kz_fence.specs.declared.checks.ClaimFault.{ClaimFault}
 use Rattle.kz_fence.specs.declared.checks.ClaimFault.TheVariants.{HigherEpoch, BadEpochBody, Limit, NoMemory}

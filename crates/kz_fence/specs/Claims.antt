@@ -4,7 +4,7 @@ use Rattle.kz_types.specs.declared.tree.Op.{Op}
 use Rattle.kz_types.specs.declared.driver.ClaimSeen.{ClaimSeen}
 use Rattle.kz_types.specs.declared.machine.Recorded.{Recorded}
 use Rattle.kz_types.specs.Paths.{base_paths}
-use Rattle.kz_spec_values.specs.Control.{written_control, written_recorded}
+use Rattle.kz_spec_data.specs.Control.{written_control, written_recorded}
 use Rattle.kz_spec_machine.specs.Driver.{epoch_op, control_ops, migration_ops, base_ops}
 use Rattle.kz_fence.specs.declared.claimer.Claimer.{Claimer}
 

@@ -3,7 +3,7 @@ use Rattle.std.specs.Prelude.{true, ℤ, List, [], ◌∷◌, ◌++◌, Option, 
 use Rattle.kz_types.specs.declared.tree.Op.{Op}
 use Rattle.kz_types.specs.declared.tree.Op.TheVariants as op
 use Rattle.kz_types.specs.declared.machine.Recorded.{Recorded}
-use Rattle.kz_spec_values.specs.Control.{epoch_path}
+use Rattle.kz_spec_data.specs.Control.{epoch_path}
 use Rattle.kz_spec_machine.specs.Driver.{record_ops}
 
 -- the operation that records an offset, where one is to be recorded

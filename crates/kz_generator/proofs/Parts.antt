@@ -2,7 +2,7 @@
 use Rattle.std.proofs.Common.{◌≡◌, ◌<◌, ℕ, zero, suc, ◌+◌, ◌-◌, ◌*◌, ◌%◌, List, [], ◌++◌, Result, Ok, Err, OnOk, OnErr, refl, sym, ap, ◌∙◌, subst, arith, append_assoc, append-nil}
 use Rattle.std.proofs.lemmas.Grind.{flat_map-append}
 use Rattle.kz_types.specs.declared.machine.Event.{Event}
-use Rattle.kz_spec_dumps.specs.Generator.{value_at, event_line, events_at, events_after, opening_events, closing_events, generated}
+use Rattle.kz_spec_machine.specs.Generator.{value_at, event_line, events_at, events_after, opening_events, closing_events, generated}
 use Rattle.kz_generator.specs.Texts.{lines_of}
 
 -- what holds at `Ok`, and what holds at `Err`

@@ -1,7 +1,7 @@
 //! The events of a script that is generated.
 ghost use Rattle.std.specs.Prelude.{◌≡◌, ◌<◌, ◌+◌, ◌*◌, ◌%◌, ◌^◌, [], ◌∷◌, ◌++◌, ℕ, pos, IfOk, OnOk, decimal};
 ghost use Rattle.kz_types.specs.declared.machine.Event.TheVariants.{Change};
-ghost use Rattle.kz_spec_dumps.specs.Generator.{value_at, leader_at, config_at, turn_after, election_after, events_at, opening_events, closing_events};
+ghost use Rattle.kz_spec_machine.specs.Generator.{value_at, leader_at, config_at, turn_after, election_after, events_at, opening_events, closing_events};
 
 use kz_types::{ConfigRecord, Event, MetaRecord, NoMemory, Sequence, Text};
 use std::alloc::Global;

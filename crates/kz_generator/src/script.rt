@@ -3,7 +3,7 @@ ghost use Rattle.std.specs.Prelude.{◌≡◌, ◌<◌, ◌≤◌, ◌^◌, ◌+
 ghost use Rattle.std.specs.Io.KnownBytes.{Appends};
 ghost use Rattle.kz_types.specs.declared.limits.TheConstants.{MAX_GENERATED};
 ghost use Rattle.kz_output.specs.Outputs.{Puts, WritesFront, EndsAtSink};
-ghost use Rattle.kz_spec_dumps.specs.Generator.{value_at, events_at, events_after, opening_events, closing_events, event_line, generated};
+ghost use Rattle.kz_spec_machine.specs.Generator.{value_at, events_at, events_after, opening_events, closing_events, event_line, generated};
 ghost use Rattle.kz_generator.specs.Texts.{lines_of};
 
 use crate::events::{closing, events_at, next_value, opening};

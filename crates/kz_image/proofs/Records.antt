@@ -2,7 +2,7 @@
 use Rattle.std.proofs.Common.{◌≡◌, ℕ, ◌+◌, ◌<◌, ℤ, ◌++◌, take, List, [], ◌∷◌, length, get_or, refl, sym, ap, ◌∙◌}
 use Rattle.std.proofs.lemmas.List.{take_more}
 use Rattle.kz_types.specs.declared.record.MetaRecord.{MetaRecord}
-use Rattle.kz_spec_stores.specs.Image.{Image, image_with, all_applied}
+use Rattle.kz_spec_data.specs.Image.{Image, image_with, all_applied}
 
 pub all_applied-append : (epoch : ℤ) (xs ys : List MetaRecord) (i : Image) → all_applied epoch (xs ++ ys) i ≡ all_applied epoch ys (all_applied epoch xs i)
 all_applied-append epoch [] ys i = refl

@@ -1,1 +1,3 @@
+pub mod Names
+pub mod QuotaPaths
 pub mod Faults

@@ -2,30 +2,30 @@
 ghost use Rattle.std.specs.Prelude.{ℕ, ◌≡◌, ◌&&◌, true, false, All, None, Some, pos, int_le, option_map, IfOk, OnOk, OnErr, IfErr, take, if◌then◌else◌};
 ghost use Rattle.std.specs.Ordering.{int_cmp, int_eq};
 ghost use Rattle.std.specs.List.{list_any};
-ghost use Rattle.kz_ordered.specs.Order.{bytes_cmp};
-ghost use Rattle.kz_ordered.specs.Ordered.{put as put_in, without as without_in, Rises};
+ghost use Rattle.kz_types.specs.Order.{bytes_cmp};
+ghost use Rattle.kz_types.specs.Ordered.{put as put_in, without as without_in, Rises};
 ghost use Rattle.kz_types.specs.declared.codes.TheConstants.{NO_MIGRATION, POST_MIGRATION};
 ghost use Rattle.kz_types.specs.declared.record.MetaRecord.TheVariants as meta;
-ghost use Rattle.kz_spec_stores.specs.Metadata.{empty_image, topic_named, id_of_acl, id_of_broker, topic_id_of, topic_name_of, partition_of, configs_of, quotas_of, scram_of, acl_of};
-ghost use Rattle.kz_spec_stores.specs.ImageRules.{broken_rule, quota_key, is_broker_name, is_empty};
-ghost use Rattle.kz_spec_stores.specs.Image.{acl_row, configurations_after, topic_configured, with_changed, put_topic, new_topic, without_topic, scram_set, scram_removed, quota_changed, effect, image_with, all_applied, first_bad};
-ghost use Rattle.kz_spec_stores.specs.InOrder.{AreTopicsInOrder, AreInOrder, AreQuotasInOrder, AreUsersInOrder};
-ghost use Rattle.kz_spec_stores.specs.Legal.{AreTopics, IsConfiguration, IsQuotaEntry, IsScramEntry, IsAcl, IsBroker, IsNext};
+ghost use Rattle.kz_spec_data.specs.Metadata.{empty_image, topic_named, id_of_acl, id_of_broker, topic_id_of, topic_name_of, partition_of, configs_of, quotas_of, scram_of, acl_of};
+ghost use Rattle.kz_spec_data.specs.ImageRules.{broken_rule, quota_key, is_broker_name, is_empty};
+ghost use Rattle.kz_spec_data.specs.Image.{acl_row, configurations_after, topic_configured, with_changed, put_topic, new_topic, without_topic, scram_set, scram_removed, quota_changed, effect, image_with, all_applied, first_bad};
+ghost use Rattle.kz_spec_data.specs.InOrder.{AreTopicsInOrder, AreInOrder, AreQuotasInOrder, AreUsersInOrder};
+ghost use Rattle.kz_spec_data.specs.Legal.{AreTopics, IsConfiguration, IsQuotaEntry, IsScramEntry, IsAcl, IsBroker, IsNext};
 ghost use Rattle.kz_image.specs.Faults.{IsFirstBad};
-ghost use Rattle.kz_image_lists.specs.QuotaPaths.{IsEntityRead};
-ghost use Rattle.kz_laws_writable.specs.Writable.{IsHeld};
+ghost use Rattle.kz_image.specs.QuotaPaths.{IsEntityRead};
+ghost use Rattle.kz_laws_znodes.specs.Writable.{IsHeld};
 
 use crate::rules::{broken, refused};
-use kz_blocks::Blocks;
-use kz_image_lists::{
+use crate::{
     QuotaList, Topics, configure, is_migrating, partition_at, register, remove_scram, scram_at,
     set_scram,
 };
-use kz_laws_writable::{
+use kz_laws_znodes::{
     held_config_is_writable, held_credential_is_writable, held_entry_is_writable,
     held_name_is_text, held_partition_change_is_writable, held_partition_is_writable,
     held_quota_is_writable, held_topic_is_writable,
 };
+use kz_sorted::Blocks;
 use kz_types::{
     AccessControlEntryRecord, AclEntry, AclRow, ClientQuotaRecord, ConfigRecord, Configuration,
     Duplicate, EntityKey, Id, ImageFault, MetaRecord, NO_MIGRATION, NoMemory, POST_MIGRATION, Pair,
@@ -78,8 +78,8 @@ impl Drop for Image {
 }
 
 impl Model for Image {
-    ghost use Rattle.kz_spec_stores.specs.Metadata.{Image as ImageValue};
-    ghost use Rattle.kz_laws_writable.specs.Writable.{IsHeld};
+    ghost use Rattle.kz_spec_data.specs.Metadata.{Image as ImageValue};
+    ghost use Rattle.kz_laws_znodes.specs.Writable.{IsHeld};
 
     ghost Value = { ImageValue };
 

@@ -1,7 +1,7 @@
 //! What records speak of.
 ghost use Rattle.std.specs.Prelude.{◌≡◌};
 ghost use Rattle.kz_types.specs.declared.record.MetaRecord.TheVariants as meta;
-ghost use Rattle.kz_spec_stores.specs.ImageRules.{lacks, repeats};
+ghost use Rattle.kz_spec_data.specs.ImageRules.{lacks, repeats};
 
 use crate::Image;
 use kz_types::{ConfigRecord, MetaRecord};

@@ -1,6 +1,6 @@
 //! Which records the metadata accepts.
 ghost use Rattle.std.specs.Prelude.{◌≡◌};
-ghost use Rattle.kz_spec_stores.specs.ImageRules.{is_kept_back, broken_rule, rule_against};
+ghost use Rattle.kz_spec_data.specs.ImageRules.{is_kept_back, broken_rule, rule_against};
 
 use crate::Image;
 use crate::presence::{lacks, repeats};
@@ -10,7 +10,7 @@ use kz_types::{ImageRule, MetaRecord};
 
 /// The first rule that a record of the log breaks: by what it names, by what has to be there or mustn't, and by its
 /// values, in this order.
-#[tactic(auto, unfolding(kz_spec_stores::specs::ImageRules::broken_rule))]
+#[tactic(auto, unfolding(kz_spec_data::specs::ImageRules::broken_rule))]
 pub fn broken(image: &Image, item: &MetaRecord) -> Option<ImageRule>
     ensures { result ≡ broken_rule image.now item.now }
 {

@@ -1,7 +1,7 @@
 //! Values in records.
 ghost use Rattle.std.specs.Prelude.{◌≡◌};
 ghost use Rattle.kz_types.specs.declared.record.MetaRecord.TheVariants as meta;
-ghost use Rattle.kz_spec_stores.specs.ImageRules.{is_misvalued};
+ghost use Rattle.kz_spec_data.specs.ImageRules.{is_misvalued};
 
 use crate::Image;
 use kz_image_rules::{

@@ -2,7 +2,7 @@
 ghost use Rattle.std.specs.Prelude.{◌≡◌, ◌&&◌, ◌||◌, not};
 ghost use Rattle.kz_types.specs.Paths.{is_pattern, is_resource_type};
 ghost use Rattle.kz_types.specs.declared.record.MetaRecord.TheVariants as meta;
-ghost use Rattle.kz_spec_stores.specs.ImageRules.{is_empty, is_zero, is_broker_name, is_dots, is_mechanism, is_user, are_codes, is_resource, is_misnamed};
+ghost use Rattle.kz_spec_data.specs.ImageRules.{is_empty, is_zero, is_broker_name, is_dots, is_mechanism, is_user, are_codes, is_resource, is_misnamed};
 
 use crate::paths::{has_acl_path, has_user_path};
 use crate::quota_keys::has_quota;

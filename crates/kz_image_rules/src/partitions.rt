@@ -2,9 +2,9 @@
 ghost use Rattle.std.specs.Prelude.{◌≡◌, ◌+ℤ◌, pos, negsuc, true, IfOk, if◌then◌else◌, option_map};
 ghost use Rattle.std.specs.List.{list_all};
 ghost use Rattle.std.specs.Ordering.{int_eq};
-ghost use Rattle.kz_spec_stores.specs.ImageRules.{is_epoch, is_replica, is_recovery, is_assigned, is_row, new_row, changed_row, leaves_row, stated_or, states_leader};
+ghost use Rattle.kz_spec_data.specs.ImageRules.{is_epoch, is_replica, is_recovery, is_assigned, is_row, new_row, changed_row, leaves_row, stated_or, states_leader};
 
-use kz_replicas::{are_replicas, are_some_of, is_in};
+use kz_body_parts::{are_replicas, are_some_of, is_in};
 use kz_types::{
     Duplicate, MAX_EPOCH, NoMemory, PartitionChangeRecord, PartitionRecord, PartitionRow, Sequence,
 };

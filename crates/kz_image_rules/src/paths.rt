@@ -4,7 +4,7 @@ ghost use Rattle.kz_types.specs.declared.limits.TheConstants.{MAX_PATH_BYTES};
 ghost use Rattle.kz_types.specs.declared.key.EntityKey.TheVariants as key;
 ghost use Rattle.kz_types.specs.Paths.{part_for_name, part_or_default, path_of, has_path};
 
-use kz_path_buffer::PathBuffer;
+use kz_paths::PathBuffer;
 use kz_types::{Text, keeps_rule};
 
 /// Adds the beginning of a path and the part of the default, or of a name. `false`: they make it longer than a path.

@@ -3,13 +3,13 @@ ghost use Rattle.std.specs.Prelude.{◌≡◌, ◌<◌, ◌+◌, ◌&&◌, ◌�
 ghost use Rattle.kz_types.specs.declared.limits.TheConstants.{MAX_PATH_BYTES};
 ghost use Rattle.kz_types.specs.PathRule.{is_path};
 ghost use Rattle.kz_types.specs.Paths.{is_legal, key_of, path_of, has_path, is_among};
-ghost use Rattle.kz_spec_values.specs.Credentials.{quota_keys};
-ghost use Rattle.kz_spec_stores.specs.ImageRules.{quota_key, has_quota};
-ghost use Rattle.kz_laws_paths.specs.TextKeys.{IsText, HasTexts};
+ghost use Rattle.kz_spec_data.specs.Credentials.{quota_keys};
+ghost use Rattle.kz_spec_data.specs.ImageRules.{quota_key, has_quota};
+ghost use Rattle.kz_laws_values.specs.TextKeys.{IsText, HasTexts};
 ghost use Rattle.kz_image_rules.specs.QuotaKeys.{entity_of};
 
 use crate::paths::push_named;
-use kz_path_buffer::PathBuffer;
+use kz_paths::PathBuffer;
 use kz_types::{QuotaEntity, Text, is_located, is_named, keeps_rule};
 
 /// Whom a quota speaks of. A name that is absent is the default one.

@@ -2,8 +2,8 @@
 ghost use Rattle.std.specs.Prelude.{◌≡◌};
 ghost use Rattle.kz_types.specs.Quotas.{is_quota};
 ghost use Rattle.kz_types.specs.declared.record.MetaRecord.TheVariants as meta;
-ghost use Rattle.kz_spec_stores.specs.ImageRules.{is_below_next, is_epoch_or_none, is_operation, is_permission, is_misvalued};
-ghost use Rattle.kz_spec_stores.specs.Metadata.{Image as ImageValue};
+ghost use Rattle.kz_spec_data.specs.ImageRules.{is_below_next, is_epoch_or_none, is_operation, is_permission, is_misvalued};
+ghost use Rattle.kz_spec_data.specs.Metadata.{Image as ImageValue};
 
 use crate::names::{are_codes, is_mechanism};
 use crate::partitions::{is_epoch, makes_row};

@@ -2,9 +2,9 @@
 use Rattle.std.proofs.Common.{◌≡◌, inl, ℕ, ◌+◌, ◌^◌, ◌<◌, Bool, true, false, List, ◌∷◌, ◌++◌, length, take, Option, Some, sym, ap, ◌∙◌, subst, arith}
 use Rattle.std.specs.Prelude.{option_map}
 use Rattle.kz_disk.specs.Disks.{NothingPends}
-use Rattle.kz_spec_files.specs.Frames.{journal_of, open_gate, seal_mark, frame_written, journal_with_frame, LeftByAppend}
-use Rattle.kz_laws_files.specs.Fronts.{sum_of}
-use Rattle.kz_laws_files.proofs.Fronts.{Grows, frame_is_read}
+use Rattle.kz_spec_data.specs.Frames.{journal_of, open_gate, seal_mark, frame_written, journal_with_frame, LeftByAppend}
+use Rattle.kz_laws_values.specs.Fronts.{sum_of}
+use Rattle.kz_laws_values.proofs.Fronts.{Grows, frame_is_read}
 use Rattle.kz_journal.specs.Appends.{with_open_gate, IsCutAppend, IsResting, IsAppended, after_gate, next_gate_of}
 use Rattle.kz_journal.proofs.Crashes.{told_after}
 use Rattle.kz_journal.proofs.Files.{resting_file, left_by_writing, says_done, front_done, rests_done, long_done, left_alone}

@@ -2,9 +2,9 @@
 use Rattle.std.proofs.Common.{◌≡◌, ℕ, max, Bool, true, false, List, [], ◌++◌, length, take, drop, get_or, Option, Some, None, sym, ap, ◌∙◌, subst, arith, length-append}
 use Rattle.std.specs.Prelude.{option_map}
 use Rattle.kz_disk.specs.Disks.{with_piece}
-use Rattle.kz_spec_files.specs.Frames.{summed_header, new_file, journal_of}
-use Rattle.kz_laws_files.specs.Fronts.{IsFront}
-use Rattle.kz_laws_files.proofs.Fronts.{header_said}
+use Rattle.kz_spec_data.specs.Frames.{summed_header, new_file, journal_of}
+use Rattle.kz_laws_values.specs.Fronts.{IsFront}
+use Rattle.kz_laws_values.proofs.Fronts.{header_said}
 use Rattle.kz_journal.specs.declared.place.Place.{Place}
 use Rattle.kz_journal.specs.Appends.{IsResting}
 use Rattle.kz_journal.specs.Journals.{IsReadTo, HasClosedGate}

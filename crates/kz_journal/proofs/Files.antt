@@ -4,10 +4,10 @@ use Rattle.std.proofs.Common.{◌≡◌, ◌≢◌, ◌⊎◌, inl, inr, ⊎_eli
 use Rattle.std.proofs.lemmas.Bool.{cases_eq}
 use Rattle.std.proofs.lemmas.List.{take-append-le, length-take-le, take_at, drop_at, get_or-append_right}
 use Rattle.kz_disk.specs.Disks.{Torn, with_piece, NothingPends}
-use Rattle.kz_spec_files.specs.Frames.{Journal, journal_of, open_gate, closed_gate}
-use Rattle.kz_laws_files.specs.Fronts.{IsFront}
-use Rattle.kz_laws_files.proofs.Found.{closed_here}
-use Rattle.kz_laws_files.proofs.Fronts.{Grows, front_ends}
+use Rattle.kz_spec_data.specs.Frames.{Journal, journal_of, open_gate, closed_gate}
+use Rattle.kz_laws_values.specs.Fronts.{IsFront}
+use Rattle.kz_laws_values.proofs.Found.{closed_here}
+use Rattle.kz_laws_values.proofs.Fronts.{Grows, front_ends}
 use Rattle.kz_journal.specs.Appends.{with_open_gate, IsCutAppend, IsResting}
 
 -- a list at one of its places

@@ -1,9 +1,9 @@
 -- What is found at a gate, by its tests.
 use Rattle.std.proofs.Common.{◌≡◌, ℕ, ◌+◌, ◌<◌, ◌≤◌, Bool, true, false, not, ◌&&◌, ◌==◌, nat_lt, List, length, refl, arith}
 use Rattle.std.proofs.lemmas.Bool.Decides.{nat_tests}
-use Rattle.kz_spec_values.specs.Checksum.{crc32c}
-use Rattle.kz_spec_files.specs.Frames.{Damaged, End, is_open, size_before, stated_length, stated_sum, has_sum, seal_mark, found_at}
-use Rattle.kz_laws_files.proofs.Found.{five}
+use Rattle.kz_spec_data.specs.Checksum.{crc32c}
+use Rattle.kz_spec_data.specs.Frames.{Damaged, End, is_open, size_before, stated_length, stated_sum, has_sum, seal_mark, found_at}
+use Rattle.kz_laws_values.proofs.Found.{five}
 
 not_less : (m n : ℕ) → n ≤ m → nat_lt m n ≡ false
 not_less m n le = grind (arith, nat_tests)

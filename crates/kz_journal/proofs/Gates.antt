@@ -2,9 +2,9 @@
 use Rattle.std.proofs.Common.{◌≡◌, ◌≢◌, ℕ, ◌+◌, ◌-◌, ◌<◌, ◌≤◌, Bool, true, false, ◌==◌, List, [], ◌∷◌, ◌++◌, length, take, drop, refl, sym, ap, ◌∙◌, arith, length-drop, take-add, eq-eqb}
 use Rattle.std.specs.Int.{w32, from_be_bytes}
 use Rattle.std.proofs.lemmas.Bool.Decides.{nat_tests}
-use Rattle.kz_spec_values.specs.Checksum.{crc32c}
-use Rattle.kz_spec_files.specs.Frames.{Frame, Seal, Damaged, End, is_open, stated_length, stated_sum, has_sum, seal_mark, open_gate, found_at}
-use Rattle.kz_laws_files.proofs.Found.{frame_found, seal_found, short_here}
+use Rattle.kz_spec_data.specs.Checksum.{crc32c}
+use Rattle.kz_spec_data.specs.Frames.{Frame, Seal, Damaged, End, is_open, stated_length, stated_sum, has_sum, seal_mark, open_gate, found_at}
+use Rattle.kz_laws_values.proofs.Found.{frame_found, seal_found, short_here}
 use Rattle.kz_journal.specs.Pieces.{IsOpenHead}
 use Rattle.kz_journal.proofs.FoundTests.{cut_frame, damaged_frame, cut_seal, damaged_seal}
 

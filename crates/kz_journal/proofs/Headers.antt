@@ -4,11 +4,11 @@ use Rattle.std.specs.Prelude.{bytes_eq}
 use Rattle.std.proofs.lemmas.Bool.{cases_Bool}
 use Rattle.std.proofs.lemmas.Slice.Eq.{bytes_eq-Decides}
 use Rattle.kz_types.proofs.NumberLemmas.{bytes_eq-true}
-use Rattle.kz_spec_values.specs.Checksum.{crc32c}
-use Rattle.kz_spec_files.specs.Frames.{Journal, plain_header, summed_header, journal_from, journal_of}
-use Rattle.kz_laws_files.specs.Fronts.{IsFront}
-use Rattle.kz_laws_files.proofs.Found.{nothing_here}
-use Rattle.kz_laws_files.proofs.Fronts.{ends_here}
+use Rattle.kz_spec_data.specs.Checksum.{crc32c}
+use Rattle.kz_spec_data.specs.Frames.{Journal, plain_header, summed_header, journal_from, journal_of}
+use Rattle.kz_laws_values.specs.Fronts.{IsFront}
+use Rattle.kz_laws_values.proofs.Found.{nothing_here}
+use Rattle.kz_laws_values.proofs.Fronts.{ends_here}
 use Rattle.kz_journal.specs.declared.place.Place.{Place}
 use Rattle.kz_journal.specs.Openings.{no_journal, has_header, IsNoJournal}
 use Rattle.kz_journal.specs.Journals.{IsReadTo, journal_at}

@@ -1,7 +1,7 @@
 -- What a gate and its four bytes of length say.
 use Rattle.std.proofs.Common.{◌≡◌, ◌≢◌, ℕ, ◌≤◌, ◌==◌, false, List, [], ◌∷◌, length, take, drop, get_or, refl, sym, ◌∙◌, subst, arith}
 use Rattle.std.proofs.lemmas.Bool.Decides.{nat_tests}
-use Rattle.kz_spec_files.specs.Frames.{is_open, open_gate}
+use Rattle.kz_spec_data.specs.Frames.{is_open, open_gate}
 
 -- five bytes
 pub record Head (buf here : List ℕ) : Type 0 where

@@ -10,3 +10,4 @@ mod Reading
 mod Sealed
 mod Shutting
 pub mod Steps
+pub mod Stops

@@ -2,11 +2,11 @@
 use Rattle.std.proofs.Common.{◌≡◌, ℕ, ◌+◌, ◌^◌, ◌<◌, max, Bool, true, false, List, [], ◌∷◌, ◌++◌, length, take, Option, Some, sym, ap, ◌∙◌, subst, arith}
 use Rattle.std.specs.Prelude.{option_map}
 use Rattle.std.proofs.lemmas.List.{length-take-le}
-use Rattle.kz_spec_stores.specs.Requests.{IsTooLong}
-use Rattle.kz_spec_values.specs.Checksum.{crc32c}
-use Rattle.kz_spec_files.specs.Frames.{Journal, journal_of, open_gate, closed_gate, seal_written, journal_with_seal, LeftBySeal, HasNoRoomForSeal}
-use Rattle.kz_laws_files.specs.Fronts.{IsFront}
-use Rattle.kz_laws_files.proofs.Fronts.{Grows, seal_is_read}
+use Rattle.kz_spec_data.specs.Requests.{IsTooLong}
+use Rattle.kz_spec_data.specs.Checksum.{crc32c}
+use Rattle.kz_spec_data.specs.Frames.{Journal, journal_of, open_gate, closed_gate, seal_written, journal_with_seal, LeftBySeal, HasNoRoomForSeal}
+use Rattle.kz_laws_values.specs.Fronts.{IsFront}
+use Rattle.kz_laws_values.proofs.Fronts.{Grows, seal_is_read}
 use Rattle.kz_journal.specs.declared.place.Place.{Place}
 use Rattle.kz_journal.specs.Appends.{with_open_gate, IsCutAppend, IsResting}
 use Rattle.kz_journal.specs.Journals.{IsReadTo, HasClosedGate, HasNewSeal, file_at, with_seal}

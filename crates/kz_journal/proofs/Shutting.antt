@@ -6,8 +6,8 @@ use Rattle.std.proofs.lemmas.Bool.{cases_eq}
 use Rattle.std.proofs.lemmas.Bool.Decides.{nat_tests}
 use Rattle.std.proofs.lemmas.List.{take_at, drop_at, length-take-le}
 use Rattle.kz_disk.specs.Disks.{Torn, with_piece, NothingPends}
-use Rattle.kz_spec_files.specs.Frames.{End, is_open, open_gate, closed_gate, seal_mark, stated_length, found_at}
-use Rattle.kz_laws_files.proofs.Found.{short_here, closed_here, five}
+use Rattle.kz_spec_data.specs.Frames.{End, is_open, open_gate, closed_gate, seal_mark, stated_length, found_at}
+use Rattle.kz_laws_values.proofs.Found.{short_here, closed_here, five}
 use Rattle.kz_journal.specs.Closings.{StillEnds, IsIdle, IsClosed, unending}
 use Rattle.kz_journal.proofs.FoundTests.{cut_frame}
 use Rattle.kz_journal.proofs.Gates.{shut_here}

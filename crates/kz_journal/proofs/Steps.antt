@@ -1,10 +1,10 @@
 -- What is known of a file once it has been read up to a further gate.
 use Rattle.std.proofs.Common.{◌≡◌, ℕ, ◌+◌, ◌<◌, ◌≤◌, max, Bool, true, false, List, [], ◌∷◌, ◌++◌, length, take, drop, get_or, Option, Some, refl, sym, ap, ◌∙◌, subst, arith, take-add, take-append-drop, length-take-le}
-use Rattle.kz_spec_values.specs.Checksum.{crc32c}
-use Rattle.kz_spec_files.specs.Frames.{Found, Frame, Seal, Damaged, End, Journal, after_frame, going_on, size_before, closed_gate, found_at, journal_within, journal_of, journal_with_frame, journal_with_seal}
-use Rattle.kz_laws_files.specs.Fronts.{IsFront}
-use Rattle.kz_laws_files.proofs.Found.{frame_at, seal_at, frame_alone, seal_alone, frame_length, closed_here}
-use Rattle.kz_laws_files.proofs.Fronts.{Grows, frame_more, seal_more, front_ends, from_gate}
+use Rattle.kz_spec_data.specs.Checksum.{crc32c}
+use Rattle.kz_spec_data.specs.Frames.{Found, Frame, Seal, Damaged, End, Journal, after_frame, going_on, size_before, closed_gate, found_at, journal_within, journal_of, journal_with_frame, journal_with_seal}
+use Rattle.kz_laws_values.specs.Fronts.{IsFront}
+use Rattle.kz_laws_values.proofs.Found.{frame_at, seal_at, frame_alone, seal_alone, frame_length, closed_here}
+use Rattle.kz_laws_values.proofs.Fronts.{Grows, frame_more, seal_more, front_ends, from_gate}
 use Rattle.kz_journal.specs.declared.place.Place.{Place}
 use Rattle.kz_journal.specs.Closings.{StillEnds, IsClosed}
 use Rattle.kz_journal.specs.Journals.{IsReadTo, HasClosedGate, journal_at, file_at, file_of}

@@ -1,8 +1,8 @@
 -- What appends do to a journal's file, and what a stop in one leaves.
 use Rattle.std.specs.Prelude.{◌≡◌, ◌⊎◌, ℕ, ◌+◌, ◌<◌, max, Bool, List, [], ◌∷◌, ◌++◌, length, take, slice_index, Option, Some}
 use Rattle.kz_disk.specs.Disks.{Torn, with_piece}
-use Rattle.kz_spec_files.specs.Frames.{open_gate, closed_gate, size_before, frame_written, journal_with_frame, journal_of}
-use Rattle.kz_laws_files.specs.Fronts.{IsFront}
+use Rattle.kz_spec_data.specs.Frames.{open_gate, closed_gate, size_before, frame_written, journal_with_frame, journal_of}
+use Rattle.kz_laws_values.specs.Fronts.{IsFront}
 
 -- what a stop might have left before, or that with a torn range
 abbrev pub IsTornOr : (List ℕ → Type 0) → ℕ → ℕ → List ℕ → Type 0

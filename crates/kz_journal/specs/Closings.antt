@@ -1,7 +1,7 @@
 -- How the end of the frames is closed, so that a frame can be appended there.
 use Rattle.std.specs.Prelude.{◌≡◌, ℕ, ◌+◌, max, Bool, List, [], ◌∷◌, length, take, drop, slice_index, Option, Some}
 use Rattle.kz_disk.specs.Disks.{Torn}
-use Rattle.kz_spec_files.specs.Frames.{End, found_at, closed_gate}
+use Rattle.kz_spec_data.specs.Frames.{End, found_at, closed_gate}
 
 -- A file's frames still end at this gate: what stands before it is the same, and no frame is found at it.
 pub record StillEnds (summed : Bool) (gate : ℕ) (file left : List ℕ) : Type 0 where

@@ -1,9 +1,9 @@
 -- What a journal holds, and what its calls do.
 use Rattle.std.specs.Prelude.{◌≡◌, ◌<◌, ◌-◌, ℕ, Bool, true, false, ⊤, List, [], Option, Some, None, is_some, Result, Ok, Err}
 use Rattle.kz_types.specs.Causes.{Rose}
-use Rattle.kz_spec_stores.specs.Requests.{Disk, StoreFile, Fits, IsTooLong}
-use Rattle.kz_spec_files.specs.Frames.{after_frame, journal_of, journal_with_seal, HasNoRoomForSeal}
-use Rattle.kz_spec_files.specs.Frames as files
+use Rattle.kz_spec_data.specs.Requests.{Disk, StoreFile, Fits, IsTooLong}
+use Rattle.kz_spec_data.specs.Frames.{after_frame, journal_of, journal_with_seal, HasNoRoomForSeal}
+use Rattle.kz_spec_data.specs.Frames as files
 use Rattle.kz_journal.specs.declared.fault.JournalFault.{JournalFault}
 use Rattle.kz_journal.specs.declared.fault.JournalFault.TheVariants as fault
 use Rattle.kz_journal.specs.declared.journal.Frame.{Frame}

@@ -1,9 +1,9 @@
 -- How far a journal's file has been read, and what is appended to it there.
 use Rattle.std.specs.Prelude.{◌≡◌, ℕ, ◌+◌, max, Bool, true, ⊤, List, length, take, slice_index, Option, Some, None, Result, Ok, Err}
 use Rattle.kz_types.specs.Causes.{Rose}
-use Rattle.kz_spec_stores.specs.Requests.{Disk, StoreFile, Fits, IsTooLong}
-use Rattle.kz_spec_files.specs.Frames.{Journal, closed_gate, size_before, journal_from, journal_of, journal_with_frame, journal_with_seal}
-use Rattle.kz_laws_files.specs.Fronts.{IsFront}
+use Rattle.kz_spec_data.specs.Requests.{Disk, StoreFile, Fits, IsTooLong}
+use Rattle.kz_spec_data.specs.Frames.{Journal, closed_gate, size_before, journal_from, journal_of, journal_with_frame, journal_with_seal}
+use Rattle.kz_laws_values.specs.Fronts.{IsFront}
 use Rattle.kz_journal.specs.Appends.{next_gate_of}
 use Rattle.kz_journal.specs.Pieces.{IsMeasured}
 use Rattle.kz_journal.specs.declared.append.AppendFault.{AppendFault}

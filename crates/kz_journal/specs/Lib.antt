@@ -6,3 +6,5 @@ pub mod Nexts
 pub mod Openings
 pub mod Pieces
 pub mod Reads
+pub mod Changes
+pub mod Values

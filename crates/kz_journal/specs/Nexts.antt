@@ -1,7 +1,7 @@
 -- What comes next in a file that has been read up to a gate.
 use Rattle.std.specs.Prelude.{◌≡◌, ◌+◌, ◌^◌, ◌<◌, ◌≤◌, ℕ, true, false, ⊤, List, [], length, Option, Some, Result, Ok, Err}
-use Rattle.kz_spec_stores.specs.Requests.{StoreFile}
-use Rattle.kz_spec_files.specs.Frames.{Journal, after_frame, journal_of}
+use Rattle.kz_spec_data.specs.Requests.{StoreFile}
+use Rattle.kz_spec_data.specs.Frames.{Journal, after_frame, journal_of}
 use Rattle.kz_journal.specs.declared.next.Next.{Next}
 use Rattle.kz_journal.specs.declared.next.Next.TheVariants as next
 use Rattle.kz_journal.specs.declared.place.Place.{Place}

@@ -2,7 +2,7 @@
 use Rattle.std.specs.Prelude.{◌≡◌, ◌⊎◌, ◌<◌, ℕ, Bool, true, false, ◌||◌, ⊤, List, [], take, bytes_eq, Option, Some}
 use Rattle.kz_types.specs.Causes.{Rose}
 use Rattle.kz_disk.specs.Disks.{NothingPends}
-use Rattle.kz_spec_files.specs.Frames.{Journal, summed_header, plain_header, journal_of}
+use Rattle.kz_spec_data.specs.Frames.{Journal, summed_header, plain_header, journal_of}
 use Rattle.kz_journal.specs.declared.fault.JournalFault.{JournalFault}
 use Rattle.kz_journal.specs.declared.fault.JournalFault.TheVariants as fault
 

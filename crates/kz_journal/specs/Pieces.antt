@@ -1,7 +1,7 @@
 -- What stands at a gate, as it is read.
 use Rattle.std.specs.Prelude.{◌≡◌, ℕ, ◌+◌, ◌≤◌, Bool, true, false, List, length, take, drop, ⊤}
-use Rattle.kz_spec_values.specs.Checksum.{crc32c}
-use Rattle.kz_spec_files.specs.Frames.{Found, Frame, Seal, Damaged, End, is_open, size_before, found_at}
+use Rattle.kz_spec_data.specs.Checksum.{crc32c}
+use Rattle.kz_spec_data.specs.Frames.{Found, Frame, Seal, Damaged, End, is_open, size_before, found_at}
 use Rattle.kz_journal.specs.declared.read.Piece.{Piece}
 use Rattle.kz_journal.specs.declared.read.Piece.TheVariants as piece
 use Rattle.kz_journal.specs.declared.place.Place.{Place}

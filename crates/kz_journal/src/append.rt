@@ -1,9 +1,9 @@
 //! An append at a place of a file.
 ghost use Rattle.std.specs.Prelude.{◌≡◌, ◌+◌, ◌-◌, ◌^◌, ◌<◌, ◌≤◌, ◌++◌, ◌∷◌, ℕ, List, Some, true, false, min, max, length, IfOk, OnOk};
 ghost use Rattle.kz_disk.specs.Disks.{StaysTold, IsWithin, NothingPends, LeavesOnly};
-ghost use Rattle.kz_spec_values.specs.Checksum.{crc32c};
-ghost use Rattle.kz_spec_stores.specs.Requests.{file_with};
-ghost use Rattle.kz_spec_files.specs.Frames.{journal_of, frame_written, open_gate, size_before, LeftByAppend};
+ghost use Rattle.kz_spec_data.specs.Checksum.{crc32c};
+ghost use Rattle.kz_spec_data.specs.Requests.{file_with};
+ghost use Rattle.kz_spec_data.specs.Frames.{journal_of, frame_written, open_gate, size_before, LeftByAppend};
 ghost use Rattle.kz_journal.specs.Journals.{IsReadTo, HasClosedGate, HasNewFrame, IsNext, EndsAppend, IfNotCalled, disk_at};
 
 use crate::find::sum_after;

@@ -2,7 +2,7 @@
 ghost use Rattle.std.specs.Prelude.{◌≡◌, ◌+◌, ◌^◌, ◌<◌, ◌≤◌, ◌==◌, ◌∷◌, [], ℕ, Bool, List, Some, true, false, length, take, drop, option_map, IfOk, OnOk, OnErr};
 ghost use Rattle.kz_types.specs.Causes.{HasCause};
 ghost use Rattle.kz_disk.specs.Disks.{StaysTold, IsWithin, with_piece, NothingPends, LeavesOnly};
-ghost use Rattle.kz_spec_files.specs.Frames.{End, found_at, is_open, closed_gate};
+ghost use Rattle.kz_spec_data.specs.Frames.{End, found_at, is_open, closed_gate};
 ghost use Rattle.kz_journal.specs.Pieces.{IsMeasured};
 ghost use Rattle.kz_journal.specs.Reads.{OnlyReads};
 ghost use Rattle.kz_journal.specs.Closings.{StillEnds, IsIdle, IsClosed, unending};

@@ -2,7 +2,7 @@
 ghost use Rattle.std.specs.Prelude.{◌≡◌, ◌+◌, ◌^◌, ◌<◌, ◌≤◌, ℕ, List, Some, true, option_map, IfOk, OnOk, OnErr};
 ghost use Rattle.kz_types.specs.Causes.{HasCause};
 ghost use Rattle.kz_disk.specs.Disks.{with_piece, LeavesTorn, NothingPends, LeavesOnly};
-ghost use Rattle.kz_spec_files.specs.Frames.{new_file};
+ghost use Rattle.kz_spec_data.specs.Frames.{new_file};
 ghost use Rattle.kz_journal.specs.Appends.{IsTornOr};
 ghost use Rattle.kz_journal.specs.Journals.{IsReadTo, HasClosedGate};
 

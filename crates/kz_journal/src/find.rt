@@ -3,8 +3,8 @@ ghost use Rattle.std.specs.Prelude.{◌≡◌, ◌+◌, ◌^◌, ◌<◌, ◌≤
 ghost use Rattle.std.specs.Int.{w32, from_be_bytes};
 ghost use Rattle.kz_types.specs.Causes.{HasCause};
 ghost use Rattle.kz_disk.specs.Disks.{IsWithin};
-ghost use Rattle.kz_spec_values.specs.Checksum.{crc32c};
-ghost use Rattle.kz_spec_files.specs.Frames.{open_gate, seal_mark};
+ghost use Rattle.kz_spec_data.specs.Checksum.{crc32c};
+ghost use Rattle.kz_spec_data.specs.Frames.{open_gate, seal_mark};
 ghost use Rattle.kz_journal.specs.Reads.{OnlyReads, ReadCause};
 ghost use Rattle.kz_journal.specs.Pieces.{StandsAt, IsOpenHead, IsSumAfter, IsMeasured, IsRoomFor};
 

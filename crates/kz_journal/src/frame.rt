@@ -2,8 +2,8 @@
 ghost use Rattle.std.specs.Prelude.{◌≡◌, ◌+◌, ◌^◌, ◌<◌, ℕ, List, Some, true, false, length, IfOk, OnOk, IsErrOf};
 ghost use Rattle.kz_types.specs.Causes.{Rose};
 ghost use Rattle.kz_disk.specs.Disks.{StaysTold, IsWithin, NothingPends, LeavesOnly};
-ghost use Rattle.kz_spec_files.specs.Frames.{journal_of, LeftByAppend};
-ghost use Rattle.kz_laws_files.specs.Fronts.{sum_of};
+ghost use Rattle.kz_spec_data.specs.Frames.{journal_of, LeftByAppend};
+ghost use Rattle.kz_laws_values.specs.Fronts.{sum_of};
 ghost use Rattle.kz_journal.specs.Appends.{after_gate, IsResting, IsAppended};
 
 use crate::device::{CLOSED_GATE, write_after};

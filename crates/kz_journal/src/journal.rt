@@ -50,8 +50,8 @@ pub struct Journal<D: Disk> {
 impl<D: Disk> Journal<D> {
     ghost use Rattle.std.specs.Prelude.{[], option_map, IfOk, IfErr, OnOk, IsErrOf, MatchResult};
     ghost use Rattle.kz_disk.specs.Disks.{StaysTold, with_piece, LeavesTorn, LeavesOnly};
-    ghost use Rattle.kz_spec_stores.specs.Requests.{file_with};
-    ghost use Rattle.kz_spec_files.specs.Frames.{new_file, journal_of, LeftByAppend, LeftBySeal};
+    ghost use Rattle.kz_spec_data.specs.Requests.{file_with};
+    ghost use Rattle.kz_spec_data.specs.Frames.{new_file, journal_of, LeftByAppend, LeftBySeal};
     ghost use Rattle.kz_journal.specs.Appends.{IsTornOr};
     ghost use Rattle.kz_journal.specs.Journals.{HasFrameMore};
     ghost use Rattle.kz_journal.specs.Openings.{IsRefused, HasFaultCause, Settles};

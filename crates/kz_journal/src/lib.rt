@@ -5,6 +5,8 @@
 #![tactic(auto)]
 
 mod append;
+mod change;
+mod change_fault;
 mod close;
 mod create;
 mod device;
@@ -17,6 +19,10 @@ mod open;
 mod place;
 mod read;
 mod seal;
+mod sealing;
 
+pub use change::write_frame;
+pub use change_fault::ChangeFault;
 pub use fault::JournalFault;
 pub use journal::{Frame, Journal};
+pub use sealing::write_seal;

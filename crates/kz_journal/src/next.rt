@@ -1,7 +1,7 @@
 //! The next frame of a file.
 ghost use Rattle.std.specs.Prelude.{◌≡◌, ◌+◌, ◌^◌, ◌<◌, ◌≤◌, ℕ, List, Some, true, false, length, IfOk};
 ghost use Rattle.kz_disk.specs.Disks.{StaysTold, IsWithin, NothingPends, LeavesOnly};
-ghost use Rattle.kz_spec_files.specs.Frames.{journal_of};
+ghost use Rattle.kz_spec_data.specs.Frames.{journal_of};
 ghost use Rattle.kz_journal.specs.Reads.{OnlyReads, ReadCause};
 ghost use Rattle.kz_journal.specs.Pieces.{StandsAt, IsSumAfter, IsMeasured, IsRoomFor, IsNoSeal};
 ghost use Rattle.kz_journal.specs.Journals.{IsReadTo, journal_at};

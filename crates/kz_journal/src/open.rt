@@ -2,7 +2,7 @@
 ghost use Rattle.std.specs.Prelude.{◌≡◌, ◌+◌, ◌^◌, ◌<◌, ◌≤◌, ℕ, List, [], Some, None, true, false, length, take, IfOk, IfErr, IfSome, OnOk, OnErr, bytes_eq};
 ghost use Rattle.kz_types.specs.Causes.{HasCause};
 ghost use Rattle.kz_disk.specs.Disks.{IsWithin, NothingPends, LeavesOnly};
-ghost use Rattle.kz_spec_files.specs.Frames.{plain_header, summed_header, journal_of};
+ghost use Rattle.kz_spec_data.specs.Frames.{plain_header, summed_header, journal_of};
 ghost use Rattle.kz_journal.specs.Openings.{has_header, IsNoJournal, IsRefused, HasFaultCause, Settles};
 ghost use Rattle.kz_journal.specs.Reads.{OnlyReads};
 ghost use Rattle.kz_journal.specs.Journals.{IsReadTo, journal_at};

@@ -1,6 +1,6 @@
 //! A gate of a journal's file.
 ghost use Rattle.std.specs.Prelude.{◌≡◌, ◌+◌, ◌^◌, ◌<◌, ◌≤◌, max, length};
-ghost use Rattle.kz_spec_files.specs.Frames.{size_before};
+ghost use Rattle.kz_spec_data.specs.Frames.{size_before};
 
 /// How far a journal's file has been read.
 #[derive(Clone, Copy, Debug, PartialEq, Eq)]

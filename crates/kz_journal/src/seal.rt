@@ -1,8 +1,8 @@
 //! A seal at a place of a file of format 01.
 ghost use Rattle.std.specs.Prelude.{◌≡◌, ◌+◌, ◌-◌, ◌^◌, ◌<◌, ◌≤◌, ◌++◌, ◌∷◌, [], ℕ, List, Some, true, false, max, length, take, IfOk, OnOk};
 ghost use Rattle.kz_disk.specs.Disks.{StaysTold, IsWithin, NothingPends, LeavesOnly};
-ghost use Rattle.kz_spec_values.specs.Checksum.{crc32c};
-ghost use Rattle.kz_spec_files.specs.Frames.{journal_of, seal_written, closed_gate, LeftBySeal};
+ghost use Rattle.kz_spec_data.specs.Checksum.{crc32c};
+ghost use Rattle.kz_spec_data.specs.Frames.{journal_of, seal_written, closed_gate, LeftBySeal};
 ghost use Rattle.kz_journal.specs.Journals.{IsReadTo, HasClosedGate, HasNewSeal, EndsSeal, IfNotSealed, file_at, with_seal};
 
 use crate::device::{CLOSED_GATE, write_after};

@@ -12,7 +12,7 @@ use Rattle.std.proofs.lemmas.Slice.Eq.{starts_is, strip_prefix_is}
 use Rattle.base64.specs.declared.decode.DecodeError.{DecodeError}
 use Rattle.base64.specs.Engines.{standard}
 use Rattle.base64.specs.GeneralPurpose.{decode_of, decoded_of}
-use Rattle.kz_spec_values.specs.Credentials.{after_name}
+use Rattle.kz_spec_data.specs.Credentials.{after_name}
 
 -- what a call says that strips a front
 abbrev pub Strips : Option (Bor (List ℕ)) → List ℕ → List ℕ → Type 0

@@ -8,7 +8,7 @@ use Rattle.kz_types.specs.declared.bodies.Pair.{Pair}
 use Rattle.kz_types.specs.declared.bodies.QuotaRow.{QuotaRow}
 use Rattle.kz_types.specs.declared.fault.BodyFault.{BodyFault}
 use Rattle.kz_types.specs.declared.key.EntityKey.{EntityKey}
-use Rattle.kz_spec_values.specs.Credentials.{Entries, entry_of, entries_of, entries_of_both, both}
+use Rattle.kz_spec_data.specs.Credentials.{Entries, entry_of, entries_of, entries_of_both, both}
 use Rattle.kz_json.specs.Entries.{are_quotas}
 
 both_onto : (a b : Entries) (r : Result Entries BodyFault) → both (Ok a) (both (Ok b) r) ≡ both (Ok (entries_of_both a b)) r

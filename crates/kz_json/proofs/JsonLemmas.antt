@@ -4,7 +4,7 @@ use Rattle.std.specs.Prelude.{Option, option_map, option_and_then}
 use Rattle.serde_json.specs.Data.{Data, Members, member}
 use Rattle.serde_json.specs.Find.{as_str}
 use Rattle.kz_types.specs.declared.bodies.Pair.{Pair}
-use Rattle.kz_spec_values.specs.Bodies.{texts_in}
+use Rattle.kz_spec_data.specs.Bodies.{texts_in}
 
 -- ---- the members of a configuration, one after another
 

@@ -4,13 +4,13 @@ use Rattle.serde_json.specs.Data.{Data, string, Members, no_members, put}
 use Rattle.serde_json.specs.View.{items_of}
 use Rattle.serde_json.specs.Written.{has_float, members_have_float, items_have_float}
 use Rattle.std.specs.Prelude.{ℤ, pos, negsuc, map}
-use Rattle.kz_members.proofs.Floats.{neither, put_no_float}
+use Rattle.kz_body_parts.proofs.Floats.{neither, put_no_float}
 use Rattle.std.specs.Fmt.{signed_decimal}
 use Rattle.kz_types.specs.declared.id.Id.{Id}
 use Rattle.kz_types.specs.declared.row.AclRow.{AclRow}
 use Rattle.kz_types.specs.declared.bodies.AssignmentRow.{AssignmentRow}
 use Rattle.kz_types.specs.declared.bodies.Pair.{Pair}
-use Rattle.kz_spec_values.specs.Bodies.{with_texts, config_data, whole_data, brokers_data, with_list, with_some, replicas_members, adding_members, removing_members, topic_data, state_data, acl_data, acls_data, producer_data}
+use Rattle.kz_spec_data.specs.Bodies.{with_texts, config_data, whole_data, brokers_data, with_list, with_some, replicas_members, adding_members, removing_members, topic_data, state_data, acl_data, acls_data, producer_data}
 
 texts_no_float : (ms : Members) (pairs : List Pair) → members_have_float ms ≡ false → members_have_float (with_texts ms pairs) ≡ false
 texts_no_float ms [] none = none

@@ -7,7 +7,7 @@ use Rattle.kz_types.specs.declared.bodies.Body.{Body}
 use Rattle.kz_types.specs.declared.bodies.Body.TheVariants as body
 use Rattle.kz_types.specs.declared.key.EntityKey.{EntityKey}
 use Rattle.kz_types.specs.declared.key.EntityKey.TheVariants.{Topic, Partition, TopicConfig, BrokerConfig, Client, User, UserClient, Ip, Acl, Producer}
-use Rattle.kz_spec_values.specs.Credentials.{Entries}
+use Rattle.kz_spec_data.specs.Credentials.{Entries}
 use Rattle.kz_json.specs.declared.entries.Entry.{Entry}
 use Rattle.kz_json.specs.declared.entries.Entry.TheVariants.{Quota, Credential}
 

@@ -2,9 +2,9 @@
 ghost use Rattle.std.specs.Prelude.{◌≡◌, ◌≢◌, IfOk, Ok, Err, codes, option_map};
 ghost use Rattle.serde_json.specs.View.{view, items_view};
 ghost use Rattle.kz_types.specs.declared.fault.BodyFault.{BodyFault};
-ghost use Rattle.kz_spec_values.specs.Bodies.{operation_of, permission_of, text_at, entry_in, entries_in, entries_of_data, acls_of_data};
+ghost use Rattle.kz_spec_data.specs.Bodies.{operation_of, permission_of, text_at, entry_in, entries_in, entries_of_data, acls_of_data};
 
-use kz_members::{bad_field, missing, whole_field};
+use kz_body_parts::{bad_field, missing, whole_field};
 use kz_types::{AclRow, Body, BodyFault, NoMemory, Sequence, Text};
 use serde_json::Value;
 use std::alloc::Global;

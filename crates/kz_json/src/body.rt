@@ -1,7 +1,7 @@
 //! Bodies of every entity, read and written.
 ghost use Rattle.std.specs.Prelude.{◌≡◌, ◌≢◌, IfOk, IfErr, Err, string_bytes, true};
 ghost use Rattle.kz_types.specs.declared.fault.BodyFault.{BodyFault};
-ghost use Rattle.kz_spec_values.specs.Bodies.{read_body, text_of_body, is_of_kind};
+ghost use Rattle.kz_spec_data.specs.Bodies.{read_body, text_of_body, is_of_kind};
 ghost use Rattle.kz_json.specs.Entries.{keeps_quotas};
 
 use crate::acls::Resource;
@@ -61,7 +61,7 @@ pub fn read_body(alloc: Global, key: &EntityKey, bytes: &[u8]) -> Result<Body, B
 }
 
 /// The text of a body.
-#[tactic(auto, unfolding(kz_spec_values::specs::Bodies::text_of_body))]
+#[tactic(auto, unfolding(kz_spec_data::specs::Bodies::text_of_body))]
 fn body_text(alloc: Global, body: &Body) -> Result<String, NoMemory>
     requires { keeps_quotas body.now ≡ true }
     ensures { IfOk result (λ text. string_bytes text ≡ text_of_body body.now) }

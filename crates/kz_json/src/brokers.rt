@@ -1,9 +1,9 @@
 //! Lists of brokers in bodies.
 ghost use Rattle.std.specs.Prelude.{◌≡◌, IfOk};
 ghost use Rattle.serde_json.specs.View.{view, items_view};
-ghost use Rattle.kz_spec_values.specs.Bodies.{brokers_in, brokers_of};
+ghost use Rattle.kz_spec_data.specs.Bodies.{brokers_in, brokers_of};
 
-use kz_members::number;
+use kz_body_parts::number;
 use kz_types::{NoMemory, Sequence};
 use serde_json::Value;
 use std::alloc::Global;

@@ -2,9 +2,9 @@
 ghost use Rattle.std.specs.Prelude.{◌≡◌, ◌≢◌, IfOk, Ok, Err, codes, pos};
 ghost use Rattle.serde_json.specs.View.{view, members_view};
 ghost use Rattle.kz_types.specs.declared.fault.BodyFault.{BodyFault};
-ghost use Rattle.kz_spec_values.specs.Bodies.{field, whole, texts_in, texts_of, pairs_of, config_of};
+ghost use Rattle.kz_spec_data.specs.Bodies.{field, whole, texts_in, texts_of, pairs_of, config_of};
 
-use kz_members::{bad_field, missing, whole_field};
+use kz_body_parts::{bad_field, missing, whole_field};
 use kz_types::{Body, BodyFault, NoMemory, Pair, Sequence, Text};
 use serde_json::{Map, Value};
 use std::alloc::Global;

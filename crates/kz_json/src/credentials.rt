@@ -3,7 +3,7 @@ ghost use Rattle.std.specs.Prelude.{◌≡◌, ◌==◌, IfOk, map, option_map};
 ghost use Rattle.std.specs.List.{slice_split};
 ghost use Rattle.base64.specs.Engines.{standard};
 ghost use Rattle.base64.specs.GeneralPurpose.{decoded_of};
-ghost use Rattle.kz_spec_values.specs.Credentials.{after_name, value_of, bytes_of, iterations_of, credential_of_pieces, credential_of};
+ghost use Rattle.kz_spec_data.specs.Credentials.{after_name, value_of, bytes_of, iterations_of, credential_of_pieces, credential_of};
 
 use base64::DecodeAllocError;
 use base64::engine::general_purpose::STANDARD;
@@ -96,7 +96,7 @@ fn pieces_of<'a>(alloc: Global, text: &'a str) -> Result<Vec<&'a str>, NoMemory>
 
 /// The credential that a text is: its members `salt`, `stored_key` and `server_key` in base64 and `iterations`, each
 /// once and in any order. `None` where it is none.
-#[tactic(auto, unfolding(kz_spec_values::specs::Credentials::credential_of))]
+#[tactic(auto, unfolding(kz_spec_data::specs::Credentials::credential_of))]
 pub fn credential_of(alloc: Global, text: &str) -> Result<Option<ScramRow>, NoMemory>
     ensures { IfOk result (λ row. row ≡ credential_of text.now) }
 {

@@ -3,18 +3,17 @@ ghost use Rattle.std.specs.Prelude.{◌≡◌, ◌≢◌, [], IfOk, IfErr, OnOk,
 ghost use Rattle.std.specs.Result.{result_ok};
 ghost use Rattle.serde_json.specs.View.{view};
 ghost use Rattle.kz_types.specs.Paths.{is_among};
-ghost use Rattle.kz_spec_quotas.specs.Quotas.{quota_of};
+ghost use Rattle.kz_spec_data.specs.Quotas.{quota_of};
 ghost use Rattle.kz_types.specs.declared.fault.BodyFault.{BodyFault};
 ghost use Rattle.kz_types.specs.declared.fault.BodyFault.TheVariants.{UnknownKey};
-ghost use Rattle.kz_spec_values.specs.Credentials as said;
-ghost use Rattle.kz_spec_values.specs.Credentials.{quota_keys, mechanism_of, credential_key, credential_of, credential_entry, quota_entry, entry_of, entries_of, entries_of_both};
-ghost use Rattle.kz_spec_values.specs.Bodies.{quota_of_data};
+ghost use Rattle.kz_spec_data.specs.Credentials as said;
+ghost use Rattle.kz_spec_data.specs.Credentials.{quota_keys, mechanism_of, credential_key, credential_of, credential_entry, quota_entry, entry_of, entries_of, entries_of_both};
+ghost use Rattle.kz_spec_data.specs.Bodies.{quota_of_data};
 ghost use Rattle.kz_json.specs.Entries.{entry_value};
 
 use crate::configs::pairs_of;
 use crate::credentials::credential_of;
-use kz_members::bad_field;
-use kz_quotas::QuotaText;
+use kz_body_parts::{QuotaText, bad_field};
 use kz_types::{
     Body, BodyFault, EntityKey, NoMemory, Pair, QuotaRow, QuotaValue, ScramPair, Sequence, Text,
 };

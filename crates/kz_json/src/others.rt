@@ -3,10 +3,10 @@ ghost use Rattle.std.specs.Prelude.{◌≡◌, ◌≢◌, IfOk, IfSome, Ok, Err,
 ghost use Rattle.serde_json.specs.Find.{get};
 ghost use Rattle.serde_json.specs.View.{view};
 ghost use Rattle.kz_types.specs.declared.fault.BodyFault.{BodyFault};
-ghost use Rattle.kz_spec_values.specs.Bodies.{field, brokers_of, optional, whole, state_of_data, producer_of_data, digits_number, digits_of_data};
+ghost use Rattle.kz_spec_data.specs.Bodies.{field, brokers_of, optional, whole, state_of_data, producer_of_data, digits_number, digits_of_data};
 
 use crate::brokers::brokers_of;
-use kz_members::{bad_field, missing, number_field, whole, whole_field};
+use kz_body_parts::{bad_field, missing, number_field, whole, whole_field};
 use kz_types::{Body, BodyFault, NoMemory, Sequence, digits_up_to};
 use serde_json::Value;
 use std::alloc::Global;

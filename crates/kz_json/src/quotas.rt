@@ -4,14 +4,14 @@ ghost use Rattle.base64.specs.Engines.{standard};
 ghost use Rattle.base64.specs.GeneralPurpose.{encode_of};
 ghost use Rattle.serde_json.specs.Written.{compact_text};
 ghost use Rattle.kz_types.specs.Quotas.{is_quota};
-ghost use Rattle.kz_spec_values.specs.Credentials.{mechanism_name, credential_text, quota_pair, credential_pair};
-ghost use Rattle.kz_spec_values.specs.Bodies.{config_data};
+ghost use Rattle.kz_spec_data.specs.Credentials.{mechanism_name, credential_text, quota_pair, credential_pair};
+ghost use Rattle.kz_spec_data.specs.Bodies.{config_data};
 ghost use Rattle.kz_json.specs.Entries.{are_quotas};
 
 use crate::topics::number_text;
 use crate::written::config_text;
 use base64::engine::general_purpose::STANDARD;
-use kz_quotas::QuotaText;
+use kz_body_parts::QuotaText;
 use kz_types::{Duplicate, NoMemory, Pair, QuotaRow, ScramPair, ScramRow, Text};
 use std::alloc::Global;
 
@@ -50,7 +50,7 @@ fn members_text(
 }
 
 /// The text of a credential.
-#[tactic(auto, unfolding(kz_spec_values::specs::Credentials::credential_text))]
+#[tactic(auto, unfolding(kz_spec_data::specs::Credentials::credential_text))]
 fn credential_text(alloc: Global, row: &ScramRow) -> Result<Text, NoMemory>
     ensures { IfOk result (λ text. text ≡ credential_text row.now) }
 {

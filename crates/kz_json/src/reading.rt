@@ -4,7 +4,7 @@ ghost use Rattle.serde_json.specs.View.{view};
 ghost use Rattle.serde_json.specs.Find.{as_object};
 ghost use Rattle.kz_types.specs.declared.fault.BodyFault.{BodyFault};
 ghost use Rattle.kz_types.specs.declared.key.EntityKey.TheVariants.{Topic, Partition, TopicConfig, BrokerConfig, Acl, Producer};
-ghost use Rattle.kz_spec_values.specs.Bodies.{json_of, object_of, read_body};
+ghost use Rattle.kz_spec_data.specs.Bodies.{json_of, object_of, read_body};
 ghost use Rattle.kz_json.specs.Entries.{has_quotas};
 
 use crate::acls::{Resource, acls_of};
@@ -12,7 +12,7 @@ use crate::configs::config_of;
 use crate::entries::quota_of;
 use crate::others::{producer_of, state_of};
 use crate::topics::topic_of;
-use kz_members::read_json;
+use kz_body_parts::read_json;
 use kz_types::{Body, BodyFault, EntityKey, NoMemory, Sequence};
 use serde_json::Value;
 use std::alloc::Global;
@@ -32,7 +32,7 @@ pub fn read_object(alloc: Global, bytes: &[u8]) -> Result<Option<Value>, NoMemor
 }
 
 /// What the body of a topic's or a broker's configuration says. Empty data is an empty configuration.
-#[tactic(auto, unfolding(kz_spec_values::specs::Bodies::read_body, kz_spec_values::specs::Bodies::empty_body, kz_spec_values::specs::Bodies::body_of))]
+#[tactic(auto, unfolding(kz_spec_data::specs::Bodies::read_body, kz_spec_data::specs::Bodies::empty_body, kz_spec_data::specs::Bodies::body_of))]
 pub fn read_config(alloc: Global, bytes: &[u8]) -> Result<Body, BodyFault>
     ensures broker { (broker : Option ℤ) → result ≢ Err BodyFault.NoMemory → result ≡ read_body (BrokerConfig broker) bytes.now }
     ensures topic { (name : List ℕ) → result ≢ Err BodyFault.NoMemory → result ≡ read_body (TopicConfig name) bytes.now }
@@ -50,7 +50,7 @@ pub fn read_config(alloc: Global, bytes: &[u8]) -> Result<Body, BodyFault>
 }
 
 /// What the body of a topic says.
-#[tactic(auto, unfolding(kz_spec_values::specs::Bodies::read_body, kz_spec_values::specs::Bodies::empty_body, kz_spec_values::specs::Bodies::body_of))]
+#[tactic(auto, unfolding(kz_spec_data::specs::Bodies::read_body, kz_spec_data::specs::Bodies::empty_body, kz_spec_data::specs::Bodies::body_of))]
 pub fn read_topic(alloc: Global, bytes: &[u8]) -> Result<Body, BodyFault>
     ensures { (name : List ℕ) → result ≢ Err BodyFault.NoMemory → result ≡ read_body (Topic name) bytes.now }
 {
@@ -62,7 +62,7 @@ pub fn read_topic(alloc: Global, bytes: &[u8]) -> Result<Body, BodyFault>
 }
 
 /// What the body of a partition's state says.
-#[tactic(auto, unfolding(kz_spec_values::specs::Bodies::read_body, kz_spec_values::specs::Bodies::empty_body, kz_spec_values::specs::Bodies::body_of))]
+#[tactic(auto, unfolding(kz_spec_data::specs::Bodies::read_body, kz_spec_data::specs::Bodies::empty_body, kz_spec_data::specs::Bodies::body_of))]
 pub fn read_state(alloc: Global, bytes: &[u8]) -> Result<Body, BodyFault>
     ensures { (topic : List ℕ) (number : ℤ) → result ≢ Err BodyFault.NoMemory → result ≡ read_body (Partition topic number) bytes.now }
 {
@@ -74,7 +74,7 @@ pub fn read_state(alloc: Global, bytes: &[u8]) -> Result<Body, BodyFault>
 }
 
 /// What the access control entries of a resource say. Empty data is none.
-#[tactic(auto, unfolding(kz_spec_values::specs::Bodies::read_body, kz_spec_values::specs::Bodies::empty_body, kz_spec_values::specs::Bodies::body_of))]
+#[tactic(auto, unfolding(kz_spec_data::specs::Bodies::read_body, kz_spec_data::specs::Bodies::empty_body, kz_spec_data::specs::Bodies::body_of))]
 pub fn read_acls(alloc: Global, resource: &Resource<'_>, bytes: &[u8]) -> Result<Body, BodyFault>
     ensures { result ≢ Err BodyFault.NoMemory → result ≡ read_body (Acl resource.now.pattern resource.now.kind resource.now.name.now) bytes.now }
 {
@@ -91,7 +91,7 @@ pub fn read_acls(alloc: Global, resource: &Resource<'_>, bytes: &[u8]) -> Result
 }
 
 /// What the body of the producer ids says. Empty data is no block.
-#[tactic(auto, unfolding(kz_spec_values::specs::Bodies::read_body, kz_spec_values::specs::Bodies::empty_body, kz_spec_values::specs::Bodies::body_of))]
+#[tactic(auto, unfolding(kz_spec_data::specs::Bodies::read_body, kz_spec_data::specs::Bodies::empty_body, kz_spec_data::specs::Bodies::body_of))]
 pub fn read_producer(alloc: Global, bytes: &[u8]) -> Result<Body, BodyFault>
     ensures { result ≢ Err BodyFault.NoMemory → result ≡ read_body Producer bytes.now }
 {
@@ -106,7 +106,7 @@ pub fn read_producer(alloc: Global, bytes: &[u8]) -> Result<Body, BodyFault>
 }
 
 /// What the quotas and credentials of a client, a user or an address say. Empty data is none.
-#[tactic(auto, unfolding(kz_spec_values::specs::Bodies::read_body, kz_spec_values::specs::Bodies::empty_body, kz_spec_values::specs::Bodies::body_of))]
+#[tactic(auto, unfolding(kz_spec_data::specs::Bodies::read_body, kz_spec_data::specs::Bodies::empty_body, kz_spec_data::specs::Bodies::body_of))]
 pub fn read_quotas(alloc: Global, key: &EntityKey, bytes: &[u8]) -> Result<Body, BodyFault>
     requires { has_quotas key.now ≡ true }
     ensures { result ≢ Err BodyFault.NoMemory → result ≡ read_body key.now bytes.now }

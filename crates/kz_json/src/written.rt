@@ -5,7 +5,7 @@ ghost use Rattle.kz_types.specs.Ids.{id_text};
 ghost use Rattle.serde_json.specs.View.{view, members_view, items_of};
 ghost use Rattle.serde_json.specs.Data.{Data, object, array, member, no_members, string};
 ghost use Rattle.serde_json.specs.Written.{compact_text, has_float};
-ghost use Rattle.kz_spec_values.specs.Bodies.{with_texts, config_data, whole_data, brokers_data, with_some, replicas_members, adding_members, removing_members, operation_name, permission_name, acl_data, acls_data, topic_data, state_data, producer_data};
+ghost use Rattle.kz_spec_data.specs.Bodies.{with_texts, config_data, whole_data, brokers_data, with_some, replicas_members, adding_members, removing_members, operation_name, permission_name, acl_data, acls_data, topic_data, state_data, producer_data};
 
 use crate::topics::number_text;
 use base64::engine::general_purpose::URL_SAFE_NO_PAD;

@@ -4,25 +4,25 @@ use Rattle.std.specs.Prelude.{Ok}
 use Rattle.std.proofs.lemmas.List.Elements.{All-take, All-head, All-tail}
 use Rattle.kz_types.specs.declared.tree.Rendered.{Rendered}
 use Rattle.kz_types.specs.declared.machine.Recorded.{Recorded}
-use Rattle.kz_ordered.specs.Order.{bytes_cmp}
-use Rattle.kz_ordered.specs.Ordered.{put, without, Rises}
-use Rattle.kz_ordered.specs.Difference.{Edit, drop_key, make, alter, after_edit, all_edited}
-use Rattle.kz_ordered.specs.Edits.{IsDue}
-use Rattle.kz_ordered.proofs.Order.{bytes_order}
-use Rattle.kz_ordered.proofs.Lookup.{find-put_same, find-put_other, find-without_same, find-without_other}
-use Rattle.kz_ordered.proofs.Difference.{Rises-edited}
-use Rattle.kz_ordered.proofs.Edits.{each_is_due}
-use Rattle.kz_spec_stores.specs.Tree.{Tree, multi, area, path_of_rendered}
-use Rattle.kz_spec_stores.specs.Image.{Image}
-use Rattle.kz_spec_znodes.specs.Rendering.{render}
-use Rattle.kz_spec_znodes.specs.Difference.{same_body, diff}
+use Rattle.kz_types.specs.Order.{bytes_cmp}
+use Rattle.kz_types.specs.Ordered.{put, without, Rises}
+use Rattle.kz_types.specs.Difference.{Edit, drop_key, make, alter, after_edit, all_edited}
+use Rattle.kz_types.specs.Edits.{IsDue}
+use Rattle.kz_types.proofs.Order.{bytes_order}
+use Rattle.kz_types.proofs.Lookup.{find-put_same, find-put_other, find-without_same, find-without_other}
+use Rattle.kz_types.proofs.Difference.{Rises-edited}
+use Rattle.kz_types.proofs.Edits.{each_is_due}
+use Rattle.kz_spec_data.specs.Tree.{Tree, multi, area, path_of_rendered}
+use Rattle.kz_spec_data.specs.Image.{Image}
+use Rattle.kz_spec_data.specs.Rendering.{render}
+use Rattle.kz_spec_data.specs.Difference.{same_body, diff}
 use Rattle.kz_spec_machine.specs.Driver.{write_ops}
 use Rattle.kz_spec_machine.specs.Sound.{TreeShape}
-use Rattle.kz_laws_trees.proofs.Rows.{Same, same, other, compare}
-use Rattle.kz_laws_trees.proofs.Render.{render_rises}
-use Rattle.kz_laws_trees.proofs.Area.{area_rises}
-use Rattle.kz_laws_trees.proofs.Multi.{chunk_size, edits_to, area_after_write}
-use Rattle.kz_spec_runs.specs.Promises.{at_path}
+use Rattle.kz_laws_machine.proofs.Rows.{Same, same, other, compare}
+use Rattle.kz_laws_machine.proofs.Render.{render_rises}
+use Rattle.kz_laws_machine.proofs.Area.{area_rises}
+use Rattle.kz_laws_machine.proofs.Multi.{chunk_size, edits_to, area_after_write}
+use Rattle.kz_spec_machine.specs.Promises.{at_path}
 
 -- each path has what it has in one of two lists
 abbrev pub Between : List Rendered → List Rendered → List Rendered → Type 0

@@ -2,18 +2,18 @@
 use Rattle.std.proofs.Common.{◌≡◌, ◌⊎◌, inl, inr, ℕ, ℤ, negsuc, ◌≤ℤ◌, Bool, true, false, if◌then◌else◌, List, Option, Some, refl, sym, ap, ◌∙◌, subst}
 use Rattle.kz_types.specs.declared.tree.Rendered.{Rendered}
 use Rattle.kz_types.specs.declared.machine.Recorded.{Recorded}
-use Rattle.kz_spec_stores.specs.Tree.{Tree, area, migration_record}
-use Rattle.kz_spec_stores.specs.Log.{Log, image_at, is_migrated_log}
-use Rattle.kz_spec_znodes.specs.Rendering.{render}
-use Rattle.kz_spec_values.specs.Control.{written_recorded}
+use Rattle.kz_spec_data.specs.Tree.{Tree, area, migration_record}
+use Rattle.kz_spec_data.specs.Log.{Log, image_at, is_migrated_log}
+use Rattle.kz_spec_data.specs.Rendering.{render}
+use Rattle.kz_spec_data.specs.Control.{written_recorded}
 use Rattle.kz_spec_machine.specs.Driver.{Shared, Driver, remaining_at, is_last_write}
-use Rattle.kz_laws_drivers.specs.Effects.{IsLonger}
-use Rattle.kz_laws_drivers.proofs.Numbers.{at_most_by}
-use Rattle.kz_laws_trees.specs.TreeLaws.{Completed}
-use Rattle.kz_laws_trees.proofs.Beside.{write_keeps_recorded}
-use Rattle.kz_laws_steps.proofs.Tests.{true_or_false}
-use Rattle.kz_laws_steps.proofs.Written.{Took, completed}
-use Rattle.kz_spec_runs.specs.Promises.{at_path, IsRendered, IsAsCommitted}
+use Rattle.kz_laws_machine.specs.Effects.{IsLonger}
+use Rattle.kz_laws_machine.proofs.Numbers.{at_most_by}
+use Rattle.kz_laws_machine.specs.TreeLaws.{Completed}
+use Rattle.kz_laws_machine.proofs.Beside.{write_keeps_recorded}
+use Rattle.kz_laws_events.proofs.Tests.{true_or_false}
+use Rattle.kz_laws_events.proofs.Written.{Took, completed}
+use Rattle.kz_spec_machine.specs.Promises.{at_path, IsRendered, IsAsCommitted}
 use Rattle.kz_laws_agreement.specs.Agreement.{PathsAgree, source_after}
 use Rattle.kz_laws_agreement.proofs.Edited.{written_between}
 

@@ -13,18 +13,18 @@ use Rattle.kz_types.specs.declared.fault.LogFault.{LogFault}
 use Rattle.kz_types.specs.declared.machine.Recorded.{Recorded}
 use Rattle.kz_types.specs.declared.plan.Plan.{Plan}
 use Rattle.kz_types.specs.declared.record.MetaRecord.{MetaRecord}
-use Rattle.kz_spec_stores.specs.Tree.{Tree, multi, migration_record}
-use Rattle.kz_spec_stores.specs.Log.{Log, append}
-use Rattle.kz_spec_znodes.specs.Translation.{Unreadable, translate}
+use Rattle.kz_spec_data.specs.Tree.{Tree, multi, migration_record}
+use Rattle.kz_spec_data.specs.Log.{Log, append}
+use Rattle.kz_spec_data.specs.Translation.{Unreadable, translate}
 use Rattle.kz_spec_machine.specs.Driver.{Shared, Driver, epoch_or_zero, claim_ops, remaining_at, write_ops, begin_record, commit_records, begin_request, write_request, request_at, with_tree, with_log, shared_after, reaches_store, planned_step}
 use Rattle.kz_spec_machine.specs.Sound.{IsTime, IsSharedSound, IsSoundDriver}
-use Rattle.kz_laws_trees.proofs.Beside.{claim_leaves}
-use Rattle.kz_laws_steps.specs.Steps.{WritesTo}
-use Rattle.kz_laws_steps.proofs.Claiming.{Taken, taken}
-use Rattle.kz_laws_steps.proofs.Written.{took}
-use Rattle.kz_laws_appends.proofs.Uncommitted.{IsUnmigratedBatch}
-use Rattle.kz_laws_appends.proofs.Filling.{begun_log, appended_log}
-use Rattle.kz_laws_appends.proofs.Committed.{IsReady, ready, unmigrated, offset_by}
+use Rattle.kz_laws_machine.proofs.Beside.{claim_leaves}
+use Rattle.kz_laws_events.specs.Steps.{WritesTo}
+use Rattle.kz_laws_events.proofs.Claiming.{Taken, taken}
+use Rattle.kz_laws_events.proofs.Written.{took}
+use Rattle.kz_laws_events.proofs.Uncommitted.{IsUnmigratedBatch}
+use Rattle.kz_laws_events.proofs.Filling.{begun_log, appended_log}
+use Rattle.kz_laws_events.proofs.Committed.{IsReady, ready, unmigrated, offset_by}
 use Rattle.kz_laws_agreement.specs.Agreement.{PathsAgree, source_after}
 use Rattle.kz_laws_agreement.proofs.Effects.{nothing_owed, same_agrees, left_agrees, written_agrees, commit_agrees}
 

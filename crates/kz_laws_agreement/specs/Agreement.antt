@@ -5,7 +5,7 @@ use Rattle.kz_types.specs.declared.plan.Plan.{Plan}
 use Rattle.kz_spec_machine.specs.Driver.{Shared, Driver, planned_step}
 use Rattle.kz_spec_machine.specs.Machine.{pair_of}
 use Rattle.kz_spec_machine.specs.Sound.{IsTime, IsSharedSound, IsSoundDriver}
-use Rattle.kz_spec_runs.specs.Promises as promises
+use Rattle.kz_spec_machine.specs.Promises as promises
 
 -- each path agrees with the log, in what is shared
 abbrev pub PathsAgree : List Rendered → Shared → Type 0

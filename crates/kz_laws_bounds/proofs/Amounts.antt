@@ -6,15 +6,15 @@ use Rattle.std.specs.Ordering.{match_ordering}
 use Rattle.kz_types.specs.declared.limits.TheConstants.{OP_BYTES}
 use Rattle.kz_types.specs.declared.tree.Op.{Op}
 use Rattle.kz_types.specs.declared.tree.Rendered.{Rendered}
-use Rattle.kz_ordered.specs.Order.{bytes_cmp}
-use Rattle.kz_ordered.specs.Ordered.{Rises, find, put, without}
-use Rattle.kz_ordered.specs.Difference.{Edit, drop_key, make, alter, after_edit, all_edited, drop_unless, drops, make_or_alter, makes, difference}
-use Rattle.kz_ordered.proofs.Order.{bytes_order}
-use Rattle.kz_ordered.proofs.Difference.{difference_leads}
-use Rattle.kz_spec_stores.specs.Tree.{path_of_rendered}
-use Rattle.kz_spec_znodes.specs.Difference.{same_body, op_of, op_size, diff}
+use Rattle.kz_types.specs.Order.{bytes_cmp}
+use Rattle.kz_types.specs.Ordered.{Rises, find, put, without}
+use Rattle.kz_types.specs.Difference.{Edit, drop_key, make, alter, after_edit, all_edited, drop_unless, drops, make_or_alter, makes, difference}
+use Rattle.kz_types.proofs.Order.{bytes_order}
+use Rattle.kz_types.proofs.Difference.{difference_leads}
+use Rattle.kz_spec_data.specs.Tree.{path_of_rendered}
+use Rattle.kz_spec_data.specs.Difference.{same_body, op_of, op_size, diff}
 use Rattle.kz_spec_machine.specs.Machine.{znode_size}
-use Rattle.kz_laws_trees.proofs.Render.{decides_body}
+use Rattle.kz_laws_machine.proofs.Render.{decides_body}
 use Rattle.kz_laws_bounds.proofs.Chunks.{sum_cons, bytes_of, bytes_cons, bytes_append}
 
 abbrev pub Znodes : Type 0

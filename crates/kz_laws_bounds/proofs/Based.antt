@@ -22,15 +22,15 @@ use Rattle.kz_types.specs.declared.plan.Plan.{Plan}
 use Rattle.kz_types.specs.declared.plan.Plan.TheVariants as plan
 use Rattle.kz_types.specs.declared.record.MetaRecord.{MetaRecord}
 use Rattle.kz_types.specs.Paths.{base_paths}
-use Rattle.kz_spec_values.specs.Control.{epoch_path, migration_path, read_epoch}
-use Rattle.kz_spec_stores.specs.Tree.{Tree, multi, scan, broker_ids, rendered_row}
-use Rattle.kz_spec_stores.specs.Log.{Log, append, image_at}
-use Rattle.kz_spec_znodes.specs.Rendering.{render}
-use Rattle.kz_spec_znodes.specs.Translation.{Unreadable, translate}
-use Rattle.kz_spec_znodes.specs.Difference.{diff, chunk, after_chunk}
+use Rattle.kz_spec_data.specs.Control.{epoch_path, migration_path, read_epoch}
+use Rattle.kz_spec_data.specs.Tree.{Tree, multi, scan, broker_ids, rendered_row}
+use Rattle.kz_spec_data.specs.Log.{Log, append, image_at}
+use Rattle.kz_spec_data.specs.Rendering.{render}
+use Rattle.kz_spec_data.specs.Translation.{Unreadable, translate}
+use Rattle.kz_spec_data.specs.Difference.{diff, chunk, after_chunk}
 use Rattle.kz_spec_machine.specs.Driver.{Shared, Driver, at_stage, resigned_driver, begins_again, epoch_or_zero, views_migrated, seen_in, shown_by, unless_fenced, unless_full_epoch, unless_bad_epoch, unless_full_record, after_look, claimed_version, claim_ops, remaining_at, is_last_write, write_ops, target_of, Request, nothing, read_log, list_brokers, look_up, read_page, write, add, begin_request, begin_record, next_records, write_request, request_at, with_tree, with_log, shared_after, missing_controller, missing_broker, driver_at_log_end, unless_finalised, wait_or_move, after_quorum, after_brokers, after_claim, after_append, after_translation, after_records, last_path, is_claim_refused, after_write, writes, is_recorded_at, after_rest, after_answer, without_answer, reaches_store, Hearing, hears_answer, hears_nothing, hears_expiry, hearing, driver_after, planned_step, step}
 use Rattle.kz_spec_machine.specs.Sound.{HasBases, SeesPresent, SeenStand, BasesAtStage, Looks, AtStage, IsSoundDriver}
-use Rattle.kz_laws_steps.proofs.Claiming.{sees_present}
+use Rattle.kz_laws_events.proofs.Claiming.{sees_present}
 use Rattle.kz_laws_bounds.specs.Bounds.{IsBasedDriver}
 use Rattle.kz_laws_bounds.proofs.Bases.{KeepsBases, each_base, each_seen, look_stands, write_keeps_there, claim_bases}
 

@@ -20,23 +20,23 @@ use Rattle.kz_types.specs.declared.machine.Answer.{Answer}
 use Rattle.kz_types.specs.declared.machine.Answer.TheVariants as answer
 use Rattle.kz_types.specs.declared.record.MetaRecord.{MetaRecord}
 use Rattle.kz_types.specs.Paths.{base_paths, is_among, is_migrated}
-use Rattle.kz_ordered.specs.Order.{bytes_cmp}
-use Rattle.kz_ordered.proofs.Order.{bytes_order}
-use Rattle.kz_spec_values.specs.Control.{control_path, epoch_path, migration_path, shown_epoch}
-use Rattle.kz_spec_stores.specs.Tree.{Tree, path_of_op, row_at, after_op, multi, begin_session, end_session, is_owner, is_owned, loses_child, after_loss}
-use Rattle.kz_spec_stores.specs.Log.{Log}
+use Rattle.kz_types.specs.Order.{bytes_cmp}
+use Rattle.kz_types.proofs.Order.{bytes_order}
+use Rattle.kz_spec_data.specs.Control.{control_path, epoch_path, migration_path, shown_epoch}
+use Rattle.kz_spec_data.specs.Tree.{Tree, path_of_op, row_at, after_op, multi, begin_session, end_session, is_owner, is_owned, loses_child, after_loss}
+use Rattle.kz_spec_data.specs.Log.{Log}
 use Rattle.kz_spec_machine.specs.Driver.{Shared, Driver, new_driver, elected_driver}
 use Rattle.kz_spec_machine.specs.Machine.{World, driver_of, quorum_refusal, declared_world, start_refusal, started_world, stop_refusal, stopped_world, next_epoch, election_refusal, elected_world, election_answer, change_refusal, changed_world, registration, register_refusal, final_records, finalise_refusal, exit_ops, tree_after_ops, reset_world, given_back, rollback_refusal, with_tree, moved_world, is_reserved, is_held, is_held_tree, first_told, client_refusal, client_world, next, after_events, cut_world, snapshot_refusal}
 use Rattle.kz_spec_machine.specs.Sound.{Lasts, is_lasting, claim_version, shown_in, SeesPresent, Looks, AtStage, IsSoundDriver, Each, Sound, BasesAtStage, Based, IsLawful}
-use Rattle.kz_spec_runs.specs.Openings.{opened_world}
-use Rattle.kz_laws_trees.proofs.Rows.{same, other, compare, created_found, set_found}
-use Rattle.kz_laws_trees.proofs.Runs.{ran}
-use Rattle.kz_laws_trees.proofs.Multi.{multi_ran}
-use Rattle.kz_laws_trees.proofs.Parents.{Is, there_kept, found_some}
-use Rattle.kz_laws_trees.proofs.Sessions.{begun, begin_leaves, ended, end_leaves}
-use Rattle.kz_laws_trees.proofs.Versions.{client_keeps_version}
-use Rattle.kz_laws_steps.proofs.Worlds.{decided, left_was_there}
-use Rattle.kz_laws_steps.proofs.Events.{each_more, unless_taken}
+use Rattle.kz_spec_machine.specs.Openings.{opened_world}
+use Rattle.kz_laws_machine.proofs.Rows.{same, other, compare, created_found, set_found}
+use Rattle.kz_laws_machine.proofs.Runs.{ran}
+use Rattle.kz_laws_machine.proofs.Multi.{multi_ran}
+use Rattle.kz_laws_machine.proofs.Parents.{Is, there_kept, found_some}
+use Rattle.kz_laws_machine.proofs.Sessions.{begun, begin_leaves, ended, end_leaves}
+use Rattle.kz_laws_machine.proofs.Versions.{client_keeps_version}
+use Rattle.kz_laws_events.proofs.Worlds.{decided, left_was_there}
+use Rattle.kz_laws_events.proofs.EventCases.{each_more, unless_taken}
 use Rattle.kz_laws_events.proofs.Exits.{may_roll_back}
 use Rattle.kz_laws_events.proofs.Refusals.{first_none}
 use Rattle.kz_laws_events.proofs.Unheld.{none_claimed}

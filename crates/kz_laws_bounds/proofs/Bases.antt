@@ -8,18 +8,18 @@ use Rattle.kz_types.specs.declared.tree.Op.TheVariants.{Create}
 use Rattle.kz_types.specs.declared.driver.ClaimSeen.{ClaimSeen}
 use Rattle.kz_types.specs.declared.machine.Recorded.{Recorded}
 use Rattle.kz_types.specs.Paths.{base_paths, is_among, is_migrated}
-use Rattle.kz_spec_values.specs.Control.{migration_path, written_control, written_recorded}
-use Rattle.kz_spec_stores.specs.Tree.{Tree, row_at, look, after_op, multi, area}
-use Rattle.kz_spec_stores.specs.Image.{Image}
-use Rattle.kz_spec_znodes.specs.Rendering.{render}
-use Rattle.kz_spec_znodes.specs.Difference.{diff, chunk}
+use Rattle.kz_spec_data.specs.Control.{migration_path, written_control, written_recorded}
+use Rattle.kz_spec_data.specs.Tree.{Tree, row_at, look, after_op, multi, area}
+use Rattle.kz_spec_data.specs.Image.{Image}
+use Rattle.kz_spec_data.specs.Rendering.{render}
+use Rattle.kz_spec_data.specs.Difference.{diff, chunk}
 use Rattle.kz_spec_machine.specs.Driver.{Driver, epoch_or_zero, views_migrated, seen_in, epoch_op, control_ops, record_before_offsets, migration_ops, base_op, base_ops, claim_ops, is_last_write, record_ops, write_ops}
 use Rattle.kz_spec_machine.specs.Sound.{HasBases, StillStands, SeenStand}
-use Rattle.kz_laws_trees.proofs.Rows.{created_found}
-use Rattle.kz_laws_trees.proofs.Runs.{ran, ran_append, Avoids, avoids_append, ran_keeps}
-use Rattle.kz_laws_trees.proofs.Multi.{multi_ran, differ, chunk_avoids}
-use Rattle.kz_laws_trees.proofs.Parents.{Is, some_alike, there_kept}
-use Rattle.kz_laws_trees.proofs.Ready.{among_all, base_outside}
+use Rattle.kz_laws_machine.proofs.Rows.{created_found}
+use Rattle.kz_laws_machine.proofs.Runs.{ran, ran_append, Avoids, avoids_append, ran_keeps}
+use Rattle.kz_laws_machine.proofs.Multi.{multi_ran, differ, chunk_avoids}
+use Rattle.kz_laws_machine.proofs.Parents.{Is, some_alike, there_kept}
+use Rattle.kz_laws_machine.proofs.Ready.{among_all, base_outside}
 use Rattle.kz_laws_bounds.proofs.Looked.{Spared, spared, spared_alike}
 
 -- ---- paths of base znodes

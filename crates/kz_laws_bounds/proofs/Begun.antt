@@ -8,19 +8,19 @@ use Rattle.kz_types.specs.declared.driver.Stage.TheVariants as stage
 use Rattle.kz_types.specs.declared.fault.LogFault.{LogFault}
 use Rattle.kz_types.specs.declared.fault.LogFault.TheVariants as log_fault
 use Rattle.kz_types.specs.declared.record.MetaRecord.{MetaRecord}
-use Rattle.kz_spec_stores.specs.Tree.{migrated_rows, area}
-use Rattle.kz_spec_stores.specs.Image.{empty_image, all_applied}
-use Rattle.kz_spec_stores.specs.Log.{Log, append, image_of, is_migrated_log}
-use Rattle.kz_spec_znodes.specs.Rendering.{render}
-use Rattle.kz_spec_znodes.specs.Translation.{Unreadable, translate}
+use Rattle.kz_spec_data.specs.Tree.{migrated_rows, area}
+use Rattle.kz_spec_data.specs.Image.{empty_image, all_applied}
+use Rattle.kz_spec_data.specs.Log.{Log, append, image_of, is_migrated_log}
+use Rattle.kz_spec_data.specs.Rendering.{render}
+use Rattle.kz_spec_data.specs.Translation.{Unreadable, translate}
 use Rattle.kz_spec_machine.specs.Driver.{Shared, Driver, at_stage, epoch_or_zero, begin_record, commit_records, begin_request, next_records, with_log, shared_after, after_append, after_records, after_translation}
 use Rattle.kz_spec_machine.specs.Machine.{final_znodes}
 use Rattle.kz_spec_machine.specs.Sound.{IsSharedSound, IsCurrent, AtStage, IsSoundDriver}
-use Rattle.kz_laws_trees.proofs.Growth.{Appended, append_appends}
-use Rattle.kz_laws_appends.proofs.Leading.{IsLeading, first_epoch, leading}
-use Rattle.kz_laws_appends.proofs.Filling.{IsBegun, begun_log, IsAppended, appended_log}
-use Rattle.kz_laws_appends.proofs.Committed.{IsReady, ready}
-use Rattle.kz_spec_runs.specs.Promises.{IsTranslation}
+use Rattle.kz_laws_machine.proofs.Growth.{Appended, append_appends}
+use Rattle.kz_laws_events.proofs.Leading.{IsLeading, first_epoch, leading}
+use Rattle.kz_laws_events.proofs.Filling.{IsBegun, begun_log, IsAppended, appended_log}
+use Rattle.kz_laws_events.proofs.Committed.{IsReady, ready}
+use Rattle.kz_spec_machine.specs.Promises.{IsTranslation}
 use Rattle.kz_laws_commits.specs.Commits.{Copies, CopiesAtStage}
 use Rattle.kz_laws_commits.proofs.Own.{commit_translates}
 use Rattle.kz_laws_bounds.proofs.Amounts.{Znodes}

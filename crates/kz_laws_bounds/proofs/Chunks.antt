@@ -7,7 +7,7 @@ use Rattle.std.proofs.lemmas.List.{take-append-drop}
 use Rattle.std.proofs.lemmas.List.Sums.{sum_by-append}
 use Rattle.kz_types.specs.declared.limits.TheConstants.{MAX_CHUNK, MAX_CHUNK_BYTES}
 use Rattle.kz_types.specs.declared.tree.Op.{Op}
-use Rattle.kz_spec_znodes.specs.Difference.{op_size, keeps_bytes, chunk_length, chunk, after_chunk}
+use Rattle.kz_spec_data.specs.Difference.{op_size, keeps_bytes, chunk_length, chunk, after_chunk}
 use Rattle.kz_spec_machine.specs.Driver.{is_last_write}
 
 -- ---- sums

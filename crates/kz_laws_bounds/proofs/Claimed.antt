@@ -9,20 +9,20 @@ use Rattle.kz_types.specs.declared.driver.Stage.TheVariants as stage
 use Rattle.kz_types.specs.declared.fault.TreeFault.{TreeFault}
 use Rattle.kz_types.specs.declared.fault.TreeFault.TheVariants as tree_fault
 use Rattle.kz_types.specs.Paths.{base_paths, is_migrated, roots}
-use Rattle.kz_ordered.specs.Order.{bytes_cmp}
-use Rattle.kz_ordered.specs.Ordered.{Rises}
-use Rattle.kz_spec_values.specs.Control.{control_path, epoch_path, migration_path, written_control, written_recorded}
-use Rattle.kz_spec_stores.specs.Tree.{Tree, path_of_row, parent_of, after_op, multi, migrated_rows, area}
-use Rattle.kz_spec_stores.specs.Log.{Log, image_of, is_migrated_log}
-use Rattle.kz_spec_znodes.specs.Rendering.{render}
-use Rattle.kz_spec_znodes.specs.Translation.{translate}
+use Rattle.kz_types.specs.Order.{bytes_cmp}
+use Rattle.kz_types.specs.Ordered.{Rises}
+use Rattle.kz_spec_data.specs.Control.{control_path, epoch_path, migration_path, written_control, written_recorded}
+use Rattle.kz_spec_data.specs.Tree.{Tree, path_of_row, parent_of, after_op, multi, migrated_rows, area}
+use Rattle.kz_spec_data.specs.Log.{Log, image_of, is_migrated_log}
+use Rattle.kz_spec_data.specs.Rendering.{render}
+use Rattle.kz_spec_data.specs.Translation.{translate}
 use Rattle.kz_spec_machine.specs.Driver.{Shared, Driver, epoch_or_zero, views_migrated, seen_in, epoch_op, control_ops, record_before_offsets, migration_ops, base_op, base_ops, claimed_version, claim_ops, with_tree, after_claim}
 use Rattle.kz_spec_machine.specs.Machine.{final_znodes}
 use Rattle.kz_spec_machine.specs.Sound.{IsSharedSound, TreeShape, IsSoundDriver}
-use Rattle.kz_laws_trees.proofs.Rows.{op_rises}
-use Rattle.kz_laws_trees.proofs.Runs.{ran}
-use Rattle.kz_laws_trees.proofs.Multi.{multi_ran}
-use Rattle.kz_laws_trees.proofs.Beside.{Beside, rows_left}
+use Rattle.kz_laws_machine.proofs.Rows.{op_rises}
+use Rattle.kz_laws_machine.proofs.Runs.{ran}
+use Rattle.kz_laws_machine.proofs.Multi.{multi_ran}
+use Rattle.kz_laws_machine.proofs.Beside.{Beside, rows_left}
 use Rattle.kz_laws_bounds.proofs.Pages.{all_behind}
 use Rattle.kz_laws_bounds.proofs.Amounts.{Znodes}
 use Rattle.kz_laws_bounds.proofs.Left.{Reaches, no_more_itself, Ahead, nearer, ahead_least, Starts, starts_nearer, starts_least, Left, Goes}

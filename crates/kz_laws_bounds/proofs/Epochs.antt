@@ -14,11 +14,11 @@ use Rattle.kz_types.specs.declared.image_fault.ImageRule.TheVariants.{Exists, Ab
 use Rattle.kz_types.specs.declared.record.MetaRecord.{MetaRecord}
 use Rattle.kz_types.specs.declared.record.MetaRecord.TheVariants as meta
 use Rattle.kz_types.specs.declared.record.PartitionChangeRecord.{PartitionChangeRecord}
-use Rattle.kz_ordered.specs.Order.{bytes_cmp}
-use Rattle.kz_ordered.specs.Ordered.{find, put, without}
-use Rattle.kz_spec_stores.specs.Metadata.{Image, name_of_topic, number_of_partition, same_id, topic_named, topic_with, partition_at, partition_of, scram_of, acl_of, id_of_acl}
-use Rattle.kz_spec_stores.specs.ImageRules.{is_misnamed, lacks, repeats, is_row, changed_row, leaves_row, is_misvalued, first_broken, broken_rule, quota_key, new_row}
-use Rattle.kz_laws_limits.proofs.Related.{AllRelated, MaybeRelated, none_alike, some_alike, find_related, find_key_related, filter_related, put_related, append_related, flat_related, all_put_related, all_itself}
+use Rattle.kz_types.specs.Order.{bytes_cmp}
+use Rattle.kz_types.specs.Ordered.{find, put, without}
+use Rattle.kz_spec_data.specs.Metadata.{Image, name_of_topic, number_of_partition, same_id, topic_named, topic_with, partition_at, partition_of, scram_of, acl_of, id_of_acl}
+use Rattle.kz_spec_data.specs.ImageRules.{is_misnamed, lacks, repeats, is_row, changed_row, leaves_row, is_misvalued, first_broken, broken_rule, quota_key, new_row}
+use Rattle.kz_laws_machine.proofs.Related.{AllRelated, MaybeRelated, none_alike, some_alike, find_related, find_key_related, filter_related, put_related, append_related, flat_related, all_put_related, all_itself}
 use Rattle.std.proofs.lemmas.List.Elements.{All-head, All-tail}
 use Rattle.kz_types.specs.declared.bodies.Pair.{Pair}
 use Rattle.kz_types.specs.declared.image.Configuration.{Configuration}
@@ -26,11 +26,11 @@ use Rattle.kz_types.specs.declared.image.QuotaEntry.{QuotaEntry}
 use Rattle.kz_types.specs.declared.image_fault.ImageRule.{ImageRule}
 use Rattle.kz_types.specs.declared.log.Entry.{Entry}
 use Rattle.kz_types.specs.declared.record.ConfigRecord.{ConfigRecord}
-use Rattle.kz_spec_stores.specs.Image.{new_topic, with_changed, put_partition, change_partition, partition_changed, with_member, configurations_after, topic_configured, quota_changed, scram_set, scram_removed, acl_row, effect, unless_broken, image_with, all_applied, Image}
-use Rattle.kz_spec_stores.specs.Log.{all_entries_applied}
+use Rattle.kz_spec_data.specs.Image.{new_topic, with_changed, put_partition, change_partition, partition_changed, with_member, configurations_after, topic_configured, quota_changed, scram_set, scram_removed, acl_row, effect, unless_broken, image_with, all_applied, Image}
+use Rattle.kz_spec_data.specs.Log.{all_entries_applied}
 use Rattle.kz_spec_machine.specs.Sound.{IsTranslated}
-use Rattle.kz_laws_limits.specs.Limits.{item_of}
-use Rattle.kz_laws_limits.proofs.Sizes.{IsShorter}
+use Rattle.kz_laws_machine.specs.Limits.{item_of}
+use Rattle.kz_laws_machine.proofs.Sizes.{IsShorter}
 use Rattle.std.specs.Fmt.{decimal}
 use Rattle.std.specs.List.{flat_map}
 use Rattle.std.proofs.lemmas.Int.{ints}
@@ -45,9 +45,9 @@ use Rattle.kz_types.specs.declared.bodies.AssignmentRow.{AssignmentRow}
 use Rattle.kz_types.specs.declared.bodies.Body.TheVariants as body
 use Rattle.kz_types.specs.declared.key.EntityKey.TheVariants as key
 use Rattle.kz_types.specs.Paths.{roots, path_of}
-use Rattle.kz_spec_values.specs.Bodies.{whole_data, brokers_data, text_of_body}
-use Rattle.kz_spec_stores.specs.Tree.{path_of_rendered}
-use Rattle.kz_spec_znodes.specs.Rendering.{bare, znode, assignment_of, topic_znode, partitions_path, number_path, state_body, partition_znodes, topic_config_znodes, topic_znodes, config_znode, quota_znodes, acl_znode, producer_znodes, entity_znodes, render}
+use Rattle.kz_spec_data.specs.Bodies.{whole_data, brokers_data, text_of_body}
+use Rattle.kz_spec_data.specs.Tree.{path_of_rendered}
+use Rattle.kz_spec_data.specs.Rendering.{bare, znode, assignment_of, topic_znode, partitions_path, number_path, state_body, partition_znodes, topic_config_znodes, topic_znodes, config_znode, quota_znodes, acl_znode, producer_znodes, entity_znodes, render}
 
 -- ---- digits
 

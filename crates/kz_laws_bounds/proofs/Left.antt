@@ -7,12 +7,12 @@ use Rattle.kz_types.specs.declared.driver.Stage.TheVariants as stage
 use Rattle.kz_types.specs.declared.machine.Recorded.{Recorded}
 use Rattle.kz_types.specs.declared.machine.Reply.{Reply}
 use Rattle.kz_types.specs.declared.record.MetaRecord.{MetaRecord}
-use Rattle.kz_spec_stores.specs.Tree.{Tree, migrated_rows, area, rendered_row}
-use Rattle.kz_spec_stores.specs.Image.{empty_image, all_applied}
-use Rattle.kz_spec_stores.specs.Log.{Log, end_of, image_at, image_of, is_migrated_log}
-use Rattle.kz_spec_znodes.specs.Rendering.{render}
-use Rattle.kz_spec_znodes.specs.Translation.{translate}
-use Rattle.kz_spec_znodes.specs.Difference.{diff}
+use Rattle.kz_spec_data.specs.Tree.{Tree, migrated_rows, area, rendered_row}
+use Rattle.kz_spec_data.specs.Image.{empty_image, all_applied}
+use Rattle.kz_spec_data.specs.Log.{Log, end_of, image_at, image_of, is_migrated_log}
+use Rattle.kz_spec_data.specs.Rendering.{render}
+use Rattle.kz_spec_data.specs.Translation.{translate}
+use Rattle.kz_spec_data.specs.Difference.{diff}
 use Rattle.kz_spec_machine.specs.Driver.{Shared, Driver, epoch_or_zero, seen_in, last_path, remaining_at}
 use Rattle.kz_spec_machine.specs.Machine.{ends, final_znodes}
 use Rattle.kz_spec_machine.specs.Sound.{IsCurrent}

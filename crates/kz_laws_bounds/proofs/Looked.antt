@@ -15,23 +15,23 @@ use Rattle.kz_types.specs.declared.driver.ClaimSeen.{ClaimSeen}
 use Rattle.kz_types.specs.declared.fault.TreeFault.{TreeFault}
 use Rattle.kz_types.specs.declared.fault.TreeFault.TheVariants as fault
 use Rattle.kz_types.specs.Paths.{base_paths, control_paths, is_below, is_among}
-use Rattle.kz_ordered.specs.Order.{bytes_cmp}
-use Rattle.kz_ordered.specs.Ordered.{Rises}
-use Rattle.kz_spec_values.specs.Control.{control_path, epoch_path, migration_path, written_epoch, written_control, written_recorded}
-use Rattle.kz_spec_stores.specs.Tree.{path_of_op, Tree, path_of_row, row_at, parent_of, is_root, has_parent, has_children, is_ephemeral, fits_version, Refusal, code, limit, first_refusal, set_refusal, delete_refusal, op_refusal, after_op, rows_unless_refused, after_ops, with_zxid, multi}
+use Rattle.kz_types.specs.Order.{bytes_cmp}
+use Rattle.kz_types.specs.Ordered.{Rises}
+use Rattle.kz_spec_data.specs.Control.{control_path, epoch_path, migration_path, written_epoch, written_control, written_recorded}
+use Rattle.kz_spec_data.specs.Tree.{path_of_op, Tree, path_of_row, row_at, parent_of, is_root, has_parent, has_children, is_ephemeral, fits_version, Refusal, code, limit, first_refusal, set_refusal, delete_refusal, op_refusal, after_op, rows_unless_refused, after_ops, with_zxid, multi}
 use Rattle.kz_spec_machine.specs.Driver.{Driver, epoch_or_zero, views_migrated, seen_in, epoch_number, epoch_op, control_ops, record_before_offsets, migration_ops, base_op, base_ops, claim_ops}
 use Rattle.kz_spec_machine.specs.Sound.{Lasts, IsNotRoot, IsUnreserved, TreeShape}
-use Rattle.kz_laws_trees.specs.TreeLaws.{KeepsShape}
-use Rattle.kz_laws_trees.proofs.Rows.{still, others_kept, created_found, deleted_found}
-use Rattle.kz_laws_trees.proofs.Runs.{ran, Passes, Avoids, ran_keeps, ran_rises}
-use Rattle.kz_laws_trees.proofs.Each.{all_ran}
-use Rattle.kz_laws_trees.proofs.Parents.{Is, some_alike, there_kept}
-use Rattle.kz_laws_trees.proofs.Lasting.{lasts_keep, not_root_keep, free_keep}
-use Rattle.kz_laws_trees.proofs.Multi.{counted_up, differ}
-use Rattle.kz_laws_trees.proofs.Refusals.{Taken, create_taken, set_taken}
-use Rattle.kz_laws_trees.proofs.Ready.{base_lasts, root_lasts}
-use Rattle.kz_laws_trees.proofs.Below.{parent_and_name, has_name}
-use Rattle.kz_laws_trees.proofs.Claim.{control_avoids_path, claim_keeps_shape}
+use Rattle.kz_laws_machine.specs.TreeLaws.{KeepsShape}
+use Rattle.kz_laws_machine.proofs.Rows.{still, others_kept, created_found, deleted_found}
+use Rattle.kz_laws_machine.proofs.Runs.{ran, Passes, Avoids, ran_keeps, ran_rises}
+use Rattle.kz_laws_machine.proofs.Each.{all_ran}
+use Rattle.kz_laws_machine.proofs.Parents.{Is, some_alike, there_kept}
+use Rattle.kz_laws_machine.proofs.Lasting.{lasts_keep, not_root_keep, free_keep}
+use Rattle.kz_laws_machine.proofs.Multi.{counted_up, differ}
+use Rattle.kz_laws_machine.proofs.Refusals.{Taken, create_taken, set_taken}
+use Rattle.kz_laws_machine.proofs.Ready.{base_lasts, root_lasts}
+use Rattle.kz_laws_machine.proofs.Below.{parent_and_name, has_name}
+use Rattle.kz_laws_machine.proofs.Claim.{control_avoids_path, claim_keeps_shape}
 
 -- ---- operations one after another
 

@@ -11,19 +11,19 @@ use Rattle.kz_types.specs.declared.machine.Event.TheVariants as event
 use Rattle.kz_types.specs.declared.machine.Recorded.{Recorded}
 use Rattle.kz_types.specs.declared.plan.Plan.{Plan}
 use Rattle.kz_types.specs.declared.plan.Plan.TheVariants as plan
-use Rattle.kz_spec_stores.specs.Tree.{Tree, multi}
-use Rattle.kz_spec_stores.specs.Log.{append, image_at}
-use Rattle.kz_spec_znodes.specs.Translation.{translate}
+use Rattle.kz_spec_data.specs.Tree.{Tree, multi}
+use Rattle.kz_spec_data.specs.Log.{append, image_at}
+use Rattle.kz_spec_data.specs.Translation.{translate}
 use Rattle.kz_spec_machine.specs.Driver.{Shared, Driver, epoch_or_zero, claimed_version, claim_ops, remaining_at, write_ops, next_records, write_request, request_at, with_tree, shared_after, reaches_store, planned_step, step}
 use Rattle.kz_spec_machine.specs.Machine.{World, running_ids, driver_of, with_driver, running_refusal, step_result, ends, TurnResult, with_reply, turn, work, turn_result, next}
 use Rattle.kz_spec_machine.specs.Sound.{IsTime, IsSharedSound, claim_version, SeesPresent, Looks, AtStage, IsSoundDriver, Each, Sound}
-use Rattle.kz_laws_drivers.specs.Effects.{IsClaimed}
-use Rattle.kz_laws_drivers.proofs.Listed.{each_changed}
-use Rattle.kz_laws_trees.proofs.Multi.{write_keeps_version}
-use Rattle.kz_laws_steps.specs.Steps.{IsApartFrom, StepKeeps}
-use Rattle.kz_laws_steps.proofs.Named.{IsOf, step_of_own}
-use Rattle.kz_laws_steps.proofs.Worlds.{unless_made, found_id}
-use Rattle.kz_laws_steps.proofs.Claiming.{claim_leads}
+use Rattle.kz_laws_machine.specs.Effects.{IsClaimed}
+use Rattle.kz_laws_machine.proofs.Listed.{each_changed}
+use Rattle.kz_laws_machine.proofs.Multi.{write_keeps_version}
+use Rattle.kz_laws_events.specs.Steps.{IsApartFrom, StepKeeps}
+use Rattle.kz_laws_events.proofs.Named.{IsOf, step_of_own}
+use Rattle.kz_laws_events.proofs.Worlds.{unless_made, found_id}
+use Rattle.kz_laws_events.proofs.Claiming.{claim_leads}
 use Rattle.kz_laws_events.proofs.Turned.{still_apart, one_step, one_own, turn_own}
 use Rattle.kz_laws_bounds.specs.Bounds.{IsBasedDriver}
 use Rattle.kz_laws_bounds.proofs.Bases.{write_keeps_there, claim_keeps_there}

@@ -7,14 +7,14 @@ use Rattle.std.proofs.lemmas.List.Elements.{All-nil, All-cons, All-head, All-tai
 use Rattle.kz_types.specs.declared.limits.TheConstants.{MAX_SCAN_ROWS}
 use Rattle.kz_types.specs.declared.tree.Row.{Row}
 use Rattle.kz_types.specs.Paths.{is_migrated}
-use Rattle.kz_ordered.specs.Order.{bytes_cmp}
-use Rattle.kz_ordered.specs.Ordered.{Rises}
-use Rattle.kz_ordered.proofs.Order.{bytes_order}
-use Rattle.kz_ordered.proofs.Maps.{Rises-filter}
-use Rattle.kz_spec_stores.specs.Tree.{Tree, path_of_row, is_after, scan, migrated_rows}
+use Rattle.kz_types.specs.Order.{bytes_cmp}
+use Rattle.kz_types.specs.Ordered.{Rises}
+use Rattle.kz_types.proofs.Order.{bytes_order}
+use Rattle.kz_types.proofs.Maps.{Rises-filter}
+use Rattle.kz_spec_data.specs.Tree.{Tree, path_of_row, is_after, scan, migrated_rows}
 use Rattle.kz_spec_machine.specs.Driver.{last_path}
 use Rattle.kz_spec_machine.specs.Sound.{TreeShape}
-use Rattle.kz_laws_trees.proofs.Pages.{after_last}
+use Rattle.kz_laws_machine.proofs.Pages.{after_last}
 
 -- the znodes of the area after a path
 abbrev after : Tree → Option (List ℕ) → List Row

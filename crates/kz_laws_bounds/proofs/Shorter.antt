@@ -12,26 +12,26 @@ use Rattle.kz_types.specs.declared.log.Entry.{Entry}
 use Rattle.kz_types.specs.declared.record.MetaRecord.{MetaRecord}
 use Rattle.kz_types.specs.declared.record.MetaRecord.TheVariants as meta
 use Rattle.kz_types.specs.declared.tree.Rendered.{Rendered}
-use Rattle.kz_spec_stores.specs.Tree.{migrated_rows}
-use Rattle.kz_spec_stores.specs.Settlement.{is_begin}
-use Rattle.kz_spec_stores.specs.Image.{Image, empty_image, all_applied, image_with}
-use Rattle.kz_spec_stores.specs.Log.{Log, EpochsNeverFall, append, end_of, entries_of_batch, entries_at_offsets, entries, all_entries_applied, image_of}
-use Rattle.kz_spec_znodes.specs.Rendering.{render}
-use Rattle.kz_spec_znodes.specs.Translation.{Unreadable, translate}
+use Rattle.kz_spec_data.specs.Tree.{migrated_rows}
+use Rattle.kz_spec_data.specs.Settlement.{is_begin}
+use Rattle.kz_spec_data.specs.Image.{Image, empty_image, all_applied, image_with}
+use Rattle.kz_spec_data.specs.Log.{Log, EpochsNeverFall, append, end_of, entries_of_batch, entries_at_offsets, entries, all_entries_applied, image_of}
+use Rattle.kz_spec_data.specs.Rendering.{render}
+use Rattle.kz_spec_data.specs.Translation.{Unreadable, translate}
 use Rattle.kz_spec_machine.specs.Driver.{Shared, Driver, epoch_or_zero, commit_records}
 use Rattle.kz_spec_machine.specs.Machine.{znode_size}
 use Rattle.kz_spec_machine.specs.Sound.{LogShape, IsSharedSound, IsTranslated, IsSoundDriver}
-use Rattle.kz_laws_drivers.proofs.Numbers.{at_least_itself, at_most_then, at_most_by}
-use Rattle.kz_laws_limits.specs.Limits.{IsBare, item_of}
-use Rattle.kz_laws_limits.proofs.Related.{AllRelated}
-use Rattle.kz_laws_limits.proofs.Sizes.{IsShorter}
-use Rattle.kz_laws_trees.proofs.Migration.{state_applied}
-use Rattle.kz_laws_logs.proofs.Begun.{any_closes}
-use Rattle.kz_laws_logs.proofs.Counted.{commit_applied}
-use Rattle.kz_laws_logs.proofs.Pending.{pending}
-use Rattle.kz_laws_logs.proofs.Bare.{image_is_bare}
-use Rattle.kz_laws_logs.proofs.Filled.{pending_are, pending_unmarked, pending_translated}
-use Rattle.kz_laws_appends.proofs.Committed.{IsReady, ready, unmigrated}
+use Rattle.kz_laws_machine.proofs.Numbers.{at_least_itself, at_most_then, at_most_by}
+use Rattle.kz_laws_machine.specs.Limits.{IsBare, item_of}
+use Rattle.kz_laws_machine.proofs.Related.{AllRelated}
+use Rattle.kz_laws_machine.proofs.Sizes.{IsShorter}
+use Rattle.kz_laws_machine.proofs.Migration.{state_applied}
+use Rattle.kz_laws_machine.proofs.Begun.{any_closes}
+use Rattle.kz_laws_machine.proofs.Counted.{commit_applied}
+use Rattle.kz_laws_machine.proofs.Pending.{pending}
+use Rattle.kz_laws_machine.proofs.Bare.{image_is_bare}
+use Rattle.kz_laws_machine.proofs.Filled.{pending_are, pending_unmarked, pending_translated}
+use Rattle.kz_laws_events.proofs.Committed.{IsReady, ready, unmigrated}
 use Rattle.kz_laws_commits.specs.Commits.{Copies, CopiesAtStage}
 use Rattle.kz_laws_bounds.proofs.Chunks.{sum_cons}
 use Rattle.kz_laws_bounds.proofs.Amounts.{Znodes, size_of}

@@ -12,16 +12,16 @@ use Rattle.kz_types.specs.declared.driver.Stage.{Stage}
 use Rattle.kz_types.specs.declared.driver.Stage.TheVariants as stage
 use Rattle.kz_types.specs.declared.machine.Recorded.{Recorded}
 use Rattle.kz_types.specs.declared.record.MetaRecord.{MetaRecord}
-use Rattle.kz_spec_stores.specs.Tree.{migrated_rows, area, rendered_row}
-use Rattle.kz_spec_stores.specs.Log.{Log, batch_ends, image_at, image_of, is_migrated_log}
-use Rattle.kz_spec_znodes.specs.Rendering.{render}
-use Rattle.kz_spec_znodes.specs.Translation.{Unreadable, translate}
-use Rattle.kz_spec_znodes.specs.Difference.{diff}
+use Rattle.kz_spec_data.specs.Tree.{migrated_rows, area, rendered_row}
+use Rattle.kz_spec_data.specs.Log.{Log, batch_ends, image_at, image_of, is_migrated_log}
+use Rattle.kz_spec_data.specs.Rendering.{render}
+use Rattle.kz_spec_data.specs.Translation.{Unreadable, translate}
+use Rattle.kz_spec_data.specs.Difference.{diff}
 use Rattle.kz_spec_machine.specs.Driver.{Shared, Driver, epoch_or_zero, is_one_of, remaining_at, last_path}
 use Rattle.kz_spec_machine.specs.Machine.{Amount, amount_of_znodes, amount_of_ops, no_amount, translated_count, final_znodes, amount_at, remaining_amount, most_steps, work}
 use Rattle.kz_spec_machine.specs.Sound.{IsBatchEnd, IsSharedSound, IsCurrent, IsAtRest, AtStage, IsSoundDriver}
-use Rattle.kz_laws_trees.proofs.Area.{area_rises}
-use Rattle.kz_laws_trees.proofs.Render.{render_rises}
+use Rattle.kz_laws_machine.proofs.Area.{area_rises}
+use Rattle.kz_laws_machine.proofs.Render.{render_rises}
 use Rattle.kz_laws_commits.specs.Commits.{Copies, CopiesAtStage}
 use Rattle.kz_laws_bounds.proofs.Chunks.{bytes_of, WritesIn, most_writes, written_within, writes_add, counted_add, weighed_add}
 use Rattle.kz_laws_bounds.proofs.Amounts.{Znodes, size_of, AtMost, diff_most, FewZnodes, want_few}

@@ -3,17 +3,17 @@ use Rattle.std.proofs.Common.{◌≡◌, ◌⊎◌, inl, inr, ℕ, zero, suc, �
 use Rattle.kz_types.specs.declared.driver.Stage.{Stage}
 use Rattle.kz_types.specs.declared.driver.Stage.TheVariants as stage
 use Rattle.kz_types.specs.declared.tree.Row.{Row}
-use Rattle.kz_spec_stores.specs.Tree.{broker_ids, rendered_row}
-use Rattle.kz_spec_znodes.specs.Rendering.{render}
-use Rattle.kz_spec_znodes.specs.Difference.{diff}
+use Rattle.kz_spec_data.specs.Tree.{broker_ids, rendered_row}
+use Rattle.kz_spec_data.specs.Rendering.{render}
+use Rattle.kz_spec_data.specs.Difference.{diff}
 use Rattle.kz_spec_machine.specs.Driver.{Shared, Driver, epoch_or_zero, request_at, shared_after, missing_broker, after_answer, StepResult, step}
 use Rattle.kz_spec_machine.specs.Machine.{ends, turn}
 use Rattle.kz_spec_machine.specs.Sound.{IsTime, IsSharedSound, IsSoundDriver}
-use Rattle.kz_laws_steps.specs.Steps.{StepKeeps}
+use Rattle.kz_laws_events.specs.Steps.{StepKeeps}
 use Rattle.kz_laws_events.proofs.Turned.{one_step}
 use Rattle.kz_laws_commits.specs.Commits.{Copies, StepCopies}
 use Rattle.kz_laws_commits.proofs.Steps.{step_copies}
-use Rattle.kz_laws_steps.proofs.Tests.{true_or_false}
+use Rattle.kz_laws_events.proofs.Tests.{true_or_false}
 use Rattle.kz_types.specs.declared.plan.Plan.TheVariants as plan
 use Rattle.kz_laws_bounds.specs.Bounds.{EndsByItself, IsBasedDriver}
 use Rattle.kz_laws_bounds.proofs.Left.{LeftAt, Left, Goes}

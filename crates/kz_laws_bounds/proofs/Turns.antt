@@ -4,7 +4,7 @@ use Rattle.kz_types.specs.declared.machine.Reply.{Reply}
 use Rattle.kz_types.specs.declared.plan.Plan.TheVariants as plan
 use Rattle.kz_spec_machine.specs.Driver.{Shared, Driver, epoch_or_zero, Request, nothing, read_log, list_brokers, look_up, read_page, write, add, request_at, shared_after, after_answer, is_of_log, reaches, reaches_store, hearing, hears_answer, driver_after, StepResult, planned_step, step}
 use Rattle.kz_spec_machine.specs.Machine.{ends, TurnResult, with_reply, turn}
-use Rattle.kz_laws_steps.proofs.Tests.{true_or_false}
+use Rattle.kz_laws_events.proofs.Tests.{true_or_false}
 use Rattle.kz_laws_bounds.specs.Bounds.{EndsByItself}
 use Rattle.kz_laws_bounds.proofs.Left.{Left, Goes}
 

@@ -15,15 +15,15 @@ use Rattle.kz_types.specs.declared.machine.DriverState.TheVariants as state
 use Rattle.kz_types.specs.declared.machine.Recorded.{Recorded}
 use Rattle.kz_types.specs.declared.machine.Reply.{Reply}
 use Rattle.kz_types.specs.declared.machine.Reply.TheVariants as reply
-use Rattle.kz_spec_values.specs.Control.{epoch_path, migration_path, read_epoch}
-use Rattle.kz_spec_stores.specs.Tree.{Tree, area, migrated_rows, migration_record, scan}
-use Rattle.kz_spec_stores.specs.Log.{Log, end_of, image_at, image_of, is_migrated_log}
-use Rattle.kz_spec_znodes.specs.Rendering.{render}
-use Rattle.kz_spec_znodes.specs.Difference.{diff}
+use Rattle.kz_spec_data.specs.Control.{epoch_path, migration_path, read_epoch}
+use Rattle.kz_spec_data.specs.Tree.{Tree, area, migrated_rows, migration_record, scan}
+use Rattle.kz_spec_data.specs.Log.{Log, end_of, image_at, image_of, is_migrated_log}
+use Rattle.kz_spec_data.specs.Rendering.{render}
+use Rattle.kz_spec_data.specs.Difference.{diff}
 use Rattle.kz_spec_machine.specs.Driver.{Shared, Driver, epoch_or_zero, views_migrated, at_stage, resigned_driver, seen_in, shown_by, unless_fenced, unless_full_epoch, unless_bad_epoch, unless_full_record, after_look, last_path, target_of, missing_controller, driver_at_log_end, unless_finalised, wait_or_move, after_quorum, after_brokers, after_page, after_log, is_recorded_at, after_rest, remaining_at}
 use Rattle.kz_spec_machine.specs.Sound.{IsSharedSound, IsCurrent, RecordAgrees, IsAtRest, AtStage, IsSoundDriver}
-use Rattle.kz_laws_steps.proofs.Targets.{closed_offset}
-use Rattle.kz_laws_steps.proofs.Tests.{true_or_false}
+use Rattle.kz_laws_events.proofs.Targets.{closed_offset}
+use Rattle.kz_laws_events.proofs.Tests.{true_or_false}
 use Rattle.kz_laws_bounds.proofs.Chunks.{WritesIn}
 use Rattle.kz_laws_bounds.proofs.Pages.{behind, all_behind, page_on}
 use Rattle.kz_laws_bounds.proofs.Left.{Ahead, nearer, Starts, starts_nearer, starts_least, ScansMigration, Afterwards, afterwards_nearer, Resyncs, WritesUpTo, ScansResync, RestsAfter, Left, Goes}

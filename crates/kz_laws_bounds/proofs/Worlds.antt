@@ -5,12 +5,12 @@ use Rattle.kz_types.specs.declared.machine.Answer.TheVariants as answer
 use Rattle.kz_types.specs.declared.machine.Event.{Event}
 use Rattle.kz_types.specs.declared.machine.Event.TheVariants as event
 use Rattle.kz_types.specs.declared.machine.Reply.{Reply}
-use Rattle.kz_spec_stores.specs.Tree.{Tree}
-use Rattle.kz_spec_stores.specs.Log.{Log}
+use Rattle.kz_spec_data.specs.Tree.{Tree}
+use Rattle.kz_spec_data.specs.Log.{Log}
 use Rattle.kz_spec_machine.specs.Driver.{Driver, is_one_of}
 use Rattle.kz_spec_machine.specs.Machine.{World, running_ids, is_running, driver_of, first_of, unless, running_refusal, turn, work, turn_result, unless_refused, next, after_events}
 use Rattle.kz_spec_machine.specs.Sound.{IsTime, Each, Sound, Based, IsLawful}
-use Rattle.kz_spec_runs.specs.Openings.{opened_world}
+use Rattle.kz_spec_machine.specs.Openings.{opened_world}
 use Rattle.kz_laws_commits.specs.Commits.{Copies}
 use Rattle.kz_laws_events.proofs.Runs.{run_sound}
 use Rattle.kz_laws_commits.proofs.Events.{run_copies}

@@ -15,17 +15,17 @@ use Rattle.kz_types.specs.declared.machine.DriverState.TheVariants as state
 use Rattle.kz_types.specs.declared.machine.Recorded.{Recorded}
 use Rattle.kz_types.specs.declared.machine.Reply.{Reply}
 use Rattle.kz_types.specs.declared.machine.Reply.TheVariants as reply
-use Rattle.kz_spec_values.specs.Control.{epoch_path}
-use Rattle.kz_spec_stores.specs.Tree.{Tree, row_at, check_refusal, multi}
-use Rattle.kz_spec_stores.specs.Log.{Log, image_at}
-use Rattle.kz_spec_znodes.specs.Difference.{chunk, after_chunk}
+use Rattle.kz_spec_data.specs.Control.{epoch_path}
+use Rattle.kz_spec_data.specs.Tree.{Tree, row_at, check_refusal, multi}
+use Rattle.kz_spec_data.specs.Log.{Log, image_at}
+use Rattle.kz_spec_data.specs.Difference.{chunk, after_chunk}
 use Rattle.kz_spec_machine.specs.Driver.{Shared, Driver, at_stage, begins_again, resigned_driver, epoch_or_zero, remaining_at, is_last_write, record_ops, write_ops, write, write_request, request_at, with_tree, shared_after, is_claim_refused, after_write, writes}
 use Rattle.kz_spec_machine.specs.Sound.{IsSharedSound, IsCurrent, AtStage, Claims, HasBases, claim_version, shown_in, IsSoundDriver}
-use Rattle.kz_laws_fence.proofs.Drivers.{multi_refused, check_refused}
-use Rattle.kz_laws_steps.proofs.Tests.{true_or_false}
-use Rattle.kz_laws_trees.proofs.Multi.{remaining_after_write}
-use Rattle.kz_laws_writes.specs.Writes.{IsWriting, MayWrite}
-use Rattle.kz_laws_writes.proofs.Writing.{writes_taken}
+use Rattle.kz_laws_machine.proofs.FenceDrivers.{multi_refused, check_refused}
+use Rattle.kz_laws_events.proofs.Tests.{true_or_false}
+use Rattle.kz_laws_machine.proofs.Multi.{remaining_after_write}
+use Rattle.kz_laws_machine.specs.Writes.{IsWriting, MayWrite}
+use Rattle.kz_laws_machine.proofs.Writing.{writes_taken}
 use Rattle.kz_laws_bounds.proofs.Chunks.{WritesIn}
 use Rattle.kz_laws_bounds.proofs.Left.{Afterwards, afterwards_nearer, afterwards_least, WritesUpTo, LeftAt, Left, Goes}
 

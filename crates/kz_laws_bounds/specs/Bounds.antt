@@ -4,7 +4,7 @@ use Rattle.kz_types.specs.declared.machine.Reply.{Reply}
 use Rattle.kz_spec_machine.specs.Driver.{Shared, Driver}
 use Rattle.kz_spec_machine.specs.Machine.{World, running_ids, driver_of, running_refusal, ends, turn, work}
 use Rattle.kz_spec_machine.specs.Sound.{IsTime, HasBases, BasesAtStage, Sound, Based}
-use Rattle.kz_spec_runs.specs.InStep.{last_reply}
+use Rattle.kz_spec_machine.specs.InStep.{last_reply}
 use Rattle.kz_laws_commits.specs.Commits.{Copies}
 
 -- The last of these replies ends a turn.

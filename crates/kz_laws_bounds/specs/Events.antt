@@ -9,12 +9,12 @@ use Rattle.kz_types.specs.declared.machine.Event.{Event}
 use Rattle.kz_types.specs.declared.machine.Event.TheVariants as event
 use Rattle.kz_types.specs.Paths.{base_paths, is_among}
 use Rattle.kz_types.specs.declared.machine.Reply.{Reply}
-use Rattle.kz_spec_stores.specs.Tree.{Tree}
-use Rattle.kz_spec_stores.specs.Log.{Log}
+use Rattle.kz_spec_data.specs.Tree.{Tree}
+use Rattle.kz_spec_data.specs.Log.{Log}
 use Rattle.kz_spec_machine.specs.Driver.{Driver}
 use Rattle.kz_spec_machine.specs.Machine.{World, running_ids, driver_of, turn, work, next, after_events}
 use Rattle.kz_spec_machine.specs.Sound.{IsTime, SeesPresent, Each, Sound, Based, IsLawful}
-use Rattle.kz_spec_runs.specs.Openings.{opened_world}
+use Rattle.kz_spec_machine.specs.Openings.{opened_world}
 use Rattle.kz_laws_bounds.specs.Bounds.{EndsByItself}
 
 -- an operation that isn't the delete of a base znode

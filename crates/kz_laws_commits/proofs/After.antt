@@ -16,17 +16,17 @@ use Rattle.kz_types.specs.declared.machine.Answer.TheVariants as answer
 use Rattle.kz_types.specs.declared.plan.Plan.{Plan}
 use Rattle.kz_types.specs.declared.plan.Plan.TheVariants as plan
 use Rattle.kz_types.specs.declared.record.MetaRecord.{MetaRecord}
-use Rattle.kz_spec_stores.specs.Tree.{Tree, multi, begin_session, end_session}
-use Rattle.kz_spec_stores.specs.Log.{Log, append, is_migrated_log, is_open_log}
-use Rattle.kz_spec_znodes.specs.Translation.{Unreadable, translate}
+use Rattle.kz_spec_data.specs.Tree.{Tree, multi, begin_session, end_session}
+use Rattle.kz_spec_data.specs.Log.{Log, append, is_migrated_log, is_open_log}
+use Rattle.kz_spec_data.specs.Translation.{Unreadable, translate}
 use Rattle.kz_spec_machine.specs.Driver.{Shared, Driver, epoch_or_zero, claim_ops, remaining_at, write_ops, begin_record, commit_records, begin_request, write_request, request_at, with_tree, with_log, shared_after, reaches_store, planned_step, step}
 use Rattle.kz_spec_machine.specs.Machine.{World, running_ids, driver_of, running_refusal, quorum_refusal, declared_world, start_refusal, started_world, stop_refusal, stopped_world, election_refusal, elected_world, election_answer, step_result, ends, TurnResult, with_reply, turn, work, turn_result, change_refusal, changed_world, registration, register_refusal, final_records, finalise_refusal, moved_world, client_refusal, client_world, next, cut_world, snapshot_refusal}
 use Rattle.kz_spec_machine.specs.Sound.{IsTime, IsSharedSound, IsSoundDriver, Sound, IsLawful}
-use Rattle.kz_laws_steps.specs.Steps.{StepKeeps}
-use Rattle.kz_laws_steps.proofs.Tests.{true_or_false}
-use Rattle.kz_laws_steps.proofs.Worlds.{unless_made, decided}
-use Rattle.kz_laws_appends.proofs.Filling.{begun_log, appended_log}
-use Rattle.kz_laws_appends.proofs.Committed.{IsReady, ready, unmigrated}
+use Rattle.kz_laws_events.specs.Steps.{StepKeeps}
+use Rattle.kz_laws_events.proofs.Tests.{true_or_false}
+use Rattle.kz_laws_events.proofs.Worlds.{unless_made, decided}
+use Rattle.kz_laws_events.proofs.Filling.{begun_log, appended_log}
+use Rattle.kz_laws_events.proofs.Committed.{IsReady, ready, unmigrated}
 use Rattle.kz_laws_events.proofs.Refusals.{decided_by}
 use Rattle.kz_laws_events.proofs.Grown.{migrated_settled}
 use Rattle.kz_laws_events.proofs.Elected.{may_elect}

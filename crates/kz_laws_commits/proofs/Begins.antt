@@ -4,12 +4,12 @@ use Rattle.std.proofs.lemmas.List.Elements.{All-nil, All-cons}
 use Rattle.kz_types.specs.declared.codes.TheConstants.{PRE_MIGRATION}
 use Rattle.kz_types.specs.declared.record.MetaRecord.{MetaRecord}
 use Rattle.kz_types.specs.declared.record.MetaRecord.TheVariants as meta
-use Rattle.kz_spec_stores.specs.Settlement.{is_marker}
-use Rattle.kz_spec_stores.specs.Log.{Log, end_of, new_batch, with_batch, is_migrated_log, is_open_log}
+use Rattle.kz_spec_data.specs.Settlement.{is_marker}
+use Rattle.kz_spec_data.specs.Log.{Log, end_of, new_batch, with_batch, is_migrated_log, is_open_log}
 use Rattle.kz_spec_machine.specs.Driver.{Shared}
 use Rattle.kz_spec_machine.specs.Machine.{next_epoch}
-use Rattle.kz_spec_runs.specs.Promises.{HoldsNoMarker, BeginsNone}
-use Rattle.kz_laws_logs.proofs.Opened.{elected_records}
+use Rattle.kz_spec_machine.specs.Promises.{HoldsNoMarker, BeginsNone}
+use Rattle.kz_laws_machine.proofs.Opened.{elected_records}
 use Rattle.kz_laws_events.proofs.Grown.{migrated_settled}
 use Rattle.kz_laws_events.proofs.Elected.{MayElect, gets_state, elected_of}
 

@@ -11,17 +11,17 @@ use Rattle.kz_types.specs.declared.machine.Event.{Event}
 use Rattle.kz_types.specs.declared.machine.Event.TheVariants as event
 use Rattle.kz_types.specs.declared.machine.Answer.TheVariants as answer
 use Rattle.kz_types.specs.declared.record.MetaRecord.{MetaRecord}
-use Rattle.kz_spec_stores.specs.Tree.{Tree, multi, begin_session, end_session}
-use Rattle.kz_spec_stores.specs.Log.{Log, is_open_log, begun_of}
+use Rattle.kz_spec_data.specs.Tree.{Tree, multi, begin_session, end_session}
+use Rattle.kz_spec_data.specs.Log.{Log, is_open_log, begun_of}
 use Rattle.kz_spec_machine.specs.Driver.{Shared, Driver, new_driver}
 use Rattle.kz_spec_machine.specs.Machine.{World, quorum_refusal, declared_world, start_refusal, started_world, stop_refusal, stopped_world, election_refusal, elected_world, election_answer, change_refusal, changed_world, registration, register_refusal, driver_of, final_records, finalise_refusal, exit_ops, tree_after_ops, reset_world, given_back, rollback_refusal, with_tree, moved_world, is_held_tree, client_refusal, client_world, next, after_events, cut_world, snapshot_refusal}
 use Rattle.kz_spec_machine.specs.Sound.{LogShape, claim_version, shown_in, Sound, IsLawful}
-use Rattle.kz_laws_drivers.specs.Effects.{IsUnchanged}
-use Rattle.kz_laws_trees.proofs.Sessions.{begin_leaves, end_leaves}
-use Rattle.kz_laws_trees.proofs.Clients.{client_leaves_held}
-use Rattle.kz_laws_logs.proofs.Begun.{none_begun}
-use Rattle.kz_laws_steps.proofs.Worlds.{decided, left_was_there}
-use Rattle.kz_laws_steps.proofs.Events.{each_more, unless_taken}
+use Rattle.kz_laws_machine.specs.Effects.{IsUnchanged}
+use Rattle.kz_laws_machine.proofs.Sessions.{begin_leaves, end_leaves}
+use Rattle.kz_laws_machine.proofs.Clients.{client_leaves_held}
+use Rattle.kz_laws_machine.proofs.Begun.{none_begun}
+use Rattle.kz_laws_events.proofs.Worlds.{decided, left_was_there}
+use Rattle.kz_laws_events.proofs.EventCases.{each_more, unless_taken}
 use Rattle.kz_laws_events.proofs.Refusals.{decided_by}
 use Rattle.kz_laws_events.proofs.Elected.{may_elect, elected_of, shape_elected, elected_closed}
 use Rattle.kz_laws_events.proofs.Changed.{IsLeaderBatch, may_change, change_batch, register_batch, more_of, shape_more, more_closed}

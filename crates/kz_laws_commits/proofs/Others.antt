@@ -11,20 +11,20 @@ use Rattle.kz_types.specs.declared.fault.TreeFault.{TreeFault}
 use Rattle.kz_types.specs.declared.fault.LogFault.{LogFault}
 use Rattle.kz_types.specs.declared.machine.Recorded.{Recorded}
 use Rattle.kz_types.specs.declared.record.MetaRecord.{MetaRecord}
-use Rattle.kz_spec_stores.specs.Tree.{Tree, multi, migrated_rows}
-use Rattle.kz_spec_stores.specs.Log.{Log, append}
-use Rattle.kz_spec_znodes.specs.Translation.{Unreadable, translate}
+use Rattle.kz_spec_data.specs.Tree.{Tree, multi, migrated_rows}
+use Rattle.kz_spec_data.specs.Log.{Log, append}
+use Rattle.kz_spec_data.specs.Translation.{Unreadable, translate}
 use Rattle.kz_spec_machine.specs.Driver.{Shared, Driver, epoch_or_zero, claimed_version, views_migrated, claim_ops, remaining_at, write_ops, begin_record, commit_records, begin_request, write_request, request_at, with_tree, with_log, shared_after, after_claim}
 use Rattle.kz_spec_machine.specs.Sound.{IsTime, IsSharedSound, IsCurrent, WasElected, is_filling, IsSoundDriver}
-use Rattle.kz_laws_drivers.proofs.Claimed.{others_claimed}
-use Rattle.kz_laws_drivers.proofs.Written.{one_current}
-use Rattle.kz_laws_steps.specs.Steps.{WritesTo, IsApartFrom}
-use Rattle.kz_laws_steps.proofs.Tests.{own_epoch}
-use Rattle.kz_laws_steps.proofs.Claiming.{claim_leads}
-use Rattle.kz_laws_steps.proofs.Written.{Took, took}
-use Rattle.kz_laws_appends.proofs.Leading.{not_leading}
-use Rattle.kz_laws_appends.proofs.Filling.{begun_log, appended_log}
-use Rattle.kz_laws_appends.proofs.Committed.{ready}
+use Rattle.kz_laws_machine.proofs.Claimed.{others_claimed}
+use Rattle.kz_laws_machine.proofs.Written.{one_current}
+use Rattle.kz_laws_events.specs.Steps.{WritesTo, IsApartFrom}
+use Rattle.kz_laws_events.proofs.Tests.{own_epoch}
+use Rattle.kz_laws_events.proofs.Claiming.{claim_leads}
+use Rattle.kz_laws_events.proofs.Written.{Took, took}
+use Rattle.kz_laws_events.proofs.Leading.{not_leading}
+use Rattle.kz_laws_events.proofs.Filling.{begun_log, appended_log}
+use Rattle.kz_laws_events.proofs.Committed.{ready}
 use Rattle.kz_laws_commits.specs.Commits.{Copies, CopiesAtStage}
 
 -- ---- drivers that owe nothing

@@ -6,18 +6,18 @@ use Rattle.kz_types.specs.declared.limits.TheConstants.{MAX_APPEND_RECORDS}
 use Rattle.kz_types.specs.declared.tree.Row.{Row}
 use Rattle.kz_types.specs.declared.driver.Stage.TheVariants as stage
 use Rattle.kz_types.specs.declared.record.MetaRecord.{MetaRecord}
-use Rattle.kz_spec_stores.specs.Tree.{Tree}
-use Rattle.kz_spec_stores.specs.Log.{Log, append, end_of, begun_of, with_batch}
-use Rattle.kz_spec_znodes.specs.Translation.{translate}
+use Rattle.kz_spec_data.specs.Tree.{Tree}
+use Rattle.kz_spec_data.specs.Log.{Log, append, end_of, begun_of, with_batch}
+use Rattle.kz_spec_data.specs.Translation.{translate}
 use Rattle.kz_spec_machine.specs.Driver.{Shared, Driver, at_stage, epoch_or_zero, begin_record, commit_records}
 use Rattle.kz_spec_machine.specs.Sound.{LogShape, IsCurrent, IsSharedSound, Fills, records_from, IsTranslated, is_filling, AtStage, IsSoundDriver}
-use Rattle.kz_spec_runs.specs.Promises.{EndsWith, IsTranslation}
-use Rattle.kz_laws_trees.proofs.Growth.{Appended, append_appends}
-use Rattle.kz_laws_logs.proofs.Opened.{begin_opens, fill_keeps_open}
-use Rattle.kz_laws_logs.proofs.Filled.{begun_within}
-use Rattle.kz_laws_appends.proofs.Leading.{IsLeading, first_epoch, leading}
-use Rattle.kz_laws_appends.proofs.Filling.{same_records, IsBegun, begun_log, IsAppended, appended_log}
-use Rattle.kz_laws_appends.proofs.Committed.{IsReady, ready, commit_agrees}
+use Rattle.kz_spec_machine.specs.Promises.{EndsWith, IsTranslation}
+use Rattle.kz_laws_machine.proofs.Growth.{Appended, append_appends}
+use Rattle.kz_laws_machine.proofs.Opened.{begin_opens, fill_keeps_open}
+use Rattle.kz_laws_machine.proofs.Filled.{begun_within}
+use Rattle.kz_laws_events.proofs.Leading.{IsLeading, first_epoch, leading}
+use Rattle.kz_laws_events.proofs.Filling.{same_records, IsBegun, begun_log, IsAppended, appended_log}
+use Rattle.kz_laws_events.proofs.Committed.{IsReady, ready, commit_agrees}
 use Rattle.kz_laws_commits.specs.Commits.{IsUnbroken, IsCopied, Copies, CopiesAtStage}
 use Rattle.kz_laws_commits.proofs.Unbroken.{begin_unbroken, more_unbroken}
 

@@ -5,8 +5,8 @@ use Rattle.kz_types.specs.declared.driver.Stage.TheVariants as stage
 use Rattle.kz_types.specs.declared.plan.Plan.{Plan}
 use Rattle.kz_spec_machine.specs.Driver.{Shared, Driver, planned_step}
 use Rattle.kz_spec_machine.specs.Sound.{is_filling}
-use Rattle.kz_laws_steps.specs.Steps.{AppendsNothing}
-use Rattle.kz_laws_steps.proofs.Succession.{ByStage, HoldsOfNothing, Leads, step_leads}
+use Rattle.kz_laws_events.specs.Steps.{AppendsNothing}
+use Rattle.kz_laws_events.proofs.Succession.{ByStage, HoldsOfNothing, Leads, step_leads}
 
 abbrev FillsNone : ByStage
 FillsNone claim x = is_filling x ≡ false

@@ -8,12 +8,12 @@ use Rattle.kz_types.specs.declared.driver.Stage.TheVariants as stage
 use Rattle.kz_types.specs.declared.plan.Plan.{Plan}
 use Rattle.kz_types.specs.declared.plan.Plan.TheVariants as plan
 use Rattle.kz_types.specs.declared.record.MetaRecord.{MetaRecord}
-use Rattle.kz_spec_stores.specs.Log.{append}
-use Rattle.kz_spec_znodes.specs.Translation.{Unreadable, translate}
+use Rattle.kz_spec_data.specs.Log.{append}
+use Rattle.kz_spec_data.specs.Translation.{Unreadable, translate}
 use Rattle.kz_spec_machine.specs.Driver.{Shared, Driver, epoch_or_zero, begin_record, commit_records, begin_request, request_at, shared_after, after_translation, after_answer, hearing, reaches_store, driver_after, planned_step}
 use Rattle.kz_spec_machine.specs.Sound.{IsTime, IsSharedSound, IsSoundDriver}
-use Rattle.kz_laws_steps.specs.Steps.{AppendsNothing, IsApartFrom}
-use Rattle.kz_laws_appends.proofs.Planned.{planned_by}
+use Rattle.kz_laws_events.specs.Steps.{AppendsNothing, IsApartFrom}
+use Rattle.kz_laws_events.proofs.Planned.{planned_by}
 use Rattle.kz_laws_commits.specs.Commits.{Copies, StepCopies}
 use Rattle.kz_laws_commits.proofs.Quiet.{step_quiet}
 use Rattle.kz_laws_commits.proofs.Own.{begin_copies, append_copies}

@@ -6,9 +6,9 @@ use Rattle.kz_types.specs.declared.plan.Plan.TheVariants as plan
 use Rattle.kz_spec_machine.specs.Driver.{Shared, Driver, planned_step, step}
 use Rattle.kz_spec_machine.specs.Machine.{World, running_ids, driver_of, with_driver, running_refusal, step_result, TurnResult, turn, work, turn_result, next}
 use Rattle.kz_spec_machine.specs.Sound.{IsTime, IsSharedSound, IsSoundDriver, Each, Sound}
-use Rattle.kz_laws_drivers.proofs.Listed.{each_changed}
-use Rattle.kz_laws_steps.proofs.Named.{step_of_own}
-use Rattle.kz_laws_steps.proofs.Worlds.{unless_made, found_id}
+use Rattle.kz_laws_machine.proofs.Listed.{each_changed}
+use Rattle.kz_laws_events.proofs.Named.{step_of_own}
+use Rattle.kz_laws_events.proofs.Worlds.{unless_made, found_id}
 use Rattle.kz_laws_events.proofs.Turned.{still_apart, turn_own, GoesOn, turn_leaves}
 use Rattle.kz_laws_commits.specs.Commits.{Copies, StepCopies}
 use Rattle.kz_laws_commits.proofs.Steps.{step_copies}

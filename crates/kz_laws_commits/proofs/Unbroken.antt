@@ -5,14 +5,14 @@ use Rattle.std.proofs.lemmas.Int.{ints}
 use Rattle.std.proofs.lemmas.List.Elements.{filter-append}
 use Rattle.kz_types.specs.declared.log.Entry.{Entry}
 use Rattle.kz_types.specs.declared.record.MetaRecord.{MetaRecord}
-use Rattle.kz_spec_stores.specs.Log.{Log, end_of, entries_at_offsets, entries, with_batch}
+use Rattle.kz_spec_data.specs.Log.{Log, end_of, entries_at_offsets, entries, with_batch}
 use Rattle.kz_spec_machine.specs.Driver.{begin_record}
 use Rattle.kz_spec_machine.specs.Sound.{LogShape}
-use Rattle.kz_spec_runs.specs.Promises.{entries_from}
-use Rattle.kz_laws_drivers.proofs.Numbers.{at_least_itself}
-use Rattle.kz_laws_trees.proofs.Logs.{end_more}
-use Rattle.kz_laws_trees.proofs.Migration.{entries_more, next_entries, up_to_end}
-use Rattle.kz_laws_logs.proofs.Pending.{stands_from, none_stand}
+use Rattle.kz_spec_machine.specs.Promises.{entries_from}
+use Rattle.kz_laws_machine.proofs.Numbers.{at_least_itself}
+use Rattle.kz_laws_machine.proofs.LogBatches.{end_more}
+use Rattle.kz_laws_machine.proofs.Migration.{entries_more, next_entries, up_to_end}
+use Rattle.kz_laws_machine.proofs.Pending.{stands_from, none_stand}
 use Rattle.kz_laws_commits.specs.Commits.{IsUnbroken}
 
 -- ---- records with their offsets

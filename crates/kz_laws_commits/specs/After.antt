@@ -3,7 +3,7 @@ use Rattle.std.specs.Prelude.{◌≡◌, ⊤, ℤ, true, false, List}
 use Rattle.kz_types.specs.declared.machine.Event.{Event}
 use Rattle.kz_types.specs.declared.machine.Event.TheVariants as event
 use Rattle.kz_types.specs.declared.plan.Plan.{Plan}
-use Rattle.kz_spec_stores.specs.Log.{is_migrated_log, is_open_log}
+use Rattle.kz_spec_data.specs.Log.{is_migrated_log, is_open_log}
 use Rattle.kz_spec_machine.specs.Driver.{Shared, Driver, planned_step}
 use Rattle.kz_spec_machine.specs.Machine.{World, next}
 use Rattle.kz_spec_machine.specs.Sound.{IsSharedSound, IsSoundDriver, Sound, IsLawful}

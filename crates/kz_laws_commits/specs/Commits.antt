@@ -5,14 +5,14 @@ use Rattle.kz_types.specs.declared.driver.Stage.TheVariants as stage
 use Rattle.kz_types.specs.declared.machine.Event.{Event}
 use Rattle.kz_types.specs.declared.plan.Plan.{Plan}
 use Rattle.kz_types.specs.declared.record.MetaRecord.{MetaRecord}
-use Rattle.kz_spec_stores.specs.Tree.{Tree, migrated_rows}
-use Rattle.kz_spec_stores.specs.Log.{Log, append, end_of, begun_of}
-use Rattle.kz_spec_znodes.specs.Translation.{translate}
+use Rattle.kz_spec_data.specs.Tree.{Tree, migrated_rows}
+use Rattle.kz_spec_data.specs.Log.{Log, append, end_of, begun_of}
+use Rattle.kz_spec_data.specs.Translation.{translate}
 use Rattle.kz_spec_machine.specs.Driver.{Shared, Driver, epoch_or_zero, begin_record, commit_records, planned_step}
 use Rattle.kz_spec_machine.specs.Machine.{World, next, after_events}
 use Rattle.kz_spec_machine.specs.Sound.{IsTime, IsCurrent, IsSharedSound, records_from, IsSoundDriver, Each, Sound, IsLawful}
-use Rattle.kz_spec_runs.specs.Promises.{EndsWith, IsTranslation}
-use Rattle.kz_laws_steps.specs.Steps.{IsApartFrom}
+use Rattle.kz_spec_machine.specs.Promises.{EndsWith, IsTranslation}
+use Rattle.kz_laws_events.specs.Steps.{IsApartFrom}
 
 -- These records are the last of the log, from this offset up to its end, without a gap and of the log's epoch.
 pub record IsUnbroken (l : Log) (from : ℤ) (records : List MetaRecord) : Type 0 where

@@ -11,31 +11,31 @@ use Rattle.kz_types.specs.declared.record.MetaRecord.{MetaRecord}
 use Rattle.kz_types.specs.declared.record.MetaRecord.TheVariants as meta
 use Rattle.kz_types.specs.declared.record.RegisterBrokerRecord.{RegisterBrokerRecord}
 use Rattle.kz_types.specs.Ids.{zero_id}
-use Rattle.kz_spec_stores.specs.Settlement.{is_marker}
-use Rattle.kz_spec_stores.specs.ImageRules.{is_kept_back, broken_rule}
-use Rattle.kz_spec_stores.specs.Image.{Image, all_applied, effect, unless_broken, image_with, first_bad, is_migrated_state}
-use Rattle.kz_spec_stores.specs.Log.{Log, end_of, entries_at_offsets, with_batch, full_log, image_of, is_migrated_log, is_open_log, begun_of}
-use Rattle.kz_spec_znodes.specs.Rendering.{excess}
+use Rattle.kz_spec_data.specs.Settlement.{is_marker}
+use Rattle.kz_spec_data.specs.ImageRules.{is_kept_back, broken_rule}
+use Rattle.kz_spec_data.specs.Image.{Image, all_applied, effect, unless_broken, image_with, first_bad, is_migrated_state}
+use Rattle.kz_spec_data.specs.Log.{Log, end_of, entries_at_offsets, with_batch, full_log, image_of, is_migrated_log, is_open_log, begun_of}
+use Rattle.kz_spec_data.specs.Rendering.{excess}
 use Rattle.kz_spec_machine.specs.Driver.{Shared, Driver}
 use Rattle.kz_spec_machine.specs.Machine.{World, first_of, unless, over, full, leader_refusal, bad_record, over_excess, change_refusal, changed_world, registration, register_refusal, next}
 use Rattle.kz_spec_machine.specs.Sound.{IsEpoch, LogShape, Unmigrated, IsSharedSound, IsSoundDriver, Sound}
-use Rattle.kz_laws_drivers.specs.Effects.{IsLonger}
-use Rattle.kz_laws_drivers.proofs.Numbers.{at_least_itself}
-use Rattle.kz_laws_drivers.proofs.Longer.{others_longer}
-use Rattle.kz_laws_limits.proofs.Keeps.{others_keep}
-use Rattle.kz_laws_trees.specs.LogLaws.{IsPlain}
-use Rattle.kz_laws_trees.proofs.Asked.{asked_all, asked_plain}
-use Rattle.kz_laws_trees.proofs.Commits.{commit_kept}
-use Rattle.kz_laws_trees.proofs.Ends.{end_is_batch_end}
-use Rattle.kz_laws_trees.proofs.Growth.{batch_shape, batch_lengthens}
-use Rattle.kz_laws_trees.proofs.Migration.{next_entries, NoneEnds, plain_keeps_state}
-use Rattle.kz_laws_logs.proofs.Begun.{none_begun, begun_log, open_log}
-use Rattle.kz_laws_logs.proofs.Pending.{NoneMarks}
-use Rattle.kz_laws_logs.proofs.Opened.{unmarked_keep_settled}
-use Rattle.kz_laws_logs.proofs.Counted.{unmigrated_more, early_counted, unmarked_applied}
-use Rattle.kz_laws_logs.proofs.Batches.{plain_end_none}
-use Rattle.kz_laws_steps.proofs.Resync.{recorded_within}
-use Rattle.kz_laws_steps.proofs.Tests.{true_or_false}
+use Rattle.kz_laws_machine.specs.Effects.{IsLonger}
+use Rattle.kz_laws_machine.proofs.Numbers.{at_least_itself}
+use Rattle.kz_laws_machine.proofs.Longer.{others_longer}
+use Rattle.kz_laws_machine.proofs.Keeps.{others_keep}
+use Rattle.kz_laws_machine.specs.LogLaws.{IsPlain}
+use Rattle.kz_laws_machine.proofs.Asked.{asked_all, asked_plain}
+use Rattle.kz_laws_machine.proofs.TreeCommits.{commit_kept}
+use Rattle.kz_laws_machine.proofs.Ends.{end_is_batch_end}
+use Rattle.kz_laws_machine.proofs.Growth.{batch_shape, batch_lengthens}
+use Rattle.kz_laws_machine.proofs.Migration.{next_entries, NoneEnds, plain_keeps_state}
+use Rattle.kz_laws_machine.proofs.Begun.{none_begun, begun_log, open_log}
+use Rattle.kz_laws_machine.proofs.Pending.{NoneMarks}
+use Rattle.kz_laws_machine.proofs.Opened.{unmarked_keep_settled}
+use Rattle.kz_laws_machine.proofs.Counted.{unmigrated_more, early_counted, unmarked_applied}
+use Rattle.kz_laws_machine.proofs.Batches.{plain_end_none}
+use Rattle.kz_laws_events.proofs.Resync.{recorded_within}
+use Rattle.kz_laws_events.proofs.Tests.{true_or_false}
 use Rattle.kz_laws_events.proofs.Refusals.{first_none, six_none, unless_none, over_none, bad_none, excess_none, begun_none, decided_by, led, led_epoch}
 use Rattle.kz_laws_events.proofs.Grown.{IsSettledBatch, migrated_settled, agrees_more}
 

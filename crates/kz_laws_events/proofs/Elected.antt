@@ -11,20 +11,20 @@ use Rattle.kz_types.specs.declared.codes.TheConstants.{NO_MIGRATION}
 use Rattle.kz_types.specs.declared.image_fault.ImageRule.{ImageRule}
 use Rattle.kz_types.specs.declared.record.MetaRecord.{MetaRecord}
 use Rattle.kz_types.specs.declared.record.MetaRecord.TheVariants as meta
-use Rattle.kz_spec_stores.specs.Image.{Image, all_applied, broken_rule, unless_broken, is_migrated_state}
-use Rattle.kz_spec_stores.specs.Log.{Log, end_of, with_batch, full_log, image_of, is_migrated_log, is_open_log}
-use Rattle.kz_spec_znodes.specs.Rendering.{excess}
+use Rattle.kz_spec_data.specs.Image.{Image, all_applied, broken_rule, unless_broken, is_migrated_state}
+use Rattle.kz_spec_data.specs.Log.{Log, end_of, with_batch, full_log, image_of, is_migrated_log, is_open_log}
+use Rattle.kz_spec_data.specs.Rendering.{excess}
 use Rattle.kz_spec_machine.specs.Driver.{Shared}
 use Rattle.kz_spec_machine.specs.Machine.{World, first_of, unless, over, full, running_refusal, election_records, next_epoch, election_refusal}
 use Rattle.kz_spec_machine.specs.Sound.{IsEpoch, LogShape, IsSharedSound, Sound}
-use Rattle.kz_laws_drivers.specs.Effects.{IsLonger}
-use Rattle.kz_laws_trees.proofs.Ends.{end_is_batch_end}
-use Rattle.kz_laws_trees.proofs.Commits.{commit_kept}
-use Rattle.kz_laws_trees.proofs.Growth.{batch_shape, batch_lengthens, plain_stays, uncommitted_was}
-use Rattle.kz_laws_logs.proofs.Opened.{elected_records, election_closes}
-use Rattle.kz_laws_logs.proofs.Counted.{unmarked_applied}
-use Rattle.kz_laws_logs.proofs.Batches.{elected_uncommitted, elected_plain, elected_end_none, elected_unmigrated}
-use Rattle.kz_laws_steps.proofs.Tests.{true_or_false}
+use Rattle.kz_laws_machine.specs.Effects.{IsLonger}
+use Rattle.kz_laws_machine.proofs.Ends.{end_is_batch_end}
+use Rattle.kz_laws_machine.proofs.TreeCommits.{commit_kept}
+use Rattle.kz_laws_machine.proofs.Growth.{batch_shape, batch_lengthens, plain_stays, uncommitted_was}
+use Rattle.kz_laws_machine.proofs.Opened.{elected_records, election_closes}
+use Rattle.kz_laws_machine.proofs.Counted.{unmarked_applied}
+use Rattle.kz_laws_machine.proofs.Batches.{elected_uncommitted, elected_plain, elected_end_none, elected_unmigrated}
+use Rattle.kz_laws_events.proofs.Tests.{true_or_false}
 use Rattle.kz_laws_events.proofs.Refusals.{first_none, unless_none, over_none}
 use Rattle.kz_laws_events.proofs.Grown.{IsSettledBatch, migrated_settled, agrees_more}
 

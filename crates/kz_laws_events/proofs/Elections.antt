@@ -7,10 +7,10 @@ use Rattle.kz_types.specs.declared.machine.Event.TheVariants as event
 use Rattle.kz_spec_machine.specs.Driver.{Shared, Driver, elected_driver}
 use Rattle.kz_spec_machine.specs.Machine.{World, driver_of, next_epoch, election_refusal, elected_world, election_answer, next}
 use Rattle.kz_spec_machine.specs.Sound.{Epochs, IsSoundDriver, Sound}
-use Rattle.kz_laws_drivers.proofs.Numbers.{at_most_by, same_number}
-use Rattle.kz_laws_drivers.proofs.Longer.{others_longer}
-use Rattle.kz_laws_steps.proofs.Resync.{recorded_within}
-use Rattle.kz_laws_steps.proofs.Worlds.{found_id}
+use Rattle.kz_laws_machine.proofs.Numbers.{at_most_by, same_number}
+use Rattle.kz_laws_machine.proofs.Longer.{others_longer}
+use Rattle.kz_laws_events.proofs.Resync.{recorded_within}
+use Rattle.kz_laws_events.proofs.Worlds.{found_id}
 use Rattle.kz_laws_events.proofs.Refusals.{decided_by}
 use Rattle.kz_laws_events.proofs.Elected.{MayElect, may_elect, elected_of, range_of, shared_elected, elected_closed, longer, was}
 

@@ -3,8 +3,8 @@ use Rattle.kz_types.specs.declared.machine.Event.{Event}
 use Rattle.kz_types.specs.declared.machine.Event.TheVariants as event
 use Rattle.kz_spec_machine.specs.Machine.{World, next}
 use Rattle.kz_spec_machine.specs.Sound.{Sound, IsLawful}
-use Rattle.kz_laws_steps.proofs.Worlds.{quorum_sound, stop_sound}
-use Rattle.kz_laws_steps.proofs.Events.{start_sound, open_sound, expire_sound}
+use Rattle.kz_laws_events.proofs.Worlds.{quorum_sound, stop_sound}
+use Rattle.kz_laws_events.proofs.EventCases.{start_sound, open_sound, expire_sound}
 use Rattle.kz_laws_events.proofs.Changed.{change_sound, registration_sound}
 use Rattle.kz_laws_events.proofs.Elections.{election_sound}
 use Rattle.kz_laws_events.proofs.Turned.{step_event, turn_event}

@@ -12,24 +12,24 @@ use Rattle.kz_types.specs.declared.record.MetaRecord.TheVariants as meta
 use Rattle.kz_types.specs.declared.log.Entry.{Entry}
 use Rattle.kz_types.specs.declared.tree.Op.{Op}
 use Rattle.kz_types.specs.declared.tree.Op.TheVariants as op
-use Rattle.kz_spec_values.specs.Control.{control_path, migration_path}
-use Rattle.kz_spec_stores.specs.Settlement.{is_marker}
-use Rattle.kz_spec_stores.specs.InOrder.{IsInOrder}
-use Rattle.kz_spec_stores.specs.Image.{Image, empty_image, all_applied, is_migrated_state}
-use Rattle.kz_spec_stores.specs.Tree.{Tree, row_at}
-use Rattle.kz_spec_stores.specs.Log.{Log, end_of, image_at, image_of, is_migrated_log, reset, with_batch, full_log}
-use Rattle.kz_spec_znodes.specs.Rendering.{excess}
+use Rattle.kz_spec_data.specs.Control.{control_path, migration_path}
+use Rattle.kz_spec_data.specs.Settlement.{is_marker}
+use Rattle.kz_spec_data.specs.InOrder.{IsInOrder}
+use Rattle.kz_spec_data.specs.Image.{Image, empty_image, all_applied, is_migrated_state}
+use Rattle.kz_spec_data.specs.Tree.{Tree, row_at}
+use Rattle.kz_spec_data.specs.Log.{Log, end_of, image_at, image_of, is_migrated_log, reset, with_batch, full_log}
+use Rattle.kz_spec_data.specs.Rendering.{excess}
 use Rattle.kz_spec_machine.specs.Driver.{Shared, Driver, least, less_of}
 use Rattle.kz_spec_machine.specs.Machine.{World, first_of, unless, full, running_ids, leader_refusal, finalise_refusal, is_finalised_log, dual_write_refusal, driver_of, rest_refusal, rollback_refusal, final_records, changed_world, is_held_tree, deleted_if, exit_ops, tree_after_ops, reset_world, given_back, unless_refused, next}
 use Rattle.kz_spec_machine.specs.Sound.{TreeShape, LogShape, IsBeforeMigration, Unmigrated, IsSharedSound, Sound}
-use Rattle.kz_laws_limits.proofs.Keeps.{others_keep}
-use Rattle.kz_laws_trees.specs.TreeLaws.{KeepsShape}
-use Rattle.kz_laws_trees.proofs.Ends.{end_is_batch_end}
-use Rattle.kz_laws_trees.proofs.Migration.{next_entries, NoneEnds, state_applied}
-use Rattle.kz_laws_trees.proofs.Multi.{multi_ran, shape_kept}
-use Rattle.kz_laws_logs.proofs.Counted.{unmarked_applied}
-use Rattle.kz_laws_logs.proofs.Pending.{NoneMarks}
-use Rattle.kz_laws_steps.proofs.Tests.{true_or_false}
+use Rattle.kz_laws_machine.proofs.Keeps.{others_keep}
+use Rattle.kz_laws_machine.specs.TreeLaws.{KeepsShape}
+use Rattle.kz_laws_machine.proofs.Ends.{end_is_batch_end}
+use Rattle.kz_laws_machine.proofs.Migration.{next_entries, NoneEnds, state_applied}
+use Rattle.kz_laws_machine.proofs.Multi.{multi_ran, shape_kept}
+use Rattle.kz_laws_machine.proofs.Counted.{unmarked_applied}
+use Rattle.kz_laws_machine.proofs.Pending.{NoneMarks}
+use Rattle.kz_laws_events.proofs.Tests.{true_or_false}
 use Rattle.kz_laws_events.proofs.Refusals.{first_none, six_none, unless_none, over_none, decided_by, led, led_epoch}
 use Rattle.kz_laws_events.proofs.Grown.{migrated_settled}
 use Rattle.kz_laws_events.proofs.Changed.{IsLeaderBatch, changed, shared_more}

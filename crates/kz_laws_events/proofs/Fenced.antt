@@ -7,8 +7,8 @@ use Rattle.kz_spec_machine.specs.Driver.{Shared, Driver, epoch_or_zero, step}
 use Rattle.kz_spec_machine.specs.Machine.{turn}
 use Rattle.kz_spec_machine.specs.Failures.{IsCutOff}
 use Rattle.kz_spec_machine.specs.Sound.{IsTime, IsSharedSound, IsSoundDriver, Epochs, IsBelowShown, shown_in}
-use Rattle.kz_laws_steps.specs.Steps.{StepKeeps}
-use Rattle.kz_laws_fence.proofs.Drivers.{fenced_driver}
+use Rattle.kz_laws_events.specs.Steps.{StepKeeps}
+use Rattle.kz_laws_machine.proofs.FenceDrivers.{fenced_driver}
 use Rattle.kz_laws_events.proofs.Turned.{GoesOn, one_step, one_own, turn_leaves}
 
 abbrev IsFenced : Shared → Driver → Type 0

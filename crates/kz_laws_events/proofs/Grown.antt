@@ -2,15 +2,15 @@
 use Rattle.std.proofs.Common.{◌≡◌, ◌⊎◌, inl, inr, ℤ, true, false, List, None, sym, ap, ◌∙◌}
 use Rattle.kz_types.specs.declared.machine.Recorded.{Recorded}
 use Rattle.kz_types.specs.declared.record.MetaRecord.{MetaRecord}
-use Rattle.kz_spec_stores.specs.Settlement.{is_open}
-use Rattle.kz_spec_stores.specs.Tree.{Tree}
-use Rattle.kz_spec_stores.specs.Log.{Log, end_of, entries, image_at, image_of, with_batch, is_migrated_log, is_open_log, commit_of}
-use Rattle.kz_spec_znodes.specs.Rendering.{render, excess}
+use Rattle.kz_spec_data.specs.Settlement.{is_open}
+use Rattle.kz_spec_data.specs.Tree.{Tree}
+use Rattle.kz_spec_data.specs.Log.{Log, end_of, entries, image_at, image_of, with_batch, is_migrated_log, is_open_log, commit_of}
+use Rattle.kz_spec_data.specs.Rendering.{render, excess}
 use Rattle.kz_spec_machine.specs.Sound.{LogShape, IsBatchEnd, IsPastCommit, RecordAgrees, Agreement}
-use Rattle.kz_laws_drivers.specs.Effects.{IsLonger}
-use Rattle.kz_laws_trees.proofs.Ends.{end_is_batch_end, batch_end_within}
-use Rattle.kz_laws_trees.proofs.Commits.{end_is_past, past_before}
-use Rattle.kz_laws_logs.proofs.BatchEnds.{old_or_end, open_at_old}
+use Rattle.kz_laws_machine.specs.Effects.{IsLonger}
+use Rattle.kz_laws_machine.proofs.Ends.{end_is_batch_end, batch_end_within}
+use Rattle.kz_laws_machine.proofs.TreeCommits.{end_is_past, past_before}
+use Rattle.kz_laws_machine.proofs.BatchEnds.{old_or_end, open_at_old}
 
 -- what is known of such a batch
 pub record IsSettledBatch (l : Log) (epoch now : ℤ) (items : List MetaRecord) : Type 0 where

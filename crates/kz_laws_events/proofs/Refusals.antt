@@ -4,8 +4,8 @@ use Rattle.std.specs.Ordering.{int_eq}
 use Rattle.std.proofs.lemmas.Bool.Decides.{Decides-int_eq}
 use Rattle.kz_types.specs.declared.machine.Answer.{Answer}
 use Rattle.kz_types.specs.declared.machine.Answer.TheVariants as answer
-use Rattle.kz_spec_stores.specs.Image.{Bad}
-use Rattle.kz_spec_znodes.specs.Rendering.{Excess}
+use Rattle.kz_spec_data.specs.Image.{Bad}
+use Rattle.kz_spec_data.specs.Rendering.{Excess}
 use Rattle.kz_spec_machine.specs.Driver.{Driver}
 use Rattle.kz_spec_machine.specs.Machine.{World, driver_of, outcome_unless, first_of, unless, over, over_excess, bad_record, running_refusal, epoch_refusal, driver_refusal, leader_refusal}
 use Rattle.kz_spec_machine.specs.Sound.{IsEpoch, Epochs, Sound}

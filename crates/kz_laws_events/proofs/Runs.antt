@@ -4,8 +4,8 @@ use Rattle.std.proofs.lemmas.Int.{ints}
 use Rattle.std.proofs.lemmas.List.Elements.{All-nil, All-cons, All-head, All-tail}
 use Rattle.kz_types.specs.declared.log.Entry.{Entry}
 use Rattle.kz_types.specs.declared.machine.Event.{Event}
-use Rattle.kz_spec_stores.specs.Tree.{empty_tree}
-use Rattle.kz_spec_stores.specs.Log.{empty_log, image_at, is_migrated_log}
+use Rattle.kz_spec_data.specs.Tree.{empty_tree}
+use Rattle.kz_spec_data.specs.Log.{empty_log, image_at, is_migrated_log}
 use Rattle.kz_spec_machine.specs.Machine.{World, empty_world, next, after_events}
 use Rattle.kz_spec_machine.specs.Sound.{IsStamped, IsNotRoot, IsUnreserved, Lasts, IsOwned, IsSmall, IsBeforeMigration, TreeShape, LogShape, Sound, IsLawful}
 use Rattle.kz_laws_events.proofs.Exits.{empty_in_order}

@@ -6,16 +6,16 @@ use Rattle.kz_types.specs.declared.codes.TheConstants.{POST_MIGRATION}
 use Rattle.kz_types.specs.declared.machine.Answer.TheVariants as answer
 use Rattle.kz_types.specs.declared.machine.Event.TheVariants as event
 use Rattle.kz_types.specs.declared.machine.Recorded.{Recorded}
-use Rattle.kz_spec_stores.specs.Tree.{migration_record}
-use Rattle.kz_spec_stores.specs.Settlement.{is_open}
-use Rattle.kz_spec_stores.specs.Image.{Image, is_migrated_state}
-use Rattle.kz_spec_stores.specs.Log.{Log, end_of, entries, image_at, image_of, is_migrated_log, is_open_log, may_be_base, snapshot}
+use Rattle.kz_spec_data.specs.Tree.{migration_record}
+use Rattle.kz_spec_data.specs.Settlement.{is_open}
+use Rattle.kz_spec_data.specs.Image.{Image, is_migrated_state}
+use Rattle.kz_spec_data.specs.Log.{Log, end_of, entries, image_at, image_of, is_migrated_log, is_open_log, may_be_base, snapshot}
 use Rattle.kz_spec_machine.specs.Driver.{Shared, Driver}
 use Rattle.kz_spec_machine.specs.Machine.{World, snapshot_offset, snapshot_refusal, cut_log, cut_world, is_finalised_log, next}
 use Rattle.kz_spec_machine.specs.Sound.{IsSharedSound, IsSoundDriver, Sound}
-use Rattle.kz_laws_trees.proofs.Ends.{end_is_batch_end, batch_end_within}
-use Rattle.kz_laws_snapshots.specs.Snapshots.{IsCut}
-use Rattle.kz_laws_snapshots.proofs.Worlds.{is_cut, image_is, open_is, shared_stays, driver_kept}
+use Rattle.kz_laws_machine.proofs.Ends.{end_is_batch_end, batch_end_within}
+use Rattle.kz_laws_machine.specs.Snapshots.{IsCut}
+use Rattle.kz_laws_machine.proofs.Worlds.{is_cut, image_is, open_is, shared_stays, driver_kept}
 use Rattle.kz_laws_events.proofs.Refusals.{unless_none, decided_by}
 
 -- ---- what a snapshot that isn't refused has passed

@@ -7,10 +7,10 @@ use Rattle.kz_types.specs.declared.plan.Plan.TheVariants as plan
 use Rattle.kz_spec_machine.specs.Driver.{Shared, Driver, StepResult, planned_step, step}
 use Rattle.kz_spec_machine.specs.Machine.{World, running_ids, driver_of, running_refusal, step_result, ends, TurnResult, with_reply, turn, work, turn_result, next}
 use Rattle.kz_spec_machine.specs.Sound.{IsTime, IsSharedSound, IsSoundDriver, Sound}
-use Rattle.kz_laws_steps.specs.Steps.{IsApartFrom, StepKeeps}
-use Rattle.kz_laws_steps.proofs.Named.{IsOf, step_of_own}
-use Rattle.kz_laws_steps.proofs.Worlds.{unless_made, stepped}
-use Rattle.kz_laws_appends.proofs.Steps.{all_steps}
+use Rattle.kz_laws_events.specs.Steps.{IsApartFrom, StepKeeps}
+use Rattle.kz_laws_events.proofs.Named.{IsOf, step_of_own}
+use Rattle.kz_laws_events.proofs.Worlds.{unless_made, stepped}
+use Rattle.kz_laws_events.proofs.StepCases.{all_steps}
 
 -- ---- one step after another
 

@@ -7,18 +7,18 @@ use Rattle.kz_types.specs.declared.driver.Stage.{Stage}
 use Rattle.kz_types.specs.declared.driver.Stage.TheVariants as stage
 use Rattle.kz_types.specs.declared.fault.TreeFault.{TreeFault}
 use Rattle.kz_types.specs.declared.machine.Event.TheVariants as event
-use Rattle.kz_spec_stores.specs.Tree.{Tree, multi}
-use Rattle.kz_spec_stores.specs.Log.{Log, is_migrated_log}
+use Rattle.kz_spec_data.specs.Tree.{Tree, multi}
+use Rattle.kz_spec_data.specs.Log.{Log, is_migrated_log}
 use Rattle.kz_spec_machine.specs.Driver.{Shared, Driver}
 use Rattle.kz_spec_machine.specs.Machine.{World, with_tree, is_held_tree, client_refusal, client_world, next}
 use Rattle.kz_spec_machine.specs.Sound.{TreeShape, Agreement, IsSharedSound, claim_version, shown_in, Claims, Looks, AtStage, IsSoundDriver, Sound, IsLawfulOp}
-use Rattle.kz_laws_drivers.proofs.Numbers.{at_most_then}
-use Rattle.kz_laws_trees.proofs.Multi.{multi_ran}
-use Rattle.kz_laws_trees.proofs.Clients.{client_keeps_shape}
-use Rattle.kz_laws_trees.proofs.Standing.{client_unheld}
-use Rattle.kz_laws_trees.proofs.Versions.{client_keeps_version}
-use Rattle.kz_laws_steps.proofs.Tests.{true_or_false}
-use Rattle.kz_laws_steps.proofs.Events.{unless_taken, client_sound}
+use Rattle.kz_laws_machine.proofs.Numbers.{at_most_then}
+use Rattle.kz_laws_machine.proofs.Multi.{multi_ran}
+use Rattle.kz_laws_machine.proofs.Clients.{client_keeps_shape}
+use Rattle.kz_laws_machine.proofs.Standing.{client_unheld}
+use Rattle.kz_laws_machine.proofs.Versions.{client_keeps_version}
+use Rattle.kz_laws_events.proofs.Tests.{true_or_false}
+use Rattle.kz_laws_events.proofs.EventCases.{unless_taken, client_sound}
 
 -- ---- a tree that no KRaft controller holds
 

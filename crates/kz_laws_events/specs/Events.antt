@@ -8,7 +8,7 @@ use Rattle.kz_types.specs.declared.record.MetaRecord.{MetaRecord}
 use Rattle.kz_spec_machine.specs.Driver.{Shared, Driver}
 use Rattle.kz_spec_machine.specs.Machine.{World, empty_world, turn, rollback_refusal, reset_world, next, after_events}
 use Rattle.kz_spec_machine.specs.Sound.{IsTime, IsSharedSound, IsSoundDriver, IsBelowShown, shown_in, Sound, IsLawfulOp, IsLawful}
-use Rattle.kz_laws_steps.specs.Steps.{StepKeeps}
+use Rattle.kz_laws_events.specs.Steps.{StepKeeps}
 
 -- A turn keeps what is shared sound, and all that is true of its driver and of each other one.
 abbrev pub TurnsKeep : Type 0

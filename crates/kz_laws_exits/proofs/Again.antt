@@ -10,14 +10,14 @@ use Rattle.kz_types.specs.declared.machine.Event.TheVariants as event
 use Rattle.kz_types.specs.declared.machine.Recorded.{Recorded}
 use Rattle.kz_types.specs.declared.tree.Op.{Op}
 use Rattle.kz_types.specs.declared.tree.Row.{Row}
-use Rattle.kz_spec_values.specs.Control.{control_path, migration_path}
-use Rattle.kz_spec_stores.specs.Tree.{Tree, row_at, multi, migration_record}
-use Rattle.kz_spec_stores.specs.Log.{Log, is_migrated_log, reset}
+use Rattle.kz_spec_data.specs.Control.{control_path, migration_path}
+use Rattle.kz_spec_data.specs.Tree.{Tree, row_at, multi, migration_record}
+use Rattle.kz_spec_data.specs.Log.{Log, is_migrated_log, reset}
 use Rattle.kz_spec_machine.specs.Driver.{Shared, Driver, least, views_migrated, claim_ops}
 use Rattle.kz_spec_machine.specs.Machine.{World, first_of, running_ids, driver_of, exit_refusal, rollback_refusal, is_held_tree, deleted_if, exit_ops, tree_after_ops, reset_world, given_back, unless_refused, next, after_events}
 use Rattle.kz_spec_machine.specs.Sound.{IsTime, IsSharedSound, IsSoundDriver, Sound, IsLawful}
-use Rattle.kz_laws_steps.proofs.Tests.{true_or_false}
-use Rattle.kz_laws_steps.proofs.Claiming.{taken}
+use Rattle.kz_laws_events.proofs.Tests.{true_or_false}
+use Rattle.kz_laws_events.proofs.Claiming.{taken}
 use Rattle.kz_laws_events.proofs.Exits.{reset_world_sound}
 use Rattle.kz_laws_events.proofs.Runs.{run_sound}
 use Rattle.kz_laws_exits.specs.Rollbacks.{IsGivenBack, EndsAlike}

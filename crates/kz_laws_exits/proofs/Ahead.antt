@@ -13,17 +13,17 @@ use Rattle.kz_types.specs.declared.machine.Reply.TheVariants as reply
 use Rattle.kz_types.specs.declared.plan.Plan.{Plan}
 use Rattle.kz_types.specs.declared.plan.Plan.TheVariants as plan
 use Rattle.kz_types.specs.declared.tree.Op.{Op}
-use Rattle.kz_spec_stores.specs.Tree.{Tree, multi, migration_record}
-use Rattle.kz_spec_stores.specs.Log.{end_of, image_at, image_of}
-use Rattle.kz_spec_znodes.specs.Difference.{diff, after_chunk}
-use Rattle.kz_spec_znodes.specs.Rendering.{render}
+use Rattle.kz_spec_data.specs.Tree.{Tree, multi, migration_record}
+use Rattle.kz_spec_data.specs.Log.{end_of, image_at, image_of}
+use Rattle.kz_spec_data.specs.Difference.{diff, after_chunk}
+use Rattle.kz_spec_data.specs.Rendering.{render}
 use Rattle.kz_spec_machine.specs.Driver.{Shared, Driver, epoch_or_zero, remaining_at, is_last_write, write_ops, write_request, Request, read_log, request_at, with_tree, shared_after, reaches_store, target_of, driver_at_log_end, is_recorded_at, resigned_driver, begins_again, is_claim_refused, after_write, writes, after_answer, hearing, driver_after, planned_step}
 use Rattle.kz_spec_machine.specs.Sound.{claim_version, IsCurrent, IsAtRest, AtStage, IsSharedSound, IsSoundDriver}
-use Rattle.kz_laws_trees.proofs.Multi.{write_keeps_version}
-use Rattle.kz_laws_trees.proofs.Beside.{write_keeps_recorded}
-use Rattle.kz_laws_steps.proofs.Targets.{view_within}
-use Rattle.kz_laws_steps.proofs.Ways.{either}
-use Rattle.kz_laws_steps.proofs.Succession.{HoldsOfNothing, Leads, step_leads}
+use Rattle.kz_laws_machine.proofs.Multi.{write_keeps_version}
+use Rattle.kz_laws_machine.proofs.Beside.{write_keeps_recorded}
+use Rattle.kz_laws_events.proofs.Targets.{view_within}
+use Rattle.kz_laws_events.proofs.Ways.{either}
+use Rattle.kz_laws_events.proofs.Succession.{HoldsOfNothing, Leads, step_leads}
 use Rattle.kz_laws_exits.specs.Ends.{IsAhead}
 
 nothing_ahead : (t : Tree) → HoldsOfNothing (IsAhead t)

@@ -13,22 +13,22 @@ use Rattle.kz_types.specs.declared.machine.Event.{Event}
 use Rattle.kz_types.specs.declared.machine.Event.TheVariants as event
 use Rattle.kz_types.specs.declared.record.MetaRecord.{MetaRecord}
 use Rattle.kz_types.specs.declared.tree.Op.{Op}
-use Rattle.kz_spec_stores.specs.Tree.{Tree, multi, begin_session, end_session}
-use Rattle.kz_spec_stores.specs.Log.{Log, empty_log, image_at, image_of, with_batch, is_open_log, reset}
+use Rattle.kz_spec_data.specs.Tree.{Tree, multi, begin_session, end_session}
+use Rattle.kz_spec_data.specs.Log.{Log, empty_log, image_at, image_of, with_batch, is_open_log, reset}
 use Rattle.kz_spec_machine.specs.Driver.{Shared, Driver, new_driver, elected_driver}
 use Rattle.kz_spec_machine.specs.Machine.{World, empty_world, driver_of, quorum_refusal, declared_world, start_refusal, started_world, stop_refusal, stopped_world, next_epoch, election_refusal, elected_world, election_answer, change_refusal, changed_world, registration, register_refusal, is_finalised_log, exit_ops, tree_after_ops, reset_world, given_back, rollback_refusal, with_tree, moved_world, is_held_tree, client_refusal, client_world, next, after_events, cut_world, snapshot_refusal}
 use Rattle.kz_spec_machine.specs.Sound.{LogShape, IsBelowShown, claim_version, shown_in, Sound, IsLawful}
-use Rattle.kz_laws_drivers.specs.Effects.{IsUnchanged}
-use Rattle.kz_laws_trees.specs.LogLaws.{IsPlain}
-use Rattle.kz_laws_trees.proofs.Asked.{asked_plain}
-use Rattle.kz_laws_trees.proofs.Migration.{plain_keeps_state}
-use Rattle.kz_laws_trees.proofs.Sessions.{begin_leaves, end_leaves}
-use Rattle.kz_laws_trees.proofs.Clients.{client_leaves_held}
-use Rattle.kz_laws_logs.proofs.Opened.{elected_records}
-use Rattle.kz_laws_logs.proofs.Batches.{elected_plain}
-use Rattle.kz_laws_steps.proofs.Tests.{true_or_false}
-use Rattle.kz_laws_steps.proofs.Worlds.{decided, left_was_there}
-use Rattle.kz_laws_steps.proofs.Events.{each_more, unless_taken}
+use Rattle.kz_laws_machine.specs.Effects.{IsUnchanged}
+use Rattle.kz_laws_machine.specs.LogLaws.{IsPlain}
+use Rattle.kz_laws_machine.proofs.Asked.{asked_plain}
+use Rattle.kz_laws_machine.proofs.Migration.{plain_keeps_state}
+use Rattle.kz_laws_machine.proofs.Sessions.{begin_leaves, end_leaves}
+use Rattle.kz_laws_machine.proofs.Clients.{client_leaves_held}
+use Rattle.kz_laws_machine.proofs.Opened.{elected_records}
+use Rattle.kz_laws_machine.proofs.Batches.{elected_plain}
+use Rattle.kz_laws_events.proofs.Tests.{true_or_false}
+use Rattle.kz_laws_events.proofs.Worlds.{decided, left_was_there}
+use Rattle.kz_laws_events.proofs.EventCases.{each_more, unless_taken}
 use Rattle.kz_laws_events.proofs.Refusals.{decided_by}
 use Rattle.kz_laws_events.proofs.Elected.{MayElect, may_elect, elected_of, stateless, was}
 use Rattle.kz_laws_events.proofs.Elections.{WasFound, was_found}

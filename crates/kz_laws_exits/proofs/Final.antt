@@ -16,19 +16,19 @@ use Rattle.kz_types.specs.declared.plan.Plan.{Plan}
 use Rattle.kz_types.specs.declared.record.MetaRecord.{MetaRecord}
 use Rattle.kz_types.specs.declared.tree.Op.{Op}
 use Rattle.kz_types.specs.declared.tree.Row.{Row}
-use Rattle.kz_spec_stores.specs.Tree.{Tree, multi}
-use Rattle.kz_spec_stores.specs.Image.{is_migrated_state}
-use Rattle.kz_spec_stores.specs.Log.{Log, append, image_of, is_migrated_log}
-use Rattle.kz_spec_znodes.specs.Translation.{Unreadable, translate}
+use Rattle.kz_spec_data.specs.Tree.{Tree, multi}
+use Rattle.kz_spec_data.specs.Image.{is_migrated_state}
+use Rattle.kz_spec_data.specs.Log.{Log, append, image_of, is_migrated_log}
+use Rattle.kz_spec_data.specs.Translation.{Unreadable, translate}
 use Rattle.kz_spec_machine.specs.Driver.{Shared, Driver, epoch_or_zero, resigned_driver, claim_ops, remaining_at, write_ops, begin_record, commit_records, begin_request, write_request, Request, read_log, request_at, with_tree, with_log, shared_after, reaches_store, Hearing, hears_answer, hears_nothing, hears_expiry, hearing, driver_after, driver_at_log_end, unless_finalised, after_answer, planned_step}
 use Rattle.kz_spec_machine.specs.Machine.{is_finalised_log}
 use Rattle.kz_spec_machine.specs.Sound.{IsTime, IsBelowShown, shown_in, WasElected, IsSharedSound, IsSoundDriver}
-use Rattle.kz_laws_trees.proofs.Migration.{commit_migrates}
-use Rattle.kz_laws_fence.proofs.Drivers.{fenced_driver}
-use Rattle.kz_laws_steps.proofs.Named.{IsOf, step_of_own}
-use Rattle.kz_laws_steps.proofs.Tests.{true_or_false}
-use Rattle.kz_laws_appends.proofs.Filling.{begun_log, appended_log}
-use Rattle.kz_laws_appends.proofs.Committed.{ready}
+use Rattle.kz_laws_machine.proofs.Migration.{commit_migrates}
+use Rattle.kz_laws_machine.proofs.FenceDrivers.{fenced_driver}
+use Rattle.kz_laws_events.proofs.Named.{IsOf, step_of_own}
+use Rattle.kz_laws_events.proofs.Tests.{true_or_false}
+use Rattle.kz_laws_events.proofs.Filling.{begun_log, appended_log}
+use Rattle.kz_laws_events.proofs.Committed.{ready}
 use Rattle.kz_laws_exits.specs.Ends.{RestsAtStage, IsAhead, HasEnded, IsClosedAtEnd, StepEnds}
 use Rattle.kz_laws_exits.proofs.Others.{LeavesOrPasses, step_passes}
 use Rattle.kz_laws_exits.proofs.Ahead.{past_ahead, own_ahead}

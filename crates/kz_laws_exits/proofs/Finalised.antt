@@ -10,13 +10,13 @@ use Rattle.kz_types.specs.declared.machine.Answer.TheVariants as answer
 use Rattle.kz_types.specs.declared.machine.Event.TheVariants as event
 use Rattle.kz_types.specs.declared.machine.Recorded.{Recorded}
 use Rattle.kz_types.specs.declared.tree.Op.{Op}
-use Rattle.kz_spec_stores.specs.Log.{end_of}
+use Rattle.kz_spec_data.specs.Log.{end_of}
 use Rattle.kz_spec_machine.specs.Driver.{Driver, epoch_or_zero, state_of, least}
 use Rattle.kz_spec_machine.specs.Machine.{World, running_ids, driver_of, is_finalised_log, is_dual_write, dual_write_refusal, final_records, finalise_refusal, changed_world, next}
 use Rattle.kz_spec_machine.specs.Sound.{Epochs, IsBelowShown, shown_in, IsTargetOf, IsAfterMigration, AtStage, IsSharedSound, IsSoundDriver, Sound}
-use Rattle.kz_laws_steps.proofs.Targets.{view_within}
-use Rattle.kz_laws_steps.proofs.Tests.{true_or_false}
-use Rattle.kz_laws_appends.proofs.Leading.{IsLeading, leading}
+use Rattle.kz_laws_events.proofs.Targets.{view_within}
+use Rattle.kz_laws_events.proofs.Tests.{true_or_false}
+use Rattle.kz_laws_events.proofs.Leading.{IsLeading, leading}
 use Rattle.kz_laws_events.proofs.Refusals.{unless_none, decided_by, IsLed, led}
 use Rattle.kz_laws_events.proofs.Exits.{MayFinalise, may_finalise}
 use Rattle.kz_laws_exits.specs.Ends.{RestsAtStage, IsAhead, HasEnded, EndHolds}

@@ -12,17 +12,17 @@ use Rattle.kz_types.specs.declared.tree.Op.{Op}
 use Rattle.kz_types.specs.declared.tree.Op.TheVariants as op
 use Rattle.kz_types.specs.declared.tree.Row.{Row}
 use Rattle.kz_types.specs.Paths.{is_migrated}
-use Rattle.kz_spec_values.specs.Control.{control_path, migration_path}
-use Rattle.kz_spec_stores.specs.Tree.{Tree, row_at, multi, area, after_op, migration_record, unclosed_path, path_of_op}
-use Rattle.kz_spec_stores.specs.Log.{Log, end_of, image_at, image_of, is_migrated_log, reset}
-use Rattle.kz_spec_znodes.specs.Rendering.{render}
+use Rattle.kz_spec_data.specs.Control.{control_path, migration_path}
+use Rattle.kz_spec_data.specs.Tree.{Tree, row_at, multi, area, after_op, migration_record, unclosed_path, path_of_op}
+use Rattle.kz_spec_data.specs.Log.{Log, end_of, image_at, image_of, is_migrated_log, reset}
+use Rattle.kz_spec_data.specs.Rendering.{render}
 use Rattle.kz_spec_machine.specs.Driver.{shown_by, least}
 use Rattle.kz_spec_machine.specs.Machine.{World, first_of, unless, behind_refusal, rest_refusal, is_finalised_log, running_ids, exit_refusal, rollback_refusal, is_held_tree, deleted_if, exit_ops, tree_after_ops, reset_world, given_back, unless_refused, next}
 use Rattle.kz_spec_machine.specs.Sound.{TreeShape, Agreement, Sound}
-use Rattle.kz_laws_trees.proofs.Rows.{still, others_kept, op_rises, deleted_found}
-use Rattle.kz_laws_trees.proofs.Claim.{shown_still}
-use Rattle.kz_laws_trees.proofs.Multi.{multi_ran, outside_left, control_outside, migration_outside}
-use Rattle.kz_laws_steps.proofs.Targets.{closed_offset}
+use Rattle.kz_laws_machine.proofs.Rows.{still, others_kept, op_rises, deleted_found}
+use Rattle.kz_laws_machine.proofs.Claim.{shown_still}
+use Rattle.kz_laws_machine.proofs.Multi.{multi_ran, outside_left, control_outside, migration_outside}
+use Rattle.kz_laws_events.proofs.Targets.{closed_offset}
 use Rattle.kz_laws_events.proofs.Refusals.{first_none, unless_none}
 use Rattle.kz_laws_events.proofs.Exits.{MayRollBack, may_roll_back, reset_unmigrated}
 use Rattle.kz_laws_exits.specs.Rollbacks.{IsGivenBack}

@@ -14,17 +14,17 @@ use Rattle.kz_types.specs.declared.tree.Row.{Row}
 use Rattle.kz_types.specs.declared.tree.Op.{Op}
 use Rattle.kz_types.specs.declared.tree.Op.TheVariants.{Delete}
 use Rattle.kz_types.specs.Paths.{control_paths, is_below}
-use Rattle.kz_spec_values.specs.Control.{control_path, epoch_path, migration_path}
-use Rattle.kz_spec_stores.specs.Tree.{Tree, row_at, parent_of, is_root, has_children, Refusal, delete_refusal, op_refusal, after_op, rows_unless_refused, after_ops, with_zxid, multi}
+use Rattle.kz_spec_data.specs.Control.{control_path, epoch_path, migration_path}
+use Rattle.kz_spec_data.specs.Tree.{Tree, row_at, parent_of, is_root, has_children, Refusal, delete_refusal, op_refusal, after_op, rows_unless_refused, after_ops, with_zxid, multi}
 use Rattle.kz_spec_machine.specs.Driver.{shown_by}
 use Rattle.kz_spec_machine.specs.Machine.{World, is_held_tree, deleted_if, exit_ops, tree_after_ops}
 use Rattle.kz_spec_machine.specs.Sound.{IsUnreserved, Sound}
-use Rattle.kz_laws_trees.specs.TreeLaws.{KeepsShape}
-use Rattle.kz_laws_trees.proofs.Each.{all_ran}
-use Rattle.kz_laws_trees.proofs.Parents.{there_kept}
-use Rattle.kz_laws_trees.proofs.Lasting.{free_keep}
-use Rattle.kz_laws_trees.proofs.Below.{parent_and_name, has_name}
-use Rattle.kz_laws_trees.proofs.Multi.{counted_up}
+use Rattle.kz_laws_machine.specs.TreeLaws.{KeepsShape}
+use Rattle.kz_laws_machine.proofs.Each.{all_ran}
+use Rattle.kz_laws_machine.proofs.Parents.{there_kept}
+use Rattle.kz_laws_machine.proofs.Lasting.{free_keep}
+use Rattle.kz_laws_machine.proofs.Below.{parent_and_name, has_name}
+use Rattle.kz_laws_machine.proofs.Multi.{counted_up}
 use Rattle.kz_laws_exits.proofs.GivenBack.{apart}
 
 -- ---- nothing stands below `/controller` or `/migration`

@@ -9,12 +9,12 @@ use Rattle.kz_types.specs.declared.machine.Recorded.{Recorded}
 use Rattle.kz_types.specs.declared.plan.Plan.{Plan}
 use Rattle.kz_types.specs.declared.record.MetaRecord.{MetaRecord}
 use Rattle.kz_types.specs.declared.tree.Op.{Op}
-use Rattle.kz_spec_stores.specs.Tree.{Tree, multi}
-use Rattle.kz_spec_stores.specs.Log.{Log, append}
-use Rattle.kz_spec_znodes.specs.Translation.{Unreadable, translate}
+use Rattle.kz_spec_data.specs.Tree.{Tree, multi}
+use Rattle.kz_spec_data.specs.Log.{Log, append}
+use Rattle.kz_spec_data.specs.Translation.{Unreadable, translate}
 use Rattle.kz_spec_machine.specs.Driver.{Shared, Driver, epoch_or_zero, claim_ops, remaining_at, write_ops, begin_record, begin_request, next_records, write_request, request_at, with_tree, with_log, shared_after, reaches_store, planned_step}
 use Rattle.kz_spec_machine.specs.Sound.{IsTime, IsCurrent, IsSharedSound, IsSoundDriver}
-use Rattle.kz_laws_steps.specs.Steps.{WritesTo, IsApartFrom}
+use Rattle.kz_laws_events.specs.Steps.{WritesTo, IsApartFrom}
 use Rattle.kz_laws_commits.proofs.Others.{claim_past, one_past}
 
 -- what is shared after a request, for another driver

@@ -8,17 +8,17 @@ use Rattle.kz_types.specs.declared.machine.Event.{Event}
 use Rattle.kz_types.specs.declared.machine.Event.TheVariants as event
 use Rattle.kz_types.specs.declared.plan.Plan.{Plan}
 use Rattle.kz_types.specs.declared.plan.Plan.TheVariants as plan
-use Rattle.kz_spec_stores.specs.Tree.{Tree, multi, begin_session, end_session}
-use Rattle.kz_spec_stores.specs.Log.{end_of, image_of, is_migrated_log, is_open_log, with_batch}
+use Rattle.kz_spec_data.specs.Tree.{Tree, multi, begin_session, end_session}
+use Rattle.kz_spec_data.specs.Log.{end_of, image_of, is_migrated_log, is_open_log, with_batch}
 use Rattle.kz_spec_machine.specs.Driver.{Shared, Driver, step}
 use Rattle.kz_spec_machine.specs.Machine.{World, running_ids, driver_of, running_refusal, leader_refusal, dual_write_refusal, rest_refusal, unless, full, step_result, turn, work, turn_result, quorum_refusal, declared_world, start_refusal, started_world, stop_refusal, stopped_world, next_epoch, election_refusal, elected_world, election_answer, change_refusal, changed_world, registration, register_refusal, final_records, finalise_refusal, client_refusal, client_world, moved_world, is_finalised_log, next, after_events, cut_world, snapshot_refusal}
 use Rattle.kz_spec_machine.specs.Sound.{IsTime, IsSharedSound, IsSoundDriver, Sound, IsLawful}
-use Rattle.kz_laws_trees.proofs.Asked.{asked_plain}
-use Rattle.kz_laws_logs.proofs.Opened.{elected_records}
-use Rattle.kz_laws_logs.proofs.Batches.{elected_plain}
-use Rattle.kz_laws_steps.proofs.Tests.{true_or_false}
-use Rattle.kz_laws_steps.proofs.Worlds.{decided, unless_made}
-use Rattle.kz_laws_steps.proofs.Events.{unless_taken}
+use Rattle.kz_laws_machine.proofs.Asked.{asked_plain}
+use Rattle.kz_laws_machine.proofs.Opened.{elected_records}
+use Rattle.kz_laws_machine.proofs.Batches.{elected_plain}
+use Rattle.kz_laws_events.proofs.Tests.{true_or_false}
+use Rattle.kz_laws_events.proofs.Worlds.{decided, unless_made}
+use Rattle.kz_laws_events.proofs.EventCases.{unless_taken}
 use Rattle.kz_laws_events.proofs.Refusals.{six_none, unless_none, decided_by}
 use Rattle.kz_laws_events.proofs.Elected.{MayElect, may_elect, elected_of, stateless}
 use Rattle.kz_laws_events.proofs.Changed.{may_change}

@@ -7,11 +7,11 @@ use Rattle.kz_types.specs.declared.machine.Event.{Event}
 use Rattle.kz_types.specs.declared.machine.Event.TheVariants as event
 use Rattle.kz_types.specs.declared.machine.Recorded.{Recorded}
 use Rattle.kz_types.specs.declared.plan.Plan.{Plan}
-use Rattle.kz_spec_stores.specs.Tree.{Tree, migration_record, unclosed_path}
+use Rattle.kz_spec_data.specs.Tree.{Tree, migration_record, unclosed_path}
 use Rattle.kz_spec_machine.specs.Driver.{Shared, Driver, planned_step}
 use Rattle.kz_spec_machine.specs.Machine.{World, empty_world, is_finalised_log, next, after_events}
 use Rattle.kz_spec_machine.specs.Sound.{IsTime, IsCurrent, IsBelowShown, shown_in, IsSharedSound, IsSoundDriver, Each, Sound, IsLawful}
-use Rattle.kz_laws_steps.specs.Steps.{IsApartFrom}
+use Rattle.kz_laws_events.specs.Steps.{IsApartFrom}
 
 -- ---- what a driver does on a log whose migration is finalised
 

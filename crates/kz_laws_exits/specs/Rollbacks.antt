@@ -12,10 +12,10 @@ use Rattle.kz_types.specs.declared.machine.Answer.TheVariants as answer
 use Rattle.kz_types.specs.declared.machine.Event.{Event}
 use Rattle.kz_types.specs.declared.machine.Event.TheVariants as event
 use Rattle.kz_types.specs.declared.machine.Recorded.{Recorded}
-use Rattle.kz_spec_values.specs.Control.{migration_path}
-use Rattle.kz_spec_stores.specs.Tree.{Tree, area, row_at, multi, migration_record}
-use Rattle.kz_spec_stores.specs.Log.{image_of, is_migrated_log, reset}
-use Rattle.kz_spec_znodes.specs.Rendering.{render}
+use Rattle.kz_spec_data.specs.Control.{migration_path}
+use Rattle.kz_spec_data.specs.Tree.{Tree, area, row_at, multi, migration_record}
+use Rattle.kz_spec_data.specs.Log.{image_of, is_migrated_log, reset}
+use Rattle.kz_spec_data.specs.Rendering.{render}
 use Rattle.kz_spec_machine.specs.Driver.{Shared, Driver, claim_ops}
 use Rattle.kz_spec_machine.specs.Machine.{World, driver_of, is_held_tree, exit_ops, tree_after_ops, rollback_refusal, reset_world, next, after_events}
 use Rattle.kz_spec_machine.specs.Sound.{IsTime, IsSharedSound, IsSoundDriver, Sound, IsLawful}

@@ -2,10 +2,10 @@
 use Rattle.std.proofs.Common.{◌≡◌, pos, List, map, sym, ap, ◌∙◌, subst}
 use Rattle.std.specs.Prelude.{Ok}
 use Rattle.kz_types.specs.declared.record.MetaRecord.{MetaRecord}
-use Rattle.kz_spec_stores.specs.Metadata.{Image, empty_image}
-use Rattle.kz_spec_stores.specs.Image.{all_applied}
-use Rattle.kz_spec_znodes.specs.Rendering.{render}
-use Rattle.kz_spec_znodes.specs.Translation.{Translated, translate}
+use Rattle.kz_spec_data.specs.Metadata.{Image, empty_image}
+use Rattle.kz_spec_data.specs.Image.{all_applied}
+use Rattle.kz_spec_data.specs.Rendering.{render}
+use Rattle.kz_spec_data.specs.Translation.{Translated, translate}
 use Rattle.kz_laws_znodes.specs.RoundTrip.{new_znode, znodes_of, IsSameBut, Returns}
 
 -- two that are the same as a third

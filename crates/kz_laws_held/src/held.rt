@@ -1,6 +1,6 @@
 //! Metadata that a program holds is in order and can be written, so it returns when it is rendered and translated.
 ghost use Rattle.std.specs.Prelude.{◌≡◌};
-ghost use Rattle.kz_spec_znodes.specs.Rendering.{render};
+ghost use Rattle.kz_spec_data.specs.Rendering.{render};
 ghost use Rattle.kz_laws_znodes.specs.RoundTrip.{IsSameBut, MayReturn, Returns};
 
 use kz_image::Image;

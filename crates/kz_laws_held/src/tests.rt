@@ -1,7 +1,7 @@
 //! The law of held metadata, called on metadata that a program makes, and used.
 ghost use Rattle.std.specs.Prelude.{◌≡◌, ◌∷◌, [], pos, IfOk};
-ghost use Rattle.kz_spec_stores.specs.Metadata.{empty_image};
-ghost use Rattle.kz_spec_stores.specs.Image.{all_applied};
+ghost use Rattle.kz_spec_data.specs.Metadata.{empty_image};
+ghost use Rattle.kz_spec_data.specs.Image.{all_applied};
 ghost use Rattle.kz_laws_znodes.specs.RoundTrip.{MayReturn};
 ghost use Rattle.kz_laws_held.specs.Worked.{topic_id, topic, partition, topic_member, broker_member, quota, credential, entry, producer_ids, worked_records};
 

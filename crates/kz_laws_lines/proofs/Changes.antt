@@ -16,12 +16,12 @@ use Rattle.serde_json.proofs.Views.{get_member-put, get_member-put_other}
 use Rattle.kz_types.specs.Ids.{id_text}
 use Rattle.kz_types.specs.declared.record.PartitionChangeRecord.{PartitionChangeRecord}
 use Rattle.kz_types.specs.declared.record.MetaRecord.TheVariants.{PartitionChange}
-use Rattle.kz_spec_lines.specs.Json.{count_with, by_name}
-use Rattle.kz_spec_lines.specs.Fields.{int8, int32, ints_or_null, value_or}
-use Rattle.kz_spec_lines.specs.Members.{whole_data, ints_data, with_whole, with_id, with_tagged_whole, with_tagged_ints}
-use Rattle.kz_spec_lines.specs.TopicRecords.{partition_change_of}
-use Rattle.kz_spec_lines.specs.Records.{record_forms, topic_forms, record_of}
-use Rattle.kz_spec_lines.specs.WrittenRecords.{◌|>◌, kind_member, partition_change_members, record_data}
+use Rattle.kz_spec_data.specs.Json.{count_with, by_name}
+use Rattle.kz_spec_data.specs.LineFields.{int8, int32, ints_or_null, value_or}
+use Rattle.kz_spec_data.specs.Members.{whole_data, ints_data, with_whole, with_id, with_tagged_whole, with_tagged_ints}
+use Rattle.kz_spec_data.specs.TopicRecords.{partition_change_of}
+use Rattle.kz_spec_data.specs.RecordLines.{record_forms, topic_forms, record_of}
+use Rattle.kz_spec_data.specs.WrittenRecords.{◌|>◌, kind_member, partition_change_members, record_data}
 use Rattle.kz_laws_lines.specs.Writable.{AreIntsOrNull, IsPartitionChange}
 use Rattle.kz_laws_lines.proofs.Values.{int8_is, int32_is, ints_is, uuid_is}
 

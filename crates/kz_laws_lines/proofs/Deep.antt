@@ -6,9 +6,9 @@ use Rattle.json.specs.Tree as tree
 use Rattle.serde_json.specs.Data.{Num, Data, null, boolean, number, string, array, object, Items, no_items, item, Members, no_members, member, put}
 use Rattle.serde_json.specs.Read.{of_json, of_items, of_members, number_of}
 use Rattle.serde_json.specs.Written.{compact_text, number_text, outline, items_outline, members_outline}
-use Rattle.kz_spec_values.specs.Bodies.{json_of}
+use Rattle.kz_spec_data.specs.Bodies.{json_of}
 use Rattle.kz_laws_values.proofs.ReadsBack.{HasUtf8, ItemsHaveUtf8, MembersHaveUtf8, json_of_compact, whole_is_utf8, whole_is_number, whole_reads}
-use Rattle.kz_laws_bodies.proofs.Plain.{puts, IsWholeNumber, IsPlain, ArePlainItems, ArePlainMembers}
+use Rattle.kz_laws_values.proofs.Plain.{puts, IsWholeNumber, IsPlain, ArePlainItems, ArePlainMembers}
 
 -- data whose text is read as it: texts in UTF-8, numbers as they are written, a depth, and the data that its outline is
 record Reads (n : ℕ) (d : Data) : Type 0 where

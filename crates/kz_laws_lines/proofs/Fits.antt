@@ -9,11 +9,11 @@ use Rattle.serde_json.specs.Data.{Data, boolean, string, object, Members, no_mem
 use Rattle.serde_json.specs.View.{items_of}
 use Rattle.kz_types.specs.Ids.{id_text}
 use Rattle.kz_types.specs.declared.id.Id.{Id}
-use Rattle.kz_spec_lines.specs.Members.{whole_data, text_or_null_data, ints_data, with_text, with_whole, with_text_or_null, with_flag, with_id, with_bytes, with_ints, with_tagged_whole, with_tagged_ints, with_tagged_text}
+use Rattle.kz_spec_data.specs.Members.{whole_data, text_or_null_data, ints_data, with_text, with_whole, with_text_or_null, with_flag, with_id, with_bytes, with_ints, with_tagged_whole, with_tagged_ints, with_tagged_text}
 use Rattle.kz_laws_values.specs.Ranges.{IsLong}
-use Rattle.kz_laws_bodies.specs.Readable.{IsText}
-use Rattle.kz_laws_bodies.proofs.Plain.{IsPlain, ArePlainItems, ArePlainMembers, whole_is_plain, word}
-use Rattle.kz_laws_bodies.proofs.Members.{put_plain, Rise, put_rises, puts_same}
+use Rattle.kz_laws_values.specs.Readable.{IsText}
+use Rattle.kz_laws_values.proofs.Plain.{IsPlain, ArePlainItems, ArePlainMembers, whole_is_plain, word}
+use Rattle.kz_laws_values.proofs.Members.{put_plain, Rise, put_rises, puts_same}
 use Rattle.kz_laws_lines.specs.Writable.{IsTextOrNull, Each, IsInt32, AreIntsOrNull}
 use Rattle.kz_laws_lines.proofs.Values.{long_32, encoded_is_text, id_is_text}
 

@@ -13,10 +13,10 @@ use Rattle.kz_types.specs.declared.machine.Event.TheVariants.{Quorum, Start, Sto
 use Rattle.kz_types.specs.declared.record.MetaRecord.{MetaRecord}
 use Rattle.kz_types.specs.declared.tree.Op.{Op}
 use Rattle.kz_types.specs.declared.tree.Op.TheVariants as op
-use Rattle.kz_spec_lines.specs.Members.{whole_data, with_text, with_whole, with_bytes}
-use Rattle.kz_spec_lines.specs.WrittenRecords.{record_data}
-use Rattle.kz_spec_lines.specs.Written.{event_members, controller_members, with_now, with_plan, with_body, with_owner, op_members, op_data, members_of_event}
-use Rattle.kz_laws_bodies.proofs.Plain.{IsPlain, whole_is_plain, word}
+use Rattle.kz_spec_data.specs.Members.{whole_data, with_text, with_whole, with_bytes}
+use Rattle.kz_spec_data.specs.WrittenRecords.{record_data}
+use Rattle.kz_spec_data.specs.Written.{event_members, controller_members, with_now, with_plan, with_body, with_owner, op_members, op_data, members_of_event}
+use Rattle.kz_laws_values.proofs.Plain.{IsPlain, whole_is_plain, word}
 use Rattle.kz_laws_lines.specs.Writable.{IsId, IsTime, IsSession, IsVersion, IsRecord, AreSomeRecords, IsPath, IsOwner, IsOp, AreSomeOps, IsEvent}
 use Rattle.kz_laws_lines.proofs.Values.{long_id, long_time, long_session, long_version, path_is_text}
 use Rattle.kz_laws_lines.proofs.Fits.{Fits, fits_object, none_fits, one_of, with_data, with_a_text, with_a_whole, with_a_flag, with_some_bytes, each_is_plain}

@@ -5,8 +5,8 @@ use Rattle.json.proofs.Printed.Utf8.{are_ascii}
 use Rattle.serde_json.specs.Data.{array, Members}
 use Rattle.serde_json.specs.View.{items_of}
 use Rattle.kz_types.specs.Quotas.{is_quota}
-use Rattle.kz_spec_quotas.specs.Quotas.{quota_text}
-use Rattle.kz_laws_quotas.proofs.QuotaTexts.{quota_is_text}
+use Rattle.kz_spec_data.specs.Quotas.{quota_text}
+use Rattle.kz_laws_values.proofs.QuotaTexts.{quota_is_text}
 use Rattle.kz_types.specs.declared.row.QuotaValue.{QuotaValue}
 use Rattle.kz_types.specs.declared.record.Endpoint.{Endpoint}
 use Rattle.kz_types.specs.declared.record.Feature.{Feature}
@@ -22,10 +22,10 @@ use Rattle.kz_types.specs.declared.record.ProducerIdsRecord.{ProducerIdsRecord}
 use Rattle.kz_types.specs.declared.record.AccessControlEntryRecord.{AccessControlEntryRecord}
 use Rattle.kz_types.specs.declared.record.MetaRecord.{MetaRecord}
 use Rattle.kz_types.specs.declared.record.MetaRecord.TheVariants.{RegisterBroker, Topic, Partition, Config, PartitionChange, RemoveTopic, UserScramCredential, ClientQuota, ProducerIds, AccessControlEntry, RemoveAccessControlEntry, NoOp, ZkMigrationState, RemoveUserScramCredential, BeginTransaction, EndTransaction, AbortTransaction}
-use Rattle.kz_spec_lines.specs.Members.{with_text, with_whole}
-use Rattle.kz_spec_lines.specs.WrittenRecords.{kind_member, topic_members, partition_members, partition_change_members, endpoint_members, endpoint_data, feature_members, feature_data, with_endpoints, with_features, register_broker_members, config_members, producer_ids_members, user_scram_credential_members, entity_members, entity_data, with_entities, with_quota, client_quota_members, access_control_entry_members, members_of_record, record_data}
+use Rattle.kz_spec_data.specs.Members.{with_text, with_whole}
+use Rattle.kz_spec_data.specs.WrittenRecords.{kind_member, topic_members, partition_members, partition_change_members, endpoint_members, endpoint_data, feature_members, feature_data, with_endpoints, with_features, register_broker_members, config_members, producer_ids_members, user_scram_credential_members, entity_members, entity_data, with_entities, with_quota, client_quota_members, access_control_entry_members, members_of_record, record_data}
 use Rattle.kz_laws_values.specs.Ranges.{IsLong}
-use Rattle.kz_laws_bodies.proofs.Plain.{IsPlain, word}
+use Rattle.kz_laws_values.proofs.Plain.{IsPlain, word}
 use Rattle.kz_laws_lines.specs.Writable.{Each, IsInt32, IsTopic, IsPartition, IsPartitionChange, IsEndpoint, IsFeature, IsRegisterBroker, IsConfigRecord, IsProducerIds, IsUserScramCredential, IsEntity, IsClientQuota, IsAccessControlEntry, IsRecord}
 use Rattle.kz_laws_lines.proofs.Values.{long_8, long_16, long_32, long_port}
 use Rattle.kz_laws_lines.proofs.Fits.{Fits, fits_object, none_fits, with_data, with_a_text, with_a_whole, with_a_flag, with_an_id, with_some_bytes, with_a_nullable, each_is_plain, with_some_ints, with_tag_whole, with_tag_ints, with_tag_text}

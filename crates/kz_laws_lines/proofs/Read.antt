@@ -16,12 +16,12 @@ use Rattle.kz_types.specs.declared.machine.Event.TheVariants.{Quorum, Start, Sto
 use Rattle.kz_types.specs.declared.record.MetaRecord.{MetaRecord}
 use Rattle.kz_types.specs.declared.tree.Op.{Op}
 use Rattle.kz_types.specs.declared.tree.Op.TheVariants as op
-use Rattle.kz_spec_lines.specs.Json.{whole_up_to, whole_within}
-use Rattle.kz_spec_lines.specs.Ops.{op_of}
-use Rattle.kz_spec_lines.specs.Events.{id_of, ids_in, distinct_ids, records_in, some_records, ops_in, some_ops, event_of, line_event}
-use Rattle.kz_spec_lines.specs.Members.{whole_data, with_text, with_whole}
-use Rattle.kz_spec_lines.specs.WrittenRecords.{record_data}
-use Rattle.kz_spec_lines.specs.Written.{controller_members, with_plan, with_owner, op_members, op_data, members_of_event, written_event}
+use Rattle.kz_spec_data.specs.Json.{whole_up_to, whole_within}
+use Rattle.kz_spec_data.specs.Ops.{op_of}
+use Rattle.kz_spec_data.specs.Events.{id_of, ids_in, distinct_ids, records_in, some_records, ops_in, some_ops, event_of, line_event}
+use Rattle.kz_spec_data.specs.Members.{whole_data, with_text, with_whole}
+use Rattle.kz_spec_data.specs.WrittenRecords.{record_data}
+use Rattle.kz_spec_data.specs.Written.{controller_members, with_plan, with_owner, op_members, op_data, members_of_event, written_event}
 use Rattle.kz_laws_lines.specs.Writable.{IsId, IsTime, IsVersion, Each, IsRecord, AreSomeRecords, IsPath, IsOwner, IsOp, AreSomeOps, IsEvent}
 use Rattle.kz_laws_lines.proofs.Values.{up_to_is, session_is, within_is, long_version, decoded_is, no_bytes}
 use Rattle.kz_laws_lines.proofs.Records.{record_is_read}

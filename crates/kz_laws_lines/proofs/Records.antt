@@ -5,8 +5,8 @@ use Rattle.std.proofs.lemmas.Bool.Decides.{Decides-int_eq}
 use Rattle.serde_json.specs.Data.{Members, object}
 use Rattle.kz_types.specs.QuotaEntities.{is_client_first, other_order, user_first}
 use Rattle.kz_types.specs.Quotas.{is_quota}
-use Rattle.kz_spec_quotas.specs.Quotas.{quota_text}
-use Rattle.kz_laws_quotas.proofs.QuotaTexts.{quota_restored}
+use Rattle.kz_spec_data.specs.Quotas.{quota_text}
+use Rattle.kz_laws_values.proofs.QuotaTexts.{quota_restored}
 use Rattle.kz_types.specs.declared.id.Id.{Id}
 use Rattle.kz_types.specs.declared.record.Endpoint.{Endpoint}
 use Rattle.kz_types.specs.declared.record.Feature.{Feature}
@@ -21,14 +21,14 @@ use Rattle.kz_types.specs.declared.record.ProducerIdsRecord.{ProducerIdsRecord}
 use Rattle.kz_types.specs.declared.record.AccessControlEntryRecord.{AccessControlEntryRecord}
 use Rattle.kz_types.specs.declared.record.MetaRecord.{MetaRecord}
 use Rattle.kz_types.specs.declared.record.MetaRecord.TheVariants.{RegisterBroker, Topic, Partition, Config, PartitionChange, RemoveTopic, UserScramCredential, ClientQuota, ProducerIds, AccessControlEntry, RemoveAccessControlEntry, NoOp, ZkMigrationState, RemoveUserScramCredential, BeginTransaction, EndTransaction, AbortTransaction}
-use Rattle.kz_spec_lines.specs.Json.{text_or_null}
-use Rattle.kz_spec_lines.specs.Members.{text_or_null_data, with_tagged_whole, with_tagged_text, with_whole, with_text, with_ints, with_id, with_flag}
-use Rattle.kz_spec_lines.specs.TopicRecords.{topic_of, partition_with, remove_topic_of}
-use Rattle.kz_spec_lines.specs.BrokerRecords.{endpoint_of, feature_of, register_broker_of, config_of, producer_ids_of}
-use Rattle.kz_spec_lines.specs.UserRecords.{user_scram_credential_of, remove_user_scram_credential_of, entity_of, access_control_entry_of, remove_access_control_entry_of}
-use Rattle.kz_spec_lines.specs.LogRecords.{zk_migration_state_of}
-use Rattle.kz_spec_lines.specs.Records.{log_forms, user_forms, topic_forms, record_of}
-use Rattle.kz_spec_lines.specs.WrittenRecords.{◌|>◌, kind_member, topic_members, endpoint_data, feature_data, register_broker_members, config_members, producer_ids_members, user_scram_credential_members, entity_data, with_entities, access_control_entry_members, record_data}
+use Rattle.kz_spec_data.specs.Json.{text_or_null}
+use Rattle.kz_spec_data.specs.Members.{text_or_null_data, with_tagged_whole, with_tagged_text, with_whole, with_text, with_ints, with_id, with_flag}
+use Rattle.kz_spec_data.specs.TopicRecords.{topic_of, partition_with, remove_topic_of}
+use Rattle.kz_spec_data.specs.BrokerRecords.{endpoint_of, feature_of, register_broker_of, config_of, producer_ids_of}
+use Rattle.kz_spec_data.specs.UserRecords.{user_scram_credential_of, remove_user_scram_credential_of, entity_of, access_control_entry_of, remove_access_control_entry_of}
+use Rattle.kz_spec_data.specs.LogRecords.{zk_migration_state_of}
+use Rattle.kz_spec_data.specs.RecordLines.{log_forms, user_forms, topic_forms, record_of}
+use Rattle.kz_spec_data.specs.WrittenRecords.{◌|>◌, kind_member, topic_members, endpoint_data, feature_data, register_broker_members, config_members, producer_ids_members, user_scram_credential_members, entity_data, with_entities, access_control_entry_members, record_data}
 use Rattle.kz_laws_lines.specs.Writable.{IsInt8, IsUuid, IsTopic, IsPartition, IsEndpoint, IsFeature, IsRegisterBroker, IsConfigRecord, IsProducerIds, IsUserScramCredential, IsEntity, IsClientQuota, IsAccessControlEntry, IsRecord}
 use Rattle.kz_laws_lines.proofs.Changes.{change_says}
 use Rattle.kz_laws_lines.proofs.Values.{int8_is, int16_is, int32_is, int64_is, uint16_is, each_is, ints_is, bytes_are, uuid_is}

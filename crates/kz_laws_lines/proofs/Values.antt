@@ -16,12 +16,12 @@ use Rattle.kz_types.specs.declared.id.Id.{Id}
 use Rattle.kz_types.proofs.IdLemmas.{id_of_text}
 use Rattle.kz_types.specs.PathRule.{has_path_form, is_path}
 use Rattle.kz_types.proofs.PathRules.{both_hold}
-use Rattle.kz_spec_lines.specs.Json.{whole_up_to, whole_within}
-use Rattle.kz_spec_lines.specs.Ops.{session_in}
-use Rattle.kz_spec_lines.specs.Fields.{int8, int16, uint16, int32, int64, uuid, bytes, all_of}
-use Rattle.kz_spec_lines.specs.Members.{whole_data}
+use Rattle.kz_spec_data.specs.Json.{whole_up_to, whole_within}
+use Rattle.kz_spec_data.specs.Ops.{session_in}
+use Rattle.kz_spec_data.specs.LineFields.{int8, int16, uint16, int32, int64, uuid, bytes, all_of}
+use Rattle.kz_spec_data.specs.Members.{whole_data}
 use Rattle.kz_laws_values.specs.Ranges.{IsBetween, IsLong}
-use Rattle.kz_laws_bodies.specs.Readable.{IsText}
+use Rattle.kz_laws_values.specs.Readable.{IsText}
 use Rattle.kz_laws_lines.specs.Writable.{IsId, IsTime, IsSession, IsVersion, IsPath, Each, IsInt8, IsInt16, IsInt32, IsUuid}
 
 cond_true : {A : Type 0} (b : Bool) (x y : A) → b ≡ true → cond b x y ≡ x

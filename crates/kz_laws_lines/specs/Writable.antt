@@ -24,7 +24,7 @@ use Rattle.kz_types.specs.declared.record.MetaRecord.TheVariants.{RegisterBroker
 use Rattle.kz_types.specs.declared.tree.Op.{Op}
 use Rattle.kz_types.specs.declared.tree.Op.TheVariants as op
 use Rattle.kz_laws_values.specs.Ranges.{IsBetween, IsLong}
-use Rattle.kz_laws_bodies.specs.Readable.{IsText}
+use Rattle.kz_laws_values.specs.Readable.{IsText}
 
 -- ---- numbers and texts
 

@@ -4,13 +4,13 @@
 ghost use Rattle.std.specs.Prelude.{◌≡◌, ◌≤◌, true, Some, All, length};
 ghost use Rattle.base64.specs.GeneralPurpose.{IsBytes};
 ghost use Rattle.kz_types.specs.Numbers.{are_distinct};
-ghost use Rattle.kz_spec_lines.specs.Ops.{op_of};
-ghost use Rattle.kz_spec_lines.specs.Records.{record_of};
-ghost use Rattle.kz_spec_lines.specs.Events.{line_event};
-ghost use Rattle.kz_spec_lines.specs.WrittenRecords.{record_data};
-ghost use Rattle.kz_spec_lines.specs.Written.{op_data, written_event};
+ghost use Rattle.kz_spec_data.specs.Ops.{op_of};
+ghost use Rattle.kz_spec_data.specs.RecordLines.{record_of};
+ghost use Rattle.kz_spec_data.specs.Events.{line_event};
+ghost use Rattle.kz_spec_data.specs.WrittenRecords.{record_data};
+ghost use Rattle.kz_spec_data.specs.Written.{op_data, written_event};
 ghost use Rattle.kz_laws_values.specs.Ranges.{IsLong};
-ghost use Rattle.kz_laws_bodies.specs.Readable.{IsText};
+ghost use Rattle.kz_laws_values.specs.Readable.{IsText};
 ghost use Rattle.kz_laws_lines.specs.Writable.{IsId, IsIdOrNone, IsTime, IsSession, IsVersion, IsTextOrNull, Each, IsInt8, IsInt16, IsInt32, AreIntsOrNull, IsUuid, IsTopic, IsPartition, IsPartitionChange, IsEndpoint, IsFeature, IsRegisterBroker, IsConfigRecord, IsProducerIds, IsUserScramCredential, IsEntity, IsClientQuota, IsAccessControlEntry, IsRecord, IsPath, IsOwner, IsOp, IsEvent};
 ghost use Rattle.kz_laws_lines.specs.Lawful.{IsNotNegative, IsNotNegativeOrNone, IsPositive, IsVersionOrAny, IsLawfulOwner, IsLawfulOp, IsLawfulEvent};
 

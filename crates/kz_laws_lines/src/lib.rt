@@ -7,11 +7,11 @@ ghost use Rattle.std.specs.Prelude.{◌≡◌, Some};
 ghost use Rattle.kz_types.specs.declared.machine.Event.{Event};
 ghost use Rattle.kz_types.specs.declared.record.MetaRecord.{MetaRecord};
 ghost use Rattle.kz_types.specs.declared.tree.Op.{Op};
-ghost use Rattle.kz_spec_lines.specs.Ops.{op_of};
-ghost use Rattle.kz_spec_lines.specs.Records.{record_of};
-ghost use Rattle.kz_spec_lines.specs.Events.{line_event};
-ghost use Rattle.kz_spec_lines.specs.WrittenRecords.{record_data};
-ghost use Rattle.kz_spec_lines.specs.Written.{op_data, written_event};
+ghost use Rattle.kz_spec_data.specs.Ops.{op_of};
+ghost use Rattle.kz_spec_data.specs.RecordLines.{record_of};
+ghost use Rattle.kz_spec_data.specs.Events.{line_event};
+ghost use Rattle.kz_spec_data.specs.WrittenRecords.{record_data};
+ghost use Rattle.kz_spec_data.specs.Written.{op_data, written_event};
 ghost use Rattle.kz_laws_lines.specs.Writable.{IsRecord, IsOp, IsEvent};
 
 mod held;

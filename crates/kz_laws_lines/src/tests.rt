@@ -1,7 +1,7 @@
 //! The laws of held values, called on values that a program makes, and used.
 ghost use Rattle.std.specs.Prelude.{◌≡◌};
-ghost use Rattle.kz_spec_lines.specs.WrittenRecords.{record_data};
-ghost use Rattle.kz_spec_lines.specs.Written.{op_data, written_event};
+ghost use Rattle.kz_spec_data.specs.WrittenRecords.{record_data};
+ghost use Rattle.kz_spec_data.specs.Written.{op_data, written_event};
 ghost use Rattle.kz_laws_lines.specs.Lawful.{IsLawfulOp, IsLawfulEvent};
 
 use crate::{held_event_is_read, held_operation_is_read, held_record_is_read};

@@ -7,15 +7,15 @@ use Rattle.std.proofs.lemmas.List.Elements.{All-nil, All-head, All-tail, All-pus
 use Rattle.kz_types.specs.declared.limits.TheConstants.{MAX_ZNODES}
 use Rattle.kz_types.specs.declared.tree.Row.{Row}
 use Rattle.kz_types.specs.Paths.{is_migrated}
-use Rattle.kz_ordered.specs.Order.{bytes_cmp}
-use Rattle.kz_ordered.specs.Ordered.{Rises}
-use Rattle.kz_ordered.proofs.Order.{bytes_order}
-use Rattle.kz_ordered.proofs.Append.{find-append, Rises-push}
-use Rattle.kz_ordered.proofs.Lookup.{key_of_found}
-use Rattle.kz_spec_stores.specs.Tree.{path_of_row, row_at, parent_of, is_root, has_parent, is_ephemeral, count_beside}
-use Rattle.kz_spec_files.specs.Loads.{LoadRefusal, row_refusal, are_loadable}
+use Rattle.kz_types.specs.Order.{bytes_cmp}
+use Rattle.kz_types.specs.Ordered.{Rises}
+use Rattle.kz_types.proofs.Order.{bytes_order}
+use Rattle.kz_types.proofs.Append.{find-append, Rises-push}
+use Rattle.kz_types.proofs.Lookup.{key_of_found}
+use Rattle.kz_spec_data.specs.Tree.{path_of_row, row_at, parent_of, is_root, has_parent, is_ephemeral, count_beside}
+use Rattle.kz_spec_data.specs.Loads.{LoadRefusal, row_refusal, are_loadable}
 use Rattle.kz_spec_machine.specs.Sound.{IsStamped, IsNotRoot, IsUnreserved, Lasts, IsOwned, IsSmall, HaveParents, ParentsStay}
-use Rattle.kz_laws_trees.proofs.Limits.{many, many_is, side}
+use Rattle.kz_laws_machine.proofs.KeptLimits.{many, many_is, side}
 use Rattle.kz_laws_loads.proofs.Sessions.{and_parts}
 use Rattle.kz_laws_loads.proofs.Rules.{IsNext, next}
 

@@ -7,16 +7,16 @@ use Rattle.kz_types.specs.declared.outside.Status.{Status}
 use Rattle.kz_types.specs.declared.outside.Status.TheVariants as status
 use Rattle.kz_types.specs.declared.tree.Row.{Row}
 use Rattle.kz_types.specs.PathRule.{is_path, has_path_form}
-use Rattle.kz_spec_lines.specs.Lines.{Item, line, long, much, items}
-use Rattle.kz_spec_stores.specs.Tree.{Tree, is_root}
-use Rattle.kz_spec_stores.specs.Log.{empty_log}
-use Rattle.kz_spec_files.specs.Loads.{LoadRefusal, is_header, row_refusal, are_loadable}
+use Rattle.kz_spec_data.specs.Lines.{Item, line, long, much, items}
+use Rattle.kz_spec_data.specs.Tree.{Tree, is_root}
+use Rattle.kz_spec_data.specs.Log.{empty_log}
+use Rattle.kz_spec_data.specs.Loads.{LoadRefusal, is_header, row_refusal, are_loadable}
 use Rattle.kz_spec_machine.specs.Sound.{IsNotRoot}
-use Rattle.kz_spec_runs.specs.Openings.{IsSoundPair}
-use Rattle.kz_spec_dumps.specs.declared.dumps.LoadLine.{LoadLine}
-use Rattle.kz_spec_dumps.specs.declared.dumps.LoadLine.TheVariants.{Head, Znode}
-use Rattle.kz_spec_dumps.specs.LoadLines.{load_line}
-use Rattle.kz_spec_dumps.specs.Loading.{tree_with, with_znode, at_line, tree_after, at_head, tree_of_items, loaded}
+use Rattle.kz_spec_machine.specs.Openings.{IsSoundPair}
+use Rattle.kz_spec_machine.specs.declared.dumps.LoadLine.{LoadLine}
+use Rattle.kz_spec_machine.specs.declared.dumps.LoadLine.TheVariants.{Head, Znode}
+use Rattle.kz_spec_machine.specs.LoadLines.{load_line}
+use Rattle.kz_spec_machine.specs.Loading.{tree_with, with_znode, at_line, tree_after, at_head, tree_of_items, loaded}
 use Rattle.kz_laws_scripts.proofs.Given.{OfSome}
 use Rattle.kz_laws_loads.specs.Loads.{HasPath, IsLoadOf}
 use Rattle.kz_laws_loads.proofs.Lines.{IsNamed, line_named}

@@ -4,12 +4,12 @@ use Rattle.std.specs.Prelude.{⊤, codes}
 use Rattle.serde_json.specs.Data.{Data}
 use Rattle.serde_json.specs.Find.{get, as_object}
 use Rattle.kz_types.specs.Paths.{is_path}
-use Rattle.kz_spec_lines.specs.Json.{json_of, member_count, text_member}
-use Rattle.kz_spec_lines.specs.Fields.{int32, int64, list_of, tagged_member, tagged_count}
-use Rattle.kz_spec_lines.specs.Ops.{path_in, body_in}
-use Rattle.kz_spec_dumps.specs.declared.dumps.LoadLine.{LoadLine}
-use Rattle.kz_spec_dumps.specs.declared.dumps.LoadLine.TheVariants.{Head, Znode}
-use Rattle.kz_spec_dumps.specs.LoadLines.{head_fields, head_of, owner_of, znode_made, znode_count, znode_fields, line_by, load_line_of, load_line}
+use Rattle.kz_spec_data.specs.Json.{json_of, member_count, text_member}
+use Rattle.kz_spec_data.specs.LineFields.{int32, int64, list_of, tagged_member, tagged_count}
+use Rattle.kz_spec_data.specs.Ops.{path_in, body_in}
+use Rattle.kz_spec_machine.specs.declared.dumps.LoadLine.{LoadLine}
+use Rattle.kz_spec_machine.specs.declared.dumps.LoadLine.TheVariants.{Head, Znode}
+use Rattle.kz_spec_machine.specs.LoadLines.{head_fields, head_of, owner_of, znode_made, znode_count, znode_fields, line_by, load_line_of, load_line}
 use Rattle.kz_laws_scripts.proofs.Given.{OfSome, after, mapped, anything, where_true}
 use Rattle.kz_laws_loads.specs.Loads.{HasPath}
 

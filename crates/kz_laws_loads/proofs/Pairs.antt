@@ -1,14 +1,14 @@
 -- The tree of a load and an empty log are a sound pair.
 use Rattle.std.proofs.Common.{◌≡◌, ℤ, true, false, List, [], All, refl}
 use Rattle.kz_types.specs.declared.tree.Row.{Row}
-use Rattle.kz_spec_stores.specs.Tree.{Tree}
-use Rattle.kz_spec_stores.specs.Log.{empty_log, image_at}
-use Rattle.kz_spec_files.specs.Loads.{is_header, are_loadable, is_load}
+use Rattle.kz_spec_data.specs.Tree.{Tree}
+use Rattle.kz_spec_data.specs.Log.{empty_log, image_at}
+use Rattle.kz_spec_data.specs.Loads.{is_header, are_loadable, is_load}
 use Rattle.kz_spec_machine.specs.Machine.{is_finalised_log}
 use Rattle.kz_spec_machine.specs.Sound.{IsNotRoot, TreeShape}
-use Rattle.kz_spec_runs.specs.Openings.{IsSoundPair}
-use Rattle.kz_spec_dumps.specs.Loading.{tree_with}
-use Rattle.kz_laws_trees.proofs.Limits.{count_of}
+use Rattle.kz_spec_machine.specs.Openings.{IsSoundPair}
+use Rattle.kz_spec_machine.specs.Loading.{tree_with}
+use Rattle.kz_laws_machine.proofs.KeptLimits.{count_of}
 use Rattle.kz_laws_events.proofs.Runs.{empty_sound, not_migrated}
 use Rattle.kz_laws_loads.proofs.Sessions.{and_parts, header}
 use Rattle.kz_laws_loads.proofs.Further.{loaded_rows}

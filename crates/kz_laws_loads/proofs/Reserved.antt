@@ -3,8 +3,8 @@ use Rattle.std.proofs.Common.{◌≡◌, ℕ, Bool, true, false, ◌||◌, List,
 use Rattle.std.specs.Prelude.{codes, bytes_eq}
 use Rattle.std.specs.List.{list_any, slice_split}
 use Rattle.kz_types.specs.Paths.{kind_of, key_of, key_of_parts, is_scaffold_of_parts, is_migrated, roots, base_paths, control_paths, is_below}
-use Rattle.kz_spec_files.specs.Loads.{is_reserved}
-use Rattle.kz_laws_trees.proofs.Below.{below_is}
+use Rattle.kz_spec_data.specs.Loads.{is_reserved}
+use Rattle.kz_laws_machine.proofs.Below.{below_is}
 
 -- ---- no entity, nor a parent of one, is there
 

@@ -9,10 +9,10 @@ use Rattle.std.proofs.lemmas.List.Elements.{All-nil, All-cons}
 use Rattle.kz_types.specs.declared.limits.TheConstants.{MAX_BODY_BYTES, MAX_VERSION, MAX_ZNODES}
 use Rattle.kz_types.specs.declared.tree.Row.{Row}
 use Rattle.kz_types.specs.Paths.{kind_of}
-use Rattle.kz_ordered.specs.Order.{bytes_cmp}
-use Rattle.kz_ordered.specs.Ordered.{AllBelow}
-use Rattle.kz_spec_stores.specs.Tree.{path_of_row, row_at, parent_of, has_parent, is_ephemeral, may_own, count_beside, limit_beside}
-use Rattle.kz_spec_files.specs.Loads.{LoadRefusal, broken, limit, is_before, are_zxids, is_lasting, is_reserved, is_loadable, row_refusal}
+use Rattle.kz_types.specs.Order.{bytes_cmp}
+use Rattle.kz_types.specs.Ordered.{AllBelow}
+use Rattle.kz_spec_data.specs.Tree.{path_of_row, row_at, parent_of, has_parent, is_ephemeral, may_own, count_beside, limit_beside}
+use Rattle.kz_spec_data.specs.Loads.{LoadRefusal, broken, limit, is_before, are_zxids, is_lasting, is_reserved, is_loadable, row_refusal}
 use Rattle.kz_spec_machine.specs.Sound.{IsStamped, IsUnreserved, Lasts, IsOwned, IsSmall}
 use Rattle.kz_laws_loads.proofs.Sessions.{and_parts, at_most}
 use Rattle.kz_laws_loads.proofs.Reserved.{unreserved}

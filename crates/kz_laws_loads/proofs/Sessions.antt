@@ -5,8 +5,8 @@ use Rattle.std.specs.Cmp.{int_cmp_is}
 use Rattle.std.proofs.lemmas.Int.{ints}
 use Rattle.std.proofs.lemmas.List.Elements.{All-nil, All-cons}
 use Rattle.kz_types.specs.declared.limits.TheConstants.{MAX_LONG}
-use Rattle.kz_ordered.specs.Ordered.{Rises, RisesAbove}
-use Rattle.kz_spec_files.specs.Loads.{rise_from, is_header}
+use Rattle.kz_types.specs.Ordered.{Rises, RisesAbove}
+use Rattle.kz_spec_data.specs.Loads.{rise_from, is_header}
 use Rattle.kz_spec_machine.specs.Sound.{IsZxid}
 
 pub and_parts : (a b : Bool) → (a && b) ≡ true → (a ≡ true) × (b ≡ true)

@@ -2,8 +2,8 @@
 use Rattle.std.specs.Prelude.{◌≡◌, true, All}
 use Rattle.kz_types.specs.declared.tree.Row.{Row}
 use Rattle.kz_types.specs.Paths.{is_path}
-use Rattle.kz_spec_stores.specs.Tree.{Tree}
-use Rattle.kz_spec_files.specs.Loads.{is_load}
+use Rattle.kz_spec_data.specs.Tree.{Tree}
+use Rattle.kz_spec_data.specs.Loads.{is_load}
 
 -- The path of a znode keeps the rule of paths.
 abbrev pub HasPath : Row → Type 0

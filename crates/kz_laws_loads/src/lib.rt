@@ -5,12 +5,12 @@
 
 ghost use Rattle.std.specs.Prelude.{◌≡◌, true, ℕ, ℤ, List, Ok, All};
 ghost use Rattle.kz_types.specs.declared.tree.Row.{Row};
-ghost use Rattle.kz_spec_stores.specs.Tree.{Tree};
-ghost use Rattle.kz_spec_stores.specs.Log.{empty_log};
-ghost use Rattle.kz_spec_files.specs.Loads.{is_load};
+ghost use Rattle.kz_spec_data.specs.Tree.{Tree};
+ghost use Rattle.kz_spec_data.specs.Log.{empty_log};
+ghost use Rattle.kz_spec_data.specs.Loads.{is_load};
 ghost use Rattle.kz_spec_machine.specs.Sound.{IsNotRoot};
-ghost use Rattle.kz_spec_runs.specs.Openings.{IsSoundPair};
-ghost use Rattle.kz_spec_dumps.specs.Loading.{tree_with, loaded};
+ghost use Rattle.kz_spec_machine.specs.Openings.{IsSoundPair};
+ghost use Rattle.kz_spec_machine.specs.Loading.{tree_with, loaded};
 ghost use Rattle.kz_laws_loads.specs.Loads.{IsLoadOf};
 
 /// A tree that keeps the rules of a load, and in which no znode has the root's empty path, is with an empty log a pair with

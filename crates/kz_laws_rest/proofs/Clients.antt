@@ -6,16 +6,16 @@ use Rattle.kz_types.specs.declared.move_fault.MoveFault.{MoveFault}
 use Rattle.kz_types.specs.declared.machine.Answer.{Answer}
 use Rattle.kz_types.specs.declared.machine.Event.{Event}
 use Rattle.kz_types.specs.declared.machine.Event.TheVariants as event
-use Rattle.kz_spec_stores.specs.Tree.{Tree, multi, begin_session, end_session, rendered_row}
-use Rattle.kz_spec_stores.specs.Log.{Log, image_of}
-use Rattle.kz_spec_znodes.specs.Rendering.{render}
+use Rattle.kz_spec_data.specs.Tree.{Tree, multi, begin_session, end_session, rendered_row}
+use Rattle.kz_spec_data.specs.Log.{Log, image_of}
+use Rattle.kz_spec_data.specs.Rendering.{render}
 use Rattle.kz_spec_machine.specs.Driver.{Driver}
 use Rattle.kz_spec_machine.specs.Machine.{World, driver_of, moved_world, is_held_tree, client_refusal, client_world, unless_refused, next}
 use Rattle.kz_spec_machine.specs.Sound.{claim_version, shown_in, Sound}
-use Rattle.kz_spec_runs.specs.InStep.{InStep}
-use Rattle.kz_laws_drivers.specs.Effects.{IsUnchanged}
-use Rattle.kz_laws_trees.proofs.Sessions.{begin_leaves, end_leaves}
-use Rattle.kz_laws_trees.proofs.Clients.{client_leaves_held}
+use Rattle.kz_spec_machine.specs.InStep.{InStep}
+use Rattle.kz_laws_machine.specs.Effects.{IsUnchanged}
+use Rattle.kz_laws_machine.proofs.Sessions.{begin_leaves, end_leaves}
+use Rattle.kz_laws_machine.proofs.Clients.{client_leaves_held}
 use Rattle.kz_laws_events.proofs.Unheld.{none_claimed}
 use Rattle.kz_laws_rest.specs.Clients.{IsOfClient}
 

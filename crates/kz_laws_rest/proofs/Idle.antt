@@ -19,11 +19,11 @@ use Rattle.kz_types.specs.declared.fault.TreeFault.TheVariants as tree_fault
 use Rattle.kz_types.specs.declared.fault.LogFault.{LogFault}
 use Rattle.kz_types.specs.declared.fault.LogFault.TheVariants as log_fault
 use Rattle.kz_types.specs.declared.record.MetaRecord.{MetaRecord}
-use Rattle.kz_spec_values.specs.Control.{epoch_path, migration_path, read_epoch}
-use Rattle.kz_spec_stores.specs.Tree.{Tree, multi, broker_ids}
-use Rattle.kz_spec_stores.specs.Log.{Log, append}
-use Rattle.kz_spec_znodes.specs.Translation.{Unreadable, translate}
-use Rattle.kz_spec_znodes.specs.Difference.{after_chunk, chunk}
+use Rattle.kz_spec_data.specs.Control.{epoch_path, migration_path, read_epoch}
+use Rattle.kz_spec_data.specs.Tree.{Tree, multi, broker_ids}
+use Rattle.kz_spec_data.specs.Log.{Log, append}
+use Rattle.kz_spec_data.specs.Translation.{Unreadable, translate}
+use Rattle.kz_spec_data.specs.Difference.{after_chunk, chunk}
 use Rattle.kz_spec_machine.specs.Driver.{Shared, Driver, state_of, at_stage, resigned_driver, begins_again, epoch_or_zero, views_migrated, seen_in, shown_by, unless_fenced, unless_full_epoch, unless_bad_epoch, unless_full_record, claim_ops, remaining_at, is_last_write, write_ops, target_of, begin_record, next_records, missing_controller, missing_broker, driver_at_log_end, unless_finalised, wait_or_move, after_quorum, after_brokers, after_claim, after_append, after_translation, after_records, written_driver, is_claim_refused, after_write, writes, after_answer}
 
 -- the driver and its reply aren't those of a driver that has nothing to do

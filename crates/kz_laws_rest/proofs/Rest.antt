@@ -12,16 +12,16 @@ use Rattle.kz_types.specs.declared.machine.Reply.TheVariants as reply
 use Rattle.kz_types.specs.declared.machine.Verdict.{Verdict}
 use Rattle.kz_types.specs.declared.machine.Verdict.TheVariants.{Closed}
 use Rattle.kz_types.specs.declared.plan.Plan.TheVariants as plan
-use Rattle.kz_spec_stores.specs.Log.{end_of, is_migrated_log}
+use Rattle.kz_spec_data.specs.Log.{end_of, is_migrated_log}
 use Rattle.kz_spec_machine.specs.Driver.{Shared, Driver, state_of, epoch_or_zero, is_one_of, Request, nothing, read_log, list_brokers, look_up, read_page, write, add, request_at, shared_after, after_answer, hearing, hears_answer, driver_after, planned_step, step}
 use Rattle.kz_spec_machine.specs.Machine.{World, running_ids, is_running, driver_of, with_driver, first_of, unless, running_refusal, ends, TurnResult, with_reply, turn, work, turn_result, unless_refused, next, after_events}
 use Rattle.kz_spec_machine.specs.Verdicts.{verdict}
 use Rattle.kz_spec_machine.specs.Sound.{IsTime, IsSharedSound, AtStage, IsSoundDriver, Sound, IsLawful}
-use Rattle.kz_spec_runs.specs.InStep.{InStep, last_reply, StaysInStep, ComesToRest}
-use Rattle.kz_laws_drivers.proofs.Listed.{IsFoundBy, found_changed}
-use Rattle.kz_laws_steps.specs.Steps.{IsResynced, StepKeeps}
-use Rattle.kz_laws_steps.proofs.Resting.{resting_step}
-use Rattle.kz_laws_steps.proofs.Worlds.{found_id}
+use Rattle.kz_spec_machine.specs.InStep.{InStep, last_reply, StaysInStep, ComesToRest}
+use Rattle.kz_laws_machine.proofs.Listed.{IsFoundBy, found_changed}
+use Rattle.kz_laws_events.specs.Steps.{IsResynced, StepKeeps}
+use Rattle.kz_laws_events.proofs.Resting.{resting_step}
+use Rattle.kz_laws_events.proofs.Worlds.{found_id}
 use Rattle.kz_laws_events.proofs.Turned.{one_step, turn_keeps, turn_own}
 use Rattle.kz_laws_events.proofs.Runs.{lawful_before, lawful_next, run_sound}
 use Rattle.kz_laws_rest.proofs.Idle.{idle_at}

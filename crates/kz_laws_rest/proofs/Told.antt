@@ -8,13 +8,13 @@ use Rattle.std.proofs.lemmas.List.Elements.{filter-append}
 use Rattle.kz_types.specs.declared.machine.Recorded.{Recorded}
 use Rattle.kz_types.specs.declared.machine.Verdict.{Verdict}
 use Rattle.kz_types.specs.declared.machine.Verdict.TheVariants.{Unmigrated, Unrecorded, Closed}
-use Rattle.kz_spec_stores.specs.Tree.{Tree, area, migration_record, unclosed_path}
-use Rattle.kz_spec_stores.specs.Log.{Log, image_at, is_migrated_log}
-use Rattle.kz_spec_znodes.specs.Rendering.{render, body_at}
+use Rattle.kz_spec_data.specs.Tree.{Tree, area, migration_record, unclosed_path}
+use Rattle.kz_spec_data.specs.Log.{Log, image_at, is_migrated_log}
+use Rattle.kz_spec_data.specs.Rendering.{render, body_at}
 use Rattle.kz_spec_machine.specs.Driver.{Shared}
 use Rattle.kz_spec_machine.specs.Verdicts.{same_bodies, agrees_at, ends_from, paths_at, disagrees, closed_or_ahead, unless_disagrees, verdict_at, verdict_of, verdict}
 use Rattle.kz_spec_machine.specs.Sound.{IsBatchEnd, RecordAgrees, IsSharedSound}
-use Rattle.kz_laws_steps.proofs.Targets.{closed_offset}
+use Rattle.kz_laws_events.proofs.Targets.{closed_offset}
 
 same_itself : (m : Option (List ℕ)) → same_bodies m m ≡ true
 same_itself None = refl

@@ -5,8 +5,8 @@ use Rattle.kz_types.specs.declared.machine.Event.TheVariants as event
 use Rattle.kz_spec_machine.specs.Driver.{Driver}
 use Rattle.kz_spec_machine.specs.Machine.{World, driver_of, is_held_tree, next}
 use Rattle.kz_spec_machine.specs.Sound.{Sound}
-use Rattle.kz_spec_runs.specs.InStep.{InStep}
-use Rattle.kz_laws_drivers.specs.Effects.{IsUnchanged}
+use Rattle.kz_spec_machine.specs.InStep.{InStep}
+use Rattle.kz_laws_machine.specs.Effects.{IsUnchanged}
 
 -- a session of a ZooKeeper client that begins or ends, or a client's multi
 abbrev pub IsOfClient : Event → Type 0

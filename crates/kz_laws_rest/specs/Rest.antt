@@ -6,13 +6,13 @@ use Rattle.kz_types.specs.declared.machine.Answer.TheVariants as answer
 use Rattle.kz_types.specs.declared.machine.Recorded.{Recorded}
 use Rattle.kz_types.specs.declared.machine.Reply.{Reply}
 use Rattle.kz_types.specs.declared.machine.Verdict.TheVariants.{Closed}
-use Rattle.kz_spec_stores.specs.Tree.{migration_record, unclosed_path}
-use Rattle.kz_spec_stores.specs.Log.{is_migrated_log, end_of}
+use Rattle.kz_spec_data.specs.Tree.{migration_record, unclosed_path}
+use Rattle.kz_spec_data.specs.Log.{is_migrated_log, end_of}
 use Rattle.kz_spec_machine.specs.Driver.{Shared}
 use Rattle.kz_spec_machine.specs.Machine.{World, next}
 use Rattle.kz_spec_machine.specs.Verdicts.{verdict}
 use Rattle.kz_spec_machine.specs.Sound.{IsTime, IsSharedSound, Sound, IsLawful}
-use Rattle.kz_spec_runs.specs.InStep.{InStep, StaysInStep, ComesToRest}
+use Rattle.kz_spec_machine.specs.InStep.{InStep, StaysInStep, ComesToRest}
 
 -- A turn in a sound world that comes to rest leaves the tree in step with the log.
 abbrev pub TurnsRestInStep : Type 0

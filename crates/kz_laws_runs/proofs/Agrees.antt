@@ -5,14 +5,14 @@ use Rattle.kz_types.specs.declared.machine.Event.{Event}
 use Rattle.kz_types.specs.declared.plan.Plan.{Plan}
 use Rattle.kz_types.specs.declared.record.MetaRecord.{MetaRecord}
 use Rattle.kz_types.specs.declared.tree.Rendered.{Rendered}
-use Rattle.kz_spec_stores.specs.Tree.{Tree, area, rendered_row, migration_record}
-use Rattle.kz_spec_stores.specs.Log.{Log, is_migrated_log, reset}
+use Rattle.kz_spec_data.specs.Tree.{Tree, area, rendered_row, migration_record}
+use Rattle.kz_spec_data.specs.Log.{Log, is_migrated_log, reset}
 use Rattle.kz_spec_machine.specs.Driver.{Shared, Driver, planned_step}
 use Rattle.kz_spec_machine.specs.Machine.{World, Pair, pair_of, after_events, request_pairs, cut_world}
 use Rattle.kz_spec_machine.specs.Sound.{IsTime, IsSharedSound, IsSoundDriver, IsLawful, Sound}
-use Rattle.kz_spec_runs.specs.Openings.{opened_world, IsSoundPair}
-use Rattle.kz_spec_runs.specs.Promises.{Linked, PathsAgree, source_after, AgreeFrom, Agreeing, at_path, IsRendered, IsAsCommitted}
-use Rattle.kz_laws_drivers.specs.Effects.{IsUnchanged}
+use Rattle.kz_spec_machine.specs.Openings.{opened_world, IsSoundPair}
+use Rattle.kz_spec_machine.specs.Promises.{Linked, PathsAgree, source_after, AgreeFrom, Agreeing, at_path, IsRendered, IsAsCommitted}
+use Rattle.kz_laws_machine.specs.Effects.{IsUnchanged}
 use Rattle.kz_laws_events.proofs.Elected.{MayElect, elected_of}
 use Rattle.kz_laws_events.proofs.Elected as elected
 use Rattle.kz_laws_events.proofs.Changed.{IsLeaderBatch, more_of}
@@ -23,8 +23,8 @@ use Rattle.kz_laws_agreement.proofs.Steps.{step_agrees}
 use Rattle.kz_laws_runs.proofs.Linked.{Promised, run_linked, linked_of}
 use Rattle.std.proofs.lemmas.Int.{ints}
 use Rattle.kz_types.specs.declared.machine.Recorded.{Recorded}
-use Rattle.kz_spec_znodes.specs.Rendering.{render}
-use Rattle.kz_laws_snapshots.specs.Snapshots.{IsCut}
+use Rattle.kz_spec_data.specs.Rendering.{render}
+use Rattle.kz_laws_machine.specs.Snapshots.{IsCut}
 use Rattle.kz_laws_events.proofs.Snapshots.{MaySnapshot, cuts}
 
 -- what each request does, whatever the migrated area was at the commit

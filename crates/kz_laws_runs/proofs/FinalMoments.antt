@@ -9,9 +9,9 @@ use Rattle.kz_types.specs.declared.plan.Plan.TheVariants as plan
 use Rattle.kz_spec_machine.specs.Driver.{Shared, Driver, Request, nothing, request_at, planned_step, step}
 use Rattle.kz_spec_machine.specs.Machine.{World, Pair, pair_of, pairs_after, step_pairs, ends, turn_pairs, work, running_ids, driver_of, running_refusal, event_step_pairs, event_turn_pairs, pairs_unless, rollback_refusal, reset_world, exit_ops, exit_pairs, is_finalised_log, event_pairs}
 use Rattle.kz_spec_machine.specs.Sound.{IsTime, IsSharedSound, IsSoundDriver, Sound, IsLawful}
-use Rattle.kz_spec_runs.specs.Promises.{IsStepTurnOrRollback, IsMomentOf}
-use Rattle.kz_laws_steps.specs.Steps.{StepKeeps}
-use Rattle.kz_laws_steps.proofs.Tests.{true_or_false}
+use Rattle.kz_spec_machine.specs.Promises.{IsStepTurnOrRollback, IsMomentOf}
+use Rattle.kz_laws_events.specs.Steps.{StepKeeps}
+use Rattle.kz_laws_events.proofs.Tests.{true_or_false}
 use Rattle.kz_laws_events.proofs.Exits.{may_roll_back}
 use Rattle.kz_laws_events.proofs.Turned.{one_step}
 use Rattle.kz_laws_exits.specs.Ends.{HasEnded, EndHolds}

@@ -2,12 +2,12 @@
 use Rattle.std.proofs.Common.{◌≡◌, true, List, [], ◌∷◌, ◌++◌, All, sym, ap, subst}
 use Rattle.kz_types.specs.declared.machine.Event.{Event}
 use Rattle.kz_types.specs.declared.machine.Event.TheVariants as event
-use Rattle.kz_spec_stores.specs.Tree.{Tree}
-use Rattle.kz_spec_stores.specs.Log.{Log}
+use Rattle.kz_spec_data.specs.Tree.{Tree}
+use Rattle.kz_spec_data.specs.Log.{Log}
 use Rattle.kz_spec_machine.specs.Machine.{World, is_finalised_log, next, after_events}
 use Rattle.kz_spec_machine.specs.Sound.{Sound, IsLawful}
-use Rattle.kz_spec_runs.specs.Openings.{opened_world, IsSoundPair}
-use Rattle.kz_spec_runs.specs.Promises.{IsStepTurnOrRollback, IsFinalRefusal, StaysFinalised, FinalisedForGood}
+use Rattle.kz_spec_machine.specs.Openings.{opened_world, IsSoundPair}
+use Rattle.kz_spec_machine.specs.Promises.{IsStepTurnOrRollback, IsFinalRefusal, StaysFinalised, FinalisedForGood}
 use Rattle.kz_laws_events.proofs.Runs.{lawful_before, lawful_next, run_sound}
 use Rattle.kz_laws_exits.specs.Ends.{EndHolds}
 use Rattle.kz_laws_exits.proofs.Finalised.{final_rollback_refused}

@@ -10,14 +10,14 @@ use Rattle.kz_types.specs.declared.machine.Event.TheVariants as event
 use Rattle.kz_types.specs.declared.plan.Plan.{Plan}
 use Rattle.kz_types.specs.declared.plan.Plan.TheVariants as plan
 use Rattle.kz_types.specs.declared.tree.Op.{Op}
-use Rattle.kz_spec_stores.specs.Tree.{Tree, multi, begin_session, end_session, unclosed_path}
-use Rattle.kz_spec_stores.specs.Log.{reset}
+use Rattle.kz_spec_data.specs.Tree.{Tree, multi, begin_session, end_session, unclosed_path}
+use Rattle.kz_spec_data.specs.Log.{reset}
 use Rattle.kz_spec_machine.specs.Driver.{Shared, Driver, Request, nothing, request_at, planned_step, step}
 use Rattle.kz_spec_machine.specs.Machine.{World, Pair, pair_of, pairs_after, step_pairs, ends, turn_pairs, work, running_ids, driver_of, running_refusal, event_step_pairs, event_turn_pairs, outcome_unless, unless_refused, pairs_unless, tree_pairs, election_refusal, elected_world, election_answer, change_refusal, changed_world, registration, register_refusal, final_records, finalise_refusal, rollback_refusal, reset_world, is_finalised_log, exit_ops, tree_after_ops, given_back, exit_pairs, client_refusal, client_world, moved_world, with_tree, next, event_pairs, request_pairs, cut_world, snapshot_refusal}
 use Rattle.kz_spec_machine.specs.Sound.{IsTime, IsSharedSound, IsSoundDriver, Sound, IsLawful}
-use Rattle.kz_laws_steps.specs.Steps.{StepKeeps}
-use Rattle.kz_laws_steps.proofs.Tests.{true_or_false}
-use Rattle.kz_laws_appends.proofs.Steps.{all_steps}
+use Rattle.kz_laws_events.specs.Steps.{StepKeeps}
+use Rattle.kz_laws_events.proofs.Tests.{true_or_false}
+use Rattle.kz_laws_events.proofs.StepCases.{all_steps}
 use Rattle.kz_laws_events.proofs.Turned.{one_step}
 use Rattle.kz_laws_events.proofs.Exits.{reset_sound}
 use Rattle.kz_laws_events.proofs.Every.{event_sound}

@@ -10,17 +10,17 @@ use Rattle.kz_types.specs.declared.plan.Plan.{Plan}
 use Rattle.kz_types.specs.declared.plan.Plan.TheVariants as plan
 use Rattle.kz_types.specs.declared.record.MetaRecord.{MetaRecord}
 use Rattle.kz_types.specs.declared.tree.Op.{Op}
-use Rattle.kz_spec_stores.specs.Tree.{Tree, multi, begin_session, end_session}
-use Rattle.kz_spec_stores.specs.Log.{is_migrated_log, reset}
+use Rattle.kz_spec_data.specs.Tree.{Tree, multi, begin_session, end_session}
+use Rattle.kz_spec_data.specs.Log.{is_migrated_log, reset}
 use Rattle.kz_spec_machine.specs.Driver.{Shared, Driver, epoch_or_zero, Request, nothing, request_at, shared_after, reaches_store, planned_step, step}
 use Rattle.kz_spec_machine.specs.Machine.{World, Pair, pair_of, pairs_after, step_pairs, ends, TurnResult, with_reply, turn, turn_pairs, work, running_ids, driver_of, running_refusal, step_result, event_step_pairs, turn_result, event_turn_pairs, outcome_unless, unless_refused, pairs_unless, quorum_refusal, declared_world, start_refusal, started_world, stop_refusal, stopped_world, election_refusal, elected_world, change_refusal, changed_world, registration, register_refusal, final_records, finalise_refusal, exit_ops, tree_after_ops, reset_world, given_back, rollback_refusal, exit_pairs, is_held_tree, client_refusal, client_world, moved_world, tree_pairs, next, event_pairs, after_events, request_pairs, cut_world, snapshot_refusal}
 use Rattle.kz_spec_machine.specs.Sound.{IsTime, IsSharedSound, IsSoundDriver, Each, Sound, IsLawful}
-use Rattle.kz_spec_runs.specs.Promises.{Linked}
-use Rattle.kz_laws_drivers.specs.Effects.{IsUnchanged}
-use Rattle.kz_laws_trees.proofs.Sessions.{begin_leaves, end_leaves}
-use Rattle.kz_laws_trees.proofs.Clients.{client_leaves_held}
-use Rattle.kz_laws_steps.specs.Steps.{StepKeeps}
-use Rattle.kz_laws_steps.proofs.Tests.{true_or_false}
+use Rattle.kz_spec_machine.specs.Promises.{Linked}
+use Rattle.kz_laws_machine.specs.Effects.{IsUnchanged}
+use Rattle.kz_laws_machine.proofs.Sessions.{begin_leaves, end_leaves}
+use Rattle.kz_laws_machine.proofs.Clients.{client_leaves_held}
+use Rattle.kz_laws_events.specs.Steps.{StepKeeps}
+use Rattle.kz_laws_events.proofs.Tests.{true_or_false}
 use Rattle.kz_laws_events.proofs.Elected.{MayElect, may_elect, elected_of}
 use Rattle.kz_laws_events.proofs.Changed.{IsLeaderBatch, more_of, may_change, change_batch, register_batch}
 use Rattle.kz_laws_events.proofs.Exits.{may_finalise, final_batch, reset_unmigrated, reset_sound}

@@ -7,18 +7,18 @@ use Rattle.kz_types.specs.declared.machine.Event.{Event}
 use Rattle.kz_types.specs.declared.machine.Event.TheVariants as event
 use Rattle.kz_types.specs.declared.outside.Status.{Status}
 use Rattle.kz_types.specs.declared.plan.Plan.TheVariants as plan
-use Rattle.kz_spec_lines.specs.Lines.{Item, line, long, much, items, is_passed_over}
-use Rattle.kz_spec_lines.specs.Events.{line_event}
-use Rattle.kz_spec_lines.specs.Replies.{reply_line, reply_text}
-use Rattle.kz_spec_stores.specs.Tree.{Tree}
-use Rattle.kz_spec_stores.specs.Log.{Log}
+use Rattle.kz_spec_data.specs.Lines.{Item, line, long, much, items, is_passed_over}
+use Rattle.kz_spec_data.specs.Events.{line_event}
+use Rattle.kz_spec_data.specs.Replies.{reply_line, reply_text}
+use Rattle.kz_spec_data.specs.Tree.{Tree}
+use Rattle.kz_spec_data.specs.Log.{Log}
 use Rattle.kz_spec_machine.specs.Driver.{Shared, Driver, step}
 use Rattle.kz_spec_machine.specs.Machine.{World, Pair, pair_of, step_pairs, turn_pairs, event_turn_pairs, pairs_unless, ends, work, running_ids, running_refusal, driver_of, next, event_pairs, request_pairs}
 use Rattle.kz_spec_machine.specs.Sound.{Sound, IsLawful}
-use Rattle.kz_spec_runs.specs.InStep.{events_on, events_of, script_events}
-use Rattle.kz_spec_runs.specs.Moments.{Moment, moment_at, moments_at, moment_after, later, turn_moments, driver_moments, moments_of_turn, request_moments, moments_unless, moments_on, moments, replayed_moments}
-use Rattle.kz_spec_runs.specs.Openings.{opened_world, IsSoundPair}
-use Rattle.kz_spec_runs.specs.Output.{Place, place_of, place_after_line, place_after_event, written_for, ending, summary}
+use Rattle.kz_spec_machine.specs.InStep.{events_on, events_of, script_events}
+use Rattle.kz_spec_machine.specs.Moments.{Moment, moment_at, moments_at, moment_after, later, turn_moments, driver_moments, moments_of_turn, request_moments, moments_unless, moments_on, moments, replayed_moments}
+use Rattle.kz_spec_machine.specs.Openings.{opened_world, IsSoundPair}
+use Rattle.kz_spec_machine.specs.Output.{Place, place_of, place_after_line, place_after_event, written_for, ending, summary}
 use Rattle.kz_laws_events.proofs.Every.{event_sound}
 use Rattle.kz_laws_runs.specs.Pairs.{IsSoundMoment}
 use Rattle.kz_laws_runs.proofs.Linked.{LinkedTo, Promised, step_linked, event_linked}

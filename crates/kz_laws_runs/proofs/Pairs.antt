@@ -4,12 +4,12 @@ use Rattle.std.proofs.lemmas.List.Elements.{All-nil, All-cons, All-head, All-tai
 use Rattle.kz_types.specs.declared.machine.Event.{Event}
 use Rattle.kz_types.specs.declared.machine.Recorded.{Recorded}
 use Rattle.kz_types.specs.declared.tree.Rendered.{Rendered}
-use Rattle.kz_spec_stores.specs.Tree.{Tree, area, empty_tree}
-use Rattle.kz_spec_stores.specs.Log.{Log, empty_log}
+use Rattle.kz_spec_data.specs.Tree.{Tree, area, empty_tree}
+use Rattle.kz_spec_data.specs.Log.{Log, empty_log}
 use Rattle.kz_spec_machine.specs.Machine.{World, Pair, pair_of, after_events, request_pairs}
 use Rattle.kz_spec_machine.specs.Sound.{IsSharedSound, Sound, IsLawful}
-use Rattle.kz_spec_runs.specs.Openings.{opened_world, IsSoundPair}
-use Rattle.kz_spec_runs.specs.Promises.{IsAsCommitted, IsRendered, PathsAgree, source_after, AgreeFrom}
+use Rattle.kz_spec_machine.specs.Openings.{opened_world, IsSoundPair}
+use Rattle.kz_spec_machine.specs.Promises.{IsAsCommitted, IsRendered, PathsAgree, source_after, AgreeFrom}
 use Rattle.kz_laws_events.proofs.Runs.{empty_sound, not_migrated, run_sound}
 use Rattle.kz_laws_exits.proofs.Final.{not_final}
 use Rattle.kz_laws_exits.proofs.Events.{run_ends}

@@ -4,7 +4,7 @@ use Rattle.kz_types.specs.declared.machine.Event.{Event}
 use Rattle.kz_types.specs.declared.tree.Rendered.{Rendered}
 use Rattle.kz_spec_machine.specs.Machine.{World, Pair, pair_of, next, event_pairs, after_events, request_pairs}
 use Rattle.kz_spec_machine.specs.Sound.{Sound, IsLawful}
-use Rattle.kz_spec_runs.specs.Promises.{PathsAgree, source_after}
+use Rattle.kz_spec_machine.specs.Promises.{PathsAgree, source_after}
 use Rattle.kz_laws_runs.specs.Paths.{source_through, AgreeThrough}
 use Rattle.kz_laws_runs.proofs.Agrees.{Anything, Agrees, agrees_promised, agree_from}
 use Rattle.kz_laws_runs.proofs.Linked.{LinkedTo, linked_of, event_linked, run_linked}

@@ -4,18 +4,18 @@ use Rattle.std.proofs.lemmas.List.Elements.{All-cons, All-nil}
 use Rattle.kz_types.specs.declared.machine.Event.{Event}
 use Rattle.kz_types.specs.declared.plan.Plan.{Plan}
 use Rattle.kz_types.specs.declared.record.MetaRecord.{MetaRecord}
-use Rattle.kz_spec_stores.specs.Tree.{Tree, rendered_row}
-use Rattle.kz_spec_stores.specs.Log.{Log, is_migrated_log, reset}
-use Rattle.kz_spec_znodes.specs.Rendering.{render}
+use Rattle.kz_spec_data.specs.Tree.{Tree, rendered_row}
+use Rattle.kz_spec_data.specs.Log.{Log, is_migrated_log, reset}
+use Rattle.kz_spec_data.specs.Rendering.{render}
 use Rattle.kz_spec_machine.specs.Driver.{Shared, Driver, planned_step}
 use Rattle.kz_spec_machine.specs.Machine.{World, Pair, pair_of, after_events, request_pairs, cut_world}
 use Rattle.kz_spec_machine.specs.Sound.{IsTime, IsSharedSound, IsSoundDriver, IsLawful}
-use Rattle.kz_spec_runs.specs.Openings.{opened_world, IsSoundPair}
-use Rattle.kz_spec_runs.specs.Promises.{Linked, IsAsRecorded, StayingAsRecorded}
-use Rattle.kz_laws_drivers.specs.Effects.{IsUnchanged}
-use Rattle.kz_laws_steps.proofs.Tests.{true_or_false}
-use Rattle.kz_laws_steps.proofs.Resync.{recorded_within}
-use Rattle.kz_laws_appends.proofs.Steps.{all_steps}
+use Rattle.kz_spec_machine.specs.Openings.{opened_world, IsSoundPair}
+use Rattle.kz_spec_machine.specs.Promises.{Linked, IsAsRecorded, StayingAsRecorded}
+use Rattle.kz_laws_machine.specs.Effects.{IsUnchanged}
+use Rattle.kz_laws_events.proofs.Tests.{true_or_false}
+use Rattle.kz_laws_events.proofs.Resync.{recorded_within}
+use Rattle.kz_laws_events.proofs.StepCases.{all_steps}
 use Rattle.kz_laws_events.proofs.Elected.{MayElect, elected_of, shared_elected}
 use Rattle.kz_laws_events.proofs.Changed.{IsLeaderBatch, more_of}
 use Rattle.kz_laws_events.proofs.Changed as changed

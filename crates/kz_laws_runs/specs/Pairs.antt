@@ -1,13 +1,13 @@
 -- The pairs of a tree and a log that a run, or a stop of it, leaves: a further run may begin with each of them.
 use Rattle.std.specs.Prelude.{ℕ, List, ◌∷◌, All, Contains}
 use Rattle.kz_types.specs.declared.machine.Event.{Event}
-use Rattle.kz_spec_stores.specs.Tree.{Tree, empty_tree}
-use Rattle.kz_spec_stores.specs.Log.{Log, empty_log}
+use Rattle.kz_spec_data.specs.Tree.{Tree, empty_tree}
+use Rattle.kz_spec_data.specs.Log.{Log, empty_log}
 use Rattle.kz_spec_machine.specs.Machine.{Pair, pair_of, after_events, request_pairs}
 use Rattle.kz_spec_machine.specs.Sound.{IsLawful}
-use Rattle.kz_spec_runs.specs.InStep.{script_events}
-use Rattle.kz_spec_runs.specs.Moments.{Moment, replayed_moments}
-use Rattle.kz_spec_runs.specs.Openings.{opened_world, IsSoundPair}
+use Rattle.kz_spec_machine.specs.InStep.{script_events}
+use Rattle.kz_spec_machine.specs.Moments.{Moment, replayed_moments}
+use Rattle.kz_spec_machine.specs.Openings.{opened_world, IsSoundPair}
 
 -- The tree and the log of a moment are a sound pair.
 abbrev pub IsSoundMoment : Pair → Type 0

@@ -5,7 +5,7 @@ use Rattle.kz_types.specs.declared.machine.Event.{Event}
 use Rattle.kz_types.specs.declared.tree.Rendered.{Rendered}
 use Rattle.kz_spec_machine.specs.Machine.{World, Pair, pair_of, next, event_pairs, after_events, request_pairs}
 use Rattle.kz_spec_machine.specs.Sound.{Sound, IsLawful}
-use Rattle.kz_spec_runs.specs.Promises.{PathsAgree, source_after, AgreeFrom, IsInAgreement}
+use Rattle.kz_spec_machine.specs.Promises.{PathsAgree, source_after, AgreeFrom, IsInAgreement}
 
 -- the migrated area as it was at the last moment before the log was migrated, as is known at the last of these moments
 abbrev pub source_through : List Rendered → Pair → List Pair → List Rendered

@@ -7,12 +7,12 @@ use Rattle.serde_json.specs.Data.{Data, Items, no_items, item}
 use Rattle.serde_json.specs.Find.{get, as_u64, as_i64, as_number}
 use Rattle.kz_types.specs.Paths.{is_path}
 use Rattle.kz_types.specs.declared.machine.Event.TheVariants as event
-use Rattle.kz_spec_lines.specs.Json.{member_count, whole_within, text_member, by_name}
-use Rattle.kz_spec_lines.specs.Ops.{session_in, path_in, version_in, body_in, owner_by, create_of, set_of, delete_of, op_forms, op_of}
-use Rattle.kz_spec_lines.specs.Ops as ops
+use Rattle.kz_spec_data.specs.Json.{member_count, whole_within, text_member, by_name}
+use Rattle.kz_spec_data.specs.Ops.{session_in, path_in, version_in, body_in, owner_by, create_of, set_of, delete_of, op_forms, op_of}
+use Rattle.kz_spec_data.specs.Ops as ops
 use Rattle.kz_types.specs.declared.tree.Op.{Op}
 use Rattle.kz_types.specs.declared.tree.Op.TheVariants.{Create, Set, Delete, Check}
-use Rattle.kz_spec_lines.specs.Events.{session_of, open_of, expire_of, ops_in, some_ops, zk_of}
+use Rattle.kz_spec_data.specs.Events.{session_of, open_of, expire_of, ops_in, some_ops, zk_of}
 use Rattle.kz_spec_machine.specs.Sound.{IsSession, IsOwner, IsVersion, IsLawfulOp, IsLawful}
 use Rattle.kz_laws_scripts.proofs.Given.{OfSome, after, mapped, anything, where_true, at_most, items_at, one_more, by_name_gives}
 

@@ -7,8 +7,8 @@ use Rattle.std.proofs.lemmas.Int.{ints}
 use Rattle.std.proofs.lemmas.List.Elements.{All-cons}
 use Rattle.serde_json.specs.Data.{Data, Items}
 use Rattle.serde_json.specs.Find.{get, as_array, as_u64, as_number}
-use Rattle.kz_spec_lines.specs.Json.{whole_up_to, by_name}
-use Rattle.kz_spec_lines.specs.Events.{id_of, time_of, controller_of}
+use Rattle.kz_spec_data.specs.Json.{whole_up_to, by_name}
+use Rattle.kz_spec_data.specs.Events.{id_of, time_of, controller_of}
 use Rattle.kz_spec_machine.specs.Sound.{IsId, IsTime}
 
 -- it is so of what is there

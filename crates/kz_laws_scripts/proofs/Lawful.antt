@@ -7,11 +7,11 @@ use Rattle.serde_json.specs.Find.{get, as_bool}
 use Rattle.kz_types.specs.declared.machine.Event.{Event}
 use Rattle.kz_types.specs.declared.machine.Event.TheVariants as event
 use Rattle.kz_types.specs.declared.record.MetaRecord.{MetaRecord}
-use Rattle.kz_spec_lines.specs.Json.{json_of, member_count, text_member, by_name, count_with}
-use Rattle.kz_spec_lines.specs.Lines.{Item, line, long, much, items, is_passed_over}
-use Rattle.kz_spec_lines.specs.Events.{id_of, controller_of, now_of, timed_count, quorum_of, start_of, elect_of, turn_of, records_in, some_records, change_of, register_of, finalise_of, rollback_of, check_of, event_forms, event_of, line_event, ids_in, distinct_ids, stop_by, stop_of, plan_by, step_of, snapshot_of}
+use Rattle.kz_spec_data.specs.Json.{json_of, member_count, text_member, by_name, count_with}
+use Rattle.kz_spec_data.specs.Lines.{Item, line, long, much, items, is_passed_over}
+use Rattle.kz_spec_data.specs.Events.{id_of, controller_of, now_of, timed_count, quorum_of, start_of, elect_of, turn_of, records_in, some_records, change_of, register_of, finalise_of, rollback_of, check_of, event_forms, event_of, line_event, ids_in, distinct_ids, stop_by, stop_of, plan_by, step_of, snapshot_of}
 use Rattle.kz_spec_machine.specs.Sound.{IsId, IsTime, IsLawful}
-use Rattle.kz_spec_runs.specs.InStep.{events_on, events_of, script_events}
+use Rattle.kz_spec_machine.specs.InStep.{events_on, events_of, script_events}
 use Rattle.kz_types.specs.Numbers.{are_distinct}
 use Rattle.kz_types.specs.declared.plan.Plan.{Plan}
 use Rattle.kz_laws_scripts.proofs.Given.{OfSome, after, mapped, anything, where_true, id_is, time_is, id_at, controller_is, items_at, one_more, by_name_gives}

@@ -2,7 +2,7 @@
 use Rattle.std.specs.Prelude.{ℕ, List}
 use Rattle.kz_spec_machine.specs.Machine.{World, after_events}
 use Rattle.kz_spec_machine.specs.Sound.{Sound}
-use Rattle.kz_spec_runs.specs.InStep.{StaysInStep, script_events}
+use Rattle.kz_spec_machine.specs.InStep.{StaysInStep, script_events}
 use Rattle.kz_laws_events.proofs.Runs.{run_sound}
 use Rattle.kz_laws_rest.proofs.Rest.{stays_in_step}
 use Rattle.kz_laws_scripts.proofs.Lawful.{script_lawful}

@@ -2,7 +2,7 @@
 use Rattle.std.specs.Prelude.{ℕ, List, All}
 use Rattle.kz_spec_machine.specs.Machine.{World, after_events}
 use Rattle.kz_spec_machine.specs.Sound.{Sound, IsLawful}
-use Rattle.kz_spec_runs.specs.InStep.{StaysInStep, script_events}
+use Rattle.kz_spec_machine.specs.InStep.{StaysInStep, script_events}
 
 -- The events of a script are lawful.
 abbrev pub ScriptsAreLawful : Type 0

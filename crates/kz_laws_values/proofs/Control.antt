@@ -13,8 +13,8 @@ use Rattle.serde_json.specs.Read.{of_json}
 use Rattle.serde_json.specs.Written.{outline}
 use Rattle.kz_types.specs.Numbers.{canonical}
 use Rattle.kz_types.specs.declared.machine.Recorded.{Recorded}
-use Rattle.kz_spec_values.specs.Bodies.{greatest}
-use Rattle.kz_spec_values.specs.Control.{written_control, control_data, shown_epoch, shown_in, written_recorded, recorded_data, read_recorded, recorded_or_fault, recorded_in, written_epoch, read_epoch}
+use Rattle.kz_spec_data.specs.Bodies.{greatest}
+use Rattle.kz_spec_data.specs.Control.{written_control, control_data, shown_epoch, shown_in, written_recorded, recorded_data, read_recorded, recorded_or_fault, recorded_in, written_epoch, read_epoch}
 use Rattle.kz_laws_values.specs.Ranges.{IsBetween, IsLong, IsEpoch, IsRecorded}
 use Rattle.kz_laws_values.proofs.ReadsBack.{HasUtf8, json_of_compact, decimal_is_utf8, whole_is_utf8, signed_is_utf8, whole_is_number, whole_reads, whole_in_range}
 

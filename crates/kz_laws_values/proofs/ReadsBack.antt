@@ -19,7 +19,7 @@ use Rattle.serde_json.specs.Read.{read, of_json, number_of}
 use Rattle.serde_json.specs.Written.{compact_text, items_text, members_text, comma_if, number_text, outline}
 use Rattle.serde_json.proofs.Texts.{print-outline}
 use Rattle.serde_json.proofs.Numbers.{number_of-decimal, number_of-negative}
-use Rattle.kz_spec_values.specs.Bodies.{json_of, whole, within, whole_data}
+use Rattle.kz_spec_data.specs.Bodies.{json_of, whole, within, whole_data}
 use Rattle.kz_laws_values.specs.Ranges.{IsLong}
 
 pub read_back : (d : Data) → HasNumbers (outline d) → depth (outline d) ≤ 127 → of_json (outline d) ≡ Some d → read (compact_text d) ≡ Some d

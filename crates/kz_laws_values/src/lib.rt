@@ -1,25 +1,20 @@
-//! Laws of the definitions of bodies: what a controller writes into a control znode is read as it was written.
+//! Laws of the definitions of values: paths, quotas, records and their lengths, bodies, files, and lines that are cut.
 //!
-//! Each law is the contract of a function that does nothing.
+//! Each law is the contract of a function that does nothing, or that only goes over a value which a program holds.
 #![tactic(auto)]
 
-ghost use Rattle.std.specs.Prelude.{◌≡◌, ◌≤ℤ◌, ℤ, Ok, Some, FitsSigned};
-ghost use Rattle.kz_types.specs.declared.machine.Recorded.{Recorded};
-ghost use Rattle.kz_spec_values.specs.Control.{written_epoch, read_epoch, written_control, shown_epoch, written_recorded, read_recorded};
-ghost use Rattle.kz_laws_values.specs.Ranges.{IsEpoch, IsLong, IsRecorded};
+pub mod bodies;
+pub mod cut;
+pub mod files;
+mod fits;
+mod held_paths;
+pub mod lengths;
+#[cfg(test)]
+mod path_tests;
+pub mod paths;
+pub mod quotas;
+pub mod records;
+pub mod values;
 
-/// A number that was written to `/controller_epoch` is read there.
-pub fn epoch_is_read()
-    ensures { (epoch : ℤ) → IsEpoch epoch → read_epoch (written_epoch epoch) ≡ Ok epoch }
-{}
-
-/// What a KRaft controller wrote to `/controller` shows its epoch, whatever its id and the time.
-pub fn control_is_read()
-    ensures { (id epoch now : ℤ) → IsLong id → IsEpoch epoch → IsLong now
-        → shown_epoch (written_control id epoch now) ≡ Some epoch }
-{}
-
-/// What was written to `/migration` is read there.
-pub fn recorded_is_read()
-    ensures { (recorded : Recorded) → IsRecorded recorded → read_recorded (written_recorded recorded) ≡ Ok recorded }
-{}
+pub use fits::held_record_is_spelled;
+pub use held_paths::{held_key_has_its_path, held_keys_have_one_path, held_path_has_its_key};

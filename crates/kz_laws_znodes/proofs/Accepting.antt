@@ -4,12 +4,12 @@ use Rattle.std.specs.Prelude.{⊤}
 use Rattle.std.proofs.lemmas.List.Elements.{All-head, All-tail}
 use Rattle.kz_types.specs.declared.image_fault.ImageRule.TheVariants.{NotAllowed}
 use Rattle.kz_types.specs.declared.record.MetaRecord.{MetaRecord}
-use Rattle.kz_ordered.specs.Order.{TotalOrder}
-use Rattle.kz_ordered.specs.Ordered.{Rises, AllBelow}
-use Rattle.kz_ordered.proofs.Append.{below_split}
-use Rattle.kz_spec_stores.specs.Metadata.{Image}
-use Rattle.kz_spec_stores.specs.Image.{effect, unless_broken, image_with, all_applied}
-use Rattle.kz_spec_stores.specs.ImageRules.{is_misnamed, lacks, repeats, is_misvalued, is_kept_back, broken_rule, rule_against}
+use Rattle.kz_types.specs.Order.{TotalOrder}
+use Rattle.kz_types.specs.Ordered.{Rises, AllBelow}
+use Rattle.kz_types.proofs.Append.{below_split}
+use Rattle.kz_spec_data.specs.Metadata.{Image}
+use Rattle.kz_spec_data.specs.Image.{effect, unless_broken, image_with, all_applied}
+use Rattle.kz_spec_data.specs.ImageRules.{is_misnamed, lacks, repeats, is_misvalued, is_kept_back, broken_rule, rule_against}
 
 -- each of these records is accepted, in batches of this epoch
 abbrev pub Accepted : ℤ → List MetaRecord → Image → Type 0

@@ -26,22 +26,22 @@ use Rattle.kz_types.specs.declared.fault.ReadWhy.TheVariants as why
 use Rattle.kz_types.specs.declared.record.MetaRecord.{MetaRecord}
 use Rattle.kz_types.specs.declared.record.MetaRecord.TheVariants as meta
 use Rattle.kz_types.specs.Paths.{key_of, path_of}
-use Rattle.kz_ordered.specs.Order.{bytes_cmp}
-use Rattle.kz_ordered.specs.Ordered.{find, Rises}
-use Rattle.kz_ordered.proofs.Order.{bytes_order, int_order}
-use Rattle.kz_ordered.proofs.Lookup.{some_is_none, same_some, contained_is_found, Contains-head}
-use Rattle.kz_ordered.proofs.Append.{Rises_left}
-use Rattle.kz_ordered.proofs.Maps.{find-map, Rises-map}
+use Rattle.kz_types.specs.Order.{bytes_cmp}
+use Rattle.kz_types.specs.Ordered.{find, Rises}
+use Rattle.kz_types.proofs.Order.{bytes_order, int_order}
+use Rattle.kz_types.proofs.Lookup.{some_is_none, same_some, contained_is_found, Contains-head}
+use Rattle.kz_types.proofs.Append.{Rises_left}
+use Rattle.kz_types.proofs.Maps.{find-map, Rises-map}
 use Rattle.kz_types.specs.Numbers.{is_in}
-use Rattle.kz_spec_values.specs.Bodies.{read_body}
-use Rattle.kz_spec_stores.specs.Tree.{path_of_row, row_at, path_of_rendered}
-use Rattle.kz_spec_stores.specs.Metadata.{Image, same_id, number_of_partition}
-use Rattle.kz_spec_stores.specs.ImageRules.{is_empty, is_epoch}
-use Rattle.kz_spec_stores.specs.InOrder.{IsInOrder}
-use Rattle.kz_spec_stores.specs.Legal.{IsMember, IsConfiguration}
-use Rattle.kz_spec_znodes.specs.Rendering.{topic_znode, assignment_of, state_body, quotas_of_user, acl_key, render}
-use Rattle.kz_spec_znodes.specs.Translation.{row_of, body_of_row, is_topic_with, is_taken, topic_records, number_of_assignment, assignments_in, assignment_at, may_lead, leader_of, records_if_assigned, config_record, config_records, records_if_there, scram_records, quota_record, bad_field, max_block_end, records_of_producer, broker_name, acl_records, count_of_entries, records_of, entity_records, records_by_kind, row_records, records_then, records_after, all_records}
-use Rattle.kz_laws_bodies.specs.Readable.{AreBrokers}
+use Rattle.kz_spec_data.specs.Bodies.{read_body}
+use Rattle.kz_spec_data.specs.Tree.{path_of_row, row_at, path_of_rendered}
+use Rattle.kz_spec_data.specs.Metadata.{Image, same_id, number_of_partition}
+use Rattle.kz_spec_data.specs.ImageRules.{is_empty, is_epoch}
+use Rattle.kz_spec_data.specs.InOrder.{IsInOrder}
+use Rattle.kz_spec_data.specs.Legal.{IsMember, IsConfiguration}
+use Rattle.kz_spec_data.specs.Rendering.{topic_znode, assignment_of, state_body, quotas_of_user, acl_key, render}
+use Rattle.kz_spec_data.specs.Translation.{row_of, body_of_row, is_topic_with, is_taken, topic_records, number_of_assignment, assignments_in, assignment_at, may_lead, leader_of, records_if_assigned, config_record, config_records, records_if_there, scram_records, quota_record, bad_field, max_block_end, records_of_producer, broker_name, acl_records, count_of_entries, records_of, entity_records, records_by_kind, row_records, records_then, records_after, all_records}
+use Rattle.kz_laws_values.specs.Readable.{AreBrokers}
 use Rattle.kz_laws_znodes.specs.RoundTrip.{new_znode, znodes_of, IsWritable, HasRoom, MayReturn}
 use Rattle.kz_laws_znodes.proofs.Within.{from_map}
 use Rattle.kz_laws_znodes.proofs.Scaffolds.{IsScaffold}

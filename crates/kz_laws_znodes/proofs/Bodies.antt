@@ -9,20 +9,20 @@ use Rattle.std.proofs.lemmas.List.Elements.{All-head, All-tail}
 use Rattle.kz_types.specs.declared.row.PartitionRow.{PartitionRow}
 use Rattle.kz_types.specs.declared.bodies.Pair.{Pair}
 use Rattle.kz_types.specs.declared.image.PartitionEntry.{PartitionEntry}
-use Rattle.kz_ordered.specs.Order.{bytes_cmp}
-use Rattle.kz_ordered.specs.Ordered.{Rises, RisesAbove}
+use Rattle.kz_types.specs.Order.{bytes_cmp}
+use Rattle.kz_types.specs.Ordered.{Rises, RisesAbove}
 use Rattle.std.proofs.lemmas.Cmp.{int_ranked}
-use Rattle.kz_ordered.proofs.Order.{bytes_order, int_order}
-use Rattle.kz_ordered.proofs.Lookup.{rest_rises, rises_above_smaller, Contains-head, Contains-tail}
+use Rattle.kz_types.proofs.Order.{bytes_order, int_order}
+use Rattle.kz_types.proofs.Lookup.{rest_rises, rises_above_smaller, Contains-head, Contains-tail}
 use Rattle.kz_types.specs.Numbers.{is_in, are_distinct}
-use Rattle.kz_spec_values.specs.Bodies.{are_replicas, are_some_of}
-use Rattle.kz_spec_stores.specs.Metadata.{number_of_partition, name_of_pair}
-use Rattle.kz_spec_stores.specs.ImageRules.{is_epoch, is_replica, is_assigned, is_recovery, is_row}
-use Rattle.kz_spec_znodes.specs.Rendering.{assignment_of}
-use Rattle.kz_spec_znodes.specs.Translation.{may_lead}
+use Rattle.kz_spec_data.specs.Bodies.{are_replicas, are_some_of}
+use Rattle.kz_spec_data.specs.Metadata.{number_of_partition, name_of_pair}
+use Rattle.kz_spec_data.specs.ImageRules.{is_epoch, is_replica, is_assigned, is_recovery, is_row}
+use Rattle.kz_spec_data.specs.Rendering.{assignment_of}
+use Rattle.kz_spec_data.specs.Translation.{may_lead}
 use Rattle.kz_laws_values.specs.Ranges.{IsBetween}
-use Rattle.kz_laws_bodies.specs.Readable.{IsWhole, AreBrokers, IsState, IsBefore, AreInOrder, ArePartitions, AreTexts, IsBelow, AreRising, IsConfiguration}
-use Rattle.kz_laws_bodies.specs.Readable as readable
+use Rattle.kz_laws_values.specs.Readable.{IsWhole, AreBrokers, IsState, IsBefore, AreInOrder, ArePartitions, AreTexts, IsBelow, AreRising, IsConfiguration}
+use Rattle.kz_laws_values.specs.Readable as readable
 use Rattle.kz_laws_znodes.specs.RoundTrip.{FitsInt, IsMemberWritable}
 use Rattle.kz_laws_znodes.proofs.Shown.{PartitionFacts}
 

@@ -14,24 +14,24 @@ use Rattle.kz_types.specs.declared.record.RegisterBrokerRecord.{RegisterBrokerRe
 use Rattle.kz_types.specs.Numbers.{canonical}
 use Rattle.kz_types.specs.Paths.{is_not_negative, is_absent_or, is_legal, key_of, path_of}
 use Rattle.kz_types.proofs.NumberLemmas.{canonical_sound, canonical_complete, canonical_digits}
-use Rattle.kz_ordered.specs.Order.{bytes_cmp}
-use Rattle.kz_ordered.specs.Ordered.{find}
-use Rattle.kz_ordered.proofs.Order.{bytes_order, below, equal, above, place, less_differs, less_differs_back}
-use Rattle.kz_ordered.proofs.Lookup.{some_is_none, same_some}
-use Rattle.kz_spec_values.specs.Bodies.{read_body}
-use Rattle.kz_spec_stores.specs.Metadata.{Image, name_of_configuration}
-use Rattle.kz_spec_stores.specs.ImageRules.{is_broker_name}
-use Rattle.kz_spec_stores.specs.Tree.{row_at}
-use Rattle.kz_spec_znodes.specs.Translation.{broker_name, records_of_config}
-use Rattle.kz_laws_paths.specs.TextKeys.{IsSmall}
-use Rattle.kz_laws_paths.proofs.Legal.{IsGoodKey}
-use Rattle.kz_laws_paths.proofs.Keys.{path_holds}
-use Rattle.kz_laws_znodes.proofs.Reading.{IsBodyOf, read_is}
+use Rattle.kz_types.specs.Order.{bytes_cmp}
+use Rattle.kz_types.specs.Ordered.{find}
+use Rattle.kz_types.proofs.Order.{bytes_order, below, equal, above, place, less_differs, less_differs_back}
+use Rattle.kz_types.proofs.Lookup.{some_is_none, same_some}
+use Rattle.kz_spec_data.specs.Bodies.{read_body}
+use Rattle.kz_spec_data.specs.Metadata.{Image, name_of_configuration}
+use Rattle.kz_spec_data.specs.ImageRules.{is_broker_name}
+use Rattle.kz_spec_data.specs.Tree.{row_at}
+use Rattle.kz_spec_data.specs.Translation.{broker_name, records_of_config}
+use Rattle.kz_laws_values.specs.TextKeys.{IsSmall}
+use Rattle.kz_laws_values.proofs.Legal.{IsGoodKey}
+use Rattle.kz_laws_values.proofs.Keys.{path_holds}
+use Rattle.kz_laws_znodes.proofs.ZnodeReading.{IsBodyOf, read_is}
 use Rattle.kz_laws_znodes.proofs.Accepting.{Leads}
 use Rattle.kz_laws_znodes.proofs.OtherSteps.{configuration, with_configuration, broker_leads}
 use Rattle.kz_laws_znodes.proofs.Saying.{entity_of, entity_read, pick, topic_said, topic_config_said, broker_config_said, quotas_said, scrams_said, next_said, said_elsewhere, said_here, said_nowhere, entries_by, listed, or_empty, grown_rises, grown_here, grown_elsewhere}
 use Rattle.kz_laws_znodes.proofs.Says.{broker_named, configuration_in, SaysConfigs, Says}
-use Rattle.kz_laws_znodes.proofs.Stays.{Step, stay_topics, stay_quotas, stay_users, stay_entries, stay_next}
+use Rattle.kz_laws_znodes.proofs.ZnodeStays.{Step, stay_topics, stay_quotas, stay_users, stay_entries, stay_next}
 use Rattle.kz_laws_znodes.proofs.Walk.{AreRows, absent_here, key_here, path_of_here}
 use Rattle.kz_laws_znodes.proofs.Partitions.{le_holds}
 use Rattle.kz_laws_znodes.proofs.ConfigWalk.{members_rise, IsConfigured, configured_are}

@@ -14,24 +14,24 @@ use Rattle.kz_types.specs.declared.key.EntityKey.TheVariants as key
 use Rattle.kz_types.specs.declared.record.MetaRecord.{MetaRecord}
 use Rattle.kz_types.specs.declared.record.RegisterBrokerRecord.{RegisterBrokerRecord}
 use Rattle.kz_types.specs.Paths.{is_topic_name, key_of, path_of}
-use Rattle.kz_ordered.specs.Order.{bytes_cmp}
-use Rattle.kz_ordered.specs.Ordered.{find, Rises, RisesAbove}
-use Rattle.kz_ordered.proofs.Order.{bytes_order, below, equal, above, place, less_differs, less_differs_back}
-use Rattle.kz_ordered.proofs.Lookup.{find-put_same, find-put_other, Rises-put, key_of_found}
-use Rattle.kz_spec_values.specs.Bodies.{read_body}
-use Rattle.kz_spec_stores.specs.Metadata.{Image, name_of_topic, name_of_pair, topic_named}
-use Rattle.kz_spec_stores.specs.Image.{put_topic}
-use Rattle.kz_spec_stores.specs.ImageRules.{is_empty}
-use Rattle.kz_spec_stores.specs.Tree.{path_of_row, row_at}
-use Rattle.kz_spec_znodes.specs.Translation.{RowRecords, row_of, records_of_topic, config_record, config_records, records_if_there}
-use Rattle.kz_laws_paths.specs.TextKeys.{IsText}
-use Rattle.kz_laws_bodies.specs.Readable.{IsBelow, AreRising}
-use Rattle.kz_laws_znodes.proofs.Reading.{IsBodyOf, read_is}
+use Rattle.kz_types.specs.Order.{bytes_cmp}
+use Rattle.kz_types.specs.Ordered.{find, Rises, RisesAbove}
+use Rattle.kz_types.proofs.Order.{bytes_order, below, equal, above, place, less_differs, less_differs_back}
+use Rattle.kz_types.proofs.Lookup.{find-put_same, find-put_other, Rises-put, key_of_found}
+use Rattle.kz_spec_data.specs.Bodies.{read_body}
+use Rattle.kz_spec_data.specs.Metadata.{Image, name_of_topic, name_of_pair, topic_named}
+use Rattle.kz_spec_data.specs.Image.{put_topic}
+use Rattle.kz_spec_data.specs.ImageRules.{is_empty}
+use Rattle.kz_spec_data.specs.Tree.{path_of_row, row_at}
+use Rattle.kz_spec_data.specs.Translation.{RowRecords, row_of, records_of_topic, config_record, config_records, records_if_there}
+use Rattle.kz_laws_values.specs.TextKeys.{IsText}
+use Rattle.kz_laws_values.specs.Readable.{IsBelow, AreRising}
+use Rattle.kz_laws_znodes.proofs.ZnodeReading.{IsBodyOf, read_is}
 use Rattle.kz_laws_znodes.proofs.Accepting.{Leads, leads_none}
 use Rattle.kz_laws_znodes.proofs.TopicSteps.{topic_of, with_topic, IsNamed, with_members, config_leads}
 use Rattle.kz_laws_znodes.proofs.Saying.{Assignment, entity_of, entity_read, entity_unread, pick, pick_row, topic_said, topic_config_said, broker_config_said, quotas_said, scrams_said, next_said, said, unsaid, said_elsewhere, said_here, said_nowhere, entries_by}
 use Rattle.kz_laws_znodes.proofs.Says.{partition_in, topic_by, SaysTopics, Says}
-use Rattle.kz_laws_znodes.proofs.Stays.{Step, silent_step, no_entity_is_silent, stay_configs, stay_quotas, stay_users, stay_entries, stay_next}
+use Rattle.kz_laws_znodes.proofs.ZnodeStays.{Step, silent_step, no_entity_is_silent, stay_configs, stay_quotas, stay_users, stay_entries, stay_next}
 use Rattle.kz_laws_znodes.proofs.Walk.{AreRows, Split, split_at_found, HasRecords, AllHaveRecords, entity_records_are, absent_here, found_before, none_before, key_here, path_of_here}
 use Rattle.kz_laws_znodes.proofs.TopicRows.{config_names, topic_before_config, config_is_legal, topic_is_good}
 

@@ -14,18 +14,18 @@ use Rattle.kz_types.specs.declared.record.MetaRecord.TheVariants as meta
 use Rattle.kz_types.specs.declared.record.RegisterBrokerRecord.{RegisterBrokerRecord}
 use Rattle.kz_types.specs.PathRule.{is_part}
 use Rattle.kz_types.specs.Paths.{is_pattern, is_resource_type, is_legal, has_path, key_of, path_of}
-use Rattle.kz_spec_values.specs.Bodies.{read_body}
-use Rattle.kz_spec_stores.specs.Metadata.{Image}
-use Rattle.kz_spec_stores.specs.ImageRules.{are_codes, is_resource, max_next}
-use Rattle.kz_spec_stores.specs.Tree.{row_at}
-use Rattle.kz_spec_znodes.specs.Translation.{migrated_id, acl_records, count_of_entries, max_block_end}
-use Rattle.kz_laws_paths.proofs.Legal.{IsGoodKey}
+use Rattle.kz_spec_data.specs.Bodies.{read_body}
+use Rattle.kz_spec_data.specs.Metadata.{Image}
+use Rattle.kz_spec_data.specs.ImageRules.{are_codes, is_resource, max_next}
+use Rattle.kz_spec_data.specs.Tree.{row_at}
+use Rattle.kz_spec_data.specs.Translation.{migrated_id, acl_records, count_of_entries, max_block_end}
+use Rattle.kz_laws_values.proofs.Legal.{IsGoodKey}
 use Rattle.kz_laws_znodes.proofs.ReadEntries.{IsEntryRead, AreEntriesRead}
 use Rattle.kz_laws_znodes.proofs.Accepting.{Leads}
 use Rattle.kz_laws_znodes.proofs.OtherSteps.{IsEntryMade, numbered, AreBelowNumber, entries_lead, producer_leads}
 use Rattle.kz_laws_znodes.proofs.Saying.{entity_of, entity_read, pick, topic_said, topic_config_said, broker_config_said, quotas_said, scrams_said, next_said, said_here, said_nowhere, entries_by, all_entries, entries_counted}
 use Rattle.kz_laws_znodes.proofs.Says.{SaysEntries, Says}
-use Rattle.kz_laws_znodes.proofs.Stays.{Step, entries_after, stay_topics, stay_configs, stay_quotas, stay_users, stay_entries, stay_next}
+use Rattle.kz_laws_znodes.proofs.ZnodeStays.{Step, entries_after, stay_topics, stay_configs, stay_quotas, stay_users, stay_entries, stay_next}
 use Rattle.kz_laws_znodes.proofs.Walk.{AreRows, absent_here, keyed_here, key_here, path_of_here}
 use Rattle.kz_laws_znodes.proofs.Partitions.{lt_fails}
 

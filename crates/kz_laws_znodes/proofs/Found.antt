@@ -19,17 +19,17 @@ use Rattle.kz_types.specs.declared.image.AclEntry.{AclEntry}
 use Rattle.kz_types.specs.declared.key.EntityKey.{EntityKey}
 use Rattle.kz_types.specs.declared.key.EntityKey.TheVariants as key
 use Rattle.kz_types.specs.Paths.{roots, key_of, path_of}
-use Rattle.kz_ordered.specs.Order.{bytes_cmp}
-use Rattle.kz_ordered.specs.Ordered.{find, Rises}
-use Rattle.kz_ordered.proofs.Order.{bytes_order, int_order}
-use Rattle.kz_ordered.proofs.Lookup.{same_some, found_is_contained, key_of_found, contained_is_found, Contains-head, Contains-tail}
-use Rattle.kz_ordered.proofs.Puts.{Rises-all_put}
-use Rattle.kz_spec_stores.specs.Tree.{path_of_rendered}
-use Rattle.kz_spec_stores.specs.Metadata.{Image, name_of_topic, number_of_partition}
-use Rattle.kz_spec_stores.specs.InOrder.{IsInOrder}
-use Rattle.kz_spec_znodes.specs.Rendering.{bare, znode, topic_znode, partitions_path, number_path, assignment_of, state_body, partition_znodes, topic_config_znodes, topic_znodes, config_znode, quotas_of_user, user_znode, quota_znodes, acl_key, row_of_acl, acl_znode, producer_znodes, entity_znodes, render}
-use Rattle.kz_laws_paths.proofs.Legal.{IsGoodKey}
-use Rattle.kz_laws_paths.proofs.Keys.{path_holds}
+use Rattle.kz_types.specs.Order.{bytes_cmp}
+use Rattle.kz_types.specs.Ordered.{find, Rises}
+use Rattle.kz_types.proofs.Order.{bytes_order, int_order}
+use Rattle.kz_types.proofs.Lookup.{same_some, found_is_contained, key_of_found, contained_is_found, Contains-head, Contains-tail}
+use Rattle.kz_types.proofs.Puts.{Rises-all_put}
+use Rattle.kz_spec_data.specs.Tree.{path_of_rendered}
+use Rattle.kz_spec_data.specs.Metadata.{Image, name_of_topic, number_of_partition}
+use Rattle.kz_spec_data.specs.InOrder.{IsInOrder}
+use Rattle.kz_spec_data.specs.Rendering.{bare, znode, topic_znode, partitions_path, number_path, assignment_of, state_body, partition_znodes, topic_config_znodes, topic_znodes, config_znode, quotas_of_user, user_znode, quota_znodes, acl_key, row_of_acl, acl_znode, producer_znodes, entity_znodes, render}
+use Rattle.kz_laws_values.proofs.Legal.{IsGoodKey}
+use Rattle.kz_laws_values.proofs.Keys.{path_holds}
 use Rattle.kz_laws_znodes.specs.RoundTrip.{IsWritable, HasEpoch, MayReturn}
 use Rattle.kz_laws_znodes.proofs.Within.{to_flat, to_map}
 use Rattle.kz_laws_znodes.proofs.Scaffolds.{IsScaffold}

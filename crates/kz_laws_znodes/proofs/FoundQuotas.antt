@@ -14,19 +14,19 @@ use Rattle.kz_types.specs.declared.image.AclEntry.{AclEntry}
 use Rattle.kz_types.specs.declared.key.EntityKey.{EntityKey}
 use Rattle.kz_types.specs.declared.key.EntityKey.TheVariants as key
 use Rattle.kz_types.specs.Paths.{roots, key_of, path_of}
-use Rattle.kz_ordered.specs.Order.{bytes_cmp}
-use Rattle.kz_ordered.specs.Ordered.{find, all_put}
-use Rattle.kz_ordered.proofs.Order.{bytes_order}
-use Rattle.kz_ordered.proofs.Lookup.{some_is_none, same_some, found_is_contained, key_of_found, contained_is_found, Contains-head, Contains-nil, Contains-cons_cases}
-use Rattle.kz_ordered.proofs.Puts.{all_put-append}
-use Rattle.kz_spec_values.specs.Bodies.{read_body}
-use Rattle.kz_spec_stores.specs.Tree.{path_of_rendered}
-use Rattle.kz_spec_stores.specs.Metadata.{Image, path_of_quotas, name_of_user}
-use Rattle.kz_spec_stores.specs.Image.{quotas_in, scrams_in}
-use Rattle.kz_spec_stores.specs.InOrder.{IsInOrder}
-use Rattle.kz_spec_znodes.specs.Rendering.{bare, znode, topic_znodes, config_znode, quota_parents, znode_of_quotas, own_znodes, quotas_of_user, user_znode, quota_znodes, acl_key, acl_znode, producer_znodes, render}
-use Rattle.kz_laws_paths.proofs.Legal.{IsGoodKey}
-use Rattle.kz_laws_paths.proofs.Keys.{path_holds}
+use Rattle.kz_types.specs.Order.{bytes_cmp}
+use Rattle.kz_types.specs.Ordered.{find, all_put}
+use Rattle.kz_types.proofs.Order.{bytes_order}
+use Rattle.kz_types.proofs.Lookup.{some_is_none, same_some, found_is_contained, key_of_found, contained_is_found, Contains-head, Contains-nil, Contains-cons_cases}
+use Rattle.kz_types.proofs.Puts.{all_put-append}
+use Rattle.kz_spec_data.specs.Bodies.{read_body}
+use Rattle.kz_spec_data.specs.Tree.{path_of_rendered}
+use Rattle.kz_spec_data.specs.Metadata.{Image, path_of_quotas, name_of_user}
+use Rattle.kz_spec_data.specs.Image.{quotas_in, scrams_in}
+use Rattle.kz_spec_data.specs.InOrder.{IsInOrder}
+use Rattle.kz_spec_data.specs.Rendering.{bare, znode, topic_znodes, config_znode, quota_parents, znode_of_quotas, own_znodes, quotas_of_user, user_znode, quota_znodes, acl_key, acl_znode, producer_znodes, render}
+use Rattle.kz_laws_values.proofs.Legal.{IsGoodKey}
+use Rattle.kz_laws_values.proofs.Keys.{path_holds}
 use Rattle.kz_laws_znodes.specs.RoundTrip.{IsWritable, MayReturn}
 use Rattle.kz_laws_znodes.proofs.Within.{from_flat, from_map, to_flat, to_map}
 use Rattle.kz_laws_znodes.proofs.Shown.{Shown, shown_topic, shown_state, shown_topic_config, shown_config, shown_parent, shown_quotas, shown_user, shown_entries, shown_producer, shown_blank, shown_scaffold, after_quotas}

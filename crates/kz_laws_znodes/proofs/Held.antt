@@ -26,27 +26,27 @@ use Rattle.kz_types.specs.Numbers.{canonical}
 use Rattle.kz_types.specs.PathRule.{is_path}
 use Rattle.kz_types.specs.Paths.{resource_type_name, is_topic_name, is_not_negative, is_not_empty, is_legal, has_path, key_of, path_of}
 use Rattle.kz_types.proofs.KeyLemmas.{path_of_key_of}
-use Rattle.kz_ordered.specs.Order.{bytes_cmp}
-use Rattle.kz_ordered.specs.Ordered.{find, Rises}
-use Rattle.kz_ordered.proofs.Order.{bytes_order}
-use Rattle.kz_ordered.proofs.Lookup.{found_is_contained, key_of_found, Contains-head, Contains-tail}
-use Rattle.kz_spec_values.specs.Bodies.{read_body, empty_body, text_of_body, is_of_kind}
-use Rattle.kz_spec_stores.specs.Metadata.{Image, path_of_quotas, mechanism_of_pair}
-use Rattle.kz_spec_stores.specs.Image.{quotas_in}
-use Rattle.kz_spec_stores.specs.ImageRules.{is_broker_name}
-use Rattle.kz_spec_stores.specs.InOrder.{is_below_quota_root, IsFilled, IsQuotaFilled, IsUserFilled, IsInOrder}
-use Rattle.kz_spec_stores.specs.Legal.{IsConfiguration, IsQuotaEntry, IsScramOf, IsScramEntry, IsAcl, IsNext}
-use Rattle.kz_spec_znodes.specs.Rendering.{bare, znode, topic_znode, assignment_of, state_body, broker_key, config_znode, quotas_of_user, user_znode, acl_key, is_of_resource, row_of_acl, acl_znode}
-use Rattle.kz_laws_paths.specs.TextKeys.{IsText, IsSmall}
-use Rattle.kz_laws_paths.proofs.Legal.{IsGoodKey}
-use Rattle.kz_laws_paths.proofs.Keys.{path_holds}
-use Rattle.kz_laws_bodies.specs.Readable.{IsQuotaBody, AreQuotas, AreEntries, IsBlock}
-use Rattle.kz_laws_bodies.proofs.Topics.{topic_is_read}
-use Rattle.kz_laws_bodies.proofs.States.{state_is_read}
-use Rattle.kz_laws_bodies.proofs.Configs.{config_is_read}
-use Rattle.kz_laws_bodies.proofs.QuotaBodies.{quotas_are_read}
-use Rattle.kz_laws_bodies.proofs.Entries.{entries_are_read}
-use Rattle.kz_laws_bodies.proofs.Producers.{producer_is_read}
+use Rattle.kz_types.specs.Order.{bytes_cmp}
+use Rattle.kz_types.specs.Ordered.{find, Rises}
+use Rattle.kz_types.proofs.Order.{bytes_order}
+use Rattle.kz_types.proofs.Lookup.{found_is_contained, key_of_found, Contains-head, Contains-tail}
+use Rattle.kz_spec_data.specs.Bodies.{read_body, empty_body, text_of_body, is_of_kind}
+use Rattle.kz_spec_data.specs.Metadata.{Image, path_of_quotas, mechanism_of_pair}
+use Rattle.kz_spec_data.specs.Image.{quotas_in}
+use Rattle.kz_spec_data.specs.ImageRules.{is_broker_name}
+use Rattle.kz_spec_data.specs.InOrder.{is_below_quota_root, IsFilled, IsQuotaFilled, IsUserFilled, IsInOrder}
+use Rattle.kz_spec_data.specs.Legal.{IsConfiguration, IsQuotaEntry, IsScramOf, IsScramEntry, IsAcl, IsNext}
+use Rattle.kz_spec_data.specs.Rendering.{bare, znode, topic_znode, assignment_of, state_body, broker_key, config_znode, quotas_of_user, user_znode, acl_key, is_of_resource, row_of_acl, acl_znode}
+use Rattle.kz_laws_values.specs.TextKeys.{IsText, IsSmall}
+use Rattle.kz_laws_values.proofs.Legal.{IsGoodKey}
+use Rattle.kz_laws_values.proofs.Keys.{path_holds}
+use Rattle.kz_laws_values.specs.Readable.{IsQuotaBody, AreQuotas, AreEntries, IsBlock}
+use Rattle.kz_laws_values.proofs.Topics.{topic_is_read}
+use Rattle.kz_laws_values.proofs.States.{state_is_read}
+use Rattle.kz_laws_values.proofs.Configs.{config_is_read}
+use Rattle.kz_laws_values.proofs.QuotaBodies.{quotas_are_read}
+use Rattle.kz_laws_values.proofs.Entries.{entries_are_read}
+use Rattle.kz_laws_values.proofs.Producers.{producer_is_read}
 use Rattle.kz_laws_znodes.specs.RoundTrip.{IsConfigWritable, AreQuotasWritable, IsScramWritable, IsUserWritable, IsAclWritable, IsWritable, HasRoom}
 use Rattle.kz_laws_znodes.proofs.Walk.{may_be_long}
 use Rattle.kz_laws_znodes.proofs.Shown.{topic_facts, partition_facts, quota_key_good}

@@ -7,10 +7,10 @@ use Rattle.std.specs.Cmp.Lexicographic.{slice_cmp}
 use Rattle.std.proofs.lemmas.Bool.Decides.{nat_tests}
 use Rattle.std.proofs.Math.Arith.{mod-mul}
 use Rattle.std.proofs.Math.Nat.{mul-le-mul_right, pow-succ'}
-use Rattle.kz_ordered.specs.Order.{bytes_cmp}
-use Rattle.kz_ordered.proofs.Order.{nat_order, cmp_equal}
+use Rattle.kz_types.specs.Order.{bytes_cmp}
+use Rattle.kz_types.proofs.Order.{nat_order, cmp_equal}
 use Rattle.kz_types.specs.Ids.{zero_id}
-use Rattle.kz_spec_znodes.specs.Translation.{migrated_id}
+use Rattle.kz_spec_data.specs.Translation.{migrated_id}
 
 power_above : (k : ℕ) → 0 < 256 ^ k
 power_above zero = omega arith

@@ -14,17 +14,17 @@ use Rattle.kz_types.specs.declared.image.TopicEntry.{TopicEntry}
 use Rattle.kz_types.specs.declared.image.AclEntry.{AclEntry}
 use Rattle.kz_types.specs.declared.key.EntityKey.TheVariants as key
 use Rattle.kz_types.specs.Paths.{roots, key_of, path_of}
-use Rattle.kz_ordered.specs.Order.{TotalOrder, bytes_cmp}
-use Rattle.kz_ordered.specs.Ordered.{find, put, all_put, Rises}
-use Rattle.kz_ordered.proofs.Order.{bytes_order}
-use Rattle.kz_ordered.proofs.Lookup.{some_is_none, found_is_contained, key_of_found, find-put_other, same_items, Contains-head, Contains-tail, Contains-nil, Contains-cons_cases}
-use Rattle.kz_ordered.proofs.Puts.{Rises-all_put, all_put-append}
-use Rattle.kz_spec_values.specs.Bodies.{text_of_body}
-use Rattle.kz_spec_stores.specs.Tree.{path_of_rendered}
-use Rattle.kz_spec_stores.specs.Metadata.{Image}
-use Rattle.kz_spec_stores.specs.InOrder.{IsInOrder}
-use Rattle.kz_spec_znodes.specs.Rendering.{bare, znode, partitions_path, assignment_of, partition_znodes, topic_config_znodes, topic_znodes, config_znode, quota_znodes, acl_key, acl_znode, producer_znodes, render}
-use Rattle.kz_laws_paths.proofs.Keys.{path_holds}
+use Rattle.kz_types.specs.Order.{TotalOrder, bytes_cmp}
+use Rattle.kz_types.specs.Ordered.{find, put, all_put, Rises}
+use Rattle.kz_types.proofs.Order.{bytes_order}
+use Rattle.kz_types.proofs.Lookup.{some_is_none, found_is_contained, key_of_found, find-put_other, same_items, Contains-head, Contains-tail, Contains-nil, Contains-cons_cases}
+use Rattle.kz_types.proofs.Puts.{Rises-all_put, all_put-append}
+use Rattle.kz_spec_data.specs.Bodies.{text_of_body}
+use Rattle.kz_spec_data.specs.Tree.{path_of_rendered}
+use Rattle.kz_spec_data.specs.Metadata.{Image}
+use Rattle.kz_spec_data.specs.InOrder.{IsInOrder}
+use Rattle.kz_spec_data.specs.Rendering.{bare, znode, partitions_path, assignment_of, partition_znodes, topic_config_znodes, topic_znodes, config_znode, quota_znodes, acl_key, acl_znode, producer_znodes, render}
+use Rattle.kz_laws_values.proofs.Keys.{path_holds}
 use Rattle.kz_laws_znodes.specs.RoundTrip.{znodes_of, at_epoch, topic_at_epoch, greatest_image, IsWritable, MayReturn, entries_of_resource}
 use Rattle.kz_laws_znodes.proofs.Within.{from_map, to_map}
 use Rattle.kz_laws_znodes.proofs.Shown.{Shown, shown_topic, shown_state, shown_topic_config, shown_config, shown_parent, shown_quotas, shown_user, shown_entries, shown_producer, shown_blank, shown_scaffold, shown}

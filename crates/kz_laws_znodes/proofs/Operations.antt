@@ -4,13 +4,13 @@ use Rattle.std.proofs.lemmas.List.{take-map, drop-map}
 use Rattle.std.proofs.lemmas.Slice.Eq.{bytes_eq-Decides}
 use Rattle.kz_types.specs.declared.limits.TheConstants.{MAX_CHUNK}
 use Rattle.kz_types.specs.declared.tree.Rendered.{Rendered}
-use Rattle.kz_ordered.specs.Order.{bytes_cmp}
-use Rattle.kz_ordered.specs.Ordered.{Rises}
-use Rattle.kz_ordered.specs.Difference.{DecidesEqual, Edit, drop_key, make, alter, after_edit, all_edited, difference}
-use Rattle.kz_ordered.proofs.Order.{bytes_order}
-use Rattle.kz_ordered.proofs.Difference.{difference_leads, prefix_leaves_rest}
-use Rattle.kz_spec_stores.specs.Tree.{path_of_rendered}
-use Rattle.kz_spec_znodes.specs.Difference.{same_body, op_of, chunk_length, diff, chunk, after_chunk}
+use Rattle.kz_types.specs.Order.{bytes_cmp}
+use Rattle.kz_types.specs.Ordered.{Rises}
+use Rattle.kz_types.specs.Difference.{DecidesEqual, Edit, drop_key, make, alter, after_edit, all_edited, difference}
+use Rattle.kz_types.proofs.Order.{bytes_order}
+use Rattle.kz_types.proofs.Difference.{difference_leads, prefix_leaves_rest}
+use Rattle.kz_spec_data.specs.Tree.{path_of_rendered}
+use Rattle.kz_spec_data.specs.Difference.{same_body, op_of, chunk_length, diff, chunk, after_chunk}
 use Rattle.kz_laws_znodes.specs.Operations.{after_operation, all_made}
 
 decides_body : DecidesEqual path_of_rendered same_body

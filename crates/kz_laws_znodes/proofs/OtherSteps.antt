@@ -16,18 +16,18 @@ use Rattle.kz_types.specs.declared.key.EntityKey.{EntityKey}
 use Rattle.kz_types.specs.declared.record.MetaRecord.TheVariants as meta
 use Rattle.kz_types.specs.Paths.{is_legal, has_path, path_of, is_among}
 use Rattle.kz_types.specs.Quotas.{is_quota}
-use Rattle.kz_ordered.specs.Order.{bytes_cmp}
-use Rattle.kz_ordered.specs.Ordered.{find, Rises, AllBelow}
-use Rattle.kz_ordered.proofs.Order.{bytes_order, int_order}
-use Rattle.kz_ordered.proofs.Append.{put_last, find_all_below}
-use Rattle.kz_spec_values.specs.Credentials.{quota_keys}
-use Rattle.kz_spec_stores.specs.Metadata.{Image, name_of_configuration, name_of_pair, path_of_quotas, key_of_quota, name_of_user, mechanism_of_pair, id_of_acl, pairs_of}
-use Rattle.kz_spec_stores.specs.Image.{with_pairs, quotas_in, with_quotas, quota_changed, scrams_in, with_scrams, effect}
-use Rattle.kz_spec_stores.specs.ImageRules.{is_broker_name, is_user, is_mechanism, is_resource, are_codes, is_operation, is_permission, quota_key, has_quota, max_next}
-use Rattle.kz_spec_znodes.specs.Translation.{config_record, quota_entity, quota_record, scram_record, migrated_id, acl_record, acl_records}
+use Rattle.kz_types.specs.Order.{bytes_cmp}
+use Rattle.kz_types.specs.Ordered.{find, Rises, AllBelow}
+use Rattle.kz_types.proofs.Order.{bytes_order, int_order}
+use Rattle.kz_types.proofs.Append.{put_last, find_all_below}
+use Rattle.kz_spec_data.specs.Credentials.{quota_keys}
+use Rattle.kz_spec_data.specs.Metadata.{Image, name_of_configuration, name_of_pair, path_of_quotas, key_of_quota, name_of_user, mechanism_of_pair, id_of_acl, pairs_of}
+use Rattle.kz_spec_data.specs.Image.{with_pairs, quotas_in, with_quotas, quota_changed, scrams_in, with_scrams, effect}
+use Rattle.kz_spec_data.specs.ImageRules.{is_broker_name, is_user, is_mechanism, is_resource, are_codes, is_operation, is_permission, quota_key, has_quota, max_next}
+use Rattle.kz_spec_data.specs.Translation.{config_record, quota_entity, quota_record, scram_record, migrated_id, acl_record, acl_records}
 use Rattle.kz_laws_znodes.proofs.Ids.{ids_rise, id_not_zero}
 use Rattle.kz_laws_znodes.proofs.Accepting.{Leads, leads_one, leads_none, leads_to, leads_append, leads_each}
-use Rattle.kz_laws_znodes.proofs.Groups.{grown, grows}
+use Rattle.kz_laws_znodes.proofs.ZnodeGroups.{grown, grows}
 use Rattle.kz_laws_znodes.proofs.TopicSteps.{IsNamed}
 
 -- ---- the configuration of a broker

@@ -13,11 +13,11 @@ use Rattle.kz_types.specs.declared.fault.ReadWhy.{ReadWhy}
 use Rattle.kz_types.specs.declared.row.PartitionRow.{PartitionRow}
 use Rattle.kz_types.specs.declared.record.MetaRecord.{MetaRecord}
 use Rattle.kz_types.specs.Numbers.{is_in, are_distinct}
-use Rattle.kz_spec_values.specs.Bodies.{are_replicas, are_some_of}
-use Rattle.kz_spec_stores.specs.ImageRules.{is_epoch, is_replica, is_recovery, new_row, is_row}
-use Rattle.kz_spec_znodes.specs.Translation.{RowRecords, leader_of, first_replica, new_partition, partition_with, may_lead, records_of_state}
+use Rattle.kz_spec_data.specs.Bodies.{are_replicas, are_some_of}
+use Rattle.kz_spec_data.specs.ImageRules.{is_epoch, is_replica, is_recovery, new_row, is_row}
+use Rattle.kz_spec_data.specs.Translation.{RowRecords, leader_of, first_replica, new_partition, partition_with, may_lead, records_of_state}
 use Rattle.kz_laws_values.specs.Ranges.{IsBetween}
-use Rattle.kz_laws_bodies.specs.Readable.{IsWhole, AreBrokers, IsState, IsPartition}
+use Rattle.kz_laws_values.specs.Readable.{IsWhole, AreBrokers, IsState, IsPartition}
 use Rattle.kz_laws_znodes.proofs.TopicSteps.{IsMade}
 
 -- ---- numbers

@@ -1,9 +1,9 @@
 -- What is found among items that were put, one after another.
 use Rattle.std.proofs.Common.{◌≡◌, ◌⊎◌, List, [], ◌∷◌, Some, Ordering, Contains, sym, ap, ◌∙◌, subst, inl, inr}
-use Rattle.kz_ordered.specs.Order.{TotalOrder}
-use Rattle.kz_ordered.specs.Ordered.{find, put, all_put}
-use Rattle.kz_ordered.proofs.Order.{below, equal, above, place, less_differs, less_differs_back}
-use Rattle.kz_ordered.proofs.Lookup.{same_some, find-put_same, find-put_other, Contains-head, Contains-tail, Contains-nil, Contains-cons_cases}
+use Rattle.kz_types.specs.Order.{TotalOrder}
+use Rattle.kz_types.specs.Ordered.{find, put, all_put}
+use Rattle.kz_types.proofs.Order.{below, equal, above, place, less_differs, less_differs_back}
+use Rattle.kz_types.proofs.Lookup.{same_some, find-put_same, find-put_other, Contains-head, Contains-tail, Contains-nil, Contains-cons_cases}
 
 module _ {A K : Type 0} {cmp : K → K → Ordering} (o : TotalOrder cmp) (key : A → K) where
   -- what is found after one item is put

@@ -12,20 +12,20 @@ use Rattle.kz_types.specs.declared.image.AclEntry.{AclEntry}
 use Rattle.kz_types.specs.declared.key.EntityKey.{EntityKey}
 use Rattle.kz_types.specs.declared.key.EntityKey.TheVariants as key
 use Rattle.kz_types.specs.Paths.{is_part, resource_type_name, is_among, is_not_empty, is_pattern, is_resource_type, is_legal, has_path, path_of}
-use Rattle.kz_ordered.specs.Order.{bytes_cmp}
-use Rattle.kz_ordered.specs.Ordered.{Rises, RisesAbove}
-use Rattle.kz_ordered.proofs.Order.{int_order}
-use Rattle.kz_ordered.proofs.Lookup.{rest_rises, rises_above_smaller}
-use Rattle.kz_ordered.proofs.Maps.{Rises-map}
-use Rattle.kz_spec_values.specs.Credentials.{client_keys, quota_keys, credential_key, mechanism_name, quota_pair, credential_pair}
-use Rattle.kz_spec_stores.specs.Metadata.{name_of_pair, key_of_quota, mechanism_of_pair}
-use Rattle.kz_spec_stores.specs.ImageRules.{is_empty, is_dots, is_mechanism, is_user, are_codes, is_resource, is_operation, is_permission}
-use Rattle.kz_spec_stores.specs.Legal.{IsQuotaOf, IsQuotaEntry, IsScramOf, IsAcl}
-use Rattle.kz_spec_znodes.specs.Rendering.{acl_key}
+use Rattle.kz_types.specs.Order.{bytes_cmp}
+use Rattle.kz_types.specs.Ordered.{Rises, RisesAbove}
+use Rattle.kz_types.proofs.Order.{int_order}
+use Rattle.kz_types.proofs.Lookup.{rest_rises, rises_above_smaller}
+use Rattle.kz_types.proofs.Maps.{Rises-map}
+use Rattle.kz_spec_data.specs.Credentials.{client_keys, quota_keys, credential_key, mechanism_name, quota_pair, credential_pair}
+use Rattle.kz_spec_data.specs.Metadata.{name_of_pair, key_of_quota, mechanism_of_pair}
+use Rattle.kz_spec_data.specs.ImageRules.{is_empty, is_dots, is_mechanism, is_user, are_codes, is_resource, is_operation, is_permission}
+use Rattle.kz_spec_data.specs.Legal.{IsQuotaOf, IsQuotaEntry, IsScramOf, IsAcl}
+use Rattle.kz_spec_data.specs.Rendering.{acl_key}
 use Rattle.kz_laws_values.specs.Ranges.{IsBetween}
-use Rattle.kz_laws_bodies.specs.Readable.{IsBelow, AreRising, AreQuotas, IsScram, AreCredentials, IsQuotaBody}
-use Rattle.kz_laws_paths.specs.TextKeys.{IsText}
-use Rattle.kz_laws_paths.proofs.Legal.{IsGoodKey}
+use Rattle.kz_laws_values.specs.Readable.{IsBelow, AreRising, AreQuotas, IsScram, AreCredentials, IsQuotaBody}
+use Rattle.kz_laws_values.specs.TextKeys.{IsText}
+use Rattle.kz_laws_values.proofs.Legal.{IsGoodKey}
 use Rattle.kz_laws_znodes.specs.RoundTrip.{IsQuotaWritable, IsScramWritable, IsAclWritable}
 use Rattle.kz_laws_znodes.proofs.Bodies.{holds_le, rising}
 

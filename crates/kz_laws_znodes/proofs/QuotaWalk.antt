@@ -20,23 +20,23 @@ use Rattle.kz_types.specs.PathRule.{is_path, parts, is_part}
 use Rattle.kz_types.specs.Paths.{is_legal, has_path, key_of, path_of, part_for_name, name_of_part}
 use Rattle.kz_types.proofs.PathRules.{parts_are_legal}
 use Rattle.kz_types.proofs.NumberLemmas.{bytes_eq-true}
-use Rattle.kz_ordered.specs.Order.{bytes_cmp}
-use Rattle.kz_ordered.specs.Ordered.{find}
-use Rattle.kz_ordered.proofs.Order.{bytes_order}
-use Rattle.kz_ordered.proofs.Lookup.{same_some}
-use Rattle.kz_spec_values.specs.Bodies.{read_body}
-use Rattle.kz_spec_stores.specs.Metadata.{Image, path_of_quotas, name_of_user}
-use Rattle.kz_spec_stores.specs.ImageRules.{is_empty, is_dots, is_mechanism, is_user, quota_key}
-use Rattle.kz_spec_stores.specs.Tree.{row_at}
-use Rattle.kz_spec_znodes.specs.Translation.{quota_entity, quota_record, scram_record, scram_records}
-use Rattle.kz_laws_paths.proofs.Names.{name_is_read}
-use Rattle.kz_laws_paths.proofs.Legal.{IsGoodKey}
+use Rattle.kz_types.specs.Order.{bytes_cmp}
+use Rattle.kz_types.specs.Ordered.{find}
+use Rattle.kz_types.proofs.Order.{bytes_order}
+use Rattle.kz_types.proofs.Lookup.{same_some}
+use Rattle.kz_spec_data.specs.Bodies.{read_body}
+use Rattle.kz_spec_data.specs.Metadata.{Image, path_of_quotas, name_of_user}
+use Rattle.kz_spec_data.specs.ImageRules.{is_empty, is_dots, is_mechanism, is_user, quota_key}
+use Rattle.kz_spec_data.specs.Tree.{row_at}
+use Rattle.kz_spec_data.specs.Translation.{quota_entity, quota_record, scram_record, scram_records}
+use Rattle.kz_laws_values.proofs.Names.{name_is_read}
+use Rattle.kz_laws_values.proofs.Legal.{IsGoodKey}
 use Rattle.kz_laws_znodes.proofs.ReadQuotas.{IsMechanism, AreQuotasRead, AreScramsRead, IsQuotaBodyRead}
 use Rattle.kz_laws_znodes.proofs.Accepting.{Leads, leads_append}
 use Rattle.kz_laws_znodes.proofs.OtherSteps.{quota_list, with_quota_list, IsAllowed, HasQuotas, quotas_lead, scram_list, with_scram_list, IsCredentialOf, scrams_lead}
 use Rattle.kz_laws_znodes.proofs.Saying.{entity_of, entity_read, pick, topic_said, topic_config_said, broker_config_said, quotas_said, scrams_said, next_said, said, said_elsewhere, said_here, said_nowhere, entries_by, of_user, listed, or_empty, grown_rises, grown_here, grown_elsewhere}
 use Rattle.kz_laws_znodes.proofs.Says.{scrams_in_rows, SaysQuotas, SaysUsers, Says}
-use Rattle.kz_laws_znodes.proofs.Stays.{Step, stay_topics, stay_configs, stay_users, stay_entries, stay_next}
+use Rattle.kz_laws_znodes.proofs.ZnodeStays.{Step, stay_topics, stay_configs, stay_users, stay_entries, stay_next}
 use Rattle.kz_laws_znodes.proofs.Walk.{AreRows, may_be_long, absent_here, keyed_here, key_here, path_of_here}
 use Rattle.kz_laws_znodes.proofs.TopicRows.{same_after}
 use Rattle.kz_laws_znodes.proofs.BrokerWalk.{by_name}

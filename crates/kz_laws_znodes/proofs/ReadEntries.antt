@@ -3,8 +3,8 @@ use Rattle.std.proofs.Common.{◌≡◌, ℕ, ℤ, pos, Bool, true, false, List,
 use Rattle.std.specs.Prelude.{⊤, IfSome, option_map, option_and_then, if◌then◌else◌, bytes_eq}
 use Rattle.serde_json.specs.Data.{Data, Items, no_items, item}
 use Rattle.kz_types.specs.declared.row.AclRow.{AclRow}
-use Rattle.kz_spec_values.specs.Bodies.{operation_of, permission_of, text_at, entry_in, entries_in}
-use Rattle.kz_spec_stores.specs.ImageRules.{is_operation, is_permission}
+use Rattle.kz_spec_data.specs.Bodies.{operation_of, permission_of, text_at, entry_in, entries_in}
+use Rattle.kz_spec_data.specs.ImageRules.{is_operation, is_permission}
 use Rattle.kz_laws_znodes.proofs.Sorted.{if_mapped, if_chained, if_any, always}
 
 -- An entry of this resource.

@@ -6,10 +6,10 @@ use Rattle.std.proofs.lemmas.Int.{ints}
 use Rattle.serde_json.specs.Data.{Data, null, boolean, number, string, array, object, Items, no_items, item, Members, no_members, member}
 use Rattle.serde_json.specs.Find.{get, as_number, as_i64, as_array, as_str}
 use Rattle.kz_types.specs.declared.fault.BodyFault.{BodyFault}
-use Rattle.kz_spec_values.specs.Bodies.{then_read, of_form, required_member, optional, field, greatest, within, whole, brokers_in, brokers_of, texts_in, texts_of, pairs_of}
+use Rattle.kz_spec_data.specs.Bodies.{then_read, of_form, required_member, optional, field, greatest, within, whole, brokers_in, brokers_of, texts_in, texts_of, pairs_of}
 use Rattle.kz_laws_values.specs.Ranges.{IsBetween}
-use Rattle.kz_laws_bodies.specs.Readable.{IsWhole, AreBrokers, IsBelow, AreRising}
-use Rattle.kz_laws_bodies.proofs.Members.{Rise, IsUnder}
+use Rattle.kz_laws_values.specs.Readable.{IsWhole, AreBrokers, IsBelow, AreRising}
+use Rattle.kz_laws_values.proofs.Members.{Rise, IsUnder}
 use Rattle.kz_laws_znodes.proofs.Sorted.{IsSorted, if_mapped, if_chained, if_any, get_sorted}
 
 -- ---- what holds of what is read

@@ -9,7 +9,7 @@ use Rattle.std.proofs.lemmas.Option.{IfSome_then}
 use Rattle.std.proofs.lemmas.Int.{ints}
 use Rattle.kz_types.specs.Numbers.{canonical}
 use Rattle.kz_types.specs.Quotas.{is_quota}
-use Rattle.kz_spec_quotas.specs.Quotas.{Numeral, numeral_of, digits_of, scale_of, in_millionths, quota_of_millionths, quota_of_numeral, quota_of}
+use Rattle.kz_spec_data.specs.Quotas.{Numeral, numeral_of, digits_of, scale_of, in_millionths, quota_of_millionths, quota_of_numeral, quota_of}
 use Rattle.kz_types.proofs.NumberLemmas.{bytes_eq-true}
 use Rattle.kz_types.specs.declared.row.QuotaValue.{QuotaValue}
 use Rattle.kz_types.specs.declared.row.ScramRow.{ScramRow}
@@ -22,13 +22,13 @@ use Rattle.kz_types.specs.declared.value_fault.QuotaFault.{QuotaFault}
 use Rattle.kz_types.specs.declared.value_fault.QuotaFault.TheVariants.{TooLarge}
 use Rattle.kz_types.specs.declared.key.EntityKey.{EntityKey}
 use Rattle.kz_types.specs.declared.key.EntityKey.TheVariants as key
-use Rattle.kz_ordered.specs.Order.{bytes_cmp}
-use Rattle.kz_ordered.specs.Ordered.{Rises, RisesAbove}
-use Rattle.kz_ordered.proofs.Order.{bytes_order}
-use Rattle.kz_spec_values.specs.Credentials.{Entries, quota_keys, mechanism_of, mechanism_name, credential_key, value_of, bytes_of, credential_of, iterations_of, credential_of_pieces, credential_entry, quota_entry, entry_by, entry_of, entries_of_both, both, entries_of}
+use Rattle.kz_types.specs.Order.{bytes_cmp}
+use Rattle.kz_types.specs.Ordered.{Rises, RisesAbove}
+use Rattle.kz_types.proofs.Order.{bytes_order}
+use Rattle.kz_spec_data.specs.Credentials.{Entries, quota_keys, mechanism_of, mechanism_name, credential_key, value_of, bytes_of, credential_of, iterations_of, credential_of_pieces, credential_entry, quota_entry, entry_by, entry_of, entries_of_both, both, entries_of}
 use Rattle.kz_types.specs.Paths.{is_among}
-use Rattle.kz_spec_stores.specs.Metadata.{key_of_quota, mechanism_of_pair}
-use Rattle.kz_laws_bodies.specs.Readable.{IsBelow, AreRising}
+use Rattle.kz_spec_data.specs.Metadata.{key_of_quota, mechanism_of_pair}
+use Rattle.kz_laws_values.specs.Readable.{IsBelow, AreRising}
 use Rattle.kz_laws_znodes.proofs.Sorted.{if_mapped, if_any}
 use Rattle.kz_laws_znodes.proofs.ReadForms.{Holds, if_either}
 

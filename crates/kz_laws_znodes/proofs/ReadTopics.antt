@@ -14,13 +14,13 @@ use Rattle.kz_types.proofs.NumberLemmas.{canonical_sound}
 use Rattle.kz_types.specs.declared.id.Id.{Id}
 use Rattle.kz_types.specs.declared.bodies.AssignmentRow.{AssignmentRow}
 use Rattle.kz_types.specs.declared.fault.BodyFault.TheVariants as fault
-use Rattle.kz_ordered.specs.Ordered.{put, Rises}
-use Rattle.kz_ordered.proofs.Order.{int_order, bytes_order, less_differs}
-use Rattle.kz_ordered.proofs.Lookup.{Rises-put}
-use Rattle.kz_spec_values.specs.Bodies.{brokers_of, are_replicas, are_some_of, place_row, row_of, rows_onto, rows_of, are_lists, list_at, fit, lists_for, with_lists, topic_id_of, topic_id_in}
-use Rattle.kz_spec_znodes.specs.Translation.{number_of_assignment}
-use Rattle.kz_laws_bodies.specs.Readable.{IsWhole, AreBrokers, ArePartitions}
-use Rattle.kz_laws_bodies.proofs.Members.{Rise, IsUnder}
+use Rattle.kz_types.specs.Ordered.{put, Rises}
+use Rattle.kz_types.proofs.Order.{int_order, bytes_order, less_differs}
+use Rattle.kz_types.proofs.Lookup.{Rises-put}
+use Rattle.kz_spec_data.specs.Bodies.{brokers_of, are_replicas, are_some_of, place_row, row_of, rows_onto, rows_of, are_lists, list_at, fit, lists_for, with_lists, topic_id_of, topic_id_in}
+use Rattle.kz_spec_data.specs.Translation.{number_of_assignment}
+use Rattle.kz_laws_values.specs.Readable.{IsWhole, AreBrokers, ArePartitions}
+use Rattle.kz_laws_values.proofs.Members.{Rise, IsUnder}
 use Rattle.kz_laws_znodes.proofs.Sorted.{IsSorted, if_chained, if_any}
 use Rattle.kz_laws_znodes.proofs.ReadForms.{Holds, if_test, brokers_of_holds}
 

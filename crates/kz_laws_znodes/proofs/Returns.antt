@@ -6,11 +6,11 @@ use Rattle.kz_types.specs.declared.limits.TheConstants.{MAX_EPOCH, MAX_RECORDS}
 use Rattle.kz_types.specs.declared.tree.Row.{Row}
 use Rattle.kz_types.specs.declared.record.MetaRecord.{MetaRecord}
 use Rattle.kz_types.specs.declared.fault.ReadWhy.TheVariants as why
-use Rattle.kz_spec_stores.specs.Metadata.{Image, empty_image}
-use Rattle.kz_spec_stores.specs.Image.{all_applied}
-use Rattle.kz_spec_stores.specs.InOrder.{IsInOrder}
-use Rattle.kz_spec_znodes.specs.Rendering.{excess_of, excess}
-use Rattle.kz_spec_znodes.specs.Translation.{Translated, all_records, further_records, records_unless_excess, within_limits, translate}
+use Rattle.kz_spec_data.specs.Metadata.{Image, empty_image}
+use Rattle.kz_spec_data.specs.Image.{all_applied}
+use Rattle.kz_spec_data.specs.InOrder.{IsInOrder}
+use Rattle.kz_spec_data.specs.Rendering.{excess_of, excess}
+use Rattle.kz_spec_data.specs.Translation.{Translated, all_records, further_records, records_unless_excess, within_limits, translate}
 use Rattle.kz_laws_znodes.specs.RoundTrip.{znodes_of, topic_without_epochs, IsWritable, MayReturn, IsSameBut}
 use Rattle.kz_laws_znodes.proofs.Again.{are_rows, records_again}
 use Rattle.kz_laws_znodes.proofs.SameTopics.{returned_same, topics_return, configs_return}
@@ -18,7 +18,7 @@ use Rattle.kz_laws_znodes.proofs.SameQuotas.{quotas_return, users_return}
 use Rattle.kz_laws_znodes.proofs.SameAcls.{acls_return}
 use Rattle.kz_laws_znodes.proofs.Limits.{returned_alike}
 use Rattle.kz_laws_znodes.proofs.Says.{Says}
-use Rattle.kz_laws_znodes.proofs.Whole.{Ends, translation_leads}
+use Rattle.kz_laws_znodes.proofs.WholeZnodes.{Ends, translation_leads}
 
 module _ (i : Image) (o : IsInOrder i) (w : IsWritable i) (m : MayReturn i) where
   abbrev rows : List Row

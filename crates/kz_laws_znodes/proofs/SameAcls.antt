@@ -15,16 +15,16 @@ use Rattle.kz_types.specs.declared.image.AclEntry.{AclEntry}
 use Rattle.kz_types.specs.declared.key.EntityKey.{EntityKey}
 use Rattle.kz_types.specs.declared.key.EntityKey.TheVariants as key
 use Rattle.kz_types.specs.Paths.{path_of}
-use Rattle.kz_ordered.specs.Order.{bytes_cmp}
-use Rattle.kz_ordered.specs.Ordered.{Rises}
-use Rattle.kz_ordered.proofs.Order.{bytes_order, less_differs}
-use Rattle.kz_ordered.proofs.Lookup.{Contains-head, Contains-tail, Contains-nil, Contains-cons_cases}
-use Rattle.kz_ordered.proofs.Append.{below_split, above_split, all_from_rises_above}
-use Rattle.kz_spec_stores.specs.Tree.{path_of_row, row_at}
-use Rattle.kz_spec_stores.specs.Metadata.{Image}
-use Rattle.kz_spec_stores.specs.InOrder.{IsInOrder}
-use Rattle.kz_spec_znodes.specs.Rendering.{assignment_of, state_body, quotas_of_user, acl_key, row_of_acl, acl_znode}
-use Rattle.kz_spec_znodes.specs.Translation.{migrated_id}
+use Rattle.kz_types.specs.Order.{bytes_cmp}
+use Rattle.kz_types.specs.Ordered.{Rises}
+use Rattle.kz_types.proofs.Order.{bytes_order, less_differs}
+use Rattle.kz_types.proofs.Lookup.{Contains-head, Contains-tail, Contains-nil, Contains-cons_cases}
+use Rattle.kz_types.proofs.Append.{below_split, above_split, all_from_rises_above}
+use Rattle.kz_spec_data.specs.Tree.{path_of_row, row_at}
+use Rattle.kz_spec_data.specs.Metadata.{Image}
+use Rattle.kz_spec_data.specs.InOrder.{IsInOrder}
+use Rattle.kz_spec_data.specs.Rendering.{assignment_of, state_body, quotas_of_user, acl_key, row_of_acl, acl_znode}
+use Rattle.kz_spec_data.specs.Translation.{migrated_id}
 use Rattle.kz_laws_znodes.specs.RoundTrip.{new_znode, znodes_of, IsWritable, MayReturn, entries_of_resource}
 use Rattle.kz_laws_znodes.proofs.Shown.{Shown, shown_topic, shown_state, shown_topic_config, shown_config, shown_parent, shown_quotas, shown_user, shown_entries, shown_producer, shown_blank, shown_scaffold}
 use Rattle.kz_laws_znodes.proofs.Held.{IsHeld, topic_held, state_held, topic_config_held, config_held, quota_held, user_held, parent_held, resource_rows, facts_of_acl, entries_held, producer_held, blank_held}

@@ -14,18 +14,18 @@ use Rattle.kz_types.specs.declared.image.ScramEntry.{ScramEntry}
 use Rattle.kz_types.specs.declared.key.EntityKey.{EntityKey}
 use Rattle.kz_types.specs.declared.key.EntityKey.TheVariants as key
 use Rattle.kz_types.specs.Paths.{key_of, path_of}
-use Rattle.kz_ordered.specs.Order.{bytes_cmp}
-use Rattle.kz_ordered.specs.Ordered.{find}
-use Rattle.kz_ordered.proofs.Order.{bytes_order}
-use Rattle.kz_ordered.proofs.Lookup.{some_is_none, found_is_contained, key_of_found, contained_is_found, same_items, Contains-head}
-use Rattle.kz_spec_values.specs.Bodies.{read_body}
-use Rattle.kz_spec_stores.specs.Tree.{path_of_rendered}
-use Rattle.kz_spec_stores.specs.Metadata.{Image, path_of_quotas, name_of_user}
-use Rattle.kz_spec_stores.specs.Image.{quotas_in}
-use Rattle.kz_spec_stores.specs.InOrder.{IsQuotaFilled, IsUserFilled, IsInOrder}
-use Rattle.kz_spec_znodes.specs.Rendering.{znode, topic_znodes, assignment_of, state_body, config_znode, quota_parents, znode_of_quotas, own_znodes, user_znode, quota_znodes, acl_key, render, entity_znodes}
-use Rattle.kz_laws_paths.proofs.Legal.{IsGoodKey}
-use Rattle.kz_laws_paths.proofs.Keys.{path_holds}
+use Rattle.kz_types.specs.Order.{bytes_cmp}
+use Rattle.kz_types.specs.Ordered.{find}
+use Rattle.kz_types.proofs.Order.{bytes_order}
+use Rattle.kz_types.proofs.Lookup.{some_is_none, found_is_contained, key_of_found, contained_is_found, same_items, Contains-head}
+use Rattle.kz_spec_data.specs.Bodies.{read_body}
+use Rattle.kz_spec_data.specs.Tree.{path_of_rendered}
+use Rattle.kz_spec_data.specs.Metadata.{Image, path_of_quotas, name_of_user}
+use Rattle.kz_spec_data.specs.Image.{quotas_in}
+use Rattle.kz_spec_data.specs.InOrder.{IsQuotaFilled, IsUserFilled, IsInOrder}
+use Rattle.kz_spec_data.specs.Rendering.{znode, topic_znodes, assignment_of, state_body, config_znode, quota_parents, znode_of_quotas, own_znodes, user_znode, quota_znodes, acl_key, render, entity_znodes}
+use Rattle.kz_laws_values.proofs.Legal.{IsGoodKey}
+use Rattle.kz_laws_values.proofs.Keys.{path_holds}
 use Rattle.kz_laws_znodes.specs.RoundTrip.{new_znode, znodes_of, AreQuotasWritable, IsUserWritable, IsWritable, MayReturn}
 use Rattle.kz_laws_znodes.proofs.Within.{to_flat, to_map}
 use Rattle.kz_laws_znodes.proofs.Shown.{Shown, shown_topic, shown_state, shown_topic_config, shown_config, shown_parent, shown_quotas, shown_user, shown_entries, shown_producer, shown_blank, shown_scaffold, shown, quota_key_good, after_quotas}

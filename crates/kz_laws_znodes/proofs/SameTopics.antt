@@ -14,16 +14,16 @@ use Rattle.kz_types.specs.declared.image.PartitionEntry.{PartitionEntry}
 use Rattle.kz_types.specs.declared.key.EntityKey.{EntityKey}
 use Rattle.kz_types.specs.declared.key.EntityKey.TheVariants as key
 use Rattle.kz_types.specs.Paths.{key_of, path_of}
-use Rattle.kz_ordered.specs.Order.{bytes_cmp}
-use Rattle.kz_ordered.specs.Ordered.{find}
-use Rattle.kz_ordered.proofs.Order.{bytes_order}
-use Rattle.kz_ordered.proofs.Lookup.{some_is_none, same_some, found_is_contained, key_of_found, contained_is_found, same_items, Contains-head, Contains-tail}
-use Rattle.kz_ordered.proofs.Maps.{find-map, Rises-map}
-use Rattle.kz_spec_stores.specs.Tree.{path_of_rendered}
-use Rattle.kz_spec_stores.specs.Metadata.{Image, name_of_topic, name_of_configuration}
-use Rattle.kz_spec_stores.specs.InOrder.{IsFilled, IsInOrder}
-use Rattle.kz_spec_znodes.specs.Rendering.{znode, topic_znode, assignment_of, state_body, quotas_of_user, acl_key, render}
-use Rattle.kz_spec_znodes.specs.Translation.{row_of, body_of_row, partition_by, partition_with}
+use Rattle.kz_types.specs.Order.{bytes_cmp}
+use Rattle.kz_types.specs.Ordered.{find}
+use Rattle.kz_types.proofs.Order.{bytes_order}
+use Rattle.kz_types.proofs.Lookup.{some_is_none, same_some, found_is_contained, key_of_found, contained_is_found, same_items, Contains-head, Contains-tail}
+use Rattle.kz_types.proofs.Maps.{find-map, Rises-map}
+use Rattle.kz_spec_data.specs.Tree.{path_of_rendered}
+use Rattle.kz_spec_data.specs.Metadata.{Image, name_of_topic, name_of_configuration}
+use Rattle.kz_spec_data.specs.InOrder.{IsFilled, IsInOrder}
+use Rattle.kz_spec_data.specs.Rendering.{znode, topic_znode, assignment_of, state_body, quotas_of_user, acl_key, render}
+use Rattle.kz_spec_data.specs.Translation.{row_of, body_of_row, partition_by, partition_with}
 use Rattle.kz_laws_znodes.specs.RoundTrip.{new_znode, znodes_of, IsWritable, MayReturn, without_epochs, topic_without_epochs}
 use Rattle.kz_laws_znodes.proofs.Shown.{Shown, shown_topic, shown_state, shown_topic_config, shown_config, shown_parent, shown_quotas, shown_user, shown_entries, shown_producer, shown_blank, shown_scaffold, shown, partition_facts}
 use Rattle.kz_laws_znodes.proofs.Bodies.{facts, brokers}

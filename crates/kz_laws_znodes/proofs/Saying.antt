@@ -18,15 +18,15 @@ use Rattle.kz_types.specs.declared.fault.BodyFault.{BodyFault}
 use Rattle.kz_types.specs.declared.key.EntityKey.{EntityKey}
 use Rattle.kz_types.specs.declared.key.EntityKey.TheVariants as key
 use Rattle.kz_types.specs.Paths.{key_of}
-use Rattle.kz_ordered.specs.Order.{TotalOrder, bytes_cmp}
-use Rattle.kz_ordered.specs.Ordered.{find, put, Rises}
-use Rattle.kz_ordered.proofs.Order.{bytes_order}
-use Rattle.kz_ordered.proofs.Lookup.{find_here, find_skip, find-put_same, find-put_other, Rises-put}
-use Rattle.kz_ordered.proofs.Append.{find-append}
-use Rattle.kz_spec_values.specs.Bodies.{read_body}
-use Rattle.kz_spec_stores.specs.Tree.{path_of_row, row_at}
-use Rattle.kz_spec_znodes.specs.Translation.{body_of_row, entries_in, count_of_entries}
-use Rattle.kz_laws_znodes.proofs.Groups.{grown}
+use Rattle.kz_types.specs.Order.{TotalOrder, bytes_cmp}
+use Rattle.kz_types.specs.Ordered.{find, put, Rises}
+use Rattle.kz_types.proofs.Order.{bytes_order}
+use Rattle.kz_types.proofs.Lookup.{find_here, find_skip, find-put_same, find-put_other, Rises-put}
+use Rattle.kz_types.proofs.Append.{find-append}
+use Rattle.kz_spec_data.specs.Bodies.{read_body}
+use Rattle.kz_spec_data.specs.Tree.{path_of_row, row_at}
+use Rattle.kz_spec_data.specs.Translation.{body_of_row, entries_in, count_of_entries}
+use Rattle.kz_laws_znodes.proofs.ZnodeGroups.{grown}
 
 -- ---- the entity of a znode
 

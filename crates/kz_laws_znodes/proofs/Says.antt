@@ -16,10 +16,10 @@ use Rattle.kz_types.specs.declared.record.PartitionRecord.{PartitionRecord}
 use Rattle.kz_types.specs.declared.record.RegisterBrokerRecord.{RegisterBrokerRecord}
 use Rattle.kz_types.specs.Numbers.{canonical}
 use Rattle.kz_types.specs.Paths.{path_of}
-use Rattle.kz_ordered.specs.Order.{bytes_cmp}
-use Rattle.kz_ordered.specs.Ordered.{find, Rises}
-use Rattle.kz_spec_stores.specs.Metadata.{Image, name_of_topic, name_of_configuration, path_of_quotas, name_of_user}
-use Rattle.kz_spec_znodes.specs.Translation.{row_of, partition_by}
+use Rattle.kz_types.specs.Order.{bytes_cmp}
+use Rattle.kz_types.specs.Ordered.{find, Rises}
+use Rattle.kz_spec_data.specs.Metadata.{Image, name_of_topic, name_of_configuration, path_of_quotas, name_of_user}
+use Rattle.kz_spec_data.specs.Translation.{row_of, partition_by}
 use Rattle.kz_laws_znodes.proofs.TopicSteps.{topic_of}
 use Rattle.kz_laws_znodes.proofs.OtherSteps.{configuration, quota_list, scram_list, numbered, AreBelowNumber}
 use Rattle.kz_laws_znodes.proofs.Saying.{Assignment, topic_said, topic_config_said, broker_config_said, quotas_said, scrams_said, next_said, said, all_entries, listed, or_empty}

@@ -8,9 +8,9 @@ use Rattle.kz_types.specs.declared.kind.Kind.TheVariants as kind
 use Rattle.kz_types.specs.Numbers.{canonical}
 use Rattle.kz_types.specs.PathRule.{parts}
 use Rattle.kz_types.specs.Paths.{roots, is_among, is_topic_name, is_not_negative, part_for_name, part_or_default, key_of, key_of_parts, is_scaffold_of_parts, kind_of, is_migrated, path_of}
-use Rattle.kz_spec_znodes.specs.Rendering.{partitions_path, number_path}
-use Rattle.kz_laws_paths.specs.TextKeys.{IsText, IsSmall}
-use Rattle.kz_laws_paths.proofs.Parts.{split_part, split_last, topic_has_none, number_has_none, number_is_read, sanitised_has_none, named_is_read}
+use Rattle.kz_spec_data.specs.Rendering.{partitions_path, number_path}
+use Rattle.kz_laws_values.specs.TextKeys.{IsText, IsSmall}
+use Rattle.kz_laws_values.proofs.Parts.{split_part, split_last, topic_has_none, number_has_none, number_is_read, sanitised_has_none, named_is_read}
 
 -- A path that holds no entity, and is a parent of some.
 pub record IsScaffold (path : List ℕ) : Type 0 where

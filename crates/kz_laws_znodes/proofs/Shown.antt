@@ -16,16 +16,16 @@ use Rattle.kz_types.specs.declared.key.EntityKey.{EntityKey}
 use Rattle.kz_types.specs.declared.key.EntityKey.TheVariants as key
 use Rattle.std.proofs.lemmas.Bool.{and_parts}
 use Rattle.kz_types.specs.Paths.{roots, is_absent_or, is_not_empty, is_legal, key_of, path_of}
-use Rattle.kz_ordered.proofs.Order.{bytes_order}
-use Rattle.kz_ordered.proofs.Lookup.{Contains-nil, Contains-cons_cases}
-use Rattle.kz_ordered.proofs.Puts.{Contains-all_put_cases}
-use Rattle.kz_spec_stores.specs.Tree.{path_of_rendered}
-use Rattle.kz_spec_stores.specs.Metadata.{Image}
-use Rattle.kz_spec_stores.specs.InOrder.{IsTopicInOrder, IsQuotaFilled, IsInOrder}
-use Rattle.kz_spec_stores.specs.Legal.{IsTopic, IsPartition}
-use Rattle.kz_spec_znodes.specs.Rendering.{bare, znode, topic_znode, partitions_path, number_path, state_body, partition_znodes, topic_config_znodes, topic_znodes, config_znode, client_parents, quota_parents, znode_of_quotas, own_znodes, user_znode, quota_znodes, acl_znode, producer_znodes, entity_znodes, render}
-use Rattle.kz_laws_paths.proofs.Legal.{IsGoodKey}
-use Rattle.kz_laws_paths.proofs.Texts.{key_good}
+use Rattle.kz_types.proofs.Order.{bytes_order}
+use Rattle.kz_types.proofs.Lookup.{Contains-nil, Contains-cons_cases}
+use Rattle.kz_types.proofs.Puts.{Contains-all_put_cases}
+use Rattle.kz_spec_data.specs.Tree.{path_of_rendered}
+use Rattle.kz_spec_data.specs.Metadata.{Image}
+use Rattle.kz_spec_data.specs.InOrder.{IsTopicInOrder, IsQuotaFilled, IsInOrder}
+use Rattle.kz_spec_data.specs.Legal.{IsTopic, IsPartition}
+use Rattle.kz_spec_data.specs.Rendering.{bare, znode, topic_znode, partitions_path, number_path, state_body, partition_znodes, topic_config_znodes, topic_znodes, config_znode, client_parents, quota_parents, znode_of_quotas, own_znodes, user_znode, quota_znodes, acl_znode, producer_znodes, entity_znodes, render}
+use Rattle.kz_laws_values.proofs.Legal.{IsGoodKey}
+use Rattle.kz_laws_values.proofs.Texts.{key_good}
 use Rattle.kz_laws_znodes.specs.RoundTrip.{IsPartitionWritable, IsTopicWritable, IsWritable}
 use Rattle.kz_laws_znodes.proofs.Within.{from_flat, from_map}
 use Rattle.kz_laws_znodes.proofs.Scaffolds.{IsScaffold, partitions_scaffold, number_scaffold, clients_path, clients_scaffold, root_is}

@@ -8,9 +8,9 @@ use Rattle.json.specs.Lex.{tokens}
 use Rattle.serde_json.specs.Data.{Data, null, boolean, number, string, array, object, Items, no_items, item, Members, no_members, member, put}
 use Rattle.serde_json.specs.Find.{get, get_member, as_object}
 use Rattle.serde_json.specs.Read.{of_json, of_items, of_members, number_of, max_depth, read}
-use Rattle.kz_ordered.specs.Order.{bytes_cmp}
-use Rattle.kz_spec_values.specs.Bodies.{json_of, object_if, object_of}
-use Rattle.kz_laws_bodies.proofs.Members.{by_order, Rise, put_rises}
+use Rattle.kz_types.specs.Order.{bytes_cmp}
+use Rattle.kz_spec_data.specs.Bodies.{json_of, object_if, object_of}
+use Rattle.kz_laws_values.proofs.Members.{by_order, Rise, put_rises}
 
 abbrev mutual
   -- the members of each object in it rise

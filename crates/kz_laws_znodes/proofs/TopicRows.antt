@@ -17,21 +17,21 @@ use Rattle.kz_types.specs.declared.key.EntityKey.TheVariants as key
 use Rattle.kz_types.specs.declared.record.MetaRecord.{MetaRecord}
 use Rattle.kz_types.specs.declared.record.MetaRecord.TheVariants as meta
 use Rattle.kz_types.specs.Paths.{is_topic_name, is_not_negative, key_of, path_of, is_legal}
-use Rattle.kz_ordered.specs.Order.{bytes_cmp}
-use Rattle.kz_ordered.specs.Ordered.{find, Rises}
-use Rattle.kz_ordered.proofs.Order.{bytes_order, int_order}
-use Rattle.kz_ordered.proofs.Lookup.{key_of_found, contained_is_found, Contains-head, Contains-tail}
-use Rattle.kz_ordered.proofs.Maps.{Rises-map}
-use Rattle.kz_spec_values.specs.Bodies.{read_body}
-use Rattle.kz_spec_stores.specs.ImageRules.{is_epoch}
-use Rattle.kz_spec_stores.specs.Tree.{path_of_row, row_at}
-use Rattle.kz_spec_znodes.specs.Translation.{row_of, body_of_row, partition_by, partition_with, topic_records, number_of_assignment, assignments_in, assignment_at, records_of_state, records_if_assigned}
-use Rattle.kz_laws_paths.specs.TextKeys.{IsText}
-use Rattle.kz_laws_paths.proofs.Legal.{IsGoodKey}
-use Rattle.kz_laws_paths.proofs.Keys.{path_holds}
-use Rattle.kz_laws_bodies.specs.Readable.{IsPartition, ArePartitions}
+use Rattle.kz_types.specs.Order.{bytes_cmp}
+use Rattle.kz_types.specs.Ordered.{find, Rises}
+use Rattle.kz_types.proofs.Order.{bytes_order, int_order}
+use Rattle.kz_types.proofs.Lookup.{key_of_found, contained_is_found, Contains-head, Contains-tail}
+use Rattle.kz_types.proofs.Maps.{Rises-map}
+use Rattle.kz_spec_data.specs.Bodies.{read_body}
+use Rattle.kz_spec_data.specs.ImageRules.{is_epoch}
+use Rattle.kz_spec_data.specs.Tree.{path_of_row, row_at}
+use Rattle.kz_spec_data.specs.Translation.{row_of, body_of_row, partition_by, partition_with, topic_records, number_of_assignment, assignments_in, assignment_at, records_of_state, records_if_assigned}
+use Rattle.kz_laws_values.specs.TextKeys.{IsText}
+use Rattle.kz_laws_values.proofs.Legal.{IsGoodKey}
+use Rattle.kz_laws_values.proofs.Keys.{path_holds}
+use Rattle.kz_laws_values.specs.Readable.{IsPartition, ArePartitions}
 use Rattle.kz_laws_znodes.proofs.ReadTopics.{IsTopicBody}
-use Rattle.kz_laws_znodes.proofs.Reading.{IsBodyOf, read_is}
+use Rattle.kz_laws_znodes.proofs.ZnodeReading.{IsBodyOf, read_is}
 use Rattle.kz_laws_znodes.proofs.TopicSteps.{number_of_record, IsMade}
 use Rattle.kz_laws_znodes.proofs.Partitions.{le_holds, new_is_made, state_is_made, number_kept}
 use Rattle.kz_laws_znodes.proofs.Says.{partition_in}

@@ -11,18 +11,18 @@ use Rattle.kz_types.specs.declared.image.PartitionEntry.{PartitionEntry}
 use Rattle.kz_types.specs.declared.record.MetaRecord.TheVariants as meta
 use Rattle.kz_types.specs.declared.record.PartitionRecord.{PartitionRecord}
 use Rattle.kz_types.specs.Paths.{is_topic_name}
-use Rattle.kz_ordered.specs.Order.{bytes_cmp}
-use Rattle.kz_ordered.specs.Ordered.{put, Rises, AllBelow}
-use Rattle.kz_ordered.proofs.Order.{bytes_order, int_order}
-use Rattle.kz_ordered.proofs.Lookup.{find-put_same}
-use Rattle.kz_ordered.proofs.Append.{put_last, find_all_below}
-use Rattle.kz_ordered.proofs.Maps.{find-map, map-put}
-use Rattle.kz_spec_stores.specs.Metadata.{Image, name_of_topic, number_of_partition, name_of_pair, same_id, topic_named, topic_with, partition_at}
-use Rattle.kz_spec_stores.specs.Image.{put_topic, with_changed, put_partition, topic_configured, effect}
-use Rattle.kz_spec_stores.specs.ImageRules.{is_empty, is_zero, is_row, new_row}
-use Rattle.kz_spec_znodes.specs.Translation.{config_record}
+use Rattle.kz_types.specs.Order.{bytes_cmp}
+use Rattle.kz_types.specs.Ordered.{put, Rises, AllBelow}
+use Rattle.kz_types.proofs.Order.{bytes_order, int_order}
+use Rattle.kz_types.proofs.Lookup.{find-put_same}
+use Rattle.kz_types.proofs.Append.{put_last, find_all_below}
+use Rattle.kz_types.proofs.Maps.{find-map, map-put}
+use Rattle.kz_spec_data.specs.Metadata.{Image, name_of_topic, number_of_partition, name_of_pair, same_id, topic_named, topic_with, partition_at}
+use Rattle.kz_spec_data.specs.Image.{put_topic, with_changed, put_partition, topic_configured, effect}
+use Rattle.kz_spec_data.specs.ImageRules.{is_empty, is_zero, is_row, new_row}
+use Rattle.kz_spec_data.specs.Translation.{config_record}
 use Rattle.kz_laws_znodes.proofs.Accepting.{Leads, leads_one, leads_to, leads_append, leads_each}
-use Rattle.kz_laws_znodes.proofs.Groups.{put_over, put_found}
+use Rattle.kz_laws_znodes.proofs.ZnodeGroups.{put_over, put_found}
 
 -- ---- a topic by its id
 

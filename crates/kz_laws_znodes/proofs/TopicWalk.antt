@@ -17,20 +17,20 @@ use Rattle.kz_types.specs.declared.key.EntityKey.{EntityKey}
 use Rattle.kz_types.specs.declared.key.EntityKey.TheVariants as key
 use Rattle.kz_types.specs.declared.record.RegisterBrokerRecord.{RegisterBrokerRecord}
 use Rattle.kz_types.specs.Paths.{key_of, path_of}
-use Rattle.kz_ordered.specs.Order.{bytes_cmp}
-use Rattle.kz_ordered.specs.Ordered.{find}
-use Rattle.kz_ordered.proofs.Order.{bytes_order, below, equal, above, place, less_differs, less_differs_back}
-use Rattle.kz_ordered.proofs.Lookup.{some_is_none, same_some, find-put_same, find-put_other, Rises-put, found_is_contained, contained_is_found, Contains-head, Contains-tail, Contains-nil, Contains-cons_cases}
-use Rattle.kz_spec_values.specs.Bodies.{read_body}
-use Rattle.kz_spec_stores.specs.Metadata.{Image, name_of_topic, same_id}
-use Rattle.kz_spec_stores.specs.Image.{put_topic}
-use Rattle.kz_spec_stores.specs.Tree.{path_of_row, row_at}
-use Rattle.kz_spec_znodes.specs.Translation.{body_of_row, is_topic_with, is_taken, topic_records}
+use Rattle.kz_types.specs.Order.{bytes_cmp}
+use Rattle.kz_types.specs.Ordered.{find}
+use Rattle.kz_types.proofs.Order.{bytes_order, below, equal, above, place, less_differs, less_differs_back}
+use Rattle.kz_types.proofs.Lookup.{some_is_none, same_some, find-put_same, find-put_other, Rises-put, found_is_contained, contained_is_found, Contains-head, Contains-tail, Contains-nil, Contains-cons_cases}
+use Rattle.kz_spec_data.specs.Bodies.{read_body}
+use Rattle.kz_spec_data.specs.Metadata.{Image, name_of_topic, same_id}
+use Rattle.kz_spec_data.specs.Image.{put_topic}
+use Rattle.kz_spec_data.specs.Tree.{path_of_row, row_at}
+use Rattle.kz_spec_data.specs.Translation.{body_of_row, is_topic_with, is_taken, topic_records}
 use Rattle.kz_laws_znodes.proofs.Accepting.{Leads}
 use Rattle.kz_laws_znodes.proofs.TopicSteps.{topic_of, with_topic, IsFresh, topic_leads}
 use Rattle.kz_laws_znodes.proofs.Saying.{Assignment, entity_of, entity_by, entity_read, pick, pick_row, topic_said, topic_config_said, broker_config_said, quotas_said, scrams_said, next_said, said, unsaid, said_elsewhere, said_here, said_nowhere, entries_by}
 use Rattle.kz_laws_znodes.proofs.Says.{partition_in, topic_by, SaysTopics, Says}
-use Rattle.kz_laws_znodes.proofs.Stays.{Step, stay_configs, stay_quotas, stay_users, stay_entries, stay_next}
+use Rattle.kz_laws_znodes.proofs.ZnodeStays.{Step, stay_configs, stay_quotas, stay_users, stay_entries, stay_next}
 use Rattle.kz_laws_znodes.proofs.Walk.{AreRows, AllHaveRecords, absent_here, absent_after}
 use Rattle.kz_laws_znodes.proofs.TopicRows.{topic_names, topic_before_config, good, legal, placed, partitions_made, partitions_rise, records_are}
 

@@ -12,17 +12,17 @@ use Rattle.kz_types.specs.declared.kind.Kind.TheVariants as kind
 use Rattle.kz_types.specs.declared.record.MetaRecord.{MetaRecord}
 use Rattle.kz_types.specs.Paths.{is_path, kind_of, key_of, path_of, has_path}
 use Rattle.kz_types.proofs.KeyLemmas.{path_of_key_of}
-use Rattle.kz_ordered.specs.Order.{TotalOrder, bytes_cmp}
-use Rattle.kz_ordered.specs.Ordered.{find, Rises, AllBelow}
-use Rattle.kz_ordered.proofs.Order.{bytes_order, below, equal, above, place, less_differs, less_differs_back}
-use Rattle.kz_ordered.proofs.Lookup.{some_is_none, same_some, find_here, find_skip, contained_is_found, Contains-head, find_below_first}
-use Rattle.kz_ordered.proofs.Append.{below_split, find_all_below, find-append, Rises_right}
-use Rattle.kz_spec_values.specs.Bodies.{read_body}
-use Rattle.kz_spec_stores.specs.Tree.{path_of_row, row_at}
-use Rattle.kz_spec_stores.specs.ImageRules.{is_epoch}
-use Rattle.kz_spec_znodes.specs.Translation.{Translated, RowRecords, records_of, entity_records, records_by_kind, row_records, records_then, records_after}
-use Rattle.kz_laws_paths.proofs.Legal.{IsGoodKey}
-use Rattle.kz_laws_paths.proofs.Texts.{key_good}
+use Rattle.kz_types.specs.Order.{TotalOrder, bytes_cmp}
+use Rattle.kz_types.specs.Ordered.{find, Rises, AllBelow}
+use Rattle.kz_types.proofs.Order.{bytes_order, below, equal, above, place, less_differs, less_differs_back}
+use Rattle.kz_types.proofs.Lookup.{some_is_none, same_some, find_here, find_skip, contained_is_found, Contains-head, find_below_first}
+use Rattle.kz_types.proofs.Append.{below_split, find_all_below, find-append, Rises_right}
+use Rattle.kz_spec_data.specs.Bodies.{read_body}
+use Rattle.kz_spec_data.specs.Tree.{path_of_row, row_at}
+use Rattle.kz_spec_data.specs.ImageRules.{is_epoch}
+use Rattle.kz_spec_data.specs.Translation.{Translated, RowRecords, records_of, entity_records, records_by_kind, row_records, records_then, records_after}
+use Rattle.kz_laws_values.proofs.Legal.{IsGoodKey}
+use Rattle.kz_laws_values.proofs.Texts.{key_good}
 use Rattle.kz_laws_znodes.specs.Translations.{AreZnodes}
 
 -- ---- znodes with their keys

@@ -2,7 +2,7 @@
 use Rattle.std.proofs.Common.{◌≡◌, ◌⊎◌, List, [], ◌∷◌, map, Contains, sym, subst, inl, inr}
 use Rattle.std.specs.List.{flat_map}
 use Rattle.std.proofs.lemmas.List.Elements.{Contains-append_left, Contains-append_right, Contains-append_cases}
-use Rattle.kz_ordered.proofs.Lookup.{Contains-cons_cases, Contains-head, Contains-tail, Contains-nil}
+use Rattle.kz_types.proofs.Lookup.{Contains-cons_cases, Contains-head, Contains-tail, Contains-nil}
 
 -- An item of one of the lists that are made of these.
 pub record FlatFrom {X A : Type 0} (f : X → List A) (xs : List X) (y : A) : Type 0 where

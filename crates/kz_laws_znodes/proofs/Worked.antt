@@ -6,9 +6,9 @@ use Rattle.std.specs.List.{list_all}
 use Rattle.std.proofs.lemmas.Bool.{and_parts, ltb-true}
 use Rattle.base64.specs.GeneralPurpose.{IsBytes}
 use Rattle.kz_types.specs.declared.key.EntityKey.TheVariants as key
-use Rattle.kz_spec_stores.specs.Legal.{IsMember, IsPartition, IsTopic, IsConfiguration, IsQuotaOf, IsQuotaEntry, IsScramOf, IsScramEntry, IsAcl}
-use Rattle.kz_spec_stores.specs.InOrder.{IsTopicInOrder, IsFilled, IsQuotaFilled, IsUserFilled, IsInOrder}
-use Rattle.kz_spec_znodes.proofs.OnLiterals.{znodes_on_literals}
+use Rattle.kz_spec_data.specs.Legal.{IsMember, IsPartition, IsTopic, IsConfiguration, IsQuotaOf, IsQuotaEntry, IsScramOf, IsScramEntry, IsAcl}
+use Rattle.kz_spec_data.specs.InOrder.{IsTopicInOrder, IsFilled, IsQuotaFilled, IsUserFilled, IsInOrder}
+use Rattle.kz_spec_data.proofs.ZnodesOnLiterals.{znodes_on_literals}
 use Rattle.kz_laws_znodes.specs.RoundTrip.{FitsInt, IsPartitionWritable, IsMemberWritable, IsTopicWritable, IsConfigWritable, IsQuotaWritable, AreQuotasWritable, IsScramWritable, IsUserWritable, IsAclWritable, IsWritable}
 use Rattle.kz_laws_znodes.specs.RoundTripExamples.{example_image}
 

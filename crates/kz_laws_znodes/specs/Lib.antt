@@ -1,4 +1,13 @@
+pub mod Said
+pub mod Words
+pub mod ImageLaws
+pub mod Alike
+pub mod Writable
 pub mod Operations
 pub mod Translations
 pub mod RoundTrip
 pub mod RoundTripExamples
+pub mod Delta
+pub mod Lookups
+pub mod Returning
+pub mod ReadBack

@@ -19,11 +19,11 @@ use Rattle.kz_types.specs.declared.image.AclEntry.{AclEntry}
 use Rattle.kz_types.specs.declared.key.EntityKey.{EntityKey}
 use Rattle.kz_types.specs.declared.record.MetaRecord.{MetaRecord}
 use Rattle.kz_types.specs.Paths.{key_of}
-use Rattle.kz_spec_stores.specs.Image.{Image, empty_image, all_applied}
-use Rattle.kz_spec_stores.specs.InOrder.{IsInOrder}
-pub use Rattle.kz_laws_writable.specs.Writable.{IsText, FitsInt, IsPartitionWritable, IsMemberWritable, IsTopicWritable, IsConfigWritable, IsQuotaWritable, AreQuotasWritable, IsScramWritable, IsUserWritable, IsAclWritable, IsWritable}
-use Rattle.kz_spec_znodes.specs.Rendering.{is_of_resource, row_of_acl, render, excess}
-use Rattle.kz_spec_znodes.specs.Translation.{all_records, further_records, translate}
+use Rattle.kz_spec_data.specs.Image.{Image, empty_image, all_applied}
+use Rattle.kz_spec_data.specs.InOrder.{IsInOrder}
+pub use Rattle.kz_laws_znodes.specs.Writable.{IsText, FitsInt, IsPartitionWritable, IsMemberWritable, IsTopicWritable, IsConfigWritable, IsQuotaWritable, AreQuotasWritable, IsScramWritable, IsUserWritable, IsAclWritable, IsWritable}
+use Rattle.kz_spec_data.specs.Rendering.{is_of_resource, row_of_acl, render, excess}
+use Rattle.kz_spec_data.specs.Translation.{all_records, further_records, translate}
 
 -- ---- the znodes of a rendering
 

@@ -1,6 +1,6 @@
 -- Worked metadata that returns.
 use Rattle.std.specs.Prelude.{pos, [], ◌∷◌, ◌++◌, replicate, Some, codes}
-use Rattle.kz_spec_stores.specs.Metadata.{Image}
+use Rattle.kz_spec_data.specs.Metadata.{Image}
 
 -- a topic of one partition with its configuration, the configuration of a broker, a quota of a user's client, a credential of
 -- the user, an access control entry, and a next producer id

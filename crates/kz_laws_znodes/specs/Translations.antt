@@ -4,12 +4,12 @@ use Rattle.kz_types.specs.declared.tree.Row.{Row}
 use Rattle.kz_types.specs.declared.record.MetaRecord.{MetaRecord}
 use Rattle.kz_types.specs.declared.record.RegisterBrokerRecord.{RegisterBrokerRecord}
 use Rattle.kz_types.specs.Paths.{is_path}
-use Rattle.kz_ordered.specs.Order.{bytes_cmp}
-use Rattle.kz_ordered.specs.Ordered.{Rises}
-use Rattle.kz_spec_stores.specs.Tree.{path_of_row}
-use Rattle.kz_spec_stores.specs.Image.{Image, empty_image, first_bad}
-use Rattle.kz_spec_stores.specs.ImageRules.{is_epoch}
-use Rattle.kz_spec_znodes.specs.Translation.{translate}
+use Rattle.kz_types.specs.Order.{bytes_cmp}
+use Rattle.kz_types.specs.Ordered.{Rises}
+use Rattle.kz_spec_data.specs.Tree.{path_of_row}
+use Rattle.kz_spec_data.specs.Image.{Image, empty_image, first_bad}
+use Rattle.kz_spec_data.specs.ImageRules.{is_epoch}
+use Rattle.kz_spec_data.specs.Translation.{translate}
 
 -- Znodes as a tree has them: their paths rise, each path keeps the rule of paths, and each data version is 0 to 2147483647.
 pub record AreZnodes (rows : List Row) : Type 0 where

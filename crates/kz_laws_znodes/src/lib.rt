@@ -1,31 +1,25 @@
-//! Laws of renderings, translations and differences.
+//! Laws of the definitions of the metadata and of the znodes that stand for it: look-ups, renderings, differences, translations,
+//! and the records and the file of a snapshot.
 //!
-//! A law is the contract of a function that does nothing.
+//! Each law is the contract of a function that does nothing, or that only goes over a value which a program holds.
 #![tactic(auto)]
 
+mod delta;
+mod held_writable;
+mod image_examples;
+pub mod images;
+mod lookups;
 mod round_trip_examples;
+pub mod snapshot_files;
+pub mod snapshot_records;
+pub mod writable;
+pub mod znodes;
 
-ghost use Rattle.kz_laws_znodes.specs.Operations.{DifferenceIsMade, ChunkLeavesRest};
-ghost use Rattle.kz_laws_znodes.specs.Translations.{TranslatedIsAccepted};
-ghost use Rattle.kz_laws_znodes.specs.RoundTrip.{ReturnsTheSame};
-
+pub use delta::{delta_is_difference, keys_cover_renderings, touched_cover, touched_suffices};
+pub use held_writable::{
+    held_config_is_writable, held_credential_is_writable, held_entry_is_writable,
+    held_name_is_text, held_partition_change_is_writable, held_partition_is_writable,
+    held_quota_is_writable, held_topic_is_writable,
+};
+pub use lookups::{rendered_at, rendered_where_read};
 pub use round_trip_examples::worked_metadata;
-
-/// The operations of a difference make the second rendering of the first. Once the operations of the next write are made, at
-/// most 64, the difference is the rest of them.
-pub fn chunk_leaves_rest()
-    ensures whole { DifferenceIsMade }
-    ensures rest { ChunkLeavesRest }
-{}
-
-/// Each record of a translation is accepted, one after another, where the metadata holds nothing but brokers and a state of the
-/// migration.
-pub fn translated_is_accepted()
-    ensures { TranslatedIsAccepted }
-{}
-
-/// Metadata is rendered to znodes that are translated to records that make the same metadata again: the same topics, partitions,
-/// configurations, quotas, credentials and access control entries.
-pub fn round_trip()
-    ensures { ReturnsTheSame }
-{}

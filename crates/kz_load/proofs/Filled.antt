@@ -7,15 +7,15 @@ use Rattle.kz_types.specs.declared.fault.TreeFault.TheVariants as tree_fault
 use Rattle.kz_types.specs.declared.limits.TheConstants.{MAX_FILE_BYTES}
 use Rattle.kz_types.specs.declared.outside.Status.{Status}
 use Rattle.kz_types.specs.declared.outside.Status.TheVariants as status
-use Rattle.kz_spec_stores.specs.Tree.{Tree}
-use Rattle.kz_spec_stores.specs.Requests.{Disk, Full, answer_of_tree_fault}
-use Rattle.kz_spec_files.specs.Frames.{tree_letter, journal_of}
-use Rattle.kz_spec_files.specs.declared.files.Txn.TheVariants.{LoadRows, LoadEnd}
-use Rattle.kz_spec_files.specs.Transactions.{txn_written}
-use Rattle.kz_spec_files.specs.TreeFile.{stored_in, tree_of}
-use Rattle.kz_spec_dumps.specs.Loading.{loaded}
-use Rattle.kz_spec_runs.specs.Endings.{EndsAtFailure}
-use Rattle.kz_spec_commands.specs.Load.{file_with_load}
+use Rattle.kz_spec_data.specs.Tree.{Tree}
+use Rattle.kz_spec_data.specs.Requests.{Disk, Full, answer_of_tree_fault}
+use Rattle.kz_spec_data.specs.Frames.{tree_letter, journal_of}
+use Rattle.kz_spec_data.specs.declared.files.Txn.TheVariants.{LoadRows, LoadEnd}
+use Rattle.kz_spec_data.specs.Transactions.{txn_written}
+use Rattle.kz_spec_data.specs.TreeFile.{stored_in, tree_of}
+use Rattle.kz_spec_machine.specs.Loading.{loaded}
+use Rattle.kz_spec_machine.specs.Endings.{EndsAtFailure}
+use Rattle.kz_spec_machine.specs.Load.{file_with_load}
 use Rattle.kz_tree_store.specs.Opened.{Known, IsTreeFile, tree_known}
 use Rattle.kz_journal.specs.Journals.{file_of}
 use Rattle.kz_tree_store.specs.LoadCalls.{WritesFrames}

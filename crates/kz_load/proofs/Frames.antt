@@ -3,7 +3,7 @@ use Rattle.std.proofs.Common.{◌≡◌, inl, inr, ℕ, ◌+◌, ◌<◌, max, f
 use Rattle.std.specs.Prelude.{⊤}
 use Rattle.kz_types.specs.Causes.{Rose}
 use Rattle.kz_types.specs.declared.limits.TheConstants.{MAX_FILE_BYTES}
-use Rattle.kz_spec_stores.specs.Requests.{StoreFile, Disk, StoreAnswer, Done, Refused, NoMemory, Failed, Down, Full, with_frame, IsTooLong, ChangesDisk}
+use Rattle.kz_spec_data.specs.Requests.{StoreFile, Disk, StoreAnswer, Done, Refused, NoMemory, Failed, Down, Full, with_frame, IsTooLong, ChangesDisk}
 use Rattle.kz_tree_store.specs.LoadCalls.{IsStop, WritesFrames}
 use Rattle.kz_commands.proofs.Disks.{not_both}
 

@@ -6,18 +6,18 @@ use Rattle.kz_types.specs.declared.outside.Status.TheVariants as status
 use Rattle.kz_types.specs.declared.fault.TreeFault.{TreeFault}
 use Rattle.kz_types.specs.declared.fault.TreeFault.TheVariants as tree_fault
 use Rattle.kz_disk.specs.Disks.{NothingPends, StaysTold}
-use Rattle.kz_spec_stores.specs.Tree.{Tree, empty_tree}
-use Rattle.kz_spec_stores.specs.Requests.{Disk, Either, answer_of_tree_fault}
-use Rattle.kz_spec_files.specs.Frames.{tree_letter, log_letter, new_file}
-use Rattle.kz_spec_files.specs.TreeFile.{stored_in, tree_of_stored, tree_of}
-use Rattle.kz_spec_files.specs.LogFile.{log_of}
-use Rattle.kz_spec_commands.specs.Files.{SayTheSame}
-use Rattle.kz_spec_commands.specs.Init.{is_short, is_whole_and_empty, IsMade, AreMade, Inits}
+use Rattle.kz_spec_data.specs.Tree.{Tree, empty_tree}
+use Rattle.kz_spec_data.specs.Requests.{Disk, Either, answer_of_tree_fault}
+use Rattle.kz_spec_data.specs.Frames.{tree_letter, log_letter, new_file}
+use Rattle.kz_spec_data.specs.TreeFile.{stored_in, tree_of_stored, tree_of}
+use Rattle.kz_spec_data.specs.LogFile.{log_of}
+use Rattle.kz_spec_machine.specs.Files.{SayTheSame}
+use Rattle.kz_spec_machine.specs.Init.{is_short, is_whole_and_empty, IsMade, AreMade, Inits}
 use Rattle.kz_commands.specs.Outside.{Outside}
 use Rattle.kz_commands.specs.Makes.{MakesFiles}
 use Rattle.kz_commands.specs.Stops.{Contents, LeavesByInit, LongGrowsByOne, StaysSettled}
 use Rattle.kz_commands.proofs.Disks.{one_file}
-use Rattle.kz_spec_dumps.specs.Loading.{loaded}
+use Rattle.kz_spec_machine.specs.Loading.{loaded}
 use Rattle.kz_tree_store.specs.Opened.{Known, IsTreeFile, LeavesTree, tree_found, tree_in_file}
 use Rattle.kz_load.specs.Leaves.{StandsForEither, LeavesEither, LeavesNewOrLoaded, AreLeftByLoad, LoadStops}
 use Rattle.kz_load.specs.LoadsTrees.{status_of_load_fault}

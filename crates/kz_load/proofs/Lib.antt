@@ -1,5 +1,6 @@
+mod Steps
 pub mod Made
 pub mod Frames
 pub mod Filled
-pub mod Loaded
+pub mod LoadedTrees
 pub mod Left

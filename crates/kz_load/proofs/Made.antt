@@ -2,12 +2,12 @@
 use Rattle.std.proofs.Common.{◌≡◌, ◌⊎◌, inl, inr, ℕ, Bool, true, false, not, ◌||◌, cond, List, [], ◌∷◌, ◌++◌, Option, Some, None, Result, Ok, Err, refl, ap, sym, ◌∙◌, subst}
 use Rattle.kz_types.specs.declared.outside.Status.{Status}
 use Rattle.kz_types.specs.declared.outside.Status.TheVariants as status
-use Rattle.kz_spec_stores.specs.Tree.{Tree, empty_tree}
-use Rattle.kz_spec_files.specs.Frames.{Journal, tree_letter, plain_header, closed_gate, new_file, journal_of}
-use Rattle.kz_spec_files.specs.TreeFile.{Stored, stored_in, tree_of_stored, tree_of}
-use Rattle.kz_spec_files.proofs.FilesOnLiterals.{files_on_literals}
-use Rattle.kz_spec_commands.specs.Files.{first_reason}
-use Rattle.kz_spec_commands.specs.Init.{is_short, is_whole_and_empty, holds_tree, has_tree, has_log, tree_refusal, log_refusal, init_refusal, IsMade, AreMade}
+use Rattle.kz_spec_data.specs.Tree.{Tree, empty_tree}
+use Rattle.kz_spec_data.specs.Frames.{Journal, tree_letter, plain_header, closed_gate, new_file, journal_of}
+use Rattle.kz_spec_data.specs.TreeFile.{Stored, stored_in, tree_of_stored, tree_of}
+use Rattle.kz_spec_data.proofs.FilesOnLiterals.{files_on_literals}
+use Rattle.kz_spec_machine.specs.Files.{first_reason}
+use Rattle.kz_spec_machine.specs.Init.{is_short, is_whole_and_empty, holds_tree, has_tree, has_log, tree_refusal, log_refusal, init_refusal, IsMade, AreMade}
 use Rattle.kz_tree_store.specs.Stores.{is_fresh_file}
 use Rattle.kz_commands.proofs.Made.{whole_stands, long_has_tree}
 use Rattle.kz_load.specs.LoadsTrees.{IsNewTree}

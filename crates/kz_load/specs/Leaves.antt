@@ -3,13 +3,13 @@ use Rattle.std.specs.Prelude.{◌≡◌, ◌⊎◌, ◌+◌, ◌<◌, ◌^◌, �
 use Rattle.kz_types.specs.declared.outside.Status.{Status}
 use Rattle.kz_types.specs.declared.outside.Status.TheVariants as status
 use Rattle.kz_disk.specs.Disks.{NothingPends}
-use Rattle.kz_spec_stores.specs.Tree.{Tree, empty_tree}
-use Rattle.kz_spec_stores.specs.Log.{empty_log}
-use Rattle.kz_spec_files.specs.Frames.{tree_letter, log_letter}
-use Rattle.kz_spec_files.specs.TreeFile.{tree_of}
-use Rattle.kz_spec_files.specs.LogFile.{log_of}
-use Rattle.kz_spec_dumps.specs.Loading.{loaded}
-use Rattle.kz_spec_commands.specs.Files.{SayTheSame}
+use Rattle.kz_spec_data.specs.Tree.{Tree, empty_tree}
+use Rattle.kz_spec_data.specs.Log.{empty_log}
+use Rattle.kz_spec_data.specs.Frames.{tree_letter, log_letter}
+use Rattle.kz_spec_data.specs.TreeFile.{tree_of}
+use Rattle.kz_spec_data.specs.LogFile.{log_of}
+use Rattle.kz_spec_machine.specs.Loading.{loaded}
+use Rattle.kz_spec_machine.specs.Files.{SayTheSame}
 use Rattle.kz_commands.specs.Stops.{Contents, LeftByInit}
 use Rattle.kz_load.specs.LoadsTrees.{IsNewTree}
 

@@ -3,9 +3,9 @@ use Rattle.std.specs.Prelude.{◌≡◌, ◌≢◌, IfSome}
 use Rattle.std.specs.Io.KnownBytes.{IsAtEnd}
 use Rattle.kz_types.specs.declared.outside.Status.{Status}
 use Rattle.kz_types.specs.declared.outside.Status.TheVariants as status
-use Rattle.kz_spec_runs.specs.Endings.{EndsAtFailure}
-use Rattle.kz_spec_commands.specs.Files.{EndsAtDisk}
-use Rattle.kz_spec_commands.specs.Load.{Loads}
+use Rattle.kz_spec_machine.specs.Endings.{EndsAtFailure}
+use Rattle.kz_spec_machine.specs.Files.{EndsAtDisk}
+use Rattle.kz_spec_machine.specs.Load.{Loads}
 use Rattle.kz_commands.specs.Outside.{Outside, OfFiles}
 
 pub record LoadsFiles (input input_now tree tree_now log log_now : Outside) (result : Status) : Type 0 where

@@ -8,13 +8,13 @@ use Rattle.kz_types.specs.Limits.{number_of_limit}
 use Rattle.kz_types.specs.declared.limits.TheConstants.{MAX_FILE_BYTES}
 use Rattle.kz_types.specs.declared.outside.Status.{Status}
 use Rattle.kz_types.specs.declared.outside.Status.TheVariants as status
-use Rattle.kz_spec_stores.specs.Tree.{Tree, empty_tree}
-use Rattle.kz_spec_files.specs.Frames.{Journal, tree_letter, journal_of}
-use Rattle.kz_spec_files.specs.TreeFile.{stored_in, tree_of}
-use Rattle.kz_spec_dumps.specs.Loading.{loaded}
-use Rattle.kz_spec_runs.specs.Endings.{EndsAtFailure}
-use Rattle.kz_spec_commands.specs.Files.{EndsAtDisk}
-use Rattle.kz_spec_commands.specs.Load.{file_with_load}
+use Rattle.kz_spec_data.specs.Tree.{Tree, empty_tree}
+use Rattle.kz_spec_data.specs.Frames.{Journal, tree_letter, journal_of}
+use Rattle.kz_spec_data.specs.TreeFile.{stored_in, tree_of}
+use Rattle.kz_spec_machine.specs.Loading.{loaded}
+use Rattle.kz_spec_machine.specs.Endings.{EndsAtFailure}
+use Rattle.kz_spec_machine.specs.Files.{EndsAtDisk}
+use Rattle.kz_spec_machine.specs.Load.{file_with_load}
 use Rattle.kz_tree_store.specs.Stores.{is_fresh_file}
 use Rattle.kz_tree_store.specs.declared.fault.TreeOpenFault.{TreeOpenFault}
 use Rattle.kz_tree_store.specs.declared.fault.TreeOpenFault.TheVariants as open_fault

@@ -8,10 +8,10 @@ ghost use Rattle.kz_load.specs.Leaves.{LeavesUnopened, LeavesEither, LeavesNewOr
 ghost use Rattle.kz_load.specs.LoadsFiles.{LoadsFiles};
 ghost use Rattle.kz_load.specs.LoadsTrees.{IsUnopenedTree, FillsStore, LoadsTree, CanFailLoad, status_of_open_fault, status_of_load_fault};
 
+use crate::{Loaded, read_tree, stop_status};
 use kz_commands::init;
 use kz_disk::Disk;
 use kz_io::Source;
-use kz_loading::{Loaded, read_tree, stop_status};
 use kz_tree_store::{LoadLast, TreeOpenFault, TreeStore};
 use kz_types::{Limit, MAX_FILE_BYTES, Status, TreeFault};
 use std::alloc::Global;

@@ -1,6 +1,14 @@
-//! The command that loads a tree: both files are made, the input is read, and its tree is written in one load.
+//! The command `load`, and its input, which is read line by line.
 #![tactic(auto)]
 
 mod command;
+mod input;
+mod part;
+mod place;
+mod reader;
+mod stop;
 
 pub use command::load;
+pub use input::read_tree;
+pub use part::Loaded;
+pub use stop::{LoadStop, stop_status};

@@ -12,8 +12,8 @@ use Rattle.kz_types.specs.Limits.{number_of_limit}
 use Rattle.kz_types.specs.declared.log.BatchRow.{BatchRow}
 use Rattle.kz_types.specs.declared.log.Entry.{Entry}
 use Rattle.kz_types.specs.declared.record.MetaRecord.{MetaRecord}
-use Rattle.kz_spec_stores.specs.Log.{Log, IsLog, Follow, EpochsNeverFall, begins_after, end_of, image_at, full_log, with_batch, last_of, last_end, record_count, entries_at_offsets, entries, all_entries_applied}
-use Rattle.kz_spec_stores.specs.Settlement.{counting_records, closes, is_end, is_ended_by}
+use Rattle.kz_spec_data.specs.Log.{Log, IsLog, Follow, EpochsNeverFall, begins_after, end_of, image_at, full_log, with_batch, last_of, last_end, record_count, entries_at_offsets, entries, all_entries_applied}
+use Rattle.kz_spec_data.specs.Settlement.{counting_records, closes, is_end, is_ended_by}
 use Rattle.kz_settle.specs.Settling.{closes_entry, is_open_after, records_of_pass, ends_by}
 use Rattle.kz_settle.proofs.Passing.{counted_is_pass}
 use Rattle.kz_log.specs.Reading.{entries_after, unread_entries, image_after}

@@ -6,12 +6,12 @@ use Rattle.kz_types.specs.declared.log.BatchRow.{BatchRow}
 use Rattle.kz_types.specs.declared.log.Entry.{Entry}
 use Rattle.kz_types.specs.declared.record.MetaRecord.{MetaRecord}
 use Rattle.kz_image.specs.declared.feed.Feed.{Feed}
-use Rattle.kz_ordered.specs.Ordered.{Rises}
-use Rattle.kz_ordered.proofs.Order.{int_order}
-use Rattle.kz_ordered.proofs.Append.{Rises_left}
-use Rattle.kz_spec_stores.specs.Image.{Image}
-use Rattle.kz_spec_stores.specs.Log.{Log, View, Follow, IsLog, IsAt, IsViewOf, begins_after, last_of, last_end, last_epoch, end_of, entries_at_offsets, entries_of_batch, entries, entries_by, image_at, all_entries_applied, log_with_feed, feed_from, read_epoch, read_view}
-use Rattle.kz_spec_stores.specs.Settlement.{counting_records, open_begin, records_of_open}
+use Rattle.kz_types.specs.Ordered.{Rises}
+use Rattle.kz_types.proofs.Order.{int_order}
+use Rattle.kz_types.proofs.Append.{Rises_left}
+use Rattle.kz_spec_data.specs.Image.{Image}
+use Rattle.kz_spec_data.specs.Log.{Log, View, Follow, IsLog, IsAt, IsViewOf, begins_after, last_of, last_end, last_epoch, end_of, entries_at_offsets, entries_of_batch, entries, entries_by, image_at, all_entries_applied, log_with_feed, feed_from, read_epoch, read_view}
+use Rattle.kz_spec_data.specs.Settlement.{counting_records, open_begin, records_of_open}
 use Rattle.kz_settle.specs.Settling.{offset_of}
 use Rattle.kz_settle.specs.Stands.{SettlerState, IsStateAfter, AllBy}
 use Rattle.kz_settle.proofs.Bounds.{counted_same}

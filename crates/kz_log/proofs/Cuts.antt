@@ -6,9 +6,9 @@ use Rattle.std.proofs.lemmas.List.Elements.{All-nil, All-cons, filter-append}
 use Rattle.kz_types.specs.declared.log.BatchRow.{BatchRow}
 use Rattle.kz_types.specs.declared.log.Entry.{Entry}
 use Rattle.kz_types.specs.declared.record.MetaRecord.{MetaRecord}
-use Rattle.kz_ordered.specs.Ordered.{Rises}
-use Rattle.kz_spec_stores.specs.Log.{Log, View, Follow, IsAt, begins_after, last_of, last_end, batch_ends, entries_at_offsets, entries_of_batch, entries, entries_by, image_at, all_entries_applied}
-use Rattle.kz_spec_stores.specs.Settlement.{counting_records, open_begin, records_of_open}
+use Rattle.kz_types.specs.Ordered.{Rises}
+use Rattle.kz_spec_data.specs.Log.{Log, View, Follow, IsAt, begins_after, last_of, last_end, batch_ends, entries_at_offsets, entries_of_batch, entries, entries_by, image_at, all_entries_applied}
+use Rattle.kz_spec_data.specs.Settlement.{counting_records, open_begin, records_of_open}
 use Rattle.kz_settle.specs.Settling.{offset_of}
 use Rattle.kz_settle.specs.Stands.{AllBy}
 use Rattle.kz_settle.proofs.Bounds.{AllLater, counted_before, by_split}

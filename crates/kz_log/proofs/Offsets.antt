@@ -4,8 +4,8 @@ use Rattle.std.proofs.lemmas.Int.{ints}
 use Rattle.kz_types.specs.declared.log.BatchRow.{BatchRow}
 use Rattle.kz_types.specs.declared.log.Entry.{Entry}
 use Rattle.kz_types.specs.declared.record.MetaRecord.{MetaRecord}
-use Rattle.kz_ordered.specs.Ordered.{Rises, RisesAbove}
-use Rattle.kz_spec_stores.specs.Log.{last_of, last_end, entries_at_offsets}
+use Rattle.kz_types.specs.Ordered.{Rises, RisesAbove}
+use Rattle.kz_spec_data.specs.Log.{last_of, last_end, entries_at_offsets}
 use Rattle.kz_settle.specs.Settling.{offset_of}
 
 -- ---- orders of numbers as tests

@@ -5,11 +5,11 @@ use Rattle.std.specs.List.{All, list_any}
 use Rattle.std.specs.Ordering.{int_eq}
 use Rattle.std.proofs.lemmas.List.Elements.{All-nil, All-cons}
 use Rattle.kz_types.specs.declared.log.Entry.{Entry}
-use Rattle.kz_ordered.specs.Ordered.{Rises}
-use Rattle.kz_ordered.proofs.Order.{int_order}
-use Rattle.kz_ordered.proofs.Append.{Rises_left}
-use Rattle.kz_spec_stores.specs.Settlement.{is_open}
-use Rattle.kz_spec_stores.specs.Log.{Log, IsLog, entries, batch_ends, may_be_base}
+use Rattle.kz_types.specs.Ordered.{Rises}
+use Rattle.kz_types.proofs.Order.{int_order}
+use Rattle.kz_types.proofs.Append.{Rises_left}
+use Rattle.kz_spec_data.specs.Settlement.{is_open}
+use Rattle.kz_spec_data.specs.Log.{Log, IsLog, entries, batch_ends, may_be_base}
 use Rattle.kz_settle.specs.Settling.{offset_of, is_open_after, is_open_at_end}
 use Rattle.kz_settle.proofs.Passing.{inside_is, any_same}
 use Rattle.kz_log.specs.Reading.{entries_after, is_open_by}

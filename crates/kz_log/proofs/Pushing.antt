@@ -4,7 +4,7 @@ use Rattle.std.proofs.lemmas.Int.{ints}
 use Rattle.kz_types.specs.declared.limits.TheConstants.{MAX_LONG}
 use Rattle.kz_types.specs.declared.log.BatchRow.{BatchRow}
 use Rattle.kz_types.specs.declared.record.MetaRecord.{MetaRecord}
-use Rattle.kz_spec_stores.specs.Log.{Log, IsLog, last_of, last_end, full_log, new_batch, with_row}
+use Rattle.kz_spec_data.specs.Log.{Log, IsLog, last_of, last_end, full_log, new_batch, with_row}
 use Rattle.kz_log.specs.Rows.{GoesOn}
 use Rattle.kz_log.proofs.Offsets.{last_end-append}
 use Rattle.kz_log.proofs.Batches.{Follow-push, EpochsNeverFall-push, room_for}

@@ -1,8 +1,8 @@
 -- The log with another base.
 use Rattle.std.proofs.Common.{◌≡◌, ℤ, List, ap, ◌∙◌, filter}
 use Rattle.kz_types.specs.declared.log.BatchRow.{BatchRow}
-use Rattle.kz_spec_stores.specs.Image.{Image}
-use Rattle.kz_spec_stores.specs.Log.{Log, begins_after}
+use Rattle.kz_spec_data.specs.Image.{Image}
+use Rattle.kz_spec_data.specs.Log.{Log, begins_after}
 
 -- the log with a base, where its parts are these
 abbrev pub based : Log → ℤ → Image → List BatchRow → Log

@@ -7,8 +7,8 @@ use Rattle.kz_types.specs.declared.log.BatchRow.{BatchRow}
 use Rattle.kz_types.specs.declared.record.MetaRecord.{MetaRecord}
 use Rattle.kz_types.specs.declared.fault.LogFault.{LogFault}
 use Rattle.kz_image.specs.declared.feed.Feed.{Feed}
-use Rattle.kz_spec_stores.specs.Image.{Image}
-use Rattle.kz_spec_stores.specs.Log.{Log, View, new_view, Follow, IsLog, IsAt, IsViewOf, read_view, feed_from, begins_after, last_end, end_of, entries, image_at, new_batch, with_batch, with_next_epoch, log_unless_limit, full_log}
+use Rattle.kz_spec_data.specs.Image.{Image}
+use Rattle.kz_spec_data.specs.Log.{Log, View, new_view, Follow, IsLog, IsAt, IsViewOf, read_view, feed_from, begins_after, last_end, end_of, entries, image_at, new_batch, with_batch, with_next_epoch, log_unless_limit, full_log}
 use Rattle.kz_settle.proofs.Passing.{is_inside_after}
 use Rattle.kz_settle.proofs.Stepping.{is_begun}
 use Rattle.kz_log.specs.Requests.{IsFeed}

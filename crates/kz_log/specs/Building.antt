@@ -2,9 +2,9 @@
 use Rattle.std.specs.Prelude.{◌≡◌, ℤ, pos, List, [], ◌++◌, Option, Some, None}
 use Rattle.std.specs.Ordering.{int_cmp}
 use Rattle.kz_types.specs.declared.log.Entry.{Entry}
-use Rattle.kz_ordered.specs.Ordered.{Rises}
-use Rattle.kz_spec_stores.specs.Image.{Image}
-use Rattle.kz_spec_stores.specs.Log.{View, all_entries_applied}
+use Rattle.kz_types.specs.Ordered.{Rises}
+use Rattle.kz_spec_data.specs.Image.{Image}
+use Rattle.kz_spec_data.specs.Log.{View, all_entries_applied}
 use Rattle.kz_settle.specs.Settling.{offset_of}
 use Rattle.kz_settle.specs.Stands.{SettlerState, IsStateAfter}
 

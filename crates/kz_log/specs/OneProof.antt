@@ -3,8 +3,8 @@ use Rattle.std.specs.Prelude.{ℤ, pos, List, [], ◌∷◌, refl}
 use Rattle.std.specs.Coded.{Coded, Coded-set, code_by}
 use Rattle.std.proofs.Props.{props}
 use Rattle.kz_types.specs.declared.log.BatchRow.{BatchRow}
-use Rattle.kz_spec_stores.specs.Image.{Image}
-use Rattle.kz_spec_stores.specs.Log.{Log, IsLog, Follow, EpochsNeverFall, empty_log, last_of}
+use Rattle.kz_spec_data.specs.Image.{Image}
+use Rattle.kz_spec_data.specs.Log.{Log, IsLog, Follow, EpochsNeverFall, empty_log, last_of}
 
 Follow-prop : (from : ℤ) (bs : List BatchRow) → IsProp (Follow from bs)
 Follow-prop from [] = Prim.hlevel props

@@ -3,8 +3,8 @@ use Rattle.std.specs.Prelude.{◌≡◌, ℕ, ◌+◌, Bool, ℤ, pos, ◌+ℤ�
 use Rattle.kz_types.specs.declared.log.BatchRow.{BatchRow}
 use Rattle.kz_types.specs.declared.log.Entry.{Entry}
 use Rattle.kz_types.specs.declared.record.MetaRecord.{MetaRecord}
-use Rattle.kz_spec_stores.specs.Image.{Image}
-use Rattle.kz_spec_stores.specs.Log.{entries_at_offsets, record_count, all_entries_applied}
+use Rattle.kz_spec_data.specs.Image.{Image}
+use Rattle.kz_spec_data.specs.Log.{entries_at_offsets, record_count, all_entries_applied}
 use Rattle.kz_settle.specs.Settling.{is_open_after, records_of_pass, ends_by}
 
 -- the records of batches, with the offsets after this one

@@ -3,7 +3,7 @@ use Rattle.std.specs.Prelude.{ℤ, ◌≡◌, Result, Ok, Err, ⊤}
 use Rattle.kz_image.specs.declared.feed.Feed.{Feed}
 use Rattle.kz_types.specs.declared.fault.LogFault.{LogFault}
 use Rattle.kz_types.specs.declared.fault.LogFault.TheVariants as fault
-use Rattle.kz_spec_stores.specs.Log.{Log, Feed as FeedOf, end_of, reset, snapshot}
+use Rattle.kz_spec_data.specs.Log.{Log, Feed as FeedOf, end_of, reset, snapshot}
 use Rattle.kz_log.specs.declared.store.Elected.{Elected}
 
 -- the epoch and the last offset of a log

@@ -3,8 +3,8 @@ use Rattle.std.specs.Prelude.{◌≡◌, ◌<◌, ℤ, pos, negsuc, ◌+ℤ◌, 
 use Rattle.kz_types.specs.declared.limits.TheConstants.{MAX_LONG}
 use Rattle.kz_types.specs.declared.log.BatchRow.{BatchRow}
 use Rattle.kz_image.specs.declared.feed.Feed.{Feed}
-use Rattle.kz_spec_stores.specs.Image.{Image, empty_image}
-use Rattle.kz_spec_stores.specs.Log.{Log, IsLog, end_of, last_of, with_row}
+use Rattle.kz_spec_data.specs.Image.{Image, empty_image}
+use Rattle.kz_spec_data.specs.Log.{Log, IsLog, end_of, last_of, with_row}
 
 abbrev pub base_of : Option (ℤ × Image) → ℤ
 base_of None = negsuc 0

@@ -2,7 +2,7 @@
 use Rattle.std.specs.Prelude.{◌≡◌, ℤ, List, is_some, Ok}
 use Rattle.kz_types.specs.declared.record.MetaRecord.{MetaRecord}
 use Rattle.kz_image.specs.declared.feed.Feed.{Feed}
-use Rattle.kz_spec_stores.specs.Log.{Log, View, new_view, IsLog, IsViewOf, is_open_log, begun_of, feed_from, append, elect}
+use Rattle.kz_spec_data.specs.Log.{Log, View, new_view, IsLog, IsViewOf, is_open_log, begun_of, feed_from, append, elect}
 use Rattle.kz_log.specs.Requests.{IsFeed}
 use Rattle.kz_log.specs.Views.{Fits}
 

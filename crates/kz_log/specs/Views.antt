@@ -1,8 +1,8 @@
 -- What a view takes of a log.
 use Rattle.std.specs.Prelude.{◌≡◌, ℤ, pos, Option, Some, None, ⊤}
 use Rattle.kz_image.specs.declared.feed.Feed.{Feed}
-use Rattle.kz_spec_stores.specs.Image.{Image}
-use Rattle.kz_spec_stores.specs.Log.{Log, View, Follow, IsAt, last_end, end_of}
+use Rattle.kz_spec_data.specs.Image.{Image}
+use Rattle.kz_spec_data.specs.Log.{Log, View, Follow, IsAt, last_end, end_of}
 
 -- where the batches of a feed go on from: its base, or the view's position
 abbrev pub start_of : View → Option (ℤ × Image) → ℤ

@@ -2,8 +2,8 @@
 use Rattle.std.specs.Prelude.{◌≡◌, Bool, true, false, Result, Ok, Err, ⊤}
 use Rattle.kz_types.specs.declared.fault.LogFault.{LogFault}
 use Rattle.kz_types.specs.declared.fault.LogFault.TheVariants as fault
-use Rattle.kz_spec_stores.specs.Log.{Log}
-use Rattle.kz_spec_stores.specs.Requests.{Done, answer_of_log_fault}
+use Rattle.kz_spec_data.specs.Log.{Log}
+use Rattle.kz_spec_data.specs.Requests.{Done, answer_of_log_fault}
 use Rattle.kz_connection.specs.Connections.{Arrival, Answered, Lost}
 use Rattle.kz_log.specs.declared.wire.LogWireFault.{LogWireFault}
 use Rattle.kz_log.specs.declared.wire.LogWireFault.TheVariants as wire_fault

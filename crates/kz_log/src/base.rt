@@ -1,7 +1,7 @@
 //! Where a log may be cut.
 ghost use Rattle.std.specs.Prelude.{◌≡◌, ◌+ℤ◌, ◌≤ℤ◌, false, pos};
 ghost use Rattle.kz_types.specs.declared.limits.TheConstants.{MAX_LONG};
-ghost use Rattle.kz_spec_stores.specs.Log.{record_count};
+ghost use Rattle.kz_spec_data.specs.Log.{record_count};
 ghost use Rattle.kz_settle.specs.Settling.{is_open_after};
 ghost use Rattle.kz_log.specs.Reading.{entries_after, is_open_by};
 

@@ -1,8 +1,8 @@
 //! Building the view that a feed leads to.
 ghost use Rattle.std.specs.Prelude.{◌≡◌, ◌≤ℤ◌, ◌+ℤ◌, pos, [], ◌∷◌, ◌++◌, OnOk};
 ghost use Rattle.kz_types.specs.declared.limits.TheConstants.{MAX_LONG};
-ghost use Rattle.kz_spec_stores.specs.Image.{image_with};
-ghost use Rattle.kz_spec_stores.specs.Log.{Follow, all_entries_applied, entries, entries_of_batch, last_of, last_end, last_epoch};
+ghost use Rattle.kz_spec_data.specs.Image.{image_with};
+ghost use Rattle.kz_spec_data.specs.Log.{Follow, all_entries_applied, entries, entries_of_batch, last_of, last_end, last_epoch};
 ghost use Rattle.kz_settle.specs.Stands.{LeavesNone, entries_of_answer};
 ghost use Rattle.kz_log.specs.Building.{Building, IsBuiltFrom};
 

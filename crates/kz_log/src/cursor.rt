@@ -1,7 +1,7 @@
 //! Reading the records of a log one after another.
 ghost use Rattle.std.specs.Prelude.{◌≡◌, ◌+◌, ◌+ℤ◌, ◌≤ℤ◌, ◌∷◌, [], pos, MatchOption, IfSome};
 ghost use Rattle.kz_types.specs.declared.limits.TheConstants.{MAX_LONG};
-ghost use Rattle.kz_spec_stores.specs.Log.{record_count};
+ghost use Rattle.kz_spec_data.specs.Log.{record_count};
 ghost use Rattle.kz_log.specs.Reading.{entries_after, unread_entries, unread_count};
 
 use kz_types::{BatchRow, MetaRecord};

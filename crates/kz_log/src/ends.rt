@@ -1,7 +1,7 @@
 //! How many records batches have, and their last offsets.
 ghost use Rattle.std.specs.Prelude.{◌≡◌, ◌^◌, ◌<◌, ◌≤ℤ◌, ◌+ℤ◌, ◌∷◌, pos, negsuc, map, IfOk};
 ghost use Rattle.kz_types.specs.declared.limits.TheConstants.{MAX_LONG};
-ghost use Rattle.kz_spec_stores.specs.Log.{Follow, last_of, record_count};
+ghost use Rattle.kz_spec_data.specs.Log.{Follow, last_of, record_count};
 
 use kz_types::{BatchRow, NoMemory};
 use std::alloc::Global;

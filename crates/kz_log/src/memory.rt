@@ -1,7 +1,7 @@
 //! A log in memory.
 ghost use Rattle.std.specs.Prelude.{◌≡◌, None, Option};
-ghost use Rattle.kz_spec_stores.specs.Log.{Log, IsLog, empty_log};
-ghost use Rattle.kz_spec_stores.specs.Requests.{no_disk};
+ghost use Rattle.kz_spec_data.specs.Log.{Log, IsLog, empty_log};
+ghost use Rattle.kz_spec_data.specs.Requests.{no_disk};
 ghost use Rattle.kz_log.specs.OneProof.{IsLog-prop};
 
 use crate::{Elected, LogRows, MetaLog};

@@ -2,7 +2,7 @@
 ghost use Rattle.std.specs.Prelude.{◌≡◌, ◌+ℤ◌, ◌≤ℤ◌, ◌∷◌, false, true, int_le, pos, is_some, IfOk, List};
 ghost use Rattle.kz_types.specs.declared.limits.TheConstants.{MAX_LONG};
 ghost use Rattle.kz_types.specs.declared.log.Entry.{Entry};
-ghost use Rattle.kz_spec_stores.specs.Log.{record_count};
+ghost use Rattle.kz_spec_data.specs.Log.{record_count};
 ghost use Rattle.kz_settle.specs.Settling.{is_open_after, ends_by};
 ghost use Rattle.kz_log.specs.Reading.{entries_after, unread_entries, unread_count, Knows, image_after};
 

@@ -1,7 +1,7 @@
 //! Reading a log.
 ghost use Rattle.std.specs.Prelude.{◌≡◌, IfOk, OnOk, OnErr};
-ghost use Rattle.kz_spec_stores.specs.Log.{IsViewOf, read_view};
-ghost use Rattle.kz_spec_stores.specs.Requests.{answer_of_log_fault, answer_by, ReadsDisk};
+ghost use Rattle.kz_spec_data.specs.Log.{IsViewOf, read_view};
+ghost use Rattle.kz_spec_data.specs.Requests.{answer_of_log_fault, answer_by, ReadsDisk};
 
 use crate::{LogRows, MetaLog, View};
 use kz_types::{LogFault, NoMemory};

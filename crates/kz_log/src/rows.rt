@@ -4,8 +4,8 @@ ghost use Rattle.std.specs.List.{filter};
 ghost use Rattle.kz_types.specs.declared.limits.TheConstants.{MAX_LONG};
 ghost use Rattle.kz_types.specs.declared.log.BatchRow.{BatchRow as BatchRowValue};
 ghost use Rattle.kz_types.specs.declared.record.MetaRecord.{MetaRecord as MetaRecordValue};
-ghost use Rattle.kz_spec_stores.specs.Image.{empty_image};
-ghost use Rattle.kz_spec_stores.specs.Log.{Log, IsLog, empty_log, end_of, batch_ends, image_at, full_log, new_batch, with_batch, begins_after, feed_from, may_be_base, reset, snapshot, with_row};
+ghost use Rattle.kz_spec_data.specs.Image.{empty_image};
+ghost use Rattle.kz_spec_data.specs.Log.{Log, IsLog, empty_log, end_of, batch_ends, image_at, full_log, new_batch, with_batch, begins_after, feed_from, may_be_base, reset, snapshot, with_row};
 ghost use Rattle.kz_log.specs.Requests.{IsFeed};
 ghost use Rattle.kz_log.specs.Rows.{log_of, GoesOn, IsPushed};
 
@@ -31,7 +31,7 @@ pub struct LogRows {
 
 impl Model for LogRows {
     ghost use Rattle.std.specs.Prelude.{◌≡◌};
-    ghost use Rattle.kz_spec_stores.specs.Log.{Log, IsLog, record_count};
+    ghost use Rattle.kz_spec_data.specs.Log.{Log, IsLog, record_count};
 
     ghost Value = { Log };
 

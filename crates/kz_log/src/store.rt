@@ -1,8 +1,8 @@
 //! A store that holds a metadata log.
 ghost use Rattle.std.specs.Prelude.{◌≡◌, ◌<◌, ◌≤ℤ◌, ℕ, true, false, Option, pos, length, IfOk, IfErr, OnOk, OnErr, IsErrOf, Ok};
-ghost use Rattle.kz_spec_stores.specs.Log as logs;
-ghost use Rattle.kz_spec_stores.specs.Log.{Log, IsLog, end_of, feed_from, may_be_base};
-ghost use Rattle.kz_spec_stores.specs.Requests.{Disk, LogChange, Append, Elect, Reset, Snapshot, answer_of_log_fault, answer_by, IsTaken, ChangesDisk, ReadsDisk, Only, Between};
+ghost use Rattle.kz_spec_data.specs.Log as logs;
+ghost use Rattle.kz_spec_data.specs.Log.{Log, IsLog, end_of, feed_from, may_be_base};
+ghost use Rattle.kz_spec_data.specs.Requests.{Disk, LogChange, Append, Elect, Reset, Snapshot, answer_of_log_fault, answer_by, IsTaken, ChangesDisk, ReadsDisk, Only, Between};
 ghost use Rattle.kz_log.specs.Requests.{IsElected, IsFeed, IsRefusal, made_by_reset, made_by_snapshot};
 
 use kz_image::Feed;

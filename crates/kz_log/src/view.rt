@@ -1,6 +1,6 @@
 //! What a controller knows of a log.
 ghost use Rattle.std.specs.Prelude.{◌≡◌, [], OnOk, OnErr, IfOk};
-ghost use Rattle.kz_spec_stores.specs.Log.{Log, new_view, IsLog, IsAt, IsViewOf, entries, log_with_feed, feed_from, last_epoch, read_view};
+ghost use Rattle.kz_spec_data.specs.Log.{Log, new_view, IsLog, IsAt, IsViewOf, entries, log_with_feed, feed_from, last_epoch, read_view};
 ghost use Rattle.kz_log.specs.Building.{building_from, view_of, IsBuiltFrom};
 ghost use Rattle.kz_log.specs.Requests.{IsFeed};
 ghost use Rattle.kz_log.specs.Views.{Fits, GoesOn, known_epoch};
@@ -37,7 +37,7 @@ impl Drop for View {
 
 impl Model for View {
     ghost use Rattle.std.specs.Prelude.{◌≡◌, []};
-    ghost use Rattle.kz_spec_stores.specs.Log.{View as ViewValue};
+    ghost use Rattle.kz_spec_data.specs.Log.{View as ViewValue};
 
     ghost Value = { ViewValue };
 

@@ -2,9 +2,9 @@
 ghost use Rattle.std.specs.Prelude.{◌≡◌, ◌<◌, ◌≤ℤ◌, pos, length, ⊤, IfOk, IfErr, IsErrOf, Ok, Err};
 ghost use Rattle.std.specs.Borrow.{sem};
 ghost use Rattle.kz_types.specs.Causes.{Rose};
-ghost use Rattle.kz_spec_stores.specs.Log as logs;
-ghost use Rattle.kz_spec_stores.specs.Log.{end_of, feed_from};
-ghost use Rattle.kz_spec_stores.specs.Requests.{Append, Done, answer_by, answer_of_log_fault, IsTaken, ChangesDisk, ReadsDisk, Between};
+ghost use Rattle.kz_spec_data.specs.Log as logs;
+ghost use Rattle.kz_spec_data.specs.Log.{end_of, feed_from};
+ghost use Rattle.kz_spec_data.specs.Requests.{Append, Done, answer_by, answer_of_log_fault, IsTaken, ChangesDisk, ReadsDisk, Between};
 ghost use Rattle.kz_connection.specs.Connections.{IsSpent, EndsBy, OverConnection, without_sessions};
 ghost use Rattle.kz_log.specs.Requests.{IsFeed, IsRefusal};
 ghost use Rattle.kz_log.specs.Wires.{arrival_of, IfStore, IsUnanswered, IsAfterAppend};

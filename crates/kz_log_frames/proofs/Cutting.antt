@@ -5,15 +5,15 @@ use Rattle.std.specs.Ordering.{int_eq}
 use Rattle.std.proofs.lemmas.Int.{ints}
 use Rattle.std.proofs.lemmas.Bool.Decides.{nat_tests}
 use Rattle.kz_types.specs.declared.log.BatchRow.{BatchRow}
-use Rattle.kz_spec_values.specs.Fields.{◌>>=◌}
-use Rattle.kz_spec_values.specs.Batches.{signed_at}
-use Rattle.kz_spec_stores.specs.Metadata.{empty_image}
-use Rattle.kz_spec_stores.specs.Log.{Log, may_be_base}
-use Rattle.kz_spec_snapshots.specs.Records.{image_after, in_epoch, snapshot_records}
-use Rattle.kz_spec_snapshots.specs.Batches.{records_of_batches}
+use Rattle.kz_spec_data.specs.Fields.{◌>>=◌}
+use Rattle.kz_spec_data.specs.Batches.{signed_at}
+use Rattle.kz_spec_data.specs.Metadata.{empty_image}
+use Rattle.kz_spec_data.specs.Log.{Log, may_be_base}
+use Rattle.kz_spec_data.specs.SnapshotRecords.{image_after, in_epoch, snapshot_records}
+use Rattle.kz_spec_data.specs.SnapshotBatches.{records_of_batches}
 use Rattle.kz_types.specs.declared.fault.LogWhy.{LogWhy}
 use Rattle.kz_types.specs.declared.fault.LogWhy.TheVariants.{Malformed, Sequence}
-use Rattle.kz_spec_files.specs.LogFile.{Piece, read_pieces, read_batches, records_of_pieces, same_records, image_of_pieces, are_snapshot_batches, is_snapshot, with_base, after_snapshot}
+use Rattle.kz_spec_data.specs.LogFile.{Piece, read_pieces, read_batches, records_of_pieces, same_records, image_of_pieces, are_snapshot_batches, is_snapshot, with_base, after_snapshot}
 use Rattle.kz_log_frames.specs.declared.fault.FrameFault.{FrameFault}
 use Rattle.kz_log_frames.specs.declared.fault.FrameFault.TheVariants.{Why, NoMemory}
 use Rattle.kz_log_frames.specs.declared.pieces.Found.{Found}

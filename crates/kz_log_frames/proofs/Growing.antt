@@ -7,16 +7,16 @@ use Rattle.std.proofs.lemmas.List.Concat.{flat_map-append}
 use Rattle.std.proofs.lemmas.List.Elements.{All-nil, All-cons, All-head, All-tail, All-more}
 use Rattle.kz_types.specs.declared.log.BatchRow.{BatchRow}
 use Rattle.kz_types.specs.declared.record.MetaRecord.{MetaRecord}
-use Rattle.kz_spec_values.specs.Records.{bytes_of_record, record_of}
-use Rattle.kz_spec_values.specs.Batches.{batch_written}
-use Rattle.kz_spec_stores.specs.Metadata.{Image}
-use Rattle.kz_spec_stores.specs.InOrder.{IsInOrder}
-use Rattle.kz_spec_stores.specs.Log.{Log, IsLog, image_at, may_be_base, snapshot}
-use Rattle.kz_spec_snapshots.specs.Batches.{snapshot_batches}
-use Rattle.kz_spec_files.specs.LogFile.{after_payload, batch_payload, piece_written, snapshot_payload}
-use Rattle.kz_laws_records.specs.Texts.{AreBytes}
+use Rattle.kz_spec_data.specs.Records.{bytes_of_record, record_of}
+use Rattle.kz_spec_data.specs.Batches.{batch_written}
+use Rattle.kz_spec_data.specs.Metadata.{Image}
+use Rattle.kz_spec_data.specs.InOrder.{IsInOrder}
+use Rattle.kz_spec_data.specs.Log.{Log, IsLog, image_at, may_be_base, snapshot}
+use Rattle.kz_spec_data.specs.SnapshotBatches.{snapshot_batches}
+use Rattle.kz_spec_data.specs.LogFile.{after_payload, batch_payload, piece_written, snapshot_payload}
+use Rattle.kz_laws_values.specs.Texts.{AreBytes}
 use Rattle.kz_laws_znodes.specs.RoundTrip.{IsWritable}
-use Rattle.kz_laws_snapshot_files.specs.ReadBack.{IsReadBack, IsBatchReadBack, BatchesAreReadBack}
+use Rattle.kz_laws_znodes.specs.ReadBack.{IsReadBack, IsBatchReadBack, BatchesAreReadBack}
 use Rattle.kz_log_frames.specs.Payloads.{IsValueOf, AreValuesOf, IsPayloadOf, Grows, IsHeadOf, snapshot_head, written_snapshot, IsSnapshotOf}
 
 -- ---- records that are read back

@@ -12,15 +12,15 @@ use Rattle.kz_types.specs.declared.log.BatchRow.{BatchRow}
 use Rattle.kz_types.specs.declared.record.MetaRecord.{MetaRecord}
 use Rattle.kz_types.specs.declared.record.CodecFault.{CodecFault}
 use Rattle.kz_types.specs.declared.record.BatchFault.{BatchFault}
-use Rattle.kz_spec_values.specs.Fields.{◌>>=◌, varint, groups_of}
-use Rattle.kz_spec_values.specs.Batches.{BatchContents, content, entry, content_with, records_written, batch_of, batch_written, signed_at, BatchFits}
-use Rattle.kz_spec_values.specs.Records.{bytes_of_record, record_of}
-use Rattle.kz_spec_stores.specs.Log.{Log, end_of, reset, with_row}
+use Rattle.kz_spec_data.specs.Fields.{◌>>=◌, varint, groups_of}
+use Rattle.kz_spec_data.specs.Batches.{BatchContents, content, entry, content_with, records_written, batch_of, batch_written, signed_at, BatchFits}
+use Rattle.kz_spec_data.specs.Records.{bytes_of_record, record_of}
+use Rattle.kz_spec_data.specs.Log.{Log, end_of, reset, with_row}
 use Rattle.kz_types.specs.declared.fault.LogWhy.{LogWhy}
 use Rattle.kz_types.specs.declared.fault.LogWhy.TheVariants.{Batch, Value, Sequence}
-use Rattle.kz_spec_files.specs.LogFile.{with_why, read_values, follows, batch_row, after_payload, batch_payload, reset_payload}
-use Rattle.kz_laws_records.specs.Texts.{AreBytes}
-use Rattle.kz_laws_records.specs.WrittenContents.{contents_of}
+use Rattle.kz_spec_data.specs.LogFile.{with_why, read_values, follows, batch_row, after_payload, batch_payload, reset_payload}
+use Rattle.kz_laws_values.specs.Texts.{AreBytes}
+use Rattle.kz_laws_values.specs.WrittenContents.{contents_of}
 use Rattle.kz_log_frames.specs.Payloads.{IsValueOf, AreValuesOf, IsPayloadOf}
 use Rattle.kz_log.specs.Rows.{GoesOn}
 use Rattle.kz_log_frames.proofs.FewBytes.{entry_holds, batch_fits}

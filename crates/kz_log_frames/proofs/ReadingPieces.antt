@@ -9,11 +9,11 @@ use Rattle.std.proofs.lemmas.List.Elements.{All-nil, All-cons, All-append}
 use Rattle.kz_types.specs.declared.log.BatchRow.{BatchRow}
 use Rattle.kz_types.specs.declared.record.MetaRecord.{MetaRecord}
 use Rattle.kz_types.specs.declared.record.BatchFault.{BatchFault}
-use Rattle.kz_spec_values.specs.Fields.{◌>>=◌}
-use Rattle.kz_spec_values.specs.Batches.{BatchContents, batch_of}
+use Rattle.kz_spec_data.specs.Fields.{◌>>=◌}
+use Rattle.kz_spec_data.specs.Batches.{BatchContents, batch_of}
 use Rattle.kz_types.specs.declared.fault.LogWhy.{LogWhy}
 use Rattle.kz_types.specs.declared.fault.LogWhy.TheVariants.{Malformed, Batch}
-use Rattle.kz_spec_files.specs.LogFile.{Piece, with_why, read_values, read_pieces, read_batches, are_snapshot_batches}
+use Rattle.kz_spec_data.specs.LogFile.{Piece, with_why, read_values, read_pieces, read_batches, are_snapshot_batches}
 use Rattle.kz_log_frames.specs.declared.fault.FrameFault.{FrameFault}
 use Rattle.kz_log_frames.specs.declared.fault.FrameFault.TheVariants.{Why, NoMemory}
 use Rattle.kz_log_frames.specs.declared.pieces.Found.{Found}

@@ -7,10 +7,10 @@ use Rattle.std.specs.Str.{bytes_eq}
 use Rattle.kz_types.specs.declared.log.BatchRow.{BatchRow}
 use Rattle.kz_types.specs.declared.log.EpochRecord.{EpochRecord}
 use Rattle.kz_types.specs.declared.record.MetaRecord.{MetaRecord}
-use Rattle.kz_spec_values.specs.Records.{bytes_of_record}
-use Rattle.kz_spec_snapshots.specs.Records.{in_epoch}
-use Rattle.kz_spec_snapshots.specs.Batches.{records_of_batches}
-use Rattle.kz_spec_files.specs.LogFile.{same_records}
+use Rattle.kz_spec_data.specs.Records.{bytes_of_record}
+use Rattle.kz_spec_data.specs.SnapshotRecords.{in_epoch}
+use Rattle.kz_spec_data.specs.SnapshotBatches.{records_of_batches}
+use Rattle.kz_spec_data.specs.LogFile.{same_records}
 
 -- there is none
 abbrev pub is_none : List EpochRecord → Bool

@@ -4,12 +4,12 @@ use Rattle.std.proofs.lemmas.List.Elements.{All-nil, All-cons, All-head, All-tai
 use Rattle.kz_types.specs.declared.record.MetaRecord.{MetaRecord}
 use Rattle.kz_types.specs.declared.record.CodecFault.{CodecFault}
 use Rattle.kz_types.specs.declared.fault.LogWhy.TheVariants.{Value}
-use Rattle.kz_spec_values.specs.Fields.{◌>>=◌}
-use Rattle.kz_spec_values.specs.Records.{bytes_of_record, record_of}
-use Rattle.kz_spec_files.specs.LogFile.{with_why, read_values}
-use Rattle.kz_laws_records.specs.Texts.{AreBytes}
-use Rattle.kz_laws_records.proofs.Exact.{came, ok_same}
-use Rattle.kz_laws_lengths.specs.Lengths.{IsShortValue}
+use Rattle.kz_spec_data.specs.Fields.{◌>>=◌}
+use Rattle.kz_spec_data.specs.Records.{bytes_of_record, record_of}
+use Rattle.kz_spec_data.specs.LogFile.{with_why, read_values}
+use Rattle.kz_laws_values.specs.Texts.{AreBytes}
+use Rattle.kz_laws_values.proofs.Exact.{came, ok_same}
+use Rattle.kz_laws_values.specs.Lengths.{IsShortValue}
 use Rattle.kz_log_frames.specs.Pieces.{IsShortRecord}
 
 value_read : (m : Result MetaRecord CodecFault) (r : MetaRecord) → with_why Value m ≡ Ok r → m ≡ Ok r

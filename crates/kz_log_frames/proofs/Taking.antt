@@ -7,15 +7,15 @@ use Rattle.kz_types.specs.declared.limits.TheConstants.{MAX_LONG}
 use Rattle.kz_types.specs.declared.record.MetaRecord.{MetaRecord}
 use Rattle.kz_types.specs.declared.record.BatchFault.{BatchFault}
 use Rattle.kz_types.specs.declared.record.BatchFault.TheVariants.{Short, BadMagic, BadCrc, Compressed, BadCount, BadOrder}
-use Rattle.kz_spec_values.specs.Fields.{Reading, ◌>>=◌}
-use Rattle.kz_spec_values.specs.Forms.{items_at}
-use Rattle.kz_spec_values.specs.Checksum.{crc32c}
-use Rattle.kz_spec_values.specs.Batches.{BatchContents, Content, value_of, entry, stated_length, magic, stated_sum, compression, is_control, last_delta, stated_count, bytes_under_sum, is_short, is_numbered, records_counted, values_of, batch_with, batch_of}
-use Rattle.kz_spec_values.specs.Records.{record_of}
-use Rattle.kz_spec_stores.specs.Log.{Log, end_of, with_row}
+use Rattle.kz_spec_data.specs.Fields.{Reading, ◌>>=◌}
+use Rattle.kz_spec_data.specs.Forms.{items_at}
+use Rattle.kz_spec_data.specs.Checksum.{crc32c}
+use Rattle.kz_spec_data.specs.Batches.{BatchContents, Content, value_of, entry, stated_length, magic, stated_sum, compression, is_control, last_delta, stated_count, bytes_under_sum, is_short, is_numbered, records_counted, values_of, batch_with, batch_of}
+use Rattle.kz_spec_data.specs.Records.{record_of}
+use Rattle.kz_spec_data.specs.Log.{Log, end_of, with_row}
 use Rattle.kz_types.specs.declared.fault.LogWhy.{LogWhy}
 use Rattle.kz_types.specs.declared.fault.LogWhy.TheVariants.{Header, Malformed, Batch, Value, Sequence, Sum}
-use Rattle.kz_spec_files.specs.LogFile.{with_why, read_values, follows, batch_row, after_batch, after_reset, after_snapshot, after_payload}
+use Rattle.kz_spec_data.specs.LogFile.{with_why, read_values, follows, batch_row, after_batch, after_reset, after_snapshot, after_payload}
 use Rattle.kz_log.specs.Rows.{GoesOn}
 use Rattle.kz_log.proofs.Offsets.{of_le}
 use Rattle.kz_log_frames.specs.declared.fault.FrameFault.{FrameFault}

@@ -5,13 +5,13 @@ use Rattle.std.specs.Int.{w32, w64, to_be_bytes, cast_unsigned}
 use Rattle.kz_types.specs.declared.limits.TheConstants.{MAX_FILE_BYTES}
 use Rattle.kz_types.specs.declared.log.BatchRow.{BatchRow}
 use Rattle.kz_types.specs.declared.record.MetaRecord.{MetaRecord}
-use Rattle.kz_spec_values.specs.Records.{bytes_of_record, record_of}
-use Rattle.kz_spec_stores.specs.Metadata.{Image}
-use Rattle.kz_spec_stores.specs.Log.{Log, new_batch, with_next_epoch, with_row}
-use Rattle.kz_spec_stores.specs.Requests.{LogChange, Append, Elect, Reset, Snapshot}
+use Rattle.kz_spec_data.specs.Records.{bytes_of_record, record_of}
+use Rattle.kz_spec_data.specs.Metadata.{Image}
+use Rattle.kz_spec_data.specs.Log.{Log, new_batch, with_next_epoch, with_row}
+use Rattle.kz_spec_data.specs.Requests.{LogChange, Append, Elect, Reset, Snapshot}
 use Rattle.kz_log.specs.Rows.{GoesOn}
-use Rattle.kz_spec_snapshots.specs.Batches.{snapshot_batches}
-use Rattle.kz_spec_files.specs.LogFile.{after_payload, batch_payload, reset_payload, snapshot_payload, piece_written}
+use Rattle.kz_spec_data.specs.SnapshotBatches.{snapshot_batches}
+use Rattle.kz_spec_data.specs.LogFile.{after_payload, batch_payload, reset_payload, snapshot_payload, piece_written}
 
 -- The bytes of the payload that is written for a change of a log.
 abbrev pub change_bytes : Log → LogChange → ℕ

@@ -4,16 +4,16 @@ use Rattle.std.specs.List.{All}
 use Rattle.std.specs.Ordering.{int_eq}
 use Rattle.kz_types.specs.declared.log.BatchRow.{BatchRow}
 use Rattle.kz_types.specs.declared.record.MetaRecord.{MetaRecord}
-use Rattle.kz_spec_values.specs.Fields.{◌>>=◌}
-use Rattle.kz_spec_values.specs.Batches.{batch_of}
-use Rattle.kz_spec_values.specs.Records.{bytes_of_record}
-use Rattle.kz_spec_stores.specs.Metadata.{Image, empty_image}
-use Rattle.kz_spec_stores.specs.Log.{Log, may_be_base}
-use Rattle.kz_spec_snapshots.specs.Records.{image_after, snapshot_records}
-use Rattle.kz_spec_snapshots.specs.Batches.{records_of_batches}
+use Rattle.kz_spec_data.specs.Fields.{◌>>=◌}
+use Rattle.kz_spec_data.specs.Batches.{batch_of}
+use Rattle.kz_spec_data.specs.Records.{bytes_of_record}
+use Rattle.kz_spec_data.specs.Metadata.{Image, empty_image}
+use Rattle.kz_spec_data.specs.Log.{Log, may_be_base}
+use Rattle.kz_spec_data.specs.SnapshotRecords.{image_after, snapshot_records}
+use Rattle.kz_spec_data.specs.SnapshotBatches.{records_of_batches}
 use Rattle.kz_types.specs.declared.fault.LogWhy.{LogWhy}
 use Rattle.kz_types.specs.declared.fault.LogWhy.TheVariants.{Malformed, Batch, Sequence}
-use Rattle.kz_spec_files.specs.LogFile.{Piece, with_why, read_values, read_pieces, batch_row, are_snapshot_batches, same_records, with_base}
+use Rattle.kz_spec_data.specs.LogFile.{Piece, with_why, read_values, read_pieces, batch_row, are_snapshot_batches, same_records, with_base}
 use Rattle.kz_log_frames.specs.declared.fault.FrameFault.{FrameFault}
 use Rattle.kz_log_frames.specs.declared.fault.FrameFault.TheVariants.{Why, NoMemory}
 use Rattle.kz_log_frames.specs.declared.pieces.Found.{Found}

@@ -2,9 +2,9 @@
 use Rattle.std.specs.Prelude.{◌≡◌, List, Result, Ok, Err, ⊤, if◌then◌else◌}
 use Rattle.kz_types.specs.declared.record.MetaRecord.{MetaRecord}
 use Rattle.kz_types.specs.declared.record.CodecFault.{CodecFault}
-use Rattle.kz_spec_values.specs.Batches.{BatchContents}
-use Rattle.kz_spec_stores.specs.Log.{Log, with_row}
-use Rattle.kz_spec_files.specs.LogFile.{follows, batch_row}
+use Rattle.kz_spec_data.specs.Batches.{BatchContents}
+use Rattle.kz_spec_data.specs.Log.{Log, with_row}
+use Rattle.kz_spec_data.specs.LogFile.{follows, batch_row}
 use Rattle.kz_types.specs.declared.fault.LogWhy.{LogWhy}
 use Rattle.kz_types.specs.declared.fault.LogWhy.TheVariants.{Header, Malformed, Batch, Value, Sequence, Sum}
 use Rattle.kz_log_frames.specs.declared.fault.FrameFault.{FrameFault}

@@ -2,15 +2,16 @@
 ghost use Rattle.std.specs.Prelude.{◌≡◌, ◌<◌, ◌≤◌, ◌∷◌, ℤ, length, map, IfOk, OnOk};
 ghost use Rattle.std.specs.List.{All};
 ghost use Rattle.std.specs.Int.{w32, to_be_bytes, cast_unsigned};
-ghost use Rattle.kz_spec_values.specs.Records.{bytes_of_record};
-ghost use Rattle.kz_spec_values.specs.Batches.{batch_written};
-ghost use Rattle.kz_laws_records.specs.Texts.{AreBytes};
-ghost use Rattle.kz_laws_snapshot_files.specs.ReadBack.{IsReadBack};
+ghost use Rattle.kz_spec_data.specs.Records.{bytes_of_record};
+ghost use Rattle.kz_spec_data.specs.Batches.{batch_written};
+ghost use Rattle.kz_laws_values.specs.Texts.{AreBytes};
+ghost use Rattle.kz_laws_znodes.specs.ReadBack.{IsReadBack};
 ghost use Rattle.kz_log_frames.specs.Payloads.{IsValueOf, AreValuesOf, IsPayloadOf};
 
 use kz_batch::{batch_size, write_batch};
 use kz_codec::{value_size, write_value};
-use kz_laws_records::{held_record_is_spelled, written_batch_is_spelled};
+use kz_laws_values::held_record_is_spelled;
+use kz_laws_values::records::written_batch_is_spelled;
 use kz_types::{BatchRow, MetaRecord, NoMemory};
 use std::alloc::Global;
 

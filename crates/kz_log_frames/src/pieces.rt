@@ -3,8 +3,8 @@ ghost use Rattle.std.specs.Prelude.{◌≡◌, ◌≤◌, ◌+ℤ◌, ◌&&◌, 
 ghost use Rattle.std.specs.List.{All};
 ghost use Rattle.std.specs.Int.{w32, from_be_bytes};
 ghost use Rattle.std.specs.Ordering.{int_eq};
-ghost use Rattle.kz_spec_values.specs.Batches.{batch_of};
-ghost use Rattle.kz_spec_files.specs.LogFile.{Piece, read_values, read_pieces, read_batches};
+ghost use Rattle.kz_spec_data.specs.Batches.{batch_of};
+ghost use Rattle.kz_spec_data.specs.LogFile.{Piece, read_values, read_pieces, read_batches};
 ghost use Rattle.kz_log_frames.specs.Taken.{Says};
 ghost use Rattle.kz_log_frames.specs.Pieces.{IsShortRecord, IsSplit, AreFound, read_batch, ReadsBatch, ReadsBatches};
 
@@ -12,7 +12,7 @@ use crate::fault::FrameFault;
 use crate::payload::are_bytes;
 use crate::take::{read_items, row_of};
 use kz_batch::Batch;
-use kz_laws_lengths::{records_are_shortest, values_are_short};
+use kz_laws_values::lengths::{records_are_shortest, values_are_short};
 use kz_types::{BatchRow, LogWhy, MetaRecord, NoMemory};
 use std::alloc::Global;
 

@@ -2,10 +2,10 @@
 ghost use Rattle.std.specs.Prelude.{◌≡◌, ◌++◌, false, List, map, bytes_eq, MatchOption, IfOk};
 ghost use Rattle.std.specs.List.{All};
 ghost use Rattle.kz_types.specs.declared.log.EpochRecord.{EpochRecord as EpochRecordValue};
-ghost use Rattle.kz_spec_values.specs.Records.{bytes_of_record};
-ghost use Rattle.kz_spec_snapshots.specs.Records.{in_epoch};
-ghost use Rattle.kz_spec_snapshots.specs.Batches.{records_of_batches};
-ghost use Rattle.kz_spec_files.specs.LogFile.{same_records};
+ghost use Rattle.kz_spec_data.specs.Records.{bytes_of_record};
+ghost use Rattle.kz_spec_data.specs.SnapshotRecords.{in_epoch};
+ghost use Rattle.kz_spec_data.specs.SnapshotBatches.{records_of_batches};
+ghost use Rattle.kz_spec_data.specs.LogFile.{same_records};
 ghost use Rattle.kz_log_frames.specs.Pieces.{IsShortRecord, HaveShortRecords};
 
 use crate::payload::short_value;

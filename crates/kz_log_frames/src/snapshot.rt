@@ -1,8 +1,8 @@
 //! Taking the frame of a snapshot into a log.
 ghost use Rattle.std.specs.Prelude.{◌≡◌, ◌≤◌, ◌&&◌, length, IfOk};
 ghost use Rattle.std.specs.Int.{w64};
-ghost use Rattle.kz_spec_values.specs.Batches.{signed_at};
-ghost use Rattle.kz_spec_files.specs.LogFile.{after_snapshot};
+ghost use Rattle.kz_spec_data.specs.Batches.{signed_at};
+ghost use Rattle.kz_spec_data.specs.LogFile.{after_snapshot};
 ghost use Rattle.kz_log_frames.specs.Taken.{Says};
 ghost use Rattle.kz_log_frames.specs.Pieces.{HaveShortRecords, image_of_rows, is_allowed, are_own_records, cut_or_not};
 

@@ -2,15 +2,15 @@
 ghost use Rattle.std.specs.Prelude.{◌≡◌, ◌≤◌, ◌<◌, ◌^◌, true, [], length, IfOk, OnOk};
 ghost use Rattle.std.specs.List.{All, flat_map};
 ghost use Rattle.std.specs.Int.{w32, to_be_bytes};
-ghost use Rattle.kz_spec_stores.specs.Log.{IsLog, may_be_base, snapshot};
-ghost use Rattle.kz_spec_snapshots.specs.Batches.{snapshot_batches};
-ghost use Rattle.kz_spec_files.specs.LogFile.{piece_written};
-ghost use Rattle.kz_laws_snapshot_files.specs.ReadBack.{IsBatchReadBack};
+ghost use Rattle.kz_spec_data.specs.Log.{IsLog, may_be_base, snapshot};
+ghost use Rattle.kz_spec_data.specs.SnapshotBatches.{snapshot_batches};
+ghost use Rattle.kz_spec_data.specs.LogFile.{piece_written};
+ghost use Rattle.kz_laws_znodes.specs.ReadBack.{IsBatchReadBack};
 ghost use Rattle.kz_log_frames.specs.Payloads.{Grows, IsHeadOf, IsSnapshotOf, written_snapshot};
 
 use crate::payload::batch_bytes;
 use kz_image::Image;
-use kz_laws_snapshot_files::snapshot_is_read_back;
+use kz_laws_znodes::snapshot_files::snapshot_is_read_back;
 use kz_log::LogRows;
 use kz_snapshot::to_rows;
 use kz_types::{BatchRow, NoMemory};

@@ -2,10 +2,10 @@
 ghost use Rattle.std.specs.Prelude.{◌≡◌, ◌≤◌, ◌+ℤ◌, ◌&&◌, pos, int_le, length, List, ℕ, Ok};
 ghost use Rattle.std.specs.Int.{w32};
 ghost use Rattle.std.specs.Ordering.{int_eq};
-ghost use Rattle.kz_spec_values.specs.Batches.{signed_at, batch_of};
-ghost use Rattle.kz_spec_stores.specs.Log.{end_of};
-ghost use Rattle.kz_spec_values.specs.Records.{record_of};
-ghost use Rattle.kz_spec_files.specs.LogFile.{read_values, follows, batch_row, after_batch, after_reset, after_payload};
+ghost use Rattle.kz_spec_data.specs.Batches.{signed_at, batch_of};
+ghost use Rattle.kz_spec_data.specs.Log.{end_of};
+ghost use Rattle.kz_spec_data.specs.Records.{record_of};
+ghost use Rattle.kz_spec_data.specs.LogFile.{read_values, follows, batch_row, after_batch, after_reset, after_payload};
 ghost use Rattle.kz_log_frames.specs.Taken.{Says, ReadsItem, row_or_not};
 
 use crate::fault::FrameFault;
@@ -206,7 +206,7 @@ fn take_reset(alloc: Global, log: &mut LogRows, bytes: &[u8]) -> Result<(), Fram
 }
 
 /// Takes what a frame's payload makes of a log: its kind byte, 1 for a batch, 2 for a reset and 3 for a snapshot, and the rest.
-#[tactic(auto, unfolding(kz_spec_files::specs::LogFile::after_payload))]
+#[tactic(auto, unfolding(kz_spec_data::specs::LogFile::after_payload))]
 pub fn take_payload(alloc: Global, log: &mut LogRows, payload: &[u8]) -> Result<(), FrameFault>
     ensures { Says (λ done. log.new) result (after_payload log.old payload.now) }
 {

@@ -11,12 +11,12 @@ use Rattle.kz_types.specs.declared.log.BatchRow.{BatchRow}
 use Rattle.kz_types.specs.declared.record.MetaRecord.{MetaRecord}
 use Rattle.kz_types.specs.declared.fault.LogFault.{LogFault}
 use Rattle.kz_types.specs.declared.fault.LogFault.TheVariants as fault
-use Rattle.kz_spec_stores.specs.Log.{Log, append, elect, full_log, log_unless_limit, new_batch, with_batch, with_next_epoch, with_row}
-use Rattle.kz_spec_stores.specs.Requests.{Disk, StoreFile, Fits, with_frame, file_with, StoreAnswer, Done, Refused, NoMemory, Failed, Down, Full, ChangesDisk, IsTaken, Either, Between}
-use Rattle.kz_store_file.proofs.Stops.{between_from_either}
+use Rattle.kz_spec_data.specs.Log.{Log, append, elect, full_log, log_unless_limit, new_batch, with_batch, with_next_epoch, with_row}
+use Rattle.kz_spec_data.specs.Requests.{Disk, StoreFile, Fits, with_frame, file_with, StoreAnswer, Done, Refused, NoMemory, Failed, Down, Full, ChangesDisk, IsTaken, Either, Between}
+use Rattle.kz_journal.proofs.Stops.{between_from_either}
 use Rattle.kz_log.specs.Rows.{GoesOn}
 use Rattle.kz_log.proofs.Pushing.{new_goes_on}
-use Rattle.kz_spec_files.specs.LogFile.{after_payload, batch_payload}
+use Rattle.kz_spec_data.specs.LogFile.{after_payload, batch_payload}
 use Rattle.kz_log_frames.specs.Payloads.{IsPayloadOf}
 
 -- ---- what nothing refuses

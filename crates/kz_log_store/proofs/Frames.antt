@@ -1,15 +1,15 @@
 -- One frame more in a log's file.
 use Rattle.std.proofs.Common.{◌≡◌, ◌+◌, ℕ, Bool, true, false, cond, List, [], ◌∷◌, ◌++◌, Option, Some, None, is_some, Result, Ok, Err, refl, sym, ap, ◌∙◌, subst}
 use Rattle.kz_disk.specs.Disks.{StaysTold}
-use Rattle.kz_spec_stores.specs.Log.{Log, empty_log}
-use Rattle.kz_spec_stores.specs.Requests.{Disk, Only, Either}
+use Rattle.kz_spec_data.specs.Log.{Log, empty_log}
+use Rattle.kz_spec_data.specs.Requests.{Disk, Only, Either}
 use Rattle.kz_types.specs.declared.fault.LogWhy.{LogWhy}
-use Rattle.kz_spec_files.specs.Frames.{Framed, Journal, journal_with_frame, log_letter, journal_of, journal_with_seal, LeftByAppend, LeftBySeal, end_after}
-use Rattle.kz_spec_files.specs.LogFile.{at_place, after_frames, after_payload, whole_or_damaged, why_at, log_in}
+use Rattle.kz_spec_data.specs.Frames.{Framed, Journal, journal_with_frame, log_letter, journal_of, journal_with_seal, LeftByAppend, LeftBySeal, end_after}
+use Rattle.kz_spec_data.specs.LogFile.{at_place, after_frames, after_payload, whole_or_damaged, why_at, log_in}
 use Rattle.kz_journal.specs.Held.{IsSealed}
-use Rattle.kz_store_file.specs.Changes.{HasFrame, SealsFile}
+use Rattle.kz_journal.specs.Changes.{HasFrame, SealsFile}
 use Rattle.kz_log_store.specs.Stores.{SealsDisk}
-use Rattle.kz_store_file.proofs.Stops.{either_by_append, only_by_seal}
+use Rattle.kz_journal.proofs.Stops.{either_by_append, only_by_seal}
 use Rattle.kz_log_store.specs.Opened.{no_frames, IsLogFile, LeavesLog, SaysTheSame, log_found, log_stands}
 use Rattle.kz_log_store.proofs.Reading.{says_same}
 

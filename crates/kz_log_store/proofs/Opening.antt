@@ -1,13 +1,13 @@
 -- Why a file isn't opened as a log.
 use Rattle.std.proofs.Common.{◌≡◌, ◌<◌, ◌^◌, ℕ, Bool, true, List, length, Option, Some, Err, refl, sym, ap, ◌∙◌, subst}
-use Rattle.kz_spec_files.specs.Frames.{log_letter, journal_of}
+use Rattle.kz_spec_data.specs.Frames.{log_letter, journal_of}
 use Rattle.kz_types.specs.declared.fault.LogWhy.TheVariants.{Header}
-use Rattle.kz_spec_files.specs.LogFile.{after_frames, log_in, log_of}
+use Rattle.kz_spec_data.specs.LogFile.{after_frames, log_in, log_of}
 use Rattle.kz_journal.specs.declared.fault.JournalFault.{JournalFault}
 use Rattle.kz_journal.specs.declared.fault.JournalFault.TheVariants.{DiskFault, Damaged, Full, NoMemory, Down}
 use Rattle.kz_journal.specs.Openings.{no_journal, IsRefused, HasFaultCause, Settles}
 use Rattle.kz_types.specs.Causes.{Rose}
-use Rattle.kz_spec_stores.specs.Requests.{Disk}
+use Rattle.kz_spec_data.specs.Requests.{Disk}
 use Rattle.kz_log_store.specs.declared.fault.LogOpenFault.{LogOpenFault}
 use Rattle.kz_log_store.specs.declared.fault.LogOpenFault.TheVariants as open_fault
 use Rattle.kz_log_store.specs.Opened.{open_fault_of, Reads, EndsReading}

@@ -1,9 +1,9 @@
 -- The log of a journal that is read frame after frame.
 use Rattle.std.proofs.Common.{◌≡◌, ℕ, Bool, true, false, cond, List, [], Result, Ok, Err, refl, sym, ap, ◌∙◌}
-use Rattle.kz_spec_stores.specs.Log.{Log, empty_log}
+use Rattle.kz_spec_data.specs.Log.{Log, empty_log}
 use Rattle.kz_types.specs.declared.fault.LogWhy.{LogWhy}
-use Rattle.kz_spec_files.specs.Frames.{Framed, Journal, after_frame, log_letter, journal_of}
-use Rattle.kz_spec_files.specs.LogFile.{at_place, after_frames, after_payload, whole_or_damaged, why_at, log_in, log_of}
+use Rattle.kz_spec_data.specs.Frames.{Framed, Journal, after_frame, log_letter, journal_of}
+use Rattle.kz_spec_data.specs.LogFile.{at_place, after_frames, after_payload, whole_or_damaged, why_at, log_in, log_of}
 use Rattle.kz_journal.specs.Nexts.{IsAllRead, IsDamagedAt}
 use Rattle.kz_log_store.specs.Opened.{no_frames, log_after, IsFreshSo, HasRead, IsFrameTaken, IsLogFile}
 

@@ -1,11 +1,11 @@
 -- What reading the next frame of a log's file answers, and what reading all of them does.
 use Rattle.std.proofs.Common.{◌≡◌, ℕ, Bool, true, false, List, Option, Some, None, Result, Ok, Err, refl, sym, ap, ◌∙◌, subst}
 use Rattle.kz_types.specs.Causes.{Rose}
-use Rattle.kz_spec_stores.specs.Log.{Log}
-use Rattle.kz_spec_stores.specs.Requests.{Disk}
+use Rattle.kz_spec_data.specs.Log.{Log}
+use Rattle.kz_spec_data.specs.Requests.{Disk}
 use Rattle.kz_types.specs.declared.fault.LogWhy.{LogWhy}
-use Rattle.kz_spec_files.specs.Frames.{Framed, Journal, after_frame, log_letter, journal_of}
-use Rattle.kz_spec_files.specs.LogFile.{after_payload, why_at}
+use Rattle.kz_spec_data.specs.Frames.{Framed, Journal, after_frame, log_letter, journal_of}
+use Rattle.kz_spec_data.specs.LogFile.{after_payload, why_at}
 use Rattle.kz_journal.specs.declared.fault.JournalFault.{JournalFault}
 use Rattle.kz_journal.specs.declared.fault.JournalFault.TheVariants as fault
 use Rattle.kz_journal.specs.declared.journal.Frame.{Frame}

@@ -3,17 +3,17 @@ use Rattle.std.specs.Prelude.{◌≡◌, ◌<◌, ℕ, Bool, true, false, ⊤, L
 use Rattle.std.proofs.Common.{ap}
 use Rattle.kz_types.specs.Causes.{Rose}
 use Rattle.kz_disk.specs.Disks.{NothingPends}
-use Rattle.kz_spec_stores.specs.Log.{Log, empty_log}
-use Rattle.kz_spec_stores.specs.Requests.{Disk}
-use Rattle.kz_spec_files.specs.Frames.{Framed, Journal, log_letter, after_frame, journal_of}
+use Rattle.kz_spec_data.specs.Log.{Log, empty_log}
+use Rattle.kz_spec_data.specs.Requests.{Disk}
+use Rattle.kz_spec_data.specs.Frames.{Framed, Journal, log_letter, after_frame, journal_of}
 use Rattle.kz_types.specs.declared.fault.LogWhy.{LogWhy}
 use Rattle.kz_types.specs.declared.fault.LogWhy.TheVariants.{Header}
-use Rattle.kz_spec_files.specs.LogFile.{whole_or_damaged, after_frames, after_payload, why_at, log_of}
+use Rattle.kz_spec_data.specs.LogFile.{whole_or_damaged, after_frames, after_payload, why_at, log_of}
 use Rattle.kz_journal.specs.declared.fault.JournalFault.{JournalFault}
 use Rattle.kz_journal.specs.declared.fault.JournalFault.TheVariants as journal_fault
 use Rattle.kz_journal.specs.declared.journal.Frame.{Frame}
 use Rattle.kz_journal.specs.Nexts.{IsAllRead}
-use Rattle.kz_store_file.specs.Values.{LeavesValue, settled_value}
+use Rattle.kz_journal.specs.Values.{LeavesValue, settled_value}
 use Rattle.kz_log_store.specs.declared.fault.LogOpenFault.{LogOpenFault}
 use Rattle.kz_log_store.specs.declared.fault.LogOpenFault.TheVariants as fault
 

@@ -4,10 +4,10 @@ use Rattle.kz_types.specs.Causes.{Rose}
 use Rattle.kz_types.specs.declared.fault.LogFault.{LogFault}
 use Rattle.kz_types.specs.declared.fault.LogFault.TheVariants as log_fault
 use Rattle.kz_disk.specs.Disks.{NothingPends}
-use Rattle.kz_spec_stores.specs.Log.{Log}
-use Rattle.kz_spec_stores.specs.Requests.{Disk, Fits, IsTooLong}
-use Rattle.kz_spec_files.specs.Frames.{log_letter, journal_of, HasNoRoomForSeal}
-use Rattle.kz_spec_files.specs.LogFile.{log_of}
+use Rattle.kz_spec_data.specs.Log.{Log}
+use Rattle.kz_spec_data.specs.Requests.{Disk, Fits, IsTooLong}
+use Rattle.kz_spec_data.specs.Frames.{log_letter, journal_of, HasNoRoomForSeal}
+use Rattle.kz_spec_data.specs.LogFile.{log_of}
 use Rattle.kz_journal.specs.Held.{disk_of, disk_state, IsSealed}
 use Rattle.kz_journal.specs.Journals.{sealed_file}
 use Rattle.kz_log_store.specs.declared.fault.LogOpenFault.{LogOpenFault}

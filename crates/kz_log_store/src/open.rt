@@ -1,9 +1,9 @@
 //! Opening a log's file.
 ghost use Rattle.std.specs.Prelude.{◌≡◌, ◌^◌, ◌<◌, ℕ, List, Some, Ok, true, false, length, IfOk, IfErr, OnOk};
 ghost use Rattle.kz_disk.specs.Disks.{StaysTold};
-ghost use Rattle.kz_spec_stores.specs.Log.{IsLog};
-ghost use Rattle.kz_spec_files.specs.Frames.{log_letter, journal_of};
-ghost use Rattle.kz_spec_files.specs.LogFile.{why_at, after_payload};
+ghost use Rattle.kz_spec_data.specs.Log.{IsLog};
+ghost use Rattle.kz_spec_data.specs.Frames.{log_letter, journal_of};
+ghost use Rattle.kz_spec_data.specs.LogFile.{why_at, after_payload};
 ghost use Rattle.kz_journal.specs.Held.{disk_of, letter_of, has_ended, is_down, disk_state, bytes_left, unread};
 ghost use Rattle.kz_log_store.specs.Opened.{open_fault_of, next_fault_of, TakesFrame, TakesNext, Steps, EndsFrames, Reads, EndsReading};
 

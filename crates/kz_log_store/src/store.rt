@@ -1,9 +1,9 @@
 //! A log on a disk.
 ghost use Rattle.std.specs.Prelude.{◌≡◌, ◌<◌, ◌^◌, ◌≤ℤ◌, ◌+ℤ◌, pos, ℕ, List, Some, true, false, length, IfOk, IfErr, OnOk};
 ghost use Rattle.kz_types.specs.declared.limits.TheConstants.{MAX_LONG};
-ghost use Rattle.kz_spec_stores.specs.Log.{IsLog, end_of, new_batch, with_row};
+ghost use Rattle.kz_spec_data.specs.Log.{IsLog, end_of, new_batch, with_row};
 ghost use Rattle.kz_log_frames.specs.Payloads.{IsPayloadOf};
-ghost use Rattle.kz_spec_files.specs.Frames.{log_letter, journal_of};
+ghost use Rattle.kz_spec_data.specs.Frames.{log_letter, journal_of};
 ghost use Rattle.kz_log.specs.OneProof.{IsLog-prop};
 ghost use Rattle.kz_journal.specs.Held.{disk_of, letter_of, has_ended, is_down, unread};
 ghost use Rattle.kz_log_store.specs.Opened.{IsLogFile, open_fault_of};
@@ -11,10 +11,9 @@ ghost use Rattle.kz_log_store.specs.Opened.{IsLogFile, open_fault_of};
 use crate::fault::LogOpenFault;
 use crate::open::{open_fault, read_frames};
 use kz_disk::Disk;
-use kz_journal::{Journal, JournalFault};
+use kz_journal::{ChangeFault, Journal, JournalFault, write_frame, write_seal};
 use kz_log::{Elected, Feed, LogFault, LogRows, MetaLog};
 use kz_log_frames::{batch_bytes, cut_and_bytes, reset_bytes};
-use kz_store_file::{ChangeFault, write_frame, write_seal};
 use kz_types::{BatchRow, Limit, MAX_EPOCH, MetaRecord, NoMemory};
 use std::alloc::Global;
 
@@ -68,13 +67,13 @@ fn not_opened<D>(refused: (D, JournalFault)) -> (D, LogOpenFault)
 impl<D: Disk> LogStore<D> {
     ghost use Rattle.std.specs.Prelude.{◌<◌, ◌≤◌, ◌≤ℤ◌, ◌+ℤ◌, pos, None, Ok, IfOk, IfErr, OnOk, OnErr, IsErrOf, length, ⊤};
     ghost use Rattle.kz_disk.specs.Disks.{StaysTold};
-    ghost use Rattle.kz_spec_stores.specs.Log.{IsLog, full_log, with_batch, new_batch};
-    ghost use Rattle.kz_spec_stores.specs.Requests.{answer_by, ChangesDisk, Only, Either};
+    ghost use Rattle.kz_spec_data.specs.Log.{IsLog, full_log, with_batch, new_batch};
+    ghost use Rattle.kz_spec_data.specs.Requests.{answer_by, ChangesDisk, Only, Either};
     ghost use Rattle.kz_types.specs.declared.limits.TheConstants.{MAX_FILE_BYTES};
-    ghost use Rattle.kz_spec_files.specs.LogFile.{after_payload, batch_payload};
+    ghost use Rattle.kz_spec_data.specs.LogFile.{after_payload, batch_payload};
     ghost use Rattle.kz_log.specs.Rows.{GoesOn};
     ghost use Rattle.kz_log_frames.specs.Payloads.{IsPayloadOf};
-    ghost use Rattle.kz_store_file.specs.Changes.{answer_of_change_fault};
+    ghost use Rattle.kz_journal.specs.Changes.{answer_of_change_fault};
     ghost use Rattle.kz_log_store.specs.Stores.{held_log, is_fresh, store_disk, store_down, store_state, left_of, IsOpened, IsUnopened, HasOpenCause, LeftByOpening, SealsTold, SealsDisk};
 
     /// Opens the disk's file as a log's journal, and reads all of it into memory. The file is only written to close the gate after

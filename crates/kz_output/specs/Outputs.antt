@@ -1,7 +1,7 @@
 -- What is written through a buffer before a sink, and how a part of a run ends where the sink fails.
 use Rattle.std.specs.Prelude.{◌≡◌, ℕ, Bool, true, List, ◌++◌, Option, Result, Err}
 use Rattle.std.specs.Io.KnownBytes.{Appends}
-use Rattle.kz_spec_runs.specs.Endings.{IsFront, EndsAtFailure}
+use Rattle.kz_spec_machine.specs.Endings.{IsFront, EndsAtFailure}
 use Rattle.kz_output.specs.declared.output.OutputFault.{OutputFault}
 use Rattle.kz_output.specs.declared.output.OutputFault.TheVariants as fault
 

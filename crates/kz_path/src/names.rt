@@ -3,7 +3,7 @@ ghost use Rattle.std.specs.Prelude.{◌≡◌, ◌++◌, ◌&&◌, ◌<◌, ◌�
 ghost use Rattle.std.specs.Str.{is_utf8};
 ghost use Rattle.kz_types.specs.Paths.{hex_digit, hex_value, sanitised_byte, part_for_name, is_plain, bytes_of_part, name_of_part};
 
-use kz_path_buffer::PathBuffer;
+use kz_paths::PathBuffer;
 use kz_types::{MAX_PATH_BYTES, NoMemory, Text, is_text};
 use std::alloc::Global;
 

@@ -1,2 +1,3 @@
+pub mod PathBuffers
 pub mod Tables
 pub mod Prefixes

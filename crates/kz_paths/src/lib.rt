@@ -1,11 +1,12 @@
-//! The znodes that are there before any entity: the roots below which entities have their places, the parents of roots, and the
-//! control znodes. Each of their paths stands once, here.
+//! The table of the paths that stand fixed, and paths that are built without memory.
 #![tactic(auto)]
 
+mod path_buffer;
 mod paths;
 mod places;
 mod texts;
 
+pub use path_buffer::{PathBuffer, has_path};
 pub use paths::{
     base_paths, control_and_base_paths, control_path, control_paths, epoch_path, migration_path,
     root_paths, topics_path,

@@ -3,7 +3,7 @@ ghost use Rattle.std.specs.Prelude.{◌≡◌, ◌∷◌, true, map, codes, leng
 ghost use Rattle.std.specs.List.{list_all};
 ghost use Rattle.kz_types.specs.PathRule.{is_path};
 ghost use Rattle.kz_types.specs.Paths.{roots, base_paths, control_paths};
-ghost use Rattle.kz_spec_values.specs.Control.{control_path, epoch_path, migration_path};
+ghost use Rattle.kz_spec_data.specs.Control.{control_path, epoch_path, migration_path};
 
 use crate::texts::{
     CONTROL_TEXT, EPOCH_TEXT, MIGRATION_TEXT, TOPICS_TEXT, base_texts, control_texts, root_texts,

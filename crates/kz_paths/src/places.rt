@@ -2,7 +2,7 @@
 ghost use Rattle.std.specs.Prelude.{◌≡◌, ◌||◌, bytes_eq};
 ghost use Rattle.std.specs.List.{list_any};
 ghost use Rattle.kz_types.specs.Paths.{roots, base_paths, control_paths, is_among, is_below, is_migrated};
-ghost use Rattle.kz_spec_values.specs.Control.{control_path, epoch_path, migration_path, broker_ids_path};
+ghost use Rattle.kz_spec_data.specs.Control.{control_path, epoch_path, migration_path, broker_ids_path};
 
 use crate::texts::{
     BROKER_IDS_TEXT, CONTROL_TEXT, EPOCH_TEXT, MIGRATION_TEXT, base_texts, control_texts,

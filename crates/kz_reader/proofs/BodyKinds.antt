@@ -13,8 +13,8 @@ use Rattle.kz_types.specs.declared.bodies.Body.{Body}
 use Rattle.kz_types.specs.declared.bodies.Body.TheVariants as body
 use Rattle.kz_types.specs.declared.fault.BodyFault.{BodyFault}
 use Rattle.kz_types.specs.Paths.{key_of, kind_of}
-use Rattle.kz_spec_values.specs.Bodies.{then_read, body_of, empty_body, object_of, json_of, body_of_object, body_unless_empty, read_body, config_of, quota_of_data, topic_of_data, state_of_data, producer_of_data}
-use Rattle.kz_spec_znodes.specs.Translation.{RowRecords, entries_in, count_of_entries, acl_records, records_of_acls, records_of, entity_records, records_by_kind, row_records, body_of_row}
+use Rattle.kz_spec_data.specs.Bodies.{then_read, body_of, empty_body, object_of, json_of, body_of_object, body_unless_empty, read_body, config_of, quota_of_data, topic_of_data, state_of_data, producer_of_data}
+use Rattle.kz_spec_data.specs.Translation.{RowRecords, entries_in, count_of_entries, acl_records, records_of_acls, records_of, entity_records, records_by_kind, row_records, body_of_row}
 
 -- what holds of each body that may follow holds of the body that is read
 pub then_kept : {A : Type 0} (P : Body → Type 0) (r : Result A BodyFault) (go : A → Result Body BodyFault) → ((a : A) → r ≡ Ok a → IfOk (go a) P) → IfOk (then_read r go) P

@@ -4,7 +4,7 @@ use Rattle.std.specs.Ordering.{is_eq}
 use Rattle.std.specs.Str.{bytes_eq}
 use Rattle.std.proofs.lemmas.Map.Text.{is_eq-slice_cmp}
 use Rattle.kz_types.proofs.NumberLemmas.{bytes_eq-same, bytes_eq-true}
-use Rattle.kz_ordered.specs.Order.{bytes_cmp}
+use Rattle.kz_types.specs.Order.{bytes_cmp}
 
 both_or_none : (a b : Bool) → (a ≡ true → b ≡ true) → (b ≡ true → a ≡ true) → a ≡ b
 both_or_none true b f g = sym (f refl)

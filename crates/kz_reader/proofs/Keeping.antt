@@ -3,7 +3,7 @@ use Rattle.std.proofs.Common.{◌≡◌, ℕ, ◌+◌, ◌<◌, ◌≤◌, List,
 use Rattle.std.proofs.lemmas.List.{length-append}
 use Rattle.kz_types.specs.declared.tree.Row.{Row}
 use Rattle.kz_types.specs.declared.record.MetaRecord.{MetaRecord}
-use Rattle.kz_spec_znodes.specs.Translation.{body_of_row, row_records, records_after}
+use Rattle.kz_spec_data.specs.Translation.{body_of_row, row_records, records_after}
 use Rattle.kz_reader.specs.declared.seen.Note.{Note}
 use Rattle.kz_reader.specs.declared.reading.Reading.{Reading}
 use Rattle.kz_reader.specs.Seen.{note_of, HasSeen, IsOfIfAny}

@@ -3,7 +3,7 @@ use Rattle.std.proofs.Common.{◌≡◌, ℕ, suc, ◌+◌, ◌<◌, List, [], �
 use Rattle.std.proofs.lemmas.List.{take_more}
 use Rattle.kz_types.specs.declared.tree.Row.{Row}
 use Rattle.kz_types.specs.declared.record.MetaRecord.{MetaRecord}
-use Rattle.kz_spec_znodes.specs.Translation.{Translated, records_then, row_records, records_after, all_records}
+use Rattle.kz_spec_data.specs.Translation.{Translated, records_then, row_records, records_after, all_records}
 use Rattle.kz_reader.specs.Faults.{after_records}
 
 rest_cut : (rows : List Row) (done : ℕ) (row : Row) → done < length rows → row ≡ get_or rows done row → drop done rows ≡ row ∷ drop (done + 1) rows

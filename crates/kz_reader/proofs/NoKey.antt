@@ -6,8 +6,8 @@ use Rattle.kz_types.specs.declared.kind.Kind.TheVariants as kind
 use Rattle.kz_types.specs.Paths.{key_of, kind_of}
 use Rattle.std.specs.Prelude.{option_and_then}
 use Rattle.std.specs.Result.{result_ok}
-use Rattle.kz_spec_values.specs.Bodies.{read_body}
-use Rattle.kz_spec_znodes.specs.Translation.{entity_records, records_by_kind, row_records, body_of_row}
+use Rattle.kz_spec_data.specs.Bodies.{read_body}
+use Rattle.kz_spec_data.specs.Translation.{entity_records, records_by_kind, row_records, body_of_row}
 use Rattle.kz_reader.specs.Seen.{note_of, records_without_key}
 
 by_kind : (rows earlier : List Row) (k : Kind) (r : Row) → key_of r.path ≡ None → records_without_key k ≡ records_by_kind rows earlier k r

@@ -8,7 +8,7 @@ use Rattle.kz_types.specs.declared.id.Id.{Id}
 use Rattle.kz_types.specs.declared.tree.Row.{Row}
 use Rattle.kz_types.specs.declared.bodies.Body.{Body}
 use Rattle.kz_types.specs.declared.bodies.Body.TheVariants as body
-use Rattle.kz_spec_znodes.specs.Translation.{body_of_row, is_topic_with, is_taken, entries_in, count_of_entries}
+use Rattle.kz_spec_data.specs.Translation.{body_of_row, is_topic_with, is_taken, entries_in, count_of_entries}
 use Rattle.kz_reader.specs.declared.seen.Note.{Note}
 use Rattle.kz_reader.specs.declared.seen.Seen.{Seen}
 use Rattle.kz_reader.specs.Seen.{is_among, is_this, id_in, note_of, HasSeen}

@@ -2,7 +2,7 @@
 use Rattle.std.specs.Prelude.{◌≡◌, ◌≤◌, ⊤, Ok, Err, List, ◌++◌, length, take, drop}
 use Rattle.kz_types.specs.declared.tree.Row.{Row}
 use Rattle.kz_types.specs.declared.record.MetaRecord.{MetaRecord}
-use Rattle.kz_spec_znodes.specs.Translation.{Translated, records_after, all_records}
+use Rattle.kz_spec_data.specs.Translation.{Translated, records_after, all_records}
 use Rattle.kz_reader.specs.declared.fault.ReadFault.{ReadFault}
 use Rattle.kz_reader.specs.declared.fault.ReadFault.TheVariants.{Untranslatable, NoMemory}
 use Rattle.kz_reader.specs.declared.reading.Reading.{Reading}

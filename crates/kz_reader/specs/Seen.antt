@@ -10,9 +10,9 @@ use Rattle.kz_types.specs.declared.bodies.Body.TheVariants as body
 use Rattle.kz_types.specs.declared.kind.Kind.{Kind}
 use Rattle.kz_types.specs.declared.kind.Kind.TheVariants as kind
 use Rattle.kz_types.specs.declared.fault.ReadWhy.TheVariants as why
-use Rattle.kz_ordered.specs.Order.{bytes_cmp}
-use Rattle.kz_spec_znodes.specs.Translation.{RowRecords, assignment_at, is_taken, entries_in, count_of_entries}
-use Rattle.kz_spec_stores.specs.Metadata.{same_id}
+use Rattle.kz_types.specs.Order.{bytes_cmp}
+use Rattle.kz_spec_data.specs.Translation.{RowRecords, assignment_at, is_taken, entries_in, count_of_entries}
+use Rattle.kz_spec_data.specs.Metadata.{same_id}
 use Rattle.kz_reader.specs.declared.assignments.Assignments.{Assignments}
 use Rattle.kz_reader.specs.declared.seen.Note.{Note}
 use Rattle.kz_reader.specs.declared.seen.Seen.{Seen}

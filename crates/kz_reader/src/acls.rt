@@ -1,6 +1,6 @@
 //! The records of access control entries.
 ghost use Rattle.std.specs.Prelude.{◌≡◌, ◌+◌, ◌<◌, ◌≤◌, ◌^◌, IfOk, length, take};
-ghost use Rattle.kz_spec_znodes.specs.Translation.{migrated_id, acl_record, acl_records, records_of_acls};
+ghost use Rattle.kz_spec_data.specs.Translation.{migrated_id, acl_record, acl_records, records_of_acls};
 ghost use Rattle.kz_reader.specs.Seen.{HasSeen};
 
 use crate::seen::Seen;

@@ -1,7 +1,7 @@
 //! What znodes say.
 ghost use Rattle.std.specs.Prelude.{◌≡◌, IfOk};
-ghost use Rattle.kz_spec_values.specs.Bodies.{read_body};
-ghost use Rattle.kz_spec_znodes.specs.Translation.{body_of_row};
+ghost use Rattle.kz_spec_data.specs.Bodies.{read_body};
+ghost use Rattle.kz_spec_data.specs.Translation.{body_of_row};
 
 use kz_json::read_body;
 use kz_path::key_of;

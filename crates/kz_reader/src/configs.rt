@@ -1,10 +1,10 @@
 //! The records of a configuration.
 ghost use Rattle.std.specs.Prelude.{◌≡◌, pos, IfOk, map};
 ghost use Rattle.kz_types.specs.declared.key.EntityKey.TheVariants.{Topic};
-ghost use Rattle.kz_ordered.specs.Order.{bytes_cmp};
-ghost use Rattle.kz_ordered.specs.Ordered.{Rises};
-ghost use Rattle.kz_spec_stores.specs.Tree.{path_of_row};
-ghost use Rattle.kz_spec_znodes.specs.Translation.{row_of, broker_name, config_record, config_records, records_of_config, records_if_there};
+ghost use Rattle.kz_types.specs.Order.{bytes_cmp};
+ghost use Rattle.kz_types.specs.Ordered.{Rises};
+ghost use Rattle.kz_spec_data.specs.Tree.{path_of_row};
+ghost use Rattle.kz_spec_data.specs.Translation.{row_of, broker_name, config_record, config_records, records_of_config, records_if_there};
 
 use crate::found::topic_row;
 use crate::numbers::number_text;

@@ -2,10 +2,10 @@
 ghost use Rattle.std.specs.Prelude.{◌≡◌, ◌++◌, IfOk, option_map, string_bytes, codes};
 ghost use Rattle.kz_types.specs.Paths.{path_of};
 ghost use Rattle.kz_types.specs.declared.key.EntityKey.TheVariants.{Topic, Partition};
-ghost use Rattle.kz_ordered.specs.Order.{bytes_cmp};
-ghost use Rattle.kz_ordered.specs.Ordered.{Rises};
-ghost use Rattle.kz_spec_stores.specs.Tree.{path_of_row, row_at};
-ghost use Rattle.kz_spec_znodes.specs.Translation.{row_of};
+ghost use Rattle.kz_types.specs.Order.{bytes_cmp};
+ghost use Rattle.kz_types.specs.Ordered.{Rises};
+ghost use Rattle.kz_spec_data.specs.Tree.{path_of_row, row_at};
+ghost use Rattle.kz_spec_data.specs.Translation.{row_of};
 
 use crate::numbers::number_text;
 use kz_sorted::find;

@@ -1,7 +1,7 @@
 //! The ids of topics.
 ghost use Rattle.std.specs.Prelude.{◌≡◌, OnOk, ◌||◌, List, ℕ};
 ghost use Rattle.kz_types.specs.declared.id.Id.{Id as IdValue};
-ghost use Rattle.kz_spec_stores.specs.Metadata.{same_id};
+ghost use Rattle.kz_spec_data.specs.Metadata.{same_id};
 ghost use Rattle.kz_reader.specs.Seen.{is_among, is_this};
 
 use kz_types::{Id, NoMemory};

@@ -1,7 +1,7 @@
 //! The record of the block of producer ids.
 ghost use Rattle.std.specs.Prelude.{◌≡◌, [], ◌∷◌, pos, negsuc, ◌+ℤ◌, int_lt, IfOk, Ok, if◌then◌else◌, codes};
 ghost use Rattle.kz_types.specs.declared.record.MetaRecord.TheVariants.{ProducerIds};
-ghost use Rattle.kz_spec_znodes.specs.Translation.{max_block_end, bad_field, records_of_producer};
+ghost use Rattle.kz_spec_data.specs.Translation.{max_block_end, bad_field, records_of_producer};
 
 use kz_types::{Body, BodyFault, MetaRecord, NoMemory, ProducerIdsRecord, ReadWhy, Sequence, Text};
 use std::alloc::Global;

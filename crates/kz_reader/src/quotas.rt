@@ -1,6 +1,6 @@
 //! The records of quotas and credentials.
 ghost use Rattle.std.specs.Prelude.{◌≡◌, IfOk, OnOk, map, ◌++◌};
-ghost use Rattle.kz_spec_znodes.specs.Translation.{quota_record, scram_record, scram_records, records_of_quotas};
+ghost use Rattle.kz_spec_data.specs.Translation.{quota_record, scram_record, scram_records, records_of_quotas};
 
 use kz_entity_records::{quota_record, scram_record};
 use kz_types::{

@@ -1,10 +1,10 @@
 //! The records of all znodes, one znode after another.
 ghost use Rattle.std.specs.Prelude.{◌≡◌, ◌+◌, ◌<◌, ◌++◌, length, IfOk, IfErr, OnOk, OnErr, Ok, Err, slice_index_or, take, List};
 ghost use Rattle.kz_types.specs.declared.tree.Row.{Row as RowValue};
-ghost use Rattle.kz_ordered.specs.Order.{bytes_cmp};
-ghost use Rattle.kz_ordered.specs.Ordered.{Rises};
-ghost use Rattle.kz_spec_stores.specs.Tree.{path_of_row};
-ghost use Rattle.kz_spec_znodes.specs.Translation.{body_of_row, row_records, all_records};
+ghost use Rattle.kz_types.specs.Order.{bytes_cmp};
+ghost use Rattle.kz_types.specs.Ordered.{Rises};
+ghost use Rattle.kz_spec_data.specs.Tree.{path_of_row};
+ghost use Rattle.kz_spec_data.specs.Translation.{body_of_row, row_records, all_records};
 ghost use Rattle.kz_reader.specs.Seen.{note_of};
 ghost use Rattle.kz_reader.specs.Faults.{IsReadFault, IsReading};
 

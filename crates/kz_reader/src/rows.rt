@@ -1,11 +1,11 @@
 //! The records of one znode.
 ghost use Rattle.std.specs.Prelude.{◌≡◌, ◌<◌, ◌^◌, None, IfOk, OnOk, take};
 ghost use Rattle.std.specs.Result.{result_ok};
-ghost use Rattle.kz_ordered.specs.Order.{bytes_cmp};
-ghost use Rattle.kz_ordered.specs.Ordered.{Rises};
-ghost use Rattle.kz_spec_values.specs.Bodies.{read_body};
-ghost use Rattle.kz_spec_stores.specs.Tree.{path_of_row};
-ghost use Rattle.kz_spec_znodes.specs.Translation.{body_of_row, records_of, row_records};
+ghost use Rattle.kz_types.specs.Order.{bytes_cmp};
+ghost use Rattle.kz_types.specs.Ordered.{Rises};
+ghost use Rattle.kz_spec_data.specs.Bodies.{read_body};
+ghost use Rattle.kz_spec_data.specs.Tree.{path_of_row};
+ghost use Rattle.kz_spec_data.specs.Translation.{body_of_row, records_of, row_records};
 ghost use Rattle.kz_reader.specs.Seen.{IsOfIfAny, note_of, HasSeen, records_without_key};
 
 use crate::acls::records_of_acls;

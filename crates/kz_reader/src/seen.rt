@@ -2,7 +2,7 @@
 ghost use Rattle.std.specs.Prelude.{◌≡◌, ◌+◌, ◌<◌, ◌^◌, List, OnOk, length, take, slice_index_or};
 ghost use Rattle.std.specs.Result.{result_ok};
 ghost use Rattle.kz_types.specs.declared.tree.Row.{Row as RowValue};
-ghost use Rattle.kz_spec_znodes.specs.Translation.{body_of_row, is_taken};
+ghost use Rattle.kz_spec_data.specs.Translation.{body_of_row, is_taken};
 ghost use Rattle.kz_reader.specs.Seen.{note_of, HasSeen};
 
 use crate::ids::{add_if_any, is_among};

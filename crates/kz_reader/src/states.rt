@@ -1,9 +1,9 @@
 //! The records of a partition's state: none, where it can be read and fits the brokers of the partition.
 ghost use Rattle.std.specs.Prelude.{◌≡◌, [], not, option_map, IfOk, Ok, codes, if◌then◌else◌};
-ghost use Rattle.kz_spec_values.specs.Bodies.{are_some_of};
-ghost use Rattle.kz_spec_znodes.specs.Translation.{leader_of, may_lead, bad_field, records_of_state, records_if_assigned};
+ghost use Rattle.kz_spec_data.specs.Bodies.{are_some_of};
+ghost use Rattle.kz_spec_data.specs.Translation.{leader_of, may_lead, bad_field, records_of_state, records_if_assigned};
 
-use kz_replicas::{are_some_of, is_in};
+use kz_body_parts::{are_some_of, is_in};
 use kz_types::{AssignmentRow, Body, BodyFault, MetaRecord, NoMemory, ReadWhy, Sequence, Text};
 use std::alloc::Global;
 

@@ -1,9 +1,9 @@
 //! The records of a topic and its partitions.
 ghost use Rattle.std.specs.Prelude.{◌≡◌, IfOk, option_map, map, take};
-ghost use Rattle.kz_ordered.specs.Order.{bytes_cmp};
-ghost use Rattle.kz_ordered.specs.Ordered.{Rises};
-ghost use Rattle.kz_spec_stores.specs.Tree.{path_of_row};
-ghost use Rattle.kz_spec_znodes.specs.Translation.{first_replica, new_partition, partition_with, partition_by, partition_record, topic_records, records_of_topic};
+ghost use Rattle.kz_types.specs.Order.{bytes_cmp};
+ghost use Rattle.kz_types.specs.Ordered.{Rises};
+ghost use Rattle.kz_spec_data.specs.Tree.{path_of_row};
+ghost use Rattle.kz_spec_data.specs.Translation.{first_replica, new_partition, partition_with, partition_by, partition_record, topic_records, records_of_topic};
 ghost use Rattle.kz_reader.specs.Seen.{HasSeen};
 
 use crate::bodies::body_of_row;

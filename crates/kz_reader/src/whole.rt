@@ -1,12 +1,12 @@
 //! The records of all znodes.
 ghost use Rattle.std.specs.Prelude.{◌≡◌, IfOk, IfErr, Ok, Err, MatchOption};
 ghost use Rattle.kz_types.specs.declared.limits.TheConstants.{MAX_EPOCH};
-ghost use Rattle.kz_ordered.specs.Order.{bytes_cmp};
-ghost use Rattle.kz_ordered.specs.Ordered.{Rises};
-ghost use Rattle.kz_spec_stores.specs.Tree.{path_of_row};
-ghost use Rattle.kz_spec_stores.specs.Image.{all_applied, empty_image};
-ghost use Rattle.kz_spec_znodes.specs.Rendering.{render, excess};
-ghost use Rattle.kz_spec_znodes.specs.Translation.{records_unless_excess, translate};
+ghost use Rattle.kz_types.specs.Order.{bytes_cmp};
+ghost use Rattle.kz_types.specs.Ordered.{Rises};
+ghost use Rattle.kz_spec_data.specs.Tree.{path_of_row};
+ghost use Rattle.kz_spec_data.specs.Image.{all_applied, empty_image};
+ghost use Rattle.kz_spec_data.specs.Rendering.{render, excess};
+ghost use Rattle.kz_spec_data.specs.Translation.{records_unless_excess, translate};
 ghost use Rattle.kz_types.specs.declared.fault.ReadWhy.TheVariants.{Over};
 ghost use Rattle.kz_reader.specs.Faults.{IsReadFault};
 
@@ -30,7 +30,7 @@ fn rendered(alloc: Global, records: &[MetaRecord]) -> Result<Vec<Rendered>, NoMe
 }
 
 // The first limit that these records pass, with what they make of the empty metadata.
-#[tactic(auto, unfolding(kz_spec_znodes::specs::Rendering::render))]
+#[tactic(auto, unfolding(kz_spec_data::specs::Rendering::render))]
 fn passed_limit(alloc: Global, records: &[MetaRecord]) -> Result<Option<Excess>, NoMemory>
     ensures { IfOk result (λ told. MatchOption told
         (records_unless_excess (excess (all_applied MAX_EPOCH records.now empty_image)) records.now ≡ Ok records.now)
@@ -61,7 +61,7 @@ fn passed_limit(alloc: Global, records: &[MetaRecord]) -> Result<Option<Excess>,
 /// the migrated area, a body that can't be read or doesn't fit its partition, or a topic with the id of an earlier one.
 /// Where each can be, it names the first limit that all of them pass: 2, 3 and 6 of the znodes that the records would be
 /// rendered as, and 7 where the log would have no room for them. `NoMemory`, at any time: memory ran out.
-#[tactic(auto, unfolding(kz_spec_znodes::specs::Translation::translate))]
+#[tactic(auto, unfolding(kz_spec_data::specs::Translation::translate))]
 pub fn translate(alloc: Global, rows: &[Row]) -> Result<Vec<MetaRecord>, ReadFault>
     requires rising { Rises bytes_cmp path_of_row rows.now }
     ensures ok { IfOk result (λ records. translate rows.now ≡ Ok records.items) }

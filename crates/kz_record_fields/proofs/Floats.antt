@@ -7,10 +7,10 @@ use Rattle.base64.specs.GeneralPurpose.{encode_of}
 use Rattle.serde_json.specs.Data.{Data, boolean, string, Members, no_members, put}
 use Rattle.serde_json.specs.View.{items_of}
 use Rattle.serde_json.specs.Written.{has_float, members_have_float, items_have_float}
-use Rattle.kz_members.proofs.Floats.{neither, put_no_float}
+use Rattle.kz_body_parts.proofs.Floats.{neither, put_no_float}
 use Rattle.kz_types.specs.Ids.{id_text}
 use Rattle.kz_types.specs.declared.id.Id.{Id}
-use Rattle.kz_spec_lines.specs.Members.{whole_data, text_or_null_data, ints_data, with_text, with_whole, with_text_or_null, with_flag, with_id, with_bytes, with_ints, with_tagged_whole, with_tagged_ints, with_tagged_text}
+use Rattle.kz_spec_data.specs.Members.{whole_data, text_or_null_data, ints_data, with_text, with_whole, with_text_or_null, with_flag, with_id, with_bytes, with_ints, with_tagged_whole, with_tagged_ints, with_tagged_text}
 
 -- members without floats
 pub record Calm (ms : Members) : Type 0 where

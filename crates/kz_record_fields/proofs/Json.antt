@@ -5,7 +5,7 @@ use Rattle.serde_json.specs.Find.{as_object}
 use Rattle.serde_json.specs.Events.{members_len}
 use Rattle.serde_json.specs.View.{members_view}
 use Rattle.serde_json.proofs.Views.{Entry, members_len-members_view}
-use Rattle.kz_spec_lines.specs.Json.{member_count}
+use Rattle.kz_spec_data.specs.Json.{member_count}
 
 count_is : (d : Data) (ms : Members) → Some ms ≡ as_object d → members_len ms ≡ member_count d
 count_is null ms e = cc

@@ -3,13 +3,13 @@ ghost use Rattle.std.specs.Prelude.{◌≡◌, ◌+◌, ◌<◌, ◌≤◌, IfOk
 ghost use Rattle.base64.specs.Engines.{standard};
 ghost use Rattle.base64.specs.GeneralPurpose.{decoded_of};
 ghost use Rattle.serde_json.specs.View.{view, items_view};
-ghost use Rattle.kz_spec_lines.specs.Json.{text_or_null};
-ghost use Rattle.kz_spec_lines.specs.Fields.{int8, int16, uint16, int32, int64, uuid, bytes, all_of, ints, ints_or_null, field, tagged_member, tagged_count};
+ghost use Rattle.kz_spec_data.specs.Json.{text_or_null};
+ghost use Rattle.kz_spec_data.specs.LineFields.{int8, int16, uint16, int32, int64, uuid, bytes, all_of, ints, ints_or_null, field, tagged_member, tagged_count};
 
 use crate::members::text_or_null;
 use base64::DecodeAllocError;
 use base64::engine::general_purpose::STANDARD;
-use kz_members::{number, whole};
+use kz_body_parts::{number, whole};
 use kz_types::{Id, NoMemory, Sequence, Text};
 use serde_json::Value;
 use std::alloc::Global;

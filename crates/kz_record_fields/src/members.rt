@@ -1,8 +1,8 @@
 //! Members of JSON values.
 ghost use Rattle.std.specs.Prelude.{◌≡◌, option_map};
 ghost use Rattle.serde_json.specs.View.{view};
-ghost use Rattle.kz_spec_lines.specs.Json.{member_count, text_or_null, text_member};
-ghost use Rattle.kz_spec_lines.specs.Fields.{field};
+ghost use Rattle.kz_spec_data.specs.Json.{member_count, text_or_null, text_member};
+ghost use Rattle.kz_spec_data.specs.LineFields.{field};
 
 use serde_json::Value;
 

@@ -5,8 +5,8 @@ ghost use Rattle.base64.specs.GeneralPurpose.{encode_of};
 ghost use Rattle.serde_json.specs.Data.{string};
 ghost use Rattle.serde_json.specs.View.{view, members_view};
 ghost use Rattle.kz_types.specs.Ids.{id_text};
-ghost use Rattle.kz_spec_lines.specs.Members.{text_or_null_data, ints_data, with_text, with_whole, with_text_or_null, with_flag, with_id, with_bytes, with_ints, with_tagged_whole, with_tagged_ints, with_tagged_text};
-ghost use Rattle.kz_spec_lines.specs.WrittenRecords.{kind_member};
+ghost use Rattle.kz_spec_data.specs.Members.{text_or_null_data, ints_data, with_text, with_whole, with_text_or_null, with_flag, with_id, with_bytes, with_ints, with_tagged_whole, with_tagged_ints, with_tagged_text};
+ghost use Rattle.kz_spec_data.specs.WrittenRecords.{kind_member};
 
 use base64::engine::general_purpose::{STANDARD, URL_SAFE_NO_PAD};
 use kz_types::{Id, NoMemory, Sequence, Text};
@@ -143,7 +143,7 @@ pub fn put_ints(
 }
 
 /// Puts a tagged whole number, unless it is the default.
-#[tactic(auto, unfolding(kz_spec_lines::specs::Members::with_tagged_whole))]
+#[tactic(auto, unfolding(kz_spec_data::specs::Members::with_tagged_whole))]
 pub fn put_tagged_whole(
     members: &mut Map<String, Value>,
     alloc: Global,
@@ -160,7 +160,7 @@ pub fn put_tagged_whole(
 }
 
 /// Puts a tagged list of whole numbers, unless it is null.
-#[tactic(auto, unfolding(kz_spec_lines::specs::Members::with_tagged_ints))]
+#[tactic(auto, unfolding(kz_spec_data::specs::Members::with_tagged_ints))]
 pub fn put_tagged_ints(
     members: &mut Map<String, Value>,
     alloc: Global,
@@ -176,7 +176,7 @@ pub fn put_tagged_ints(
 }
 
 /// Puts a tagged text, unless it is null.
-#[tactic(auto, unfolding(kz_spec_lines::specs::Members::with_tagged_text))]
+#[tactic(auto, unfolding(kz_spec_data::specs::Members::with_tagged_text))]
 pub fn put_tagged_text(
     members: &mut Map<String, Value>,
     alloc: Global,

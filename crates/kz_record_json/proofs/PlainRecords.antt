@@ -5,7 +5,7 @@ use Rattle.serde_json.specs.Data.{array, Members}
 use Rattle.serde_json.specs.View.{items_of}
 use Rattle.serde_json.specs.Written.{has_float}
 use Rattle.kz_types.specs.Quotas.{is_quota}
-use Rattle.kz_spec_quotas.specs.Quotas.{quota_text}
+use Rattle.kz_spec_data.specs.Quotas.{quota_text}
 use Rattle.kz_types.specs.declared.row.QuotaValue.{QuotaValue}
 use Rattle.kz_types.specs.declared.record.Endpoint.{Endpoint}
 use Rattle.kz_types.specs.declared.record.Feature.{Feature}
@@ -21,8 +21,8 @@ use Rattle.kz_types.specs.declared.record.ProducerIdsRecord.{ProducerIdsRecord}
 use Rattle.kz_types.specs.declared.record.AccessControlEntryRecord.{AccessControlEntryRecord}
 use Rattle.kz_types.specs.declared.record.MetaRecord.{MetaRecord}
 use Rattle.kz_types.specs.declared.record.MetaRecord.TheVariants.{RegisterBroker, Topic, Partition, Config, PartitionChange, RemoveTopic, UserScramCredential, ClientQuota, ProducerIds, AccessControlEntry, RemoveAccessControlEntry, NoOp, ZkMigrationState, RemoveUserScramCredential, BeginTransaction, EndTransaction, AbortTransaction}
-use Rattle.kz_spec_lines.specs.Members.{with_text, with_whole}
-use Rattle.kz_spec_lines.specs.WrittenRecords.{kind_member, topic_members, partition_members, partition_change_members, endpoint_members, endpoint_data, feature_members, feature_data, with_endpoints, with_features, register_broker_members, config_members, producer_ids_members, user_scram_credential_members, entity_members, entity_data, with_entities, with_quota, client_quota_members, access_control_entry_members, members_of_record, record_data}
+use Rattle.kz_spec_data.specs.Members.{with_text, with_whole}
+use Rattle.kz_spec_data.specs.WrittenRecords.{kind_member, topic_members, partition_members, partition_change_members, endpoint_members, endpoint_data, feature_members, feature_data, with_endpoints, with_features, register_broker_members, config_members, producer_ids_members, user_scram_credential_members, entity_members, entity_data, with_entities, with_quota, client_quota_members, access_control_entry_members, members_of_record, record_data}
 use Rattle.kz_record_fields.proofs.Floats.{Calm, no_members_calm, put_calm, text_no_float, whole_no_float, one_of, flag_no_float, id_no_float, bytes_no_float, nullable_no_float, each_no_float, ints_no_float, tagged_whole_no_float, tagged_ints_no_float, tagged_text_no_float}
 
 kind_calm : (name : List ℕ) → Calm (kind_member name)

@@ -2,9 +2,9 @@
 ghost use Rattle.std.specs.Prelude.{◌≡◌, IfOk, OnOk, map, codes};
 ghost use Rattle.serde_json.specs.Data.{array};
 ghost use Rattle.serde_json.specs.View.{view, members_view, items_view, items_of};
-ghost use Rattle.kz_spec_lines.specs.Fields.{all_of, list_of, field};
-ghost use Rattle.kz_spec_lines.specs.BrokerRecords.{endpoint_of, feature_of, register_broker_of, config_of, producer_ids_of};
-ghost use Rattle.kz_spec_lines.specs.WrittenRecords.{endpoint_members, endpoint_data, feature_members, feature_data, with_endpoints, with_features, register_broker_members, config_members, producer_ids_members};
+ghost use Rattle.kz_spec_data.specs.LineFields.{all_of, list_of, field};
+ghost use Rattle.kz_spec_data.specs.BrokerRecords.{endpoint_of, feature_of, register_broker_of, config_of, producer_ids_of};
+ghost use Rattle.kz_spec_data.specs.WrittenRecords.{endpoint_members, endpoint_data, feature_members, feature_data, with_endpoints, with_features, register_broker_members, config_members, producer_ids_members};
 
 use kz_record_fields::{
     int8_at, int16_at, int32_at, int64_at, kind_member, member_count, nullable_text, put_flag,

@@ -1,9 +1,9 @@
 //! Records of access control entries, as a script writes them.
 ghost use Rattle.std.specs.Prelude.{◌≡◌, IfOk, codes};
 ghost use Rattle.serde_json.specs.View.{view, members_view};
-ghost use Rattle.kz_spec_lines.specs.Members.{with_id};
-ghost use Rattle.kz_spec_lines.specs.UserRecords.{access_control_entry_of, remove_access_control_entry_of};
-ghost use Rattle.kz_spec_lines.specs.WrittenRecords.{kind_member, access_control_entry_members};
+ghost use Rattle.kz_spec_data.specs.Members.{with_id};
+ghost use Rattle.kz_spec_data.specs.UserRecords.{access_control_entry_of, remove_access_control_entry_of};
+ghost use Rattle.kz_spec_data.specs.WrittenRecords.{kind_member, access_control_entry_members};
 
 use kz_record_fields::{
     int8_at, kind_member, member_count, put_id, put_text, put_whole, text_member, uuid_at,

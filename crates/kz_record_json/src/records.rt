@@ -1,9 +1,9 @@
 //! Records of the metadata log, as a script writes them.
 ghost use Rattle.std.specs.Prelude.{◌≡◌, IfOk, Some, None, Err};
 ghost use Rattle.serde_json.specs.View.{view, members_view};
-ghost use Rattle.kz_spec_lines.specs.Json.{by_name};
-ghost use Rattle.kz_spec_lines.specs.Records.{log_forms, user_forms, topic_forms, record_forms, record_of};
-ghost use Rattle.kz_spec_lines.specs.WrittenRecords.{members_of_record, record_data};
+ghost use Rattle.kz_spec_data.specs.Json.{by_name};
+ghost use Rattle.kz_spec_data.specs.RecordLines.{log_forms, user_forms, topic_forms, record_forms, record_of};
+ghost use Rattle.kz_spec_data.specs.WrittenRecords.{members_of_record, record_data};
 
 use crate::brokers::{
     config_members, config_of, producer_ids_members, producer_ids_of, register_broker_members,
@@ -33,7 +33,7 @@ use serde_json::{Map, Value};
 use std::alloc::Global;
 
 // The record of this name that a value is, of those of the migration and of transactions.
-#[tactic(auto, unfolding(kz_spec_lines::specs::Records::log_forms))]
+#[tactic(auto, unfolding(kz_spec_data::specs::RecordLines::log_forms))]
 fn log_record_of(alloc: Global, kind: &str, value: &Value) -> Result<Option<MetaRecord>, NoMemory>
     ensures { IfOk result (λ made. made ≡ by_name log_forms kind.now (view value.now)) }
 {
@@ -48,7 +48,7 @@ fn log_record_of(alloc: Global, kind: &str, value: &Value) -> Result<Option<Meta
 }
 
 // The same, also of those of users and clients.
-#[tactic(auto, unfolding(kz_spec_lines::specs::Records::user_forms))]
+#[tactic(auto, unfolding(kz_spec_data::specs::RecordLines::user_forms))]
 fn user_record_of(alloc: Global, kind: &str, value: &Value) -> Result<Option<MetaRecord>, NoMemory>
     ensures { IfOk result (λ made. made ≡ by_name user_forms kind.now (view value.now)) }
 {
@@ -63,7 +63,7 @@ fn user_record_of(alloc: Global, kind: &str, value: &Value) -> Result<Option<Met
 }
 
 // The same, also of those of topics.
-#[tactic(auto, unfolding(kz_spec_lines::specs::Records::topic_forms))]
+#[tactic(auto, unfolding(kz_spec_data::specs::RecordLines::topic_forms))]
 fn topic_record_of(alloc: Global, kind: &str, value: &Value) -> Result<Option<MetaRecord>, NoMemory>
     ensures { IfOk result (λ made. made ≡ by_name topic_forms kind.now (view value.now)) }
 {
@@ -89,7 +89,7 @@ fn named_record_of(alloc: Global, kind: &str, value: &Value) -> Result<Option<Me
 }
 
 /// The record that a JSON value is, or `None` where it is none.
-#[tactic(auto, unfolding(kz_spec_lines::specs::Records::record_of))]
+#[tactic(auto, unfolding(kz_spec_data::specs::RecordLines::record_of))]
 pub fn record_of(alloc: Global, value: &Value) -> Result<Option<MetaRecord>, NoMemory>
     ensures { IfOk result (λ made. made ≡ record_of (view value.now)) }
 {
@@ -146,7 +146,7 @@ fn members_of_record(alloc: Global, item: &MetaRecord) -> Result<Map<String, Val
 
 /// A record as a JSON value, as lines have records. Tagged fields are left out at their default; the value of a quota is
 /// `value`, its text, or `whole` and `micros` where no text is this value.
-#[tactic(auto, unfolding(kz_spec_lines::specs::WrittenRecords::record_data))]
+#[tactic(auto, unfolding(kz_spec_data::specs::WrittenRecords::record_data))]
 pub fn write_item(alloc: Global, item: &MetaRecord) -> Result<Value, NoMemory>
     ensures { IfOk result (λ value. view value ≡ record_data item.now) }
 {

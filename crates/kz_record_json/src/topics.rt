@@ -1,10 +1,10 @@
 //! Records of topics and their partitions, as a script writes them.
 ghost use Rattle.std.specs.Prelude.{◌≡◌, IfOk, OnOk, codes};
 ghost use Rattle.serde_json.specs.View.{view, members_view};
-ghost use Rattle.kz_spec_lines.specs.Fields.{tagged_count};
-ghost use Rattle.kz_spec_lines.specs.Members.{with_whole, with_id, with_ints};
-ghost use Rattle.kz_spec_lines.specs.TopicRecords.{topic_of, partition_with, partition_of, partition_change_of, remove_topic_of};
-ghost use Rattle.kz_spec_lines.specs.WrittenRecords.{kind_member, topic_members, partition_members, partition_change_members};
+ghost use Rattle.kz_spec_data.specs.LineFields.{tagged_count};
+ghost use Rattle.kz_spec_data.specs.Members.{with_whole, with_id, with_ints};
+ghost use Rattle.kz_spec_data.specs.TopicRecords.{topic_of, partition_with, partition_of, partition_change_of, remove_topic_of};
+ghost use Rattle.kz_spec_data.specs.WrittenRecords.{kind_member, topic_members, partition_members, partition_change_members};
 
 use kz_record_fields::{
     int32_at, ints_at, kind_member, member_count, put_id, put_ints, put_tagged_ints,
@@ -37,7 +37,7 @@ pub fn topic_of(alloc: Global, value: &Value) -> Result<Option<MetaRecord>, NoMe
 }
 
 // A partition with these lists of brokers.
-#[tactic(auto, unfolding(kz_spec_lines::specs::TopicRecords::partition_with))]
+#[tactic(auto, unfolding(kz_spec_data::specs::TopicRecords::partition_with))]
 fn partition_with(
     value: &Value,
     partition_id: i32,

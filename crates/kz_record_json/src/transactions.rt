@@ -1,9 +1,9 @@
 //! Records of the migration and of transactions of the log, as a script writes them.
 ghost use Rattle.std.specs.Prelude.{◌≡◌, IfOk, codes};
 ghost use Rattle.serde_json.specs.View.{view, members_view};
-ghost use Rattle.kz_spec_lines.specs.LogRecords.{no_op_of, zk_migration_state_of, begin_transaction_of, end_transaction_of, abort_transaction_of};
-ghost use Rattle.kz_spec_lines.specs.Members.{with_whole, with_tagged_text};
-ghost use Rattle.kz_spec_lines.specs.WrittenRecords.{kind_member};
+ghost use Rattle.kz_spec_data.specs.LogRecords.{no_op_of, zk_migration_state_of, begin_transaction_of, end_transaction_of, abort_transaction_of};
+ghost use Rattle.kz_spec_data.specs.Members.{with_whole, with_tagged_text};
+ghost use Rattle.kz_spec_data.specs.WrittenRecords.{kind_member};
 
 use kz_record_fields::{
     int8_at, kind_member, member_count, nullable_text, put_tagged_text, put_whole, tagged_count,

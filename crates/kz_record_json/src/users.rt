@@ -3,12 +3,12 @@ ghost use Rattle.std.specs.Prelude.{◌≡◌, IfOk, OnOk, map, option_map, code
 ghost use Rattle.serde_json.specs.Data.{array};
 ghost use Rattle.serde_json.specs.View.{view, members_view, items_view, items_of};
 ghost use Rattle.kz_types.specs.Quotas.{is_quota};
-ghost use Rattle.kz_spec_lines.specs.Fields.{all_of, field};
-ghost use Rattle.kz_spec_lines.specs.Members.{with_text, with_whole};
-ghost use Rattle.kz_spec_lines.specs.UserRecords.{user_scram_credential_of, remove_user_scram_credential_of, entity_of, entities_of, quota, parts_of_quota, quota_value_of, client_quota_of};
-ghost use Rattle.kz_spec_lines.specs.WrittenRecords.{kind_member, user_scram_credential_members, entity_data, with_entities, with_quota, client_quota_members};
+ghost use Rattle.kz_spec_data.specs.LineFields.{all_of, field};
+ghost use Rattle.kz_spec_data.specs.Members.{with_text, with_whole};
+ghost use Rattle.kz_spec_data.specs.UserRecords.{user_scram_credential_of, remove_user_scram_credential_of, entity_of, entities_of, quota, parts_of_quota, quota_value_of, client_quota_of};
+ghost use Rattle.kz_spec_data.specs.WrittenRecords.{kind_member, user_scram_credential_members, entity_data, with_entities, with_quota, client_quota_members};
 
-use kz_quotas::QuotaText;
+use kz_body_parts::QuotaText;
 use kz_record_fields::{
     bytes_at, int8_at, int32_at, int64_at, kind_member, member_count, nullable_text, put_bytes,
     put_flag, put_text, put_text_or_null, put_whole, text_member, text_or_null_at,

@@ -9,7 +9,7 @@ use Rattle.kz_types.specs.Paths.{path_of, is_legal, has_path}
 use Rattle.kz_types.specs.declared.key.EntityKey.TheVariants.{BrokerConfig}
 use Rattle.kz_types.proofs.OnLiterals.{values_on_literals}
 use Rattle.kz_types.proofs.NumberLemmas.{canonical_sound, canonical_complete, canonical_digits}
-use Rattle.kz_spec_znodes.specs.Rendering.{broker_key}
+use Rattle.kz_spec_data.specs.Rendering.{broker_key}
 use Rattle.kz_render.proofs.PathForms.{is_ascii_part, digits_are_part, joined_is_path}
 
 -- the path of a broker's configuration, whose name is digits

@@ -3,13 +3,13 @@ use Rattle.std.proofs.Common.{◌≡◌, List, [], ◌++◌, map, sym, ap, ◌�
 use Rattle.std.specs.List.{flat_map}
 use Rattle.kz_types.specs.declared.tree.Rendered.{Rendered}
 use Rattle.kz_types.specs.Paths.{roots}
-use Rattle.kz_ordered.specs.Order.{bytes_cmp}
-use Rattle.kz_ordered.specs.Ordered.{all_put, Rises}
-use Rattle.kz_ordered.proofs.Order.{bytes_order}
-use Rattle.kz_ordered.proofs.Puts.{all_put-append, all_put_of_rising}
-use Rattle.kz_spec_stores.specs.Metadata.{Image}
-use Rattle.kz_spec_stores.specs.Tree.{path_of_rendered}
-use Rattle.kz_spec_znodes.specs.Rendering.{bare, topic_znodes, config_znode, quota_znodes, acl_znode, producer_znodes, entity_znodes, render}
+use Rattle.kz_types.specs.Order.{bytes_cmp}
+use Rattle.kz_types.specs.Ordered.{all_put, Rises}
+use Rattle.kz_types.proofs.Order.{bytes_order}
+use Rattle.kz_types.proofs.Puts.{all_put-append, all_put_of_rising}
+use Rattle.kz_spec_data.specs.Metadata.{Image}
+use Rattle.kz_spec_data.specs.Tree.{path_of_rendered}
+use Rattle.kz_spec_data.specs.Rendering.{bare, topic_znodes, config_znode, quota_znodes, acl_znode, producer_znodes, entity_znodes, render}
 use Rattle.kz_render.specs.Gathered.{PutAlike}
 
 -- lists that are put alike still are with more after each

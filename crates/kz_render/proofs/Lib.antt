@@ -7,3 +7,5 @@ pub mod Entities
 pub mod Going
 pub mod Gathered
 pub mod TopicPaths
+pub mod Parents
+pub mod ResourceRows

@@ -11,16 +11,16 @@ use Rattle.kz_types.specs.declared.image.ScramEntry.{ScramEntry}
 use Rattle.kz_types.specs.declared.key.EntityKey.TheVariants.{User}
 use Rattle.kz_types.specs.Quotas.{is_quota}
 use Rattle.kz_types.specs.Paths.{is_legal, has_path}
-use Rattle.kz_ordered.specs.Order.{bytes_cmp}
-use Rattle.kz_ordered.specs.Ordered.{find}
-use Rattle.kz_ordered.proofs.Lookup.{found_is_contained}
-use Rattle.kz_ordered.proofs.Order.{bytes_order}
+use Rattle.kz_types.specs.Order.{bytes_cmp}
+use Rattle.kz_types.specs.Ordered.{find}
+use Rattle.kz_types.proofs.Lookup.{found_is_contained}
+use Rattle.kz_types.proofs.Order.{bytes_order}
 use Rattle.kz_json.specs.Entries.{are_quotas}
-use Rattle.kz_spec_stores.specs.Metadata.{path_of_quotas}
-use Rattle.kz_spec_stores.specs.Image.{quotas_in}
-use Rattle.kz_spec_stores.specs.ImageRules.{is_empty, is_dots}
-use Rattle.kz_spec_stores.specs.InOrder.{IsUserFilled}
-use Rattle.kz_spec_stores.specs.Legal.{IsQuotaEntry, IsScramEntry, IsScramOf}
+use Rattle.kz_spec_data.specs.Metadata.{path_of_quotas}
+use Rattle.kz_spec_data.specs.Image.{quotas_in}
+use Rattle.kz_spec_data.specs.ImageRules.{is_empty, is_dots}
+use Rattle.kz_spec_data.specs.InOrder.{IsUserFilled}
+use Rattle.kz_spec_data.specs.Legal.{IsQuotaEntry, IsScramEntry, IsScramOf}
 
 -- each quota of an entity is in range
 pub entry_quotas : (q : QuotaEntry) → IsQuotaEntry q → are_quotas q.quotas ≡ true

@@ -5,7 +5,7 @@ use Rattle.kz_types.specs.Paths.{path_of, key_of, has_path, is_legal, is_absent_
 use Rattle.kz_types.specs.declared.key.EntityKey.TheVariants.{User, UserClient}
 use Rattle.kz_types.proofs.KeyLemmas.{path_of_key_of}
 use Rattle.kz_types.proofs.PathRules.{both_hold}
-use Rattle.kz_laws_paths.proofs.Texts.{key_good}
+use Rattle.kz_laws_values.proofs.Texts.{key_good}
 use Rattle.kz_render.proofs.PathForms.{front_is_path}
 
 client_path : (user client : Option (List ℕ)) → path_of (UserClient user client) ≡ (path_of (User user) ++ codes "/clients") ++ (codes "/" ++ part_or_default part_for_name client)

@@ -13,7 +13,7 @@ use Rattle.kz_types.specs.declared.key.EntityKey.TheVariants.{Topic, Partition, 
 use Rattle.kz_types.proofs.OnLiterals.{values_on_literals}
 use Rattle.kz_types.proofs.NumberLemmas.{canonical_complete, canonical_digits}
 use Rattle.kz_render.proofs.PathForms.{is_ascii, is_ascii_part, shown_byte, passed, digits_are_part, joined_is_path, front_is_path}
-use Rattle.kz_spec_znodes.specs.Rendering.{partitions_path, number_path}
+use Rattle.kz_spec_data.specs.Rendering.{partitions_path, number_path}
 
 -- ---- names of topics
 

@@ -1,2 +1,4 @@
 pub mod Limits
 pub mod Gathered
+pub mod Resources
+pub mod Places

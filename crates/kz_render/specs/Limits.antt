@@ -1,6 +1,6 @@
 -- A limit that is passed, as the definitions have it.
 use Rattle.std.specs.Prelude.{◌≡◌, ⊤, Option, Some}
-use Rattle.kz_spec_znodes.specs.Rendering.{Excess}
+use Rattle.kz_spec_data.specs.Rendering.{Excess}
 use Rattle.kz_render.specs.declared.limits.Excess.{Excess as Told}
 use Rattle.kz_render.specs.declared.limits.FitFault.{FitFault}
 use Rattle.kz_render.specs.declared.limits.FitFault.TheVariants.{Over, NoMemory}

@@ -1,19 +1,19 @@
 //! The znodes of access control entries.
 ghost use Rattle.std.specs.Prelude.{◌≡◌, ◌∷◌, ◌++◌, [], All, map, OnOk};
-ghost use Rattle.kz_spec_values.specs.Bodies.{text_of_body};
-ghost use Rattle.kz_spec_stores.specs.Legal.{IsAcl};
-ghost use Rattle.kz_spec_znodes.specs.Rendering.{acl_znode};
+ghost use Rattle.kz_spec_data.specs.Bodies.{text_of_body};
+ghost use Rattle.kz_spec_data.specs.Legal.{IsAcl};
+ghost use Rattle.kz_spec_data.specs.Rendering.{acl_znode};
 ghost use Rattle.kz_render.specs.Gathered.{resource_znode, PutAlike};
 
 use crate::push::push_znode;
 use crate::resources::{Resource, resources};
-use kz_blocks::Blocks;
 use kz_json::acls_text;
+use kz_sorted::Blocks;
 use kz_types::{AclEntry, Duplicate, NoMemory, Rendered};
 use std::alloc::Global;
 
 // Adds the znode of a resource.
-#[tactic(auto, unfolding(kz_spec_values::specs::Bodies::text_of_body))]
+#[tactic(auto, unfolding(kz_spec_data::specs::Bodies::text_of_body))]
 fn push_resource(
     alloc: Global,
     znodes: &mut Vec<Rendered>,

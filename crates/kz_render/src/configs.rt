@@ -1,13 +1,13 @@
 //! The znodes of brokers' configurations.
 ghost use Rattle.std.specs.Prelude.{◌≡◌, ◌∷◌, ◌++◌, [], map, IfOk, OnOk};
 ghost use Rattle.kz_types.specs.Paths.{path_of};
-ghost use Rattle.kz_spec_values.specs.Bodies.{text_of_body};
-ghost use Rattle.kz_spec_znodes.specs.Rendering.{broker_key, config_znode};
+ghost use Rattle.kz_spec_data.specs.Bodies.{text_of_body};
+ghost use Rattle.kz_spec_data.specs.Rendering.{broker_key, config_znode};
 
 use crate::paths::entity_path;
 use crate::push::push_znode;
-use kz_blocks::Blocks;
 use kz_json::config_text;
+use kz_sorted::Blocks;
 use kz_types::{Configuration, EntityKey, NoMemory, Rendered, Text, ZPath, number_in};
 use std::alloc::Global;
 
@@ -36,7 +36,7 @@ fn config_path(alloc: Global, name: &Text) -> Result<ZPath, NoMemory>
 }
 
 // Adds the znode of a broker's configuration.
-#[tactic(auto, unfolding(kz_spec_values::specs::Bodies::text_of_body))]
+#[tactic(auto, unfolding(kz_spec_data::specs::Bodies::text_of_body))]
 fn push_config(
     alloc: Global,
     znodes: &mut Vec<Rendered>,

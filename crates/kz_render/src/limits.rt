@@ -3,7 +3,7 @@ ghost use Rattle.std.specs.Prelude.{◌≡◌, length, IfOk, IfErr, OnOk, None, 
 ghost use Rattle.std.specs.List.{find, sum_by};
 ghost use Rattle.kz_types.specs.declared.limits.TheConstants.{MAX_BODIES_BYTES};
 ghost use Rattle.kz_types.specs.declared.tree.Rendered.{Rendered as RenderedValue};
-ghost use Rattle.kz_spec_znodes.specs.Rendering.{is_long, excess_of, excess};
+ghost use Rattle.kz_spec_data.specs.Rendering.{is_long, excess_of, excess};
 ghost use Rattle.kz_render.specs.Limits.{excess_of_told, IsExcess};
 
 use crate::znodes::render;

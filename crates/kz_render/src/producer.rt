@@ -3,10 +3,10 @@ ghost use Rattle.std.specs.Prelude.{◌≡◌, ◌++◌, ◌+ℤ◌, pos, negsuc
 ghost use Rattle.kz_types.specs.Paths.{path_of};
 ghost use Rattle.kz_types.specs.declared.key.EntityKey.TheVariants as key;
 ghost use Rattle.kz_types.specs.declared.bodies.Body.TheVariants as body;
-ghost use Rattle.kz_spec_values.specs.Bodies.{text_of_body};
-ghost use Rattle.kz_spec_stores.specs.ImageRules.{max_next};
-ghost use Rattle.kz_spec_stores.specs.Legal.{IsNext};
-ghost use Rattle.kz_spec_znodes.specs.Rendering.{producer_znodes};
+ghost use Rattle.kz_spec_data.specs.Bodies.{text_of_body};
+ghost use Rattle.kz_spec_data.specs.ImageRules.{max_next};
+ghost use Rattle.kz_spec_data.specs.Legal.{IsNext};
+ghost use Rattle.kz_spec_data.specs.Rendering.{producer_znodes};
 
 use crate::push::push_znode;
 use kz_json::producer_text;
@@ -22,7 +22,7 @@ fn block_end(start: i64) -> i64
 }
 
 /// The text of the block that begins at this id, which no broker holds.
-#[tactic(auto, unfolding(kz_spec_values::specs::Bodies::text_of_body))]
+#[tactic(auto, unfolding(kz_spec_data::specs::Bodies::text_of_body))]
 pub fn block_text(alloc: Global, start: i64) -> Result<String, NoMemory>
     requires { int_le start max_next ≡ true }
     ensures { IfOk result (λ text. string_bytes text ≡ text_of_body (body.Producer (negsuc 0) start (start +ℤ pos 999))) }

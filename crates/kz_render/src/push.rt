@@ -1,6 +1,6 @@
 //! Znodes added to a list.
 ghost use Rattle.std.specs.Prelude.{◌≡◌, ◌∷◌, ◌++◌, [], OnOk};
-ghost use Rattle.kz_spec_znodes.specs.Rendering.{bare};
+ghost use Rattle.kz_spec_data.specs.Rendering.{bare};
 
 use kz_types::{NoMemory, Rendered, Sequence, ZPath};
 use std::alloc::Global;

@@ -1,7 +1,7 @@
 //! The data of quotas and credentials.
 ghost use Rattle.std.specs.Prelude.{◌≡◌, true, IfOk};
 ghost use Rattle.kz_types.specs.declared.bodies.Body.TheVariants as body;
-ghost use Rattle.kz_spec_values.specs.Bodies.{text_of_body};
+ghost use Rattle.kz_spec_data.specs.Bodies.{text_of_body};
 ghost use Rattle.kz_json.specs.Entries.{are_quotas};
 
 use kz_json::write_body;
@@ -9,7 +9,7 @@ use kz_types::{Body, BodyFault, EntityKey, NoMemory, QuotaRow, ScramPair, Sequen
 use std::alloc::Global;
 
 /// The text of quotas and credentials. It is the same for each entity that has some.
-#[tactic(auto, unfolding(kz_spec_values::specs::Bodies::is_of_kind))]
+#[tactic(auto, unfolding(kz_spec_data::specs::Bodies::is_of_kind))]
 pub fn quota_text(
     alloc: Global,
     quotas: &[QuotaRow],

@@ -4,16 +4,16 @@ ghost use Rattle.std.specs.List.{flat_map};
 ghost use Rattle.kz_types.specs.Paths.{key_of, path_of, is_legal, has_path};
 ghost use Rattle.kz_types.specs.PathRule.{is_path};
 ghost use Rattle.kz_json.specs.Entries.{are_quotas};
-ghost use Rattle.kz_spec_stores.specs.InOrder.{IsUserFilled};
-ghost use Rattle.kz_spec_stores.specs.Legal.{IsQuotaEntry, IsScramEntry};
-ghost use Rattle.kz_spec_znodes.specs.Rendering.{bare, client_parents, quota_parents, own_znodes, quota_znodes};
+ghost use Rattle.kz_spec_data.specs.InOrder.{IsUserFilled};
+ghost use Rattle.kz_spec_data.specs.Legal.{IsQuotaEntry, IsScramEntry};
+ghost use Rattle.kz_spec_data.specs.Rendering.{bare, client_parents, quota_parents, own_znodes, quota_znodes};
 
 use crate::paths::{entity_path, path_after};
 use crate::push::{push_bare, push_znode};
 use crate::quota_body::quota_text;
 use crate::users::push_users;
-use kz_blocks::Blocks;
 use kz_path::key_of;
+use kz_sorted::Blocks;
 use kz_types::{Duplicate, EntityKey, NoMemory, QuotaEntry, Rendered, ScramEntry, ZPath};
 use std::alloc::Global;
 

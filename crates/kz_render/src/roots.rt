@@ -1,10 +1,10 @@
 //! The znodes below which each entity has its place.
 ghost use Rattle.std.specs.Prelude.{◌≡◌, IfOk, map};
 ghost use Rattle.kz_types.specs.Paths.{roots};
-ghost use Rattle.kz_ordered.specs.Order.{bytes_cmp};
-ghost use Rattle.kz_ordered.specs.Ordered.{Rises};
-ghost use Rattle.kz_spec_stores.specs.Tree.{path_of_rendered};
-ghost use Rattle.kz_spec_znodes.specs.Rendering.{bare};
+ghost use Rattle.kz_types.specs.Order.{bytes_cmp};
+ghost use Rattle.kz_types.specs.Ordered.{Rises};
+ghost use Rattle.kz_spec_data.specs.Tree.{path_of_rendered};
+ghost use Rattle.kz_spec_data.specs.Rendering.{bare};
 
 use crate::push::push_bare;
 use kz_paths::root_paths;

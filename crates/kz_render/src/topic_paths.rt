@@ -3,7 +3,7 @@ ghost use Rattle.std.specs.Prelude.{◌≡◌, ◌++◌, IfOk, true, codes, stri
 ghost use Rattle.std.specs.Fmt.{signed_decimal};
 ghost use Rattle.kz_types.specs.Paths.{path_of, has_path, is_topic_name, is_not_negative};
 ghost use Rattle.kz_types.specs.declared.key.EntityKey.TheVariants as key;
-ghost use Rattle.kz_spec_znodes.specs.Rendering.{partitions_path, number_path};
+ghost use Rattle.kz_spec_data.specs.Rendering.{partitions_path, number_path};
 
 use crate::paths::{entity_path, path_after};
 use kz_types::{Duplicate, EntityKey, NoMemory, Text, ZPath};

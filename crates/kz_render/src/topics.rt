@@ -3,14 +3,14 @@ ghost use Rattle.std.specs.Prelude.{◌≡◌, ◌∷◌, ◌++◌, [], All, IfO
 ghost use Rattle.std.specs.List.{flat_map};
 ghost use Rattle.kz_types.specs.Paths.{is_topic_name, is_not_negative};
 ghost use Rattle.kz_types.specs.declared.bodies.Body.TheVariants as body;
-ghost use Rattle.kz_spec_values.specs.Bodies.{text_of_body};
-ghost use Rattle.kz_spec_stores.specs.Legal.{IsPartition, IsTopic};
-ghost use Rattle.kz_spec_znodes.specs.Rendering.{bare, assignment_of, topic_znode, partitions_path, state_body, partition_znodes, topic_config_znodes, topic_znodes};
+ghost use Rattle.kz_spec_data.specs.Bodies.{text_of_body};
+ghost use Rattle.kz_spec_data.specs.Legal.{IsPartition, IsTopic};
+ghost use Rattle.kz_spec_data.specs.Rendering.{bare, assignment_of, topic_znode, partitions_path, state_body, partition_znodes, topic_config_znodes, topic_znodes};
 
 use crate::push::{push_bare, push_znode};
 use crate::topic_paths::{number_path, partitions_path, state_path, topic_config_path, topic_path};
-use kz_blocks::Blocks;
 use kz_json::{PartitionState, config_text, state_text, topic_text};
+use kz_sorted::Blocks;
 use kz_types::{
     AssignmentRow, Duplicate, NoMemory, Pair, PartitionEntry, PartitionRow, Rendered, Shared, Text,
     TopicEntry, ZPath,
@@ -44,7 +44,7 @@ fn assignments_of(
 }
 
 /// The text of a topic's body.
-#[tactic(auto, unfolding(kz_spec_values::specs::Bodies::text_of_body))]
+#[tactic(auto, unfolding(kz_spec_data::specs::Bodies::text_of_body))]
 pub fn topic_body(alloc: Global, topic: &TopicEntry) -> Result<String, NoMemory>
     ensures { IfOk result (λ text. string_bytes text ≡ text_of_body (body.Topic topic.now.id (map assignment_of topic.now.partitions))) }
 {
@@ -53,7 +53,7 @@ pub fn topic_body(alloc: Global, topic: &TopicEntry) -> Result<String, NoMemory>
 }
 
 /// The text of the body of a partition's state.
-#[tactic(auto, unfolding(kz_spec_values::specs::Bodies::text_of_body))]
+#[tactic(auto, unfolding(kz_spec_data::specs::Bodies::text_of_body))]
 pub fn state_body(alloc: Global, row: &PartitionRow) -> Result<String, NoMemory>
     ensures { IfOk result (λ text. string_bytes text ≡ text_of_body (state_body row.now)) }
 {
@@ -125,7 +125,7 @@ fn push_partitions(
 }
 
 // Adds the znode of a topic's configuration, where it isn't empty.
-#[tactic(auto, unfolding(kz_spec_values::specs::Bodies::text_of_body))]
+#[tactic(auto, unfolding(kz_spec_data::specs::Bodies::text_of_body))]
 fn push_topic_config(
     alloc: Global,
     znodes: &mut Vec<Rendered>,

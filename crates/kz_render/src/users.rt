@@ -2,19 +2,19 @@
 ghost use Rattle.std.specs.Prelude.{◌≡◌, ◌∷◌, ◌++◌, [], Some, All, true, map, IfOk, OnOk};
 ghost use Rattle.kz_types.specs.declared.key.EntityKey.TheVariants as key;
 ghost use Rattle.kz_types.specs.Paths.{path_of, is_legal, has_path};
-ghost use Rattle.kz_ordered.specs.Order.{bytes_cmp};
-ghost use Rattle.kz_ordered.specs.Ordered.{find as find_in};
+ghost use Rattle.kz_types.specs.Order.{bytes_cmp};
+ghost use Rattle.kz_types.specs.Ordered.{find as find_in};
 ghost use Rattle.kz_json.specs.Entries.{are_quotas};
-ghost use Rattle.kz_spec_stores.specs.Metadata.{path_of_quotas};
-ghost use Rattle.kz_spec_stores.specs.Image.{quotas_in};
-ghost use Rattle.kz_spec_stores.specs.InOrder.{IsUserFilled};
-ghost use Rattle.kz_spec_stores.specs.Legal.{IsQuotaEntry, IsScramEntry};
-ghost use Rattle.kz_spec_znodes.specs.Rendering.{user_znode};
+ghost use Rattle.kz_spec_data.specs.Metadata.{path_of_quotas};
+ghost use Rattle.kz_spec_data.specs.Image.{quotas_in};
+ghost use Rattle.kz_spec_data.specs.InOrder.{IsUserFilled};
+ghost use Rattle.kz_spec_data.specs.Legal.{IsQuotaEntry, IsScramEntry};
+ghost use Rattle.kz_spec_data.specs.Rendering.{user_znode};
 
 use crate::paths::entity_path;
 use crate::push::push_znode;
 use crate::quota_body::quota_text;
-use kz_blocks::Blocks;
+use kz_sorted::Blocks;
 use kz_types::{
     Duplicate, EntityKey, NoMemory, QuotaEntry, QuotaRow, Rendered, ScramEntry, Text, ZPath,
 };

@@ -1,10 +1,10 @@
 //! All znodes of the metadata.
 ghost use Rattle.std.specs.Prelude.{◌≡◌, ◌++◌, IfOk, OnOk, map};
 ghost use Rattle.std.specs.List.{flat_map};
-ghost use Rattle.kz_ordered.specs.Order.{bytes_cmp};
-ghost use Rattle.kz_ordered.specs.Ordered.{Rises};
-ghost use Rattle.kz_spec_stores.specs.Tree.{path_of_rendered};
-ghost use Rattle.kz_spec_znodes.specs.Rendering.{topic_znodes, config_znode, quota_znodes, entity_znodes, render};
+ghost use Rattle.kz_types.specs.Order.{bytes_cmp};
+ghost use Rattle.kz_types.specs.Ordered.{Rises};
+ghost use Rattle.kz_spec_data.specs.Tree.{path_of_rendered};
+ghost use Rattle.kz_spec_data.specs.Rendering.{topic_znodes, config_znode, quota_znodes, entity_znodes, render};
 ghost use Rattle.kz_render.specs.Gathered.{PutAlike};
 
 use crate::acls::push_acls;
@@ -14,7 +14,7 @@ use crate::quotas::push_quotas;
 use crate::roots::bare_roots;
 use crate::topics::push_topics;
 use kz_image::Image;
-use kz_sorting::put_all;
+use kz_sorted::put_all;
 use kz_types::{NoMemory, Rendered};
 use std::alloc::Global;
 

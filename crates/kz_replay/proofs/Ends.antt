@@ -2,12 +2,12 @@
 use Rattle.std.proofs.Common.{◌≡◌, ◌≢◌, Result, Ok, Err, OnOk, IfErr, ℕ, Bool, refl, sym, ap, ◌∙◌, subst}
 use Rattle.kz_types.specs.declared.outside.Status.{Status}
 use Rattle.kz_types.specs.declared.outside.Status.TheVariants as status
-use Rattle.kz_driver.specs.Disks.{Disks}
-use Rattle.kz_failures.specs.declared.failure.Failure.TheVariants as failure
-use Rattle.kz_failures.specs.Disks.{AreQuiet}
+use Rattle.kz_world.specs.Disks.{Disks}
+use Rattle.kz_stream.specs.declared.failure.Failure.TheVariants as failure
+use Rattle.kz_stream.specs.FailureDisks.{AreQuiet}
 use Rattle.kz_stream.specs.declared.ending.Stop.{Stop}
 use Rattle.kz_stream.specs.declared.ending.Stop.TheVariants as stop
-use Rattle.kz_spec_runs.specs.Endings.{EndsAtFailure}
+use Rattle.kz_spec_machine.specs.Endings.{EndsAtFailure}
 use Rattle.kz_stream.specs.Endings.{status_of, stop_status, StopsAtSink}
 use Rattle.kz_stream.proofs.Failures.{as_result}
 use Rattle.kz_stream.specs.Disks.{StopDisks, PartDisks}

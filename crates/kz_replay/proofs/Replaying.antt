@@ -9,24 +9,24 @@ use Rattle.kz_types.specs.declared.machine.Event.{Event}
 use Rattle.kz_types.specs.declared.machine.Event.TheVariants as event
 use Rattle.kz_types.specs.declared.outside.Status.{Status}
 use Rattle.kz_types.specs.declared.outside.Status.TheVariants as status
-use Rattle.kz_spec_stores.specs.Tree.{Tree}
-use Rattle.kz_spec_stores.specs.Log.{Log}
-use Rattle.kz_spec_stores.specs.Requests.{Only}
+use Rattle.kz_spec_data.specs.Tree.{Tree}
+use Rattle.kz_spec_data.specs.Log.{Log}
+use Rattle.kz_spec_data.specs.Requests.{Only}
 use Rattle.kz_tree_store.specs.Opened.{tree_found, tree_in_file, LeavesTree}
 use Rattle.kz_log_store.specs.Opened.{log_found, log_stands, LeavesLog}
-use Rattle.kz_spec_files.specs.Frames.{Journal, tree_letter, log_letter}
-use Rattle.kz_spec_files.specs.TreeFile.{tree_of_stored, stored_in, tree_of}
-use Rattle.kz_spec_files.specs.LogFile.{log_in, log_of}
+use Rattle.kz_spec_data.specs.Frames.{Journal, tree_letter, log_letter}
+use Rattle.kz_spec_data.specs.TreeFile.{tree_of_stored, stored_in, tree_of}
+use Rattle.kz_spec_data.specs.LogFile.{log_in, log_of}
 use Rattle.kz_spec_machine.specs.Machine.{World}
 use Rattle.kz_spec_machine.specs.Sound.{Sound, IsLawful}
-use Rattle.kz_spec_runs.specs.Output.{Progress, place_of, outcome_of_replay}
-use Rattle.kz_spec_runs.specs.Endings.{Agrees, EndsAs, EndsAtFailure}
-use Rattle.kz_spec_runs.specs.InStep.{script_events}
-use Rattle.kz_spec_runs.specs.Moments.{Moment, LeavesMoment, replayed_moments}
-use Rattle.kz_spec_lines.specs.Lines.{items}
-use Rattle.kz_spec_runs.specs.Openings.{opened_world, IsSoundPair}
-use Rattle.kz_spec_runs.specs.Promises.{Promises}
-use Rattle.kz_spec_commands.specs.Files.{tree_damage, log_damage, first_reason, damage, StandFor, SayTheSame, EndsAtDisk}
+use Rattle.kz_spec_machine.specs.Output.{Progress, place_of, outcome_of_replay}
+use Rattle.kz_spec_machine.specs.Endings.{Agrees, EndsAs, EndsAtFailure}
+use Rattle.kz_spec_machine.specs.InStep.{script_events}
+use Rattle.kz_spec_machine.specs.Moments.{Moment, LeavesMoment, replayed_moments}
+use Rattle.kz_spec_data.specs.Lines.{items}
+use Rattle.kz_spec_machine.specs.Openings.{opened_world, IsSoundPair}
+use Rattle.kz_spec_machine.specs.Promises.{Promises}
+use Rattle.kz_spec_machine.specs.Files.{tree_damage, log_damage, first_reason, damage, StandFor, SayTheSame, EndsAtDisk}
 use Rattle.kz_laws_bounds.proofs.Worlds.{run_turn_told}
 use Rattle.kz_laws_runs.proofs.Commits.{run_commits}
 use Rattle.kz_laws_runs.proofs.Agrees.{run_agrees}
@@ -35,11 +35,11 @@ use Rattle.kz_laws_runs.proofs.InAgreement.{run_agreed}
 use Rattle.kz_laws_runs.proofs.Finalised.{run_finalised}
 use Rattle.kz_laws_scripts.proofs.Lawful.{script_lawful}
 use Rattle.kz_laws_scripts.proofs.Scripts.{script_in_step}
-use Rattle.kz_driver.specs.Disks.{Disks}
-use Rattle.kz_turns.specs.Stops.{AreUp}
-use Rattle.kz_failures.specs.declared.failure.Failure.{Failure}
-use Rattle.kz_failures.specs.declared.failure.Failure.TheVariants as failure
-use Rattle.kz_failures.specs.Disks.{HasFailed, AreQuiet, AnswerDisks}
+use Rattle.kz_world.specs.Disks.{Disks}
+use Rattle.kz_world.specs.TurnStops.{AreUp}
+use Rattle.kz_stream.specs.declared.failure.Failure.{Failure}
+use Rattle.kz_stream.specs.declared.failure.Failure.TheVariants as failure
+use Rattle.kz_stream.specs.FailureDisks.{HasFailed, AreQuiet, AnswerDisks}
 use Rattle.kz_stream.specs.Pending.{outcome_to_come, moments_to_come, pending_lines}
 use Rattle.kz_stream.proofs.Cut.{state, lines_at_start}
 use Rattle.kz_stream.proofs.Failures.{no_failure}

@@ -1,7 +1,7 @@
 -- The command that the program runs, as the definitions have it.
 use Rattle.std.specs.Prelude.{◌≤◌, ⊤, ℕ, Option, Some, None}
 use Rattle.kz_types.specs.declared.limits.TheConstants.{MAX_GENERATED}
-use Rattle.kz_spec_commands.specs.Words as words
+use Rattle.kz_spec_machine.specs.Words as words
 use Rattle.kz_reports.specs.Reports.{defined_report}
 use Rattle.kz_replay.specs.declared.words.Command.{Command}
 use Rattle.kz_replay.specs.declared.words.Command.TheVariants as command

@@ -2,9 +2,9 @@
 use Rattle.std.specs.Prelude.{Option}
 use Rattle.kz_types.specs.declared.outside.Status.{Status}
 use Rattle.kz_types.specs.declared.outside.Status.TheVariants as status
-use Rattle.kz_driver.specs.Disks.{Disks}
-use Rattle.kz_failures.specs.declared.failure.Failure.{Failure}
-use Rattle.kz_failures.specs.Disks.{IsQuiet, HasFailed, AreQuiet, AnswerDisks}
+use Rattle.kz_world.specs.Disks.{Disks}
+use Rattle.kz_stream.specs.declared.failure.Failure.{Failure}
+use Rattle.kz_stream.specs.FailureDisks.{IsQuiet, HasFailed, AreQuiet, AnswerDisks}
 
 -- A disk failed exactly where the status is its own. Where the sink failed, a disk may have failed before.
 abbrev pub RunDisks : Status → Disks → Disks → Type 0

@@ -6,8 +6,8 @@ use Rattle.kz_types.specs.Limits.{number_of_limit}
 use Rattle.kz_types.specs.declared.limits.TheConstants.{MAX_GENERATED}
 use Rattle.kz_types.specs.declared.outside.Status.{Status}
 use Rattle.kz_types.specs.declared.outside.Status.TheVariants as status
-use Rattle.kz_spec_runs.specs.Endings.{EndsAtFailure}
-use Rattle.kz_spec_commands.specs.Reports.{script_of, EndsAsPrinted}
+use Rattle.kz_spec_machine.specs.Endings.{EndsAtFailure}
+use Rattle.kz_spec_machine.specs.Reports.{script_of, EndsAsPrinted}
 use Rattle.kz_commands.specs.Outside.{Outside}
 
 -- A script with so many changes is written; where more were asked for than are allowed, nothing is, and the limit is told.

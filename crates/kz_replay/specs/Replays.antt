@@ -8,17 +8,17 @@ use Rattle.kz_types.specs.declared.machine.Event.{Event}
 use Rattle.kz_types.specs.declared.machine.Event.TheVariants as event
 use Rattle.kz_types.specs.declared.machine.Reply.{Reply}
 use Rattle.kz_types.specs.Causes.{Rose}
-use Rattle.kz_spec_stores.specs.Tree.{Tree}
-use Rattle.kz_spec_stores.specs.Log.{Log}
+use Rattle.kz_spec_data.specs.Tree.{Tree}
+use Rattle.kz_spec_data.specs.Log.{Log}
 use Rattle.kz_spec_machine.specs.Machine.{World, after_events, next}
-use Rattle.kz_spec_runs.specs.Endings.{Agrees, EndsAtFailure}
-use Rattle.kz_spec_runs.specs.InStep.{script_events}
-use Rattle.kz_spec_runs.specs.Moments.{Moment, replayed_moments}
-use Rattle.kz_spec_runs.specs.Openings.{opened_world, IsSoundPair}
-use Rattle.kz_spec_runs.specs.Promises.{Promises}
+use Rattle.kz_spec_machine.specs.Endings.{Agrees, EndsAtFailure}
+use Rattle.kz_spec_machine.specs.InStep.{script_events}
+use Rattle.kz_spec_machine.specs.Moments.{Moment, replayed_moments}
+use Rattle.kz_spec_machine.specs.Openings.{opened_world, IsSoundPair}
+use Rattle.kz_spec_machine.specs.Promises.{Promises}
 use Rattle.kz_laws_bounds.specs.Bounds.{EndsByItself}
 use Rattle.kz_laws_bounds.specs.Events.{AllLeaveBases}
-use Rattle.kz_spec_commands.specs.Files.{damage, StandFor, EndsAtDisk}
+use Rattle.kz_spec_machine.specs.Files.{damage, StandFor, EndsAtDisk}
 use Rattle.kz_commands.specs.Outside.{Outside}
 use Rattle.kz_replay.specs.Stops.{StandAtMoment}
 

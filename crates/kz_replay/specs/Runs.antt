@@ -3,9 +3,9 @@ use Rattle.std.specs.Prelude.{◌≡◌, ◌↔◌, ℕ, List, Option, Some, Non
 use Rattle.std.specs.declared.alloc.Global.{Global}
 use Rattle.kz_types.specs.declared.outside.Status.{Status}
 use Rattle.kz_types.specs.declared.outside.Status.TheVariants as status
-use Rattle.kz_spec_commands.specs.Words.{Report, Init, Load, Replay, Upgrade, Tell, Generate, command_of}
-use Rattle.kz_spec_commands.specs.Init.{Inits}
-use Rattle.kz_spec_commands.specs.Upgrade.{Upgrades}
+use Rattle.kz_spec_machine.specs.Words.{Report, Init, Load, Replay, Upgrade, Tell, Generate, command_of}
+use Rattle.kz_spec_machine.specs.Init.{Inits}
+use Rattle.kz_spec_machine.specs.Upgrade.{Upgrades}
 use Rattle.kz_commands.specs.Outside.{Outside}
 use Rattle.kz_commands.specs.Makes.{MakesFiles}
 use Rattle.kz_load.specs.LoadsFiles.{LoadsFiles}

@@ -4,14 +4,14 @@ use Rattle.std.specs.Io.KnownBytes.{Appends}
 use Rattle.kz_types.specs.declared.outside.Status.{Status}
 use Rattle.kz_types.specs.declared.outside.Status.TheVariants as status
 use Rattle.kz_disk.specs.Disks.{NothingPends}
-use Rattle.kz_spec_files.specs.Frames.{tree_letter, log_letter}
-use Rattle.kz_spec_stores.specs.Tree.{Tree}
-use Rattle.kz_spec_stores.specs.Log.{Log}
-use Rattle.kz_spec_files.specs.TreeFile.{tree_of}
-use Rattle.kz_spec_files.specs.LogFile.{log_of}
-use Rattle.kz_spec_commands.specs.Files.{StandFor}
-use Rattle.kz_spec_runs.specs.Moments.{Moment, StandsAt, replayed_moments}
-use Rattle.kz_spec_runs.specs.Openings.{opened_world, IsSoundPair}
+use Rattle.kz_spec_data.specs.Frames.{tree_letter, log_letter}
+use Rattle.kz_spec_data.specs.Tree.{Tree}
+use Rattle.kz_spec_data.specs.Log.{Log}
+use Rattle.kz_spec_data.specs.TreeFile.{tree_of}
+use Rattle.kz_spec_data.specs.LogFile.{log_of}
+use Rattle.kz_spec_machine.specs.Files.{StandFor}
+use Rattle.kz_spec_machine.specs.Moments.{Moment, StandsAt, replayed_moments}
+use Rattle.kz_spec_machine.specs.Openings.{opened_world, IsSoundPair}
 use Rattle.kz_commands.specs.Stops.{Contents, StandsAtStop, LeavesByInit, StaysSettled}
 
 -- With this much written, two files stand for the tree and the log of a moment that keeps up with it.

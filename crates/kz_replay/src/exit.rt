@@ -1,6 +1,6 @@
 //! How the process tells how a run ended.
 ghost use Rattle.std.specs.Prelude.{◌≡◌, IfOk};
-ghost use Rattle.kz_spec_lines.specs.Statuses.{status_code, status_text};
+ghost use Rattle.kz_spec_data.specs.Statuses.{status_code, status_text};
 
 use kz_script::{status_code, status_text};
 use kz_types::{NoMemory, Status};

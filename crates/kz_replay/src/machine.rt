@@ -1,6 +1,6 @@
 //! The world of a run, as a machine.
-ghost use Rattle.kz_world_parts.specs.Worlds.{plain_world};
-ghost use Rattle.kz_world_parts.specs.Disks.{disks_in};
+ghost use Rattle.kz_world.specs.Worlds.{plain_world};
+ghost use Rattle.kz_world.specs.EventDisks.{disks_in};
 
 use kz_log::MetaLog;
 use kz_session::ZSessions;

@@ -1,12 +1,12 @@
 //! A replay of what a source gives.
 ghost use Rattle.std.specs.Prelude.{◌≡◌, ◌≢◌, [], List, ℕ, IfSome};
 ghost use Rattle.std.specs.Io.KnownBytes.{Appends, Consumes, IsAtEnd};
-ghost use Rattle.kz_spec_stores.specs.Requests.{Only};
+ghost use Rattle.kz_spec_data.specs.Requests.{Only};
 ghost use Rattle.kz_spec_machine.specs.Sound.{Sound};
-ghost use Rattle.kz_turns.specs.Stops.{AreUp};
-ghost use Rattle.kz_spec_runs.specs.Output.{Progress};
-ghost use Rattle.kz_spec_runs.specs.Endings.{EndsAs, EndsAtFailure};
-ghost use Rattle.kz_spec_runs.specs.Moments.{LeavesMoment};
+ghost use Rattle.kz_world.specs.TurnStops.{AreUp};
+ghost use Rattle.kz_spec_machine.specs.Output.{Progress};
+ghost use Rattle.kz_spec_machine.specs.Endings.{EndsAs, EndsAtFailure};
+ghost use Rattle.kz_spec_machine.specs.Moments.{LeavesMoment};
 ghost use Rattle.kz_stream.specs.Pending.{state_of, outcome_to_come, moments_to_come, pending_lines};
 ghost use Rattle.kz_stream.specs.Disks.{OverSound};
 ghost use Rattle.kz_replay.specs.Disks.{RunDisks};

@@ -2,7 +2,7 @@
 ghost use Rattle.std.specs.List.{list_all};
 ghost use Rattle.std.specs.Prelude.{◌≡◌, ℕ, option_map};
 ghost use Rattle.kz_types.specs.Numbers.{is_digit};
-ghost use Rattle.kz_spec_commands.specs.Words.{is_count, command_of_word, command_of_two, command_of};
+ghost use Rattle.kz_spec_machine.specs.Words.{is_count, command_of_word, command_of_two, command_of};
 ghost use Rattle.kz_replay.specs.Commands.{defined_command, HasAllowed};
 
 use kz_reports::Report;

@@ -7,15 +7,15 @@ use Rattle.kz_types.specs.declared.machine.Verdict.{Verdict}
 use Rattle.kz_types.specs.declared.machine.Verdict.TheVariants.{Unmigrated, Unrecorded, Closed, Ahead, Disagrees}
 use Rattle.kz_types.specs.declared.outside.Status.{Status}
 use Rattle.kz_types.specs.declared.outside.Status.TheVariants as status
-use Rattle.kz_spec_stores.specs.Tree.{Tree}
-use Rattle.kz_spec_stores.specs.Log.{Log}
-use Rattle.kz_spec_files.specs.TreeFile.{tree_of}
-use Rattle.kz_spec_files.specs.LogFile.{log_of}
-use Rattle.kz_spec_runs.specs.Endings.{IsFront, EndsAtFailure}
-use Rattle.kz_spec_files.specs.Frames.{tree_letter, log_letter}
-use Rattle.kz_spec_commands.specs.Files.{damage, StandFor, SayTheSame, EndsAtDisk}
-use Rattle.kz_spec_commands.specs.Words.{Report, DumpTree, DumpLog, Render, RenderAt, Check, Figures}
-use Rattle.kz_spec_commands.specs.Reports.{Printed, printed, refused, check_printed, report_of, EndsAsPrinted}
+use Rattle.kz_spec_data.specs.Tree.{Tree}
+use Rattle.kz_spec_data.specs.Log.{Log}
+use Rattle.kz_spec_data.specs.TreeFile.{tree_of}
+use Rattle.kz_spec_data.specs.LogFile.{log_of}
+use Rattle.kz_spec_machine.specs.Endings.{IsFront, EndsAtFailure}
+use Rattle.kz_spec_data.specs.Frames.{tree_letter, log_letter}
+use Rattle.kz_spec_machine.specs.Files.{damage, StandFor, SayTheSame, EndsAtDisk}
+use Rattle.kz_spec_machine.specs.Words.{Report, DumpTree, DumpLog, Render, RenderAt, Check, Figures}
+use Rattle.kz_spec_machine.specs.Reports.{Printed, printed, refused, check_printed, report_of, EndsAsPrinted}
 use Rattle.kz_output.specs.declared.output.OutputFault.{OutputFault}
 use Rattle.kz_output.specs.declared.output.OutputFault.TheVariants as fault
 use Rattle.kz_output.specs.Outputs.{WritesFront, EndsAtSink}

@@ -5,8 +5,8 @@ use Rattle.kz_types.specs.declared.outside.Status.{Status}
 use Rattle.kz_types.specs.declared.outside.Status.TheVariants as status
 use Rattle.kz_output.specs.declared.output.OutputFault.{OutputFault}
 use Rattle.kz_output.specs.declared.output.OutputFault.TheVariants as fault
-use Rattle.kz_spec_commands.specs.Words as words
-use Rattle.kz_spec_commands.specs.Reports.{Printed}
+use Rattle.kz_spec_machine.specs.Words as words
+use Rattle.kz_spec_machine.specs.Reports.{Printed}
 use Rattle.kz_output.specs.Outputs.{WritesFront}
 use Rattle.kz_reports.specs.declared.report.Report.{Report}
 use Rattle.kz_reports.specs.declared.report.Report.TheVariants as report

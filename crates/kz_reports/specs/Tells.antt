@@ -3,12 +3,12 @@ use Rattle.std.specs.Prelude.{◌≡◌, ◌≢◌, ◌⊎◌, ⊤, ℕ, List, O
 use Rattle.std.specs.Io.KnownBytes.{Appends}
 use Rattle.kz_types.specs.declared.outside.Status.{Status}
 use Rattle.kz_types.specs.declared.outside.Status.TheVariants as status
-use Rattle.kz_spec_stores.specs.Tree.{Tree}
-use Rattle.kz_spec_stores.specs.Log.{Log}
-use Rattle.kz_spec_runs.specs.Endings.{EndsAtFailure}
-use Rattle.kz_spec_commands.specs.Words.{Report}
-use Rattle.kz_spec_commands.specs.Files.{damage, StandFor, EndsAtDisk}
-use Rattle.kz_spec_commands.specs.Reports.{report_of, EndsAsPrinted}
+use Rattle.kz_spec_data.specs.Tree.{Tree}
+use Rattle.kz_spec_data.specs.Log.{Log}
+use Rattle.kz_spec_machine.specs.Endings.{EndsAtFailure}
+use Rattle.kz_spec_machine.specs.Words.{Report}
+use Rattle.kz_spec_machine.specs.Files.{damage, StandFor, EndsAtDisk}
+use Rattle.kz_spec_machine.specs.Reports.{report_of, EndsAsPrinted}
 use Rattle.kz_commands.specs.Outside.{Outside, OfFiles}
 use Rattle.kz_commands.specs.Opening.{IsForDamage, LeavesUnopened}
 

@@ -1,9 +1,9 @@
 //! The commands that tell what stands in the two files.
 ghost use Rattle.std.specs.Prelude.{◌≡◌, IfOk, OnErr};
 ghost use Rattle.kz_output.specs.Outputs.{WritesFront, EndsAtSink};
-ghost use Rattle.kz_spec_files.specs.TreeFile.{tree_of};
-ghost use Rattle.kz_spec_files.specs.LogFile.{log_of};
-ghost use Rattle.kz_spec_commands.specs.Reports.{report_of};
+ghost use Rattle.kz_spec_data.specs.TreeFile.{tree_of};
+ghost use Rattle.kz_spec_data.specs.LogFile.{log_of};
+ghost use Rattle.kz_spec_machine.specs.Reports.{report_of};
 ghost use Rattle.kz_tree_store.specs.Stores as trees;
 ghost use Rattle.kz_log_store.specs.Stores as logs;
 ghost use Rattle.kz_commands.specs.Outside.{outside};

@@ -1,8 +1,8 @@
 //! The figures of a tree and a log.
 ghost use Rattle.std.specs.Prelude.{◌≡◌, IfOk, option_map};
 ghost use Rattle.kz_types.specs.declared.machine.Recorded.{Recorded as RecordedValue};
-ghost use Rattle.kz_spec_stores.specs.Tree.{migration_record};
-ghost use Rattle.kz_spec_dumps.specs.Dumps.{figures_of};
+ghost use Rattle.kz_spec_data.specs.Tree.{migration_record};
+ghost use Rattle.kz_spec_machine.specs.Dumps.{figures_of};
 
 use kz_dump::Figures;
 use kz_log::LogRows;

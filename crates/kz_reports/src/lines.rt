@@ -2,7 +2,7 @@
 ghost use Rattle.std.specs.Prelude.{◌≡◌, ◌++◌, List, ℕ, IfOk, OnOk, OnErr};
 ghost use Rattle.std.specs.List.{flat_map};
 ghost use Rattle.kz_output.specs.Outputs.{Puts, WritesFront, EndsAtSink};
-ghost use Rattle.kz_spec_dumps.specs.Dumps.{row_line, batch_line, rendered_line};
+ghost use Rattle.kz_spec_machine.specs.Dumps.{row_line, batch_line, rendered_line};
 
 use kz_dump::{batch_line, render_line, row_line};
 use kz_io::Sink;

@@ -2,8 +2,8 @@
 ghost use Rattle.std.specs.Prelude.{◌≡◌, IfOk, OnOk, OnErr};
 ghost use Rattle.std.specs.Io.KnownBytes.{Appends};
 ghost use Rattle.kz_output.specs.Outputs.{WritesFront, EndsAtSink};
-ghost use Rattle.kz_spec_dumps.specs.Dumps.{check_lines, figures_of, figure_lines};
-ghost use Rattle.kz_spec_commands.specs.Reports.{printed, check_printed, rendering_printed, report_of};
+ghost use Rattle.kz_spec_machine.specs.Dumps.{check_lines, figures_of, figure_lines};
+ghost use Rattle.kz_spec_machine.specs.Reports.{printed, check_printed, rendering_printed, report_of};
 ghost use Rattle.kz_reports.specs.Reports.{defined_report, PrintEnds};
 
 use crate::figures::figures;

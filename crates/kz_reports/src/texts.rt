@@ -2,9 +2,9 @@
 ghost use Rattle.std.specs.Prelude.{◌≡◌, IfOk, OnOk, OnErr};
 ghost use Rattle.std.specs.Io.KnownBytes.{Appends};
 ghost use Rattle.kz_output.specs.Outputs.{WritesFront, EndsAtSink};
-ghost use Rattle.kz_spec_stores.specs.Log.{end_of, image_at};
-ghost use Rattle.kz_spec_znodes.specs.Rendering.{render};
-ghost use Rattle.kz_spec_dumps.specs.Dumps.{log_head_line, tree_text, log_text, rendering_text};
+ghost use Rattle.kz_spec_data.specs.Log.{end_of, image_at};
+ghost use Rattle.kz_spec_data.specs.Rendering.{render};
+ghost use Rattle.kz_spec_machine.specs.Dumps.{log_head_line, tree_text, log_text, rendering_text};
 
 use crate::lines::{put_all, put_rows};
 use kz_dump::{log_head, tree_head};

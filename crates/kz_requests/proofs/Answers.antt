@@ -10,9 +10,9 @@ use Rattle.kz_types.specs.declared.fault.TreeFault.TheVariants as tree_fault
 use Rattle.kz_types.specs.declared.fault.LogFault.{LogFault}
 use Rattle.kz_types.specs.declared.fault.LogFault.TheVariants as log_fault
 use Rattle.kz_types.specs.declared.record.MetaRecord.{MetaRecord}
-use Rattle.kz_spec_stores.specs.Tree.{Tree, Refusal, code, limit, op_refusal, rows_unless_refused, after_op, after_ops, multi, with_zxid}
-use Rattle.kz_spec_stores.specs.Log.{Log, View, IsLog, IsViewOf, append, log_unless_limit, full_log, with_batch}
-use Rattle.kz_spec_stores.specs.Requests.{answer_by, answer_of_tree_fault, answer_of_log_fault}
+use Rattle.kz_spec_data.specs.Tree.{Tree, Refusal, code, limit, op_refusal, rows_unless_refused, after_op, after_ops, multi, with_zxid}
+use Rattle.kz_spec_data.specs.Log.{Log, View, IsLog, IsViewOf, append, log_unless_limit, full_log, with_batch}
+use Rattle.kz_spec_data.specs.Requests.{answer_by, answer_of_tree_fault, answer_of_log_fault}
 use Rattle.kz_spec_machine.specs.Failures.{is_tree_failure, is_log_failure}
 use Rattle.kz_log.proofs.Views.{append_leaves_views}
 use Rattle.kz_requests.specs.Appends.{log_after}

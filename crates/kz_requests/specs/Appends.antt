@@ -1,7 +1,7 @@
 -- What an append says.
 use Rattle.std.specs.Prelude.{◌≡◌, ℤ, Result, Ok, Err}
 use Rattle.kz_types.specs.declared.fault.LogFault.{LogFault}
-use Rattle.kz_spec_stores.specs.Log.{Log, end_of}
+use Rattle.kz_spec_data.specs.Log.{Log, end_of}
 
 -- the last offset of the log that it makes, or its fault
 abbrev pub IsAppendAnswer : Result Log LogFault → Result ℤ LogFault → Type 0

@@ -1,7 +1,7 @@
 -- What a request of a driver does to the disk below the store that it asks.
 use Rattle.std.specs.Prelude.{◌≡◌, ⊤, true, false, Result, Ok, Err}
 use Rattle.kz_types.specs.declared.plan.Plan.{Plan}
-use Rattle.kz_spec_stores.specs.Requests.{Disk, StoreAnswer, Done, Refused, Failed, Down, Full, answer_of_tree_fault, answer_of_log_fault}
+use Rattle.kz_spec_data.specs.Requests.{Disk, StoreAnswer, Done, Refused, Failed, Down, Full, answer_of_tree_fault, answer_of_log_fault}
 use Rattle.kz_connection.specs.Connections.{Answered, Lost, Expired, OverConnection, without_sessions}
 use Rattle.kz_requests.specs.declared.fault.StepFault.{StepFault}
 use Rattle.kz_requests.specs.declared.fault.StepFault.TheVariants as step_fault

@@ -8,7 +8,7 @@ use Rattle.kz_tree.specs.declared.wire.WireFault.TheVariants as wire_fault
 use Rattle.kz_types.specs.declared.fault.LogFault.TheVariants as log_fault
 use Rattle.kz_log.specs.declared.wire.LogWireFault.{LogWireFault}
 use Rattle.kz_log.specs.declared.wire.LogWireFault.TheVariants as log_wire_fault
-use Rattle.kz_spec_stores.specs.Tree.{Tree}
+use Rattle.kz_spec_data.specs.Tree.{Tree}
 use Rattle.kz_spec_machine.specs.Driver.{Hearing, hears_answer, hears_nothing, hears_expiry, hearing_of_request}
 use Rattle.kz_connection.specs.Connections.{Wired}
 use Rattle.kz_requests.specs.declared.fault.StepFault.{StepFault}

@@ -1,7 +1,7 @@
 //! Requests of the log.
 ghost use Rattle.std.specs.Prelude.{◌≡◌, ◌<◌, ◌≤ℤ◌, true, false, pos, IfOk, OnOk, OnErr, IsErrOf, if◌then◌else◌, length};
-ghost use Rattle.kz_spec_stores.specs.Requests.{Append, Done, Either, IsTaken, ChangesDisk, ReadsDisk};
-ghost use Rattle.kz_spec_stores.specs.Log.{View as ViewValue, IsViewOf, append, feed_from, read_view};
+ghost use Rattle.kz_spec_data.specs.Requests.{Append, Done, Either, IsTaken, ChangesDisk, ReadsDisk};
+ghost use Rattle.kz_spec_data.specs.Log.{View as ViewValue, IsViewOf, append, feed_from, read_view};
 ghost use Rattle.kz_log.specs.Requests.{IsFeed};
 ghost use Rattle.kz_spec_machine.specs.Driver.{is_limit, reaches};
 ghost use Rattle.kz_requests.specs.Fares.{Fares, IsAfterRequest, fault_of_log_read};

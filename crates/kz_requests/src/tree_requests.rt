@@ -1,10 +1,10 @@
 //! Requests of the tree.
 ghost use Rattle.std.specs.Prelude.{◌≡◌, ◌<◌, ℕ, false, IfOk, IfSome, IsErrOf, MatchOption, Ok, Err, option_map, if◌then◌else◌, length};
 ghost use Rattle.kz_types.specs.declared.fault.TreeFault.TheVariants.{Limit};
-ghost use Rattle.kz_ordered.specs.Order.{bytes_cmp};
-ghost use Rattle.kz_ordered.specs.Ordered.{Rises};
-ghost use Rattle.kz_spec_stores.specs.Requests.{Multi, Done, Either, IsTaken, ChangesDisk, ReadsDisk};
-ghost use Rattle.kz_spec_stores.specs.Tree.{path_of_op, multi, scan, look, broker_ids, path_of_row};
+ghost use Rattle.kz_types.specs.Order.{bytes_cmp};
+ghost use Rattle.kz_types.specs.Ordered.{Rises};
+ghost use Rattle.kz_spec_data.specs.Requests.{Multi, Done, Either, IsTaken, ChangesDisk, ReadsDisk};
+ghost use Rattle.kz_spec_data.specs.Tree.{path_of_op, multi, scan, look, broker_ids, path_of_row};
 ghost use Rattle.kz_spec_machine.specs.Driver.{path_at, reaches};
 ghost use Rattle.kz_requests.specs.Fares.{Fares, IsAfterRequest, fault_of_read, tree_after};
 ghost use Rattle.kz_requests.specs.Disks.{answer_of_made, TreeDisk};

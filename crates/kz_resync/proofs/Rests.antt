@@ -4,7 +4,7 @@ use Rattle.std.proofs.lemmas.List.{drop_min, length-take}
 use Rattle.std.proofs.Math.Seq.{drop-nil}
 use Rattle.kz_types.specs.declared.limits.TheConstants.{MAX_CHUNK}
 use Rattle.kz_types.specs.declared.tree.Op.{Op}
-use Rattle.kz_spec_znodes.specs.Difference.{chunk_length, chunk, after_chunk}
+use Rattle.kz_spec_data.specs.Difference.{chunk_length, chunk, after_chunk}
 
 none_done : (len c : ℕ) → 0 + min (len - 0) c ≡ min c len
 none_done len c = omega arith

@@ -1,6 +1,6 @@
 //! What a driver has still to write.
 ghost use Rattle.std.specs.Prelude.{◌≡◌};
-ghost use Rattle.kz_spec_znodes.specs.Difference.{chunk, after_chunk};
+ghost use Rattle.kz_spec_data.specs.Difference.{chunk, after_chunk};
 ghost use Rattle.kz_spec_machine.specs.Driver.{is_last_write};
 
 use crate::rest::Rest;

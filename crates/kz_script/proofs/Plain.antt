@@ -12,9 +12,9 @@ use Rattle.kz_types.specs.declared.machine.Event.{Event}
 use Rattle.kz_types.specs.declared.machine.Event.TheVariants.{Quorum, Start, Stop, Elect, Step, Turn, Register, Change, Finalise, Rollback, Snapshot, Check, ZkOpen, ZkExpire, Zk}
 use Rattle.kz_types.specs.declared.tree.Op.{Op}
 use Rattle.kz_types.specs.declared.tree.Op.TheVariants as op
-use Rattle.kz_spec_lines.specs.Members.{with_text, with_whole, with_bytes}
-use Rattle.kz_spec_lines.specs.WrittenRecords.{record_data}
-use Rattle.kz_spec_lines.specs.Written.{event_members, controller_members, with_now, with_plan, with_body, with_owner, op_members, op_data, members_of_event}
+use Rattle.kz_spec_data.specs.Members.{with_text, with_whole, with_bytes}
+use Rattle.kz_spec_data.specs.WrittenRecords.{record_data}
+use Rattle.kz_spec_data.specs.Written.{event_members, controller_members, with_now, with_plan, with_body, with_owner, op_members, op_data, members_of_event}
 use Rattle.kz_record_fields.proofs.Floats.{Calm, no_members_calm, put_calm, text_no_float, whole_no_float, one_of, flag_no_float, bytes_no_float, each_no_float, ints_no_float}
 use Rattle.kz_record_json.proofs.PlainRecords.{record_no_float}
 

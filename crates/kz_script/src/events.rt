@@ -2,17 +2,15 @@
 ghost use Rattle.std.specs.Prelude.{◌≡◌, IfOk, None, Some, Err, option_map, codes};
 ghost use Rattle.serde_json.specs.View.{view, items_view};
 ghost use Rattle.serde_json.specs.Find.{get};
-ghost use Rattle.kz_spec_lines.specs.Json.{count_with};
-ghost use Rattle.kz_spec_lines.specs.Events.{controller_of, now_of, timed_count, ids_in, distinct_ids, quorum_of, start_of, stop_by, stop_of, elect_of, turn_of, plan_named, plan_by, step_of, records_in, change_of, register_of, finalise_of, rollback_of, snapshot_of, check_of, session_of, open_of, expire_of, ops_in, zk_of, event_of, line_event};
+ghost use Rattle.kz_spec_data.specs.Json.{count_with};
+ghost use Rattle.kz_spec_data.specs.Events.{controller_of, now_of, timed_count, ids_in, distinct_ids, quorum_of, start_of, stop_by, stop_of, elect_of, turn_of, plan_named, plan_by, step_of, records_in, change_of, register_of, finalise_of, rollback_of, snapshot_of, check_of, session_of, open_of, expire_of, ops_in, zk_of, event_of, line_event};
 
 use crate::numbers::{id_of, time_of};
 use crate::ops::op_of;
-use kz_members::read_json;
-use kz_record_fields::{member_count, text_member};
+use kz_body_parts::{are_distinct, read_json};
+use kz_record_fields::{member_count, session_in, text_member};
 use kz_record_json::{LineFault, record_of};
-use kz_replicas::are_distinct;
 use kz_types::{Event, MetaRecord, NoMemory, Op, Plan, Sequence};
-use kz_znode_fields::session_in;
 use serde_json::Value;
 use std::alloc::Global;
 
@@ -376,7 +374,7 @@ fn event_of(alloc: Global, value: &Value) -> Result<Option<Event>, NoMemory>
     }
 }
 
-#[tactic(auto, unfolding(kz_spec_lines::specs::Events::line_event))]
+#[tactic(auto, unfolding(kz_spec_data::specs::Events::line_event))]
 fn line_event(alloc: Global, line: &[u8]) -> Result<Option<Event>, NoMemory>
     ensures { IfOk result (λ event. event ≡ line_event line.now) }
 {

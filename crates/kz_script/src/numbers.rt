@@ -1,7 +1,7 @@
 //! Ids and times of lines.
 ghost use Rattle.std.specs.Prelude.{◌≡◌, option_map};
 ghost use Rattle.serde_json.specs.View.{view};
-ghost use Rattle.kz_spec_lines.specs.Events.{id_of, time_of};
+ghost use Rattle.kz_spec_data.specs.Events.{id_of, time_of};
 
 use kz_types::{MAX_LONG, MAX_NUMBER};
 use serde_json::Value;

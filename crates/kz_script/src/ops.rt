@@ -1,11 +1,10 @@
 //! Operations of a ZooKeeper multi, as a script writes them.
 ghost use Rattle.std.specs.Prelude.{◌≡◌, IfOk, option_map};
 ghost use Rattle.serde_json.specs.View.{view};
-ghost use Rattle.kz_spec_lines.specs.Ops.{version_in, owner_by, create_of, set_of, delete_of, check_of, op_of};
+ghost use Rattle.kz_spec_data.specs.Ops.{version_in, owner_by, create_of, set_of, delete_of, check_of, op_of};
 
-use kz_record_fields::{member_count, text_member};
+use kz_record_fields::{bodied_count, body_in, member_count, path_in, session_in, text_member};
 use kz_types::{MAX_VERSION, NoMemory, Op};
-use kz_znode_fields::{bodied_count, body_in, path_in, session_in};
 use serde_json::Value;
 use std::alloc::Global;
 
@@ -110,7 +109,7 @@ fn check_of(alloc: Global, value: &Value) -> Result<Option<Op>, NoMemory>
 }
 
 /// The operation that a JSON value is, or `None` where it is none.
-#[tactic(auto, unfolding(kz_spec_lines::specs::Ops::op_of))]
+#[tactic(auto, unfolding(kz_spec_data::specs::Ops::op_of))]
 pub fn op_of(alloc: Global, value: &Value) -> Result<Option<Op>, NoMemory>
     ensures { IfOk result (λ op. op ≡ op_of (view value.now)) }
 {

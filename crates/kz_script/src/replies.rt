@@ -2,7 +2,7 @@
 ghost use Rattle.std.specs.Prelude.{◌≡◌, ◌++◌, IfOk, OnOk, option_map, string_bytes, true};
 ghost use Rattle.std.specs.List.{flat_map};
 ghost use Rattle.json.specs.Print.{quoted};
-ghost use Rattle.kz_spec_lines.specs.Replies.{word_and_text, state_name, body_text, why_text, reply_text, verdict_text, is_client_answer, answer_text, reply_line, reply_lines, offset_or_none, summary_line};
+ghost use Rattle.kz_spec_data.specs.Replies.{word_and_text, state_name, body_text, why_text, reply_text, verdict_text, is_client_answer, answer_text, reply_line, reply_lines, offset_or_none, summary_line};
 
 use kz_types::{Answer, BodyFault, DriverState, NoMemory, ReadWhy, Reply, Verdict, ZPath};
 use serde_json::Value;
@@ -233,7 +233,7 @@ fn answer_line(alloc: Global, line: u64, answer: &Answer) -> Result<String, NoMe
 
 /// The lines that an answer prints to the event of an input line, whose number is `line`, counted from 1. A turn has a
 /// line for each step, and none for a step after which the run ends.
-#[tactic(auto, unfolding(kz_spec_lines::specs::Replies::reply_lines))]
+#[tactic(auto, unfolding(kz_spec_data::specs::Replies::reply_lines))]
 pub fn write_answer(alloc: Global, line: u64, answer: &Answer) -> Result<Vec<u8>, NoMemory>
     ensures { IfOk result (λ text. text.items ≡ reply_lines line answer.now) }
 {
@@ -257,7 +257,7 @@ fn offset_or_none(alloc: Global, offset: Option<i64>) -> Result<String, NoMemory
 /// The last line of a run: how many events were read and how many steps drivers made, the tree's last transaction, the
 /// end of the log, which is -1 where it is empty, and the offset that the tree records, if it records one. The steps of
 /// all turns can pass 64 bits.
-#[tactic(auto, unfolding(kz_spec_lines::specs::Replies::summary_line))]
+#[tactic(auto, unfolding(kz_spec_data::specs::Replies::summary_line))]
 pub fn summary(
     alloc: Global,
     events: u64,

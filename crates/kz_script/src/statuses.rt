@@ -1,6 +1,6 @@
 //! How a run tells how it ended.
 ghost use Rattle.std.specs.Prelude.{◌≡◌, ◌<◌, IfOk};
-ghost use Rattle.kz_spec_lines.specs.Statuses.{hex_digit, hex_sum, log_why_text, status_code, status_text};
+ghost use Rattle.kz_spec_data.specs.Statuses.{hex_digit, hex_sum, log_why_text, status_code, status_text};
 
 use crate::replies::quoted;
 use kz_types::{BatchFault, LogWhy, NoMemory, Status};

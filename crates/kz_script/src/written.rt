@@ -4,9 +4,9 @@ ghost use Rattle.std.specs.Str.{is_utf8};
 ghost use Rattle.serde_json.specs.Data.{boolean, object, array, put};
 ghost use Rattle.serde_json.specs.View.{view, members_view, items_of};
 ghost use Rattle.serde_json.specs.Written.{compact_text, has_float};
-ghost use Rattle.kz_spec_lines.specs.Members.{with_whole};
-ghost use Rattle.kz_spec_lines.specs.WrittenRecords.{record_data};
-ghost use Rattle.kz_spec_lines.specs.Written.{event_members, controller_members, with_now, with_plan, with_body, with_owner, op_members, op_data, members_of_event, written_event};
+ghost use Rattle.kz_spec_data.specs.Members.{with_whole};
+ghost use Rattle.kz_spec_data.specs.WrittenRecords.{record_data};
+ghost use Rattle.kz_spec_data.specs.Written.{event_members, controller_members, with_now, with_plan, with_body, with_owner, op_members, op_data, members_of_event, written_event};
 
 use kz_record_fields::{ints_value, put_bytes, put_text, put_whole};
 use kz_record_json::write_item;
@@ -337,7 +337,7 @@ fn value_text(alloc: Global, value: &Value) -> Result<Vec<u8>, NoMemory>
 /// The line of an event, without its end: compact JSON, with the members of an object in the order of their names'
 /// bytes. `now` is left out where it is 0, the plan of a step where the request is delivered, and the body of an operation
 /// where it is empty; a body that isn't UTF-8 is written in base64.
-#[tactic(auto, unfolding(kz_spec_lines::specs::Written::written_event), using(crate::proofs::Plain::event_no_float))]
+#[tactic(auto, unfolding(kz_spec_data::specs::Written::written_event), using(crate::proofs::Plain::event_no_float))]
 pub fn write_event(alloc: Global, event: &Event) -> Result<Vec<u8>, NoMemory>
     ensures { IfOk result (λ line. line.items ≡ written_event event.now) }
 {

@@ -2,7 +2,7 @@
 use Rattle.std.specs.Prelude.{◌≡◌, Result, Err, ⊤}
 use Rattle.kz_types.specs.declared.move_fault.MoveFault.{MoveFault}
 use Rattle.kz_types.specs.declared.move_fault.MoveFault.TheVariants as move_fault
-use Rattle.kz_spec_stores.specs.Requests.{StoreAnswer, Refused, NoMemory, Failed, Down, Full}
+use Rattle.kz_spec_data.specs.Requests.{StoreAnswer, Refused, NoMemory, Failed, Down, Full}
 use Rattle.kz_session.specs.declared.sessions.SessionFault.{SessionFault}
 use Rattle.kz_session.specs.declared.sessions.SessionFault.TheVariants as fault
 

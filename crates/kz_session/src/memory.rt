@@ -1,7 +1,7 @@
 //! A tree in memory.
 ghost use Rattle.std.specs.Prelude.{◌≡◌, None};
-ghost use Rattle.kz_spec_stores.specs.Tree as znodes;
-ghost use Rattle.kz_spec_stores.specs.Requests.{no_disk};
+ghost use Rattle.kz_spec_data.specs.Tree as znodes;
+ghost use Rattle.kz_spec_data.specs.Requests.{no_disk};
 ghost use Rattle.kz_session.specs.Memory.{session_fault};
 
 use crate::{SessionFault, ZSessions};

@@ -1,7 +1,7 @@
 //! A store whose tree has sessions.
 ghost use Rattle.std.specs.Prelude.{◌≡◌, ◌≤ℤ◌, pos, IfOk, IfErr, OnErr, IsErrOf, Ok};
-ghost use Rattle.kz_spec_stores.specs.Tree as znodes;
-ghost use Rattle.kz_spec_stores.specs.Requests.{BeginSession, EndSession, answer_by, IsTaken, ChangesDisk, Between};
+ghost use Rattle.kz_spec_data.specs.Tree as znodes;
+ghost use Rattle.kz_spec_data.specs.Requests.{BeginSession, EndSession, answer_by, IsTaken, ChangesDisk, Between};
 ghost use Rattle.kz_session.specs.Sessions.{answer_of_session_fault, IsRefusal};
 
 use kz_tree::ZTree;

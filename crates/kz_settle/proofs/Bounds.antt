@@ -4,10 +4,10 @@ use Rattle.std.proofs.lemmas.Int.{ints}
 use Rattle.std.specs.List.{filter, find, All}
 use Rattle.std.proofs.lemmas.List.Elements.{All-head, All-tail}
 use Rattle.kz_types.specs.declared.log.Entry.{Entry}
-use Rattle.kz_ordered.specs.Ordered.{Rises}
-use Rattle.kz_ordered.proofs.Order.{int_order}
-use Rattle.kz_ordered.proofs.Append.{Rises_left}
-use Rattle.kz_spec_stores.specs.Settlement.{closes, is_end, is_ended_by, counting_records}
+use Rattle.kz_types.specs.Ordered.{Rises}
+use Rattle.kz_types.proofs.Order.{int_order}
+use Rattle.kz_types.proofs.Append.{Rises_left}
+use Rattle.kz_spec_data.specs.Settlement.{closes, is_end, is_ended_by, counting_records}
 use Rattle.kz_settle.specs.Settling.{offset_of, closes_entry, is_open_after, ends_by, records_of_pass}
 use Rattle.kz_settle.specs.Stands.{AllBy}
 use Rattle.kz_settle.proofs.Passing.{counted_is_pass, and_false}

@@ -3,11 +3,11 @@ use Rattle.std.proofs.Common.{◌≡◌, Bool, true, false, not, ◌&&◌, ◌||
 use Rattle.std.specs.List.{filter, find, list_any, All}
 use Rattle.std.proofs.lemmas.List.Elements.{All-nil, All-cons, All-head, All-tail}
 use Rattle.kz_types.specs.declared.log.Entry.{Entry}
-use Rattle.kz_ordered.specs.Ordered.{Rises}
-use Rattle.kz_ordered.proofs.Order.{int_order, cmp_greater}
-use Rattle.kz_ordered.proofs.Append.{all_from_rises_above, below_split, above_split, Rises_left}
-use Rattle.kz_ordered.proofs.Lookup.{rest_rises}
-use Rattle.kz_spec_stores.specs.Settlement.{is_begin, closes, is_marker, is_closed_between, is_inside, first_close, is_ended_by, is_counted, counting_records}
+use Rattle.kz_types.specs.Ordered.{Rises}
+use Rattle.kz_types.proofs.Order.{int_order, cmp_greater}
+use Rattle.kz_types.proofs.Append.{all_from_rises_above, below_split, above_split, Rises_left}
+use Rattle.kz_types.proofs.Lookup.{rest_rises}
+use Rattle.kz_spec_data.specs.Settlement.{is_begin, closes, is_marker, is_closed_between, is_inside, first_close, is_ended_by, is_counted, counting_records}
 use Rattle.kz_settle.specs.Settling.{offset_of, closes_entry, is_open_after, is_open_at_end, ends_by, records_of_pass}
 
 -- ---- tests over lists

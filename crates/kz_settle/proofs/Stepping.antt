@@ -5,10 +5,10 @@ use Rattle.std.specs.List.{filter, find, list_any, All}
 use Rattle.std.proofs.lemmas.Int.{ints}
 use Rattle.std.proofs.lemmas.List.Elements.{All-nil, All-cons, All-head, All-tail}
 use Rattle.kz_types.specs.declared.log.Entry.{Entry}
-use Rattle.kz_ordered.specs.Ordered.{Rises}
-use Rattle.kz_ordered.proofs.Order.{int_order}
-use Rattle.kz_ordered.proofs.Append.{all_from_rises_above, below_split, above_split, Rises_left}
-use Rattle.kz_spec_stores.specs.Settlement.{is_begin, is_end, closes, is_marker, is_inside, is_ended_by, open_begin, records_of_open}
+use Rattle.kz_types.specs.Ordered.{Rises}
+use Rattle.kz_types.proofs.Order.{int_order}
+use Rattle.kz_types.proofs.Append.{all_from_rises_above, below_split, above_split, Rises_left}
+use Rattle.kz_spec_data.specs.Settlement.{is_begin, is_end, closes, is_marker, is_inside, is_ended_by, open_begin, records_of_open}
 use Rattle.kz_settle.specs.Settling.{offset_of, closes_entry, is_open_after, is_open_at_end, ends_by, records_of_pass}
 use Rattle.kz_types.specs.declared.record.MetaRecord.{MetaRecord}
 use Rattle.kz_types.specs.declared.record.MetaRecord.TheVariants as meta

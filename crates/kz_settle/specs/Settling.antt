@@ -3,7 +3,7 @@ use Rattle.std.specs.Prelude.{Bool, true, false, not, ◌&&◌, ◌||◌, ℤ, i
 use Rattle.std.specs.List.{find}
 use Rattle.kz_types.specs.declared.log.Entry.{Entry}
 use Rattle.kz_types.specs.declared.record.MetaRecord.{MetaRecord}
-use Rattle.kz_spec_stores.specs.Settlement.{is_begin, closes, is_marker, is_ended_by}
+use Rattle.kz_spec_data.specs.Settlement.{is_begin, closes, is_marker, is_ended_by}
 
 -- the offset of an entry
 abbrev pub offset_of : Entry → ℤ

@@ -1,7 +1,7 @@
 -- What a settler holds after entries were pushed.
 use Rattle.std.specs.Prelude.{◌≡◌, Bool, ◌&&◌, ℤ, ◌≤ℤ◌, List, [], ◌∷◌, ◌++◌, Option, All, ⊤, if◌then◌else◌}
 use Rattle.kz_types.specs.declared.log.Entry.{Entry}
-use Rattle.kz_spec_stores.specs.Settlement.{is_begin, is_end, closes, counting_records, open_begin, records_of_open}
+use Rattle.kz_spec_data.specs.Settlement.{is_begin, is_end, closes, counting_records, open_begin, records_of_open}
 use Rattle.kz_settle.specs.declared.settled.Settled.{Settled}
 use Rattle.kz_settle.specs.declared.settled.Settled.TheVariants as settled
 

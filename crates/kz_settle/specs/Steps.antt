@@ -3,7 +3,7 @@ use Rattle.std.specs.Prelude.{◌≡◌, Bool, true, false, ℤ, [], ◌∷◌, 
 use Rattle.std.specs.Option.{option_or}
 use Rattle.kz_types.specs.declared.log.Entry.{Entry}
 use Rattle.kz_types.specs.declared.record.MetaRecord.{MetaRecord}
-use Rattle.kz_spec_stores.specs.Settlement.{is_begin, is_end, closes}
+use Rattle.kz_spec_data.specs.Settlement.{is_begin, is_end, closes}
 use Rattle.kz_settle.specs.declared.settled.Settled.{Settled}
 use Rattle.kz_settle.specs.declared.settled.Settled.TheVariants as settled
 use Rattle.kz_settle.specs.declared.marks.Marker.{Marker}

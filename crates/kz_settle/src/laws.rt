@@ -2,8 +2,8 @@
 ghost use Rattle.std.specs.Prelude.{◌≡◌, ℤ, List, false};
 ghost use Rattle.std.specs.Ordering.{int_cmp};
 ghost use Rattle.kz_types.specs.declared.log.Entry.{Entry};
-ghost use Rattle.kz_ordered.specs.Ordered.{Rises};
-ghost use Rattle.kz_spec_stores.specs.Settlement.{counting_records};
+ghost use Rattle.kz_types.specs.Ordered.{Rises};
+ghost use Rattle.kz_spec_data.specs.Settlement.{counting_records};
 ghost use Rattle.kz_settle.specs.Settling.{offset_of, records_of_pass};
 
 /// Where offsets rise, one pass hands out exactly the records that count.

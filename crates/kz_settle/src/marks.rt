@@ -1,6 +1,6 @@
 //! The markers of metadata transactions (KIP-868).
 ghost use Rattle.std.specs.Prelude.{◌≡◌};
-ghost use Rattle.kz_spec_stores.specs.Settlement.{is_begin, is_end, is_abort, closes};
+ghost use Rattle.kz_spec_data.specs.Settlement.{is_begin, is_end, is_abort, closes};
 
 use kz_types::MetaRecord;
 

@@ -1,7 +1,7 @@
 //! The settler.
 ghost use Rattle.std.specs.Prelude.{◌≡◌, ◌∷◌, ◌++◌, [], List, None, is_some, option_to_list, IfOk, IfNone, OnOk, OnErr};
 ghost use Rattle.std.specs.Ordering.{int_cmp};
-ghost use Rattle.kz_ordered.specs.Ordered.{Rises};
+ghost use Rattle.kz_types.specs.Ordered.{Rises};
 ghost use Rattle.kz_types.specs.declared.log.Entry.{Entry as EntryValue};
 ghost use Rattle.kz_settle.specs.Settling.{offset_of};
 ghost use Rattle.kz_settle.specs.Stands.{SettlerState, IsStateAfter, answer_to, entries_of_answer, LeavesNone};

@@ -6,11 +6,11 @@ use Rattle.std.specs.List.{flat_map}
 use Rattle.kz_types.specs.declared.log.BatchRow.{BatchRow}
 use Rattle.kz_types.specs.declared.log.EpochRecord.{EpochRecord}
 use Rattle.kz_types.specs.declared.record.MetaRecord.{MetaRecord}
-use Rattle.kz_spec_stores.specs.Metadata.{Image}
+use Rattle.kz_spec_data.specs.Metadata.{Image}
 use Rattle.std.proofs.lemmas.List.{map-append}
-use Rattle.kz_spec_stores.specs.Image.{image_with, all_applied}
-use Rattle.kz_spec_snapshots.specs.Records.{in_epoch, image_after}
-use Rattle.kz_spec_snapshots.specs.Batches.{records_of_batches}
+use Rattle.kz_spec_data.specs.Image.{image_with, all_applied}
+use Rattle.kz_spec_data.specs.SnapshotRecords.{in_epoch, image_after}
+use Rattle.kz_spec_data.specs.SnapshotBatches.{records_of_batches}
 
 pub after_append : (rs qs : List EpochRecord) (i : Image) → image_after (rs ++ qs) i ≡ image_after qs (image_after rs i)
 after_append [] qs i = refl

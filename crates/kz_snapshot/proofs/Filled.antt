@@ -6,8 +6,8 @@ use Rattle.std.proofs.lemmas.Bool.Decides.{nat_tests}
 use Rattle.kz_types.specs.declared.log.BatchRow.{BatchRow}
 use Rattle.kz_types.specs.declared.log.EpochRecord.{EpochRecord}
 use Rattle.kz_types.specs.declared.record.MetaRecord.{MetaRecord}
-use Rattle.kz_spec_snapshots.specs.Records.{in_epoch}
-use Rattle.kz_spec_snapshots.specs.Batches.{record_before, batches_from}
+use Rattle.kz_spec_data.specs.SnapshotRecords.{in_epoch}
+use Rattle.kz_spec_data.specs.SnapshotBatches.{record_before, batches_from}
 use Rattle.kz_snapshot.specs.Filling.{batch_at, filled, joins, filled_or_none}
 
 same_number : (x y : ℤ) → x ≡ y → int_eq x y ≡ true

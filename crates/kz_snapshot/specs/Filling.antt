@@ -4,7 +4,7 @@ use Rattle.std.specs.Ordering.{int_eq}
 use Rattle.kz_types.specs.declared.log.BatchRow.{BatchRow}
 use Rattle.kz_types.specs.declared.log.EpochRecord.{EpochRecord}
 use Rattle.kz_types.specs.declared.record.MetaRecord.{MetaRecord}
-use Rattle.kz_spec_snapshots.specs.Batches.{batches_from}
+use Rattle.kz_spec_data.specs.SnapshotBatches.{batches_from}
 
 abbrev pub batch_at : ℤ → ℤ → List MetaRecord → BatchRow
 batch_at first epoch items = record { first = first; epoch = epoch; time = pos 0; items = items }

@@ -1,8 +1,8 @@
 //! A law of snapshots of metadata that a program holds.
 ghost use Rattle.std.specs.Prelude.{◌≡◌};
-ghost use Rattle.kz_spec_stores.specs.Metadata.{empty_image};
-ghost use Rattle.kz_spec_snapshots.specs.Records.{image_after};
-ghost use Rattle.kz_spec_snapshots.specs.Batches.{snapshot_batches, records_of_batches};
+ghost use Rattle.kz_spec_data.specs.Metadata.{empty_image};
+ghost use Rattle.kz_spec_data.specs.SnapshotRecords.{image_after};
+ghost use Rattle.kz_spec_data.specs.SnapshotBatches.{snapshot_batches, records_of_batches};
 
 use kz_image::Image;
 

@@ -3,13 +3,13 @@ ghost use Rattle.std.specs.Prelude.{◌≡◌, ◌∷◌, ◌++◌, pos, map, op
 ghost use Rattle.std.specs.List.{flat_map};
 ghost use Rattle.kz_types.specs.declared.record.MetaRecord.TheVariants as meta;
 ghost use Rattle.kz_types.specs.Paths.{key_of};
-ghost use Rattle.kz_spec_znodes.specs.Translation.{config_record, quota_record, scram_record};
-ghost use Rattle.kz_spec_snapshots.specs.Records.{in_epoch, partition_of_topic, records_of_topic, members_of_topic, members_of_brokers, quotas_of_key, quotas_of_entry, scrams_of_entry, record_of_acl, producer_record, state_records, records_after_topics, snapshot_records};
+ghost use Rattle.kz_spec_data.specs.Translation.{config_record, quota_record, scram_record};
+ghost use Rattle.kz_spec_data.specs.SnapshotRecords.{in_epoch, partition_of_topic, records_of_topic, members_of_topic, members_of_brokers, quotas_of_key, quotas_of_entry, scrams_of_entry, record_of_acl, producer_record, state_records, records_after_topics, snapshot_records};
 
-use kz_blocks::Blocks;
 use kz_entity_records::{config_record, quota_record, scram_record};
 use kz_image::Image;
 use kz_path::key_of;
+use kz_sorted::Blocks;
 use kz_types::{
     AccessControlEntryRecord, AclEntry, Configuration, Duplicate, EntityKey, EpochRecord, Id,
     MetaRecord, NO_MIGRATION, NoMemory, Pair, PartitionEntry, PartitionRecord, ProducerIdsRecord,

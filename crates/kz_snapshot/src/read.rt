@@ -1,8 +1,8 @@
 //! The metadata that the batches of a snapshot make.
 ghost use Rattle.std.specs.Prelude.{◌≡◌, map, IfOk, OnOk};
-ghost use Rattle.kz_spec_stores.specs.Metadata.{empty_image};
-ghost use Rattle.kz_spec_snapshots.specs.Records.{in_epoch, image_after};
-ghost use Rattle.kz_spec_snapshots.specs.Batches.{records_of_batches};
+ghost use Rattle.kz_spec_data.specs.Metadata.{empty_image};
+ghost use Rattle.kz_spec_data.specs.SnapshotRecords.{in_epoch, image_after};
+ghost use Rattle.kz_spec_data.specs.SnapshotBatches.{records_of_batches};
 
 use kz_image::Image;
 use kz_types::{BatchRow, NoMemory};

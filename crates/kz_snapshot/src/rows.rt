@@ -1,7 +1,7 @@
 //! The batches of a snapshot.
 ghost use Rattle.std.specs.Prelude.{◌≡◌, ◌≤◌, ◌<◌, ◌+◌, ◌^◌, ◌++◌, ◌∷◌, [], pos, length, List, IfOk};
 ghost use Rattle.kz_types.specs.declared.log.EpochRecord.{EpochRecord as EpochRecordValue};
-ghost use Rattle.kz_spec_snapshots.specs.Batches.{batches_from, snapshot_batches};
+ghost use Rattle.kz_spec_data.specs.SnapshotBatches.{batches_from, snapshot_batches};
 ghost use Rattle.kz_snapshot.specs.Filling.{batch_at, joins, filled_or_none};
 
 use crate::metadata::records;

@@ -1,1 +1,6 @@
 pub mod Halves
+pub mod Ties
+pub mod ItemsOf
+pub mod BlockFor
+pub mod Changes
+pub mod AfterLemmas

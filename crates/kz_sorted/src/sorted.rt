@@ -1,8 +1,8 @@
 //! Lists in the order of their keys.
 ghost use Rattle.std.specs.Prelude.{◌≡◌, ◌≤◌, ◌<◌, true, Err, length, option_map, OnOk, OnErr};
-ghost use Rattle.kz_ordered.specs.Order.{bytes_cmp};
-ghost use Rattle.kz_ordered.specs.Ordered.{find as find_in, put as put_in, without as without_in, Rises};
-ghost use Rattle.kz_ordered.specs.Spot.{IsSpot};
+ghost use Rattle.kz_types.specs.Order.{bytes_cmp};
+ghost use Rattle.kz_types.specs.Ordered.{find as find_in, put as put_in, without as without_in, Rises};
+ghost use Rattle.kz_types.specs.Spot.{IsSpot};
 
 use crate::Keyed;
 use kz_types::NoMemory;

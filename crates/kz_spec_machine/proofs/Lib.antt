@@ -1,1 +1,4 @@
-pub mod OnLiterals
+pub mod MachineOnLiterals
+pub mod RunsOnLiterals
+pub mod DumpsOnLiterals
+pub mod CommandsOnLiterals

@@ -28,13 +28,13 @@ use Rattle.kz_types.specs.declared.record.MetaRecord.{MetaRecord}
 use Rattle.kz_types.specs.declared.record.MetaRecord.TheVariants as meta
 use Rattle.kz_types.specs.declared.record.RegisterBrokerRecord.{RegisterBrokerRecord}
 use Rattle.kz_types.specs.Paths.{base_paths}
-use Rattle.kz_spec_values.specs.Control.{control_path, epoch_path, migration_path, read_epoch, written_epoch, shown_epoch, written_control, written_recorded}
-use Rattle.kz_spec_stores.specs.Tree.{path_of_op, Tree, row_at, multi, scan, look, broker_ids, area, rendered_row}
-use Rattle.kz_spec_stores.specs.Image.{Image, is_migrated_state}
-use Rattle.kz_spec_stores.specs.Log.{Log, View, new_view, append, end_of, image_at, read_view}
-use Rattle.kz_spec_znodes.specs.Rendering.{render}
-use Rattle.kz_spec_znodes.specs.Translation.{Unreadable, translate}
-use Rattle.kz_spec_znodes.specs.Difference.{diff, chunk, after_chunk}
+use Rattle.kz_spec_data.specs.Control.{control_path, epoch_path, migration_path, read_epoch, written_epoch, shown_epoch, written_control, written_recorded}
+use Rattle.kz_spec_data.specs.Tree.{path_of_op, Tree, row_at, multi, scan, look, broker_ids, area, rendered_row}
+use Rattle.kz_spec_data.specs.Image.{Image, is_migrated_state}
+use Rattle.kz_spec_data.specs.Log.{Log, View, new_view, append, end_of, image_at, read_view}
+use Rattle.kz_spec_data.specs.Rendering.{render}
+use Rattle.kz_spec_data.specs.Translation.{Unreadable, translate}
+use Rattle.kz_spec_data.specs.Difference.{diff, chunk, after_chunk}
 
 -- ---- what there is
 

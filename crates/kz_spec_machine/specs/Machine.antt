@@ -16,7 +16,7 @@ use Rattle.kz_types.specs.declared.move_fault.MoveFault.{MoveFault}
 use Rattle.kz_types.specs.declared.move_fault.MoveFault.TheVariants as move_fault
 use Rattle.kz_types.specs.Ids.{zero_id}
 use Rattle.kz_types.specs.Paths.{base_paths, control_paths, is_among, is_below, is_migrated}
-use Rattle.kz_spec_values.specs.Control.{control_path, epoch_path, migration_path, shown_epoch}
+use Rattle.kz_spec_data.specs.Control.{control_path, epoch_path, migration_path, shown_epoch}
 use Rattle.kz_types.specs.declared.driver.Stage.{Stage}
 use Rattle.kz_types.specs.declared.driver.Stage.TheVariants as stage
 use Rattle.kz_types.specs.declared.machine.DriverState.{DriverState}
@@ -32,12 +32,12 @@ use Rattle.kz_types.specs.declared.plan.Plan.{Plan}
 use Rattle.kz_types.specs.declared.plan.Plan.TheVariants as plan
 use Rattle.kz_types.specs.declared.record.MetaRecord.{MetaRecord}
 use Rattle.kz_types.specs.declared.record.MetaRecord.TheVariants as meta
-use Rattle.kz_spec_stores.specs.Tree.{path_of_op, Tree, empty_tree, row_at, multi, begin_session, end_session, area, migrated_rows, migration_record, unclosed_path}
-use Rattle.kz_spec_stores.specs.Image.{empty_image, all_applied, is_migrated_state, Bad, first_bad, rule_number}
-use Rattle.kz_spec_stores.specs.Log.{Log, empty_log, end_of, begun_of, image_at, image_of, is_migrated_log, is_open_log, batch_ends, may_be_base, reset, snapshot, with_batch, with_next_epoch, full_log}
-use Rattle.kz_spec_znodes.specs.Rendering.{Excess, render, excess}
-use Rattle.kz_spec_znodes.specs.Translation.{Unreadable, translate}
-use Rattle.kz_spec_znodes.specs.Difference.{op_size}
+use Rattle.kz_spec_data.specs.Tree.{path_of_op, Tree, empty_tree, row_at, multi, begin_session, end_session, area, migrated_rows, migration_record, unclosed_path}
+use Rattle.kz_spec_data.specs.Image.{empty_image, all_applied, is_migrated_state, Bad, first_bad, rule_number}
+use Rattle.kz_spec_data.specs.Log.{Log, empty_log, end_of, begun_of, image_at, image_of, is_migrated_log, is_open_log, batch_ends, may_be_base, reset, snapshot, with_batch, with_next_epoch, full_log}
+use Rattle.kz_spec_data.specs.Rendering.{Excess, render, excess}
+use Rattle.kz_spec_data.specs.Translation.{Unreadable, translate}
+use Rattle.kz_spec_data.specs.Difference.{op_size}
 use Rattle.kz_spec_machine.specs.Driver.{Shared, Driver, new_driver, elected_driver, epoch_or_zero, is_one_of, least, shown_by, state_of, Request, nothing, request_at, StepResult, planned_step, step}
 use Rattle.kz_spec_machine.specs.Verdicts.{verdict}
 

@@ -19,16 +19,16 @@ use Rattle.std.specs.Str.{bytes_eq}
 use Rattle.std.specs.Ordering.{int_cmp}
 use Rattle.std.specs.List.{Contains, filter, list_any, count_by}
 use Rattle.kz_types.specs.Paths.{base_paths, control_paths, is_among, is_below, is_migrated, is_path}
-use Rattle.kz_ordered.specs.Order.{bytes_cmp}
-use Rattle.kz_ordered.specs.Ordered.{Rises}
-use Rattle.kz_spec_values.specs.Control.{control_path, epoch_path, migration_path, shown_epoch}
+use Rattle.kz_types.specs.Order.{bytes_cmp}
+use Rattle.kz_types.specs.Ordered.{Rises}
+use Rattle.kz_spec_data.specs.Control.{control_path, epoch_path, migration_path, shown_epoch}
 use Rattle.kz_types.specs.Numbers.{are_distinct}
-use Rattle.kz_spec_stores.specs.Tree.{Tree, row_at, parent_of, is_root, has_parent, is_ephemeral, may_own, path_of_row, migrated_rows, area, migration_record, unclosed_path}
-use Rattle.kz_spec_stores.specs.InOrder.{IsInOrder}
-use Rattle.kz_spec_stores.specs.Settlement.{counting_records, ends_migration, is_open}
-use Rattle.kz_spec_stores.specs.Image.{empty_image, all_applied, is_migrated_state}
-use Rattle.kz_spec_stores.specs.Log.{Log, IsLog, View, IsViewOf, entries, end_of, batch_ends, image_at, is_migrated_log, is_open_log, begun_of, commit_of}
-use Rattle.kz_spec_znodes.specs.Rendering.{render, excess}
+use Rattle.kz_spec_data.specs.Tree.{Tree, row_at, parent_of, is_root, has_parent, is_ephemeral, may_own, path_of_row, migrated_rows, area, migration_record, unclosed_path}
+use Rattle.kz_spec_data.specs.InOrder.{IsInOrder}
+use Rattle.kz_spec_data.specs.Settlement.{counting_records, ends_migration, is_open}
+use Rattle.kz_spec_data.specs.Image.{empty_image, all_applied, is_migrated_state}
+use Rattle.kz_spec_data.specs.Log.{Log, IsLog, View, IsViewOf, entries, end_of, batch_ends, image_at, is_migrated_log, is_open_log, begun_of, commit_of}
+use Rattle.kz_spec_data.specs.Rendering.{render, excess}
 use Rattle.kz_spec_machine.specs.Driver.{Shared, Driver, epoch_or_zero, shown_by, begin_record, remaining_at}
 use Rattle.kz_spec_machine.specs.Machine.{World, driver_of, is_held_tree}
 

@@ -6,11 +6,11 @@ use Rattle.kz_types.specs.declared.machine.AheadPath.{AheadPath}
 use Rattle.kz_types.specs.declared.machine.Recorded.{Recorded}
 use Rattle.kz_types.specs.declared.machine.Verdict.{Verdict}
 use Rattle.kz_types.specs.declared.machine.Verdict.TheVariants.{Unmigrated, Unrecorded, Closed, Ahead, Disagrees}
-use Rattle.kz_ordered.specs.Order.{bytes_cmp}
-use Rattle.kz_ordered.specs.Ordered.{all_put}
-use Rattle.kz_spec_stores.specs.Tree.{Tree, area, migration_record, unclosed_path, path_of_rendered}
-use Rattle.kz_spec_stores.specs.Log.{Log, batch_ends, image_at, is_migrated_log}
-use Rattle.kz_spec_znodes.specs.Rendering.{body_at, render}
+use Rattle.kz_types.specs.Order.{bytes_cmp}
+use Rattle.kz_types.specs.Ordered.{all_put}
+use Rattle.kz_spec_data.specs.Tree.{Tree, area, migration_record, unclosed_path, path_of_rendered}
+use Rattle.kz_spec_data.specs.Log.{Log, batch_ends, image_at, is_migrated_log}
+use Rattle.kz_spec_data.specs.Rendering.{body_at, render}
 
 abbrev pub same_bodies : Option (List ℕ) → Option (List ℕ) → Bool
 same_bodies None None = true

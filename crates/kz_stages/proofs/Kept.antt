@@ -3,7 +3,7 @@ use Rattle.std.proofs.Common.{ℤ, Option, Some, None}
 use Rattle.kz_types.specs.declared.driver.Stage.{Stage}
 use Rattle.kz_types.specs.declared.driver.Stage.TheVariants as stage
 use Rattle.kz_types.specs.declared.machine.Reply.{Reply}
-use Rattle.kz_spec_stores.specs.Log.{View}
+use Rattle.kz_spec_data.specs.Log.{View}
 use Rattle.kz_spec_machine.specs.Driver.{Driver, resigned_driver}
 use Rattle.kz_stages.specs.Checks.{StageCanClaim}
 use Rattle.kz_stages.specs.Drivers.{IsElected, IsElectedOrNone, HasEpoch, HasRisen, IsKept}

@@ -10,8 +10,8 @@ use Rattle.kz_types.specs.declared.driver.Stage.TheVariants as stage
 use Rattle.kz_types.specs.declared.machine.Reply.{Reply}
 use Rattle.kz_types.specs.declared.machine.Reply.TheVariants as reply
 use Rattle.kz_types.specs.Numbers.{canonical}
-use Rattle.kz_spec_values.specs.Bodies.{of_form}
-use Rattle.kz_spec_values.specs.Control.{epoch_path, migration_path, whole_of}
+use Rattle.kz_spec_data.specs.Bodies.{of_form}
+use Rattle.kz_spec_data.specs.Control.{epoch_path, migration_path, whole_of}
 use Rattle.kz_spec_machine.specs.Driver.{Driver, epoch_or_zero, at_stage, resigned_driver, views_migrated, shown_by, unless_fenced, unless_full_epoch, unless_bad_epoch, unless_full_record, after_look}
 use Rattle.kz_fence.specs.declared.checks.ClaimFault.{ClaimFault}
 use Rattle.kz_fence.specs.declared.checks.ClaimFault.TheVariants.{HigherEpoch, Limit}

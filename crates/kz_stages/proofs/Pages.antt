@@ -5,12 +5,12 @@ use Rattle.std.proofs.lemmas.List.Elements.{All-head, All-nil, All-cons, All-tak
 use Rattle.std.specs.Ordering.{match_ordering}
 use Rattle.kz_types.specs.declared.limits.TheConstants.{MAX_SCAN_ROWS}
 use Rattle.kz_types.specs.declared.tree.Row.{Row}
-use Rattle.kz_ordered.specs.Order.{bytes_cmp}
-use Rattle.kz_ordered.specs.Ordered.{Rises, AllBelow}
-use Rattle.kz_ordered.proofs.Order.{bytes_order}
-use Rattle.kz_ordered.proofs.Maps.{Rises-map}
-use Rattle.kz_ordered.proofs.Append.{Rises-append}
-use Rattle.kz_spec_stores.specs.Tree.{Tree, path_of_row, rendered_row, is_after, scan, migrated_rows, path_of_rendered}
+use Rattle.kz_types.specs.Order.{bytes_cmp}
+use Rattle.kz_types.specs.Ordered.{Rises, AllBelow}
+use Rattle.kz_types.proofs.Order.{bytes_order}
+use Rattle.kz_types.proofs.Maps.{Rises-map}
+use Rattle.kz_types.proofs.Append.{Rises-append}
+use Rattle.kz_spec_data.specs.Tree.{Tree, path_of_row, rendered_row, is_after, scan, migrated_rows, path_of_rendered}
 use Rattle.kz_spec_machine.specs.Driver.{last_path}
 
 pub rendered_rise : (rows : List Row) → Rises bytes_cmp path_of_row rows → Rises bytes_cmp path_of_rendered (map rendered_row rows)

@@ -4,8 +4,8 @@ use Rattle.std.specs.Prelude.{IsErrOf}
 use Rattle.std.proofs.lemmas.Grind.{common_steps}
 use Rattle.kz_types.specs.declared.plan.Plan.{Plan}
 use Rattle.kz_types.specs.declared.fault.TreeFault.TheVariants as tree_fault
-use Rattle.kz_spec_stores.specs.Requests.{Disk, StoreAnswer}
-use Rattle.kz_spec_stores.specs.Tree.{Tree}
+use Rattle.kz_spec_data.specs.Requests.{Disk, StoreAnswer}
+use Rattle.kz_spec_data.specs.Tree.{Tree}
 use Rattle.kz_connection.specs.Connections.{Wired}
 use Rattle.kz_requests.specs.declared.fault.StepFault.{StepFault}
 use Rattle.kz_requests.specs.declared.fault.StepFault.TheVariants as step_fault

@@ -8,9 +8,9 @@ use Rattle.kz_types.specs.declared.fault.TreeFault.{TreeFault}
 use Rattle.kz_types.specs.declared.fault.TreeFault.TheVariants as fault
 use Rattle.kz_types.specs.declared.machine.Reply.{Reply}
 use Rattle.kz_types.specs.declared.machine.Reply.TheVariants as reply
-use Rattle.kz_spec_values.specs.Control.{epoch_path}
-use Rattle.kz_spec_stores.specs.Tree.{Tree, multi}
-use Rattle.kz_spec_znodes.specs.Difference.{chunk, after_chunk}
+use Rattle.kz_spec_data.specs.Control.{epoch_path}
+use Rattle.kz_spec_data.specs.Tree.{Tree, multi}
+use Rattle.kz_spec_data.specs.Difference.{chunk, after_chunk}
 use Rattle.kz_spec_machine.specs.Driver.{Driver, after_write, is_last_write, is_claim_refused, record_ops, write_ops, writes}
 use Rattle.kz_resync.specs.Remainders.{Remainder}
 use Rattle.kz_stages.specs.declared.row.Stage.{Stage as HeldStage}

@@ -7,9 +7,9 @@ use Rattle.kz_types.specs.declared.machine.Reply.{Reply}
 use Rattle.kz_types.specs.declared.machine.Reply.TheVariants as reply
 use Rattle.kz_types.specs.declared.fault.BodyFault.TheVariants.{BadField}
 use Rattle.kz_types.specs.declared.fault.ReadWhy.TheVariants as why
-use Rattle.kz_spec_values.specs.Control.{epoch_path}
-use Rattle.kz_spec_stores.specs.Image.{is_migrated_state}
-use Rattle.kz_spec_stores.specs.Log.{View}
+use Rattle.kz_spec_data.specs.Control.{epoch_path}
+use Rattle.kz_spec_data.specs.Image.{is_migrated_state}
+use Rattle.kz_spec_data.specs.Log.{View}
 use Rattle.kz_spec_machine.specs.Driver.{Driver, epoch_or_zero, at_stage, resigned_driver}
 use Rattle.kz_fence.specs.declared.checks.ClaimFault.{ClaimFault}
 use Rattle.kz_fence.specs.declared.checks.ClaimFault.TheVariants.{HigherEpoch, BadEpochBody, Limit, NoMemory}

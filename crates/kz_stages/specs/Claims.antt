@@ -8,7 +8,7 @@ use Rattle.kz_types.specs.declared.machine.Reply.{Reply}
 use Rattle.kz_types.specs.declared.machine.Reply.TheVariants as reply
 use Rattle.kz_types.specs.declared.fault.TreeFault.{TreeFault}
 use Rattle.kz_types.specs.declared.fault.TreeFault.TheVariants as fault
-use Rattle.kz_spec_stores.specs.Tree.{Tree}
+use Rattle.kz_spec_data.specs.Tree.{Tree}
 use Rattle.kz_spec_machine.specs.Driver.{Driver, epoch_or_zero, views_migrated, claimed_number, claimed_version, begins_again, path_at}
 use Rattle.kz_fence.specs.declared.claimer.Claimer.{Claimer}
 use Rattle.kz_stages.specs.declared.become_controller.ClaimOutcome.{ClaimOutcome}

@@ -5,9 +5,9 @@ use Rattle.kz_types.specs.declared.driver.Stage.{Stage}
 use Rattle.kz_types.specs.declared.driver.Stage.TheVariants as stage
 use Rattle.kz_types.specs.declared.fault.TreeFault.TheVariants as tree_fault
 use Rattle.kz_types.specs.declared.fault.LogFault.TheVariants as log_fault
-use Rattle.kz_spec_stores.specs.Tree.{Tree, multi}
-use Rattle.kz_spec_stores.specs.Log.{Log, append}
-use Rattle.kz_spec_stores.specs.Requests.{Disk, TreeChange, Multi, LogChange, Append, Done, IsTaken, ChangesDisk, ReadsDisk, Either}
+use Rattle.kz_spec_data.specs.Tree.{Tree, multi}
+use Rattle.kz_spec_data.specs.Log.{Log, append}
+use Rattle.kz_spec_data.specs.Requests.{Disk, TreeChange, Multi, LogChange, Append, Done, IsTaken, ChangesDisk, ReadsDisk, Either}
 use Rattle.kz_spec_machine.specs.Driver.{Shared, Request, nothing, read_log, list_brokers, look_up, read_page, write, add}
 use Rattle.kz_requests.specs.declared.fault.StepFault.{StepFault}
 use Rattle.kz_requests.specs.declared.fault.StepFault.TheVariants as step_fault

@@ -2,10 +2,10 @@
 use Rattle.std.specs.Prelude.{Bool, true, false, ℤ, pos, ◌≤ℤ◌, ⊤, List, Option, Some, None}
 use Rattle.kz_types.specs.declared.driver.Stage.{Stage}
 use Rattle.kz_types.specs.declared.driver.Stage.TheVariants as stage
-use Rattle.kz_ordered.specs.Order.{bytes_cmp}
-use Rattle.kz_ordered.specs.Ordered.{Rises}
-use Rattle.kz_spec_stores.specs.Tree.{Tree, path_of_row}
-use Rattle.kz_spec_stores.specs.Log.{Log, View}
+use Rattle.kz_types.specs.Order.{bytes_cmp}
+use Rattle.kz_types.specs.Ordered.{Rises}
+use Rattle.kz_spec_data.specs.Tree.{Tree, path_of_row}
+use Rattle.kz_spec_data.specs.Log.{Log, View}
 use Rattle.kz_types.specs.declared.machine.DriverState.TheVariants as state
 use Rattle.kz_types.specs.declared.machine.Reply.{Reply}
 use Rattle.kz_types.specs.declared.machine.Reply.TheVariants as reply

@@ -2,9 +2,9 @@
 use Rattle.std.specs.Prelude.{◌≡◌, ⊤, ℕ, Bool, true, ℤ, List, [], ◌∷◌, Option, Result, Ok, Err, if◌then◌else◌}
 use Rattle.kz_types.specs.declared.plan.Plan.{Plan}
 use Rattle.kz_types.specs.declared.record.MetaRecord.{MetaRecord}
-use Rattle.kz_spec_stores.specs.Log.{Log, append}
-use Rattle.kz_spec_stores.specs.Requests.{Disk, LogChange, Append, Either, IsTaken, ChangesDisk}
-use Rattle.kz_spec_znodes.specs.Translation.{Unreadable}
+use Rattle.kz_spec_data.specs.Log.{Log, append}
+use Rattle.kz_spec_data.specs.Requests.{Disk, LogChange, Append, Either, IsTaken, ChangesDisk}
+use Rattle.kz_spec_data.specs.Translation.{Unreadable}
 use Rattle.kz_spec_machine.specs.Driver.{hears_answer, begin_record, is_limit}
 use Rattle.kz_connection.specs.Connections.{Wired}
 use Rattle.kz_requests.specs.declared.fault.StepFault.{StepFault}

@@ -10,9 +10,9 @@ use Rattle.kz_types.specs.declared.machine.Reply.{Reply}
 use Rattle.kz_types.specs.declared.machine.Reply.TheVariants as reply
 use Rattle.kz_types.specs.declared.fault.TreeFault.{TreeFault}
 use Rattle.kz_types.specs.declared.fault.TreeFault.TheVariants as fault
-use Rattle.kz_spec_stores.specs.Requests.{Disk, TreeChange, Multi, Either, IsTaken, ChangesDisk}
-use Rattle.kz_spec_stores.specs.Tree.{Tree, multi}
-use Rattle.kz_spec_znodes.specs.Difference.{chunk, after_chunk}
+use Rattle.kz_spec_data.specs.Requests.{Disk, TreeChange, Multi, Either, IsTaken, ChangesDisk}
+use Rattle.kz_spec_data.specs.Tree.{Tree, multi}
+use Rattle.kz_spec_data.specs.Difference.{chunk, after_chunk}
 use Rattle.kz_spec_machine.specs.Driver.{Driver, hears_answer, at_stage, begins_again, resigned_driver, path_at, is_last_write, is_claim_refused, write_ops}
 use Rattle.kz_connection.specs.Connections.{Wired}
 use Rattle.kz_resync.specs.Remainders.{Remainder}

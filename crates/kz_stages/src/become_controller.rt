@@ -3,9 +3,9 @@ ghost use Rattle.std.specs.Prelude.{◌≡◌, ◌∷◌, ◌<◌, ℕ, false, I
 ghost use Rattle.kz_types.specs.declared.driver.ClaimSeen.{ClaimSeen as ClaimSeenValue};
 ghost use Rattle.kz_types.specs.declared.fault.TreeFault.TheVariants.{Limit};
 ghost use Rattle.kz_types.specs.Paths.{base_paths};
-ghost use Rattle.kz_spec_values.specs.Control.{control_path, epoch_path, migration_path};
-ghost use Rattle.kz_spec_stores.specs.Requests.{Multi, Done, Either, IsTaken, ChangesDisk, ReadsDisk};
-ghost use Rattle.kz_spec_stores.specs.Tree.{Tree as TreeValue, look, multi};
+ghost use Rattle.kz_spec_data.specs.Control.{control_path, epoch_path, migration_path};
+ghost use Rattle.kz_spec_data.specs.Requests.{Multi, Done, Either, IsTaken, ChangesDisk, ReadsDisk};
+ghost use Rattle.kz_spec_data.specs.Tree.{Tree as TreeValue, look, multi};
 ghost use Rattle.kz_spec_machine.specs.Driver.{epoch_or_zero, seen_in, after_look, views_migrated, claim_ops, reaches};
 ghost use Rattle.kz_fence.specs.Checks.{claim_fault, CanRise, CanClaim};
 ghost use Rattle.kz_requests.specs.Fares.{Fares, IsAfterRequest, tree_after};

@@ -1,8 +1,8 @@
 //! DUAL_WRITE, no write under way: the log is read, and what has changed is to be written.
 ghost use Rattle.std.specs.Prelude.{◌≡◌, true, false, IfOk, OnOk, OnErr};
 ghost use Rattle.kz_types.specs.declared.driver.Stage.TheVariants as stage;
-ghost use Rattle.kz_spec_stores.specs.Requests.{Done, ReadsDisk};
-ghost use Rattle.kz_spec_stores.specs.Log.{Log, IsViewOf, read_view};
+ghost use Rattle.kz_spec_data.specs.Requests.{Done, ReadsDisk};
+ghost use Rattle.kz_spec_data.specs.Log.{Log, IsViewOf, read_view};
 ghost use Rattle.kz_spec_machine.specs.Driver.{at_stage, target_of, driver_at_log_end, is_recorded_at, after_rest};
 ghost use Rattle.kz_view_delta.specs.Reads.{WasRead};
 ghost use Rattle.kz_stages.specs.Drivers.{IsElected, IsKept};

@@ -2,8 +2,8 @@
 ghost use Rattle.std.specs.Prelude.{◌≡◌, OnOk, OnErr, true, false};
 ghost use Rattle.std.specs.Ordering.{int_eq};
 ghost use Rattle.kz_types.specs.declared.codes.TheConstants.{POST_MIGRATION};
-ghost use Rattle.kz_spec_stores.specs.Requests.{Done, ReadsDisk};
-ghost use Rattle.kz_spec_stores.specs.Log.{IsViewOf};
+ghost use Rattle.kz_spec_data.specs.Requests.{Done, ReadsDisk};
+ghost use Rattle.kz_spec_data.specs.Log.{IsViewOf};
 ghost use Rattle.kz_spec_machine.specs.Driver.{driver_at_log_end, epoch_or_zero, resigned_driver, begins_again, views_migrated};
 ghost use Rattle.kz_requests.specs.Fares.{Fares};
 ghost use Rattle.kz_requests.specs.Disks.{LogDisk};

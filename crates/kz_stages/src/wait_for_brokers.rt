@@ -2,9 +2,9 @@
 ghost use Rattle.std.specs.Prelude.{◌≡◌, true, false, IfOk, OnErr};
 ghost use Rattle.kz_types.specs.declared.driver.Stage.TheVariants as stage;
 ghost use Rattle.kz_types.specs.declared.machine.Reply.TheVariants as reply;
-ghost use Rattle.kz_spec_stores.specs.Requests.{Done, ReadsDisk};
-ghost use Rattle.kz_spec_stores.specs.Tree.{broker_ids};
-ghost use Rattle.kz_spec_stores.specs.Log.{IsViewOf};
+ghost use Rattle.kz_spec_data.specs.Requests.{Done, ReadsDisk};
+ghost use Rattle.kz_spec_data.specs.Tree.{broker_ids};
+ghost use Rattle.kz_spec_data.specs.Log.{IsViewOf};
 ghost use Rattle.kz_spec_machine.specs.Driver.{driver_at_log_end, after_brokers, missing_broker, unless_finalised, at_stage};
 ghost use Rattle.kz_requests.specs.Fares.{Fares};
 ghost use Rattle.kz_requests.specs.Disks.{LogDisk, TreeDisk};

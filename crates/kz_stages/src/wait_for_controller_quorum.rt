@@ -1,7 +1,7 @@
 //! WAIT_FOR_CONTROLLER_QUORUM
 ghost use Rattle.std.specs.Prelude.{◌≡◌, true, false, IfOk, OnErr};
-ghost use Rattle.kz_spec_stores.specs.Requests.{Done, ReadsDisk};
-ghost use Rattle.kz_spec_stores.specs.Log.{IsViewOf};
+ghost use Rattle.kz_spec_data.specs.Requests.{Done, ReadsDisk};
+ghost use Rattle.kz_spec_data.specs.Log.{IsViewOf};
 ghost use Rattle.kz_spec_machine.specs.Driver.{driver_at_log_end, after_quorum};
 ghost use Rattle.kz_requests.specs.Fares.{Fares};
 ghost use Rattle.kz_requests.specs.Disks.{LogDisk};

@@ -1,9 +1,9 @@
 //! The writes of SYNC_KRAFT_TO_ZK and DUAL_WRITE.
 ghost use Rattle.std.specs.Prelude.{◌≡◌, ◌<◌, ℕ, false, length, Err, option_map, IfOk, OnErr, IsErrOf, if◌then◌else◌};
 ghost use Rattle.kz_types.specs.declared.fault.TreeFault.TheVariants.{Limit};
-ghost use Rattle.kz_spec_stores.specs.Requests.{Multi, Either, IsTaken, ChangesDisk};
-ghost use Rattle.kz_spec_stores.specs.Tree.{multi};
-ghost use Rattle.kz_spec_znodes.specs.Difference.{after_chunk};
+ghost use Rattle.kz_spec_data.specs.Requests.{Multi, Either, IsTaken, ChangesDisk};
+ghost use Rattle.kz_spec_data.specs.Tree.{multi};
+ghost use Rattle.kz_spec_data.specs.Difference.{after_chunk};
 ghost use Rattle.kz_spec_machine.specs.Driver.{reaches, write_ops, writes};
 ghost use Rattle.kz_resync.specs.Remainders.{Remainder};
 ghost use Rattle.kz_requests.specs.Fares.{Fares, IsAfterRequest, tree_after};

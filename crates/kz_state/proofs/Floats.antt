@@ -3,7 +3,7 @@ use Rattle.std.proofs.Common.{◌≡◌, ℤ, pos, negsuc, false, refl}
 use Rattle.serde_json.specs.Find.{of_integer, is_float}
 use Rattle.serde_json.specs.Written.{has_float}
 use Rattle.kz_types.specs.declared.machine.Recorded.{Recorded}
-use Rattle.kz_spec_values.specs.Control.{control_data, recorded_data}
+use Rattle.kz_spec_data.specs.Control.{control_data, recorded_data}
 
 is_no_float : (z : ℤ) → is_float (of_integer z) ≡ false
 is_no_float (pos n) = refl

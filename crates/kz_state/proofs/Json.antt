@@ -3,7 +3,7 @@ use Rattle.std.proofs.Common.{◌≡◌, true, false, Some, is_some, Err, refl}
 use Rattle.serde_json.specs.Data.{Data, null, boolean, number, string, array, object}
 use Rattle.serde_json.specs.Find.{as_object}
 use Rattle.kz_types.specs.declared.fault.BodyFault.TheVariants.{NotJson}
-use Rattle.kz_spec_values.specs.Control.{recorded_in, recorded_or_fault}
+use Rattle.kz_spec_data.specs.Control.{recorded_in, recorded_or_fault}
 
 pub of_object : (d : Data) → is_some (as_object d) ≡ true → recorded_or_fault (Some d) ≡ recorded_in d
 of_object null e = cc

@@ -2,10 +2,10 @@
 ghost use Rattle.std.specs.Prelude.{◌≡◌, ◌≢◌, IfOk, IfErr, Ok, Err, Some, option_map};
 ghost use Rattle.kz_types.specs.declared.fault.BodyFault.{BodyFault};
 ghost use Rattle.serde_json.specs.View.{view};
-ghost use Rattle.kz_spec_values.specs.Control.{read_epoch, shown_epoch, read_recorded, recorded_in, recorded_or_fault};
+ghost use Rattle.kz_spec_data.specs.Control.{read_epoch, shown_epoch, read_recorded, recorded_in, recorded_or_fault};
 ghost use Rattle.kz_state.specs.Faults.{IsFaultOf};
 
-use kz_members::{bad_field, number, number_field, read_json, whole_field};
+use kz_body_parts::{bad_field, number, number_field, read_json, whole_field};
 use kz_types::{BodyFault, MAX_LONG, NoMemory, Recorded, number_in};
 use serde_json::Value;
 use std::alloc::Global;
@@ -24,7 +24,7 @@ pub fn read_epoch(alloc: Global, body: &[u8]) -> Result<i32, BodyFault>
 
 /// The epoch that the body of `/controller` shows, where a KRaft controller holds it: the number of its member
 /// `kraftControllerEpoch`, from 0 to 2,147,483,647. `None` exactly where it has none.
-#[tactic(auto, unfolding(kz_spec_values::specs::Control::shown_epoch))]
+#[tactic(auto, unfolding(kz_spec_data::specs::Control::shown_epoch))]
 pub fn read_control(alloc: Global, body: &[u8]) -> Result<Option<i32>, NoMemory>
     ensures { IfOk result (λ epoch. epoch ≡ shown_epoch body.now) }
 {
@@ -73,7 +73,7 @@ fn recorded_in(alloc: Global, value: &Value) -> Result<Recorded, BodyFault>
 /// `NotJson` where it is no JSON object. Its members are read in the order `version`, `kraft_controller_epoch`,
 /// `kraft_controller_id`, `kraft_metadata_epoch`, `kraft_metadata_offset`; the first that isn't there is `Missing`, and the
 /// first that is no whole number in its range `BadField`. No other fault but `NoMemory` comes.
-#[tactic(auto, unfolding(kz_spec_values::specs::Control::read_recorded))]
+#[tactic(auto, unfolding(kz_spec_data::specs::Control::read_recorded))]
 pub fn read_migration(alloc: Global, body: &[u8]) -> Result<Recorded, BodyFault>
     ensures ok { IfOk result (λ recorded. read_recorded body.now ≡ Ok recorded) }
     ensures err { IfErr result (IsFaultOf (read_recorded body.now)) }

@@ -1,7 +1,7 @@
 //! The bodies that a controller writes.
 ghost use Rattle.std.specs.Prelude.{◌≡◌, ◌≤◌, ◌≤ℤ◌, pos, negsuc, IfOk, string_bytes};
 ghost use Rattle.serde_json.specs.View.{view};
-ghost use Rattle.kz_spec_values.specs.Control.{written_epoch, control_data, written_control, recorded_data, written_recorded};
+ghost use Rattle.kz_spec_data.specs.Control.{written_epoch, control_data, written_control, recorded_data, written_recorded};
 
 use kz_types::{NoMemory, Recorded};
 use serde_json::{Value, json};
@@ -27,7 +27,7 @@ fn control_value(alloc: Global, id: i32, epoch: i32, now: i64) -> Result<Value, 
     })
 }
 
-#[tactic(auto, using(crate::proofs::Floats::control_has_no_float), unfolding(kz_spec_values::specs::Control::written_control))]
+#[tactic(auto, using(crate::proofs::Floats::control_has_no_float), unfolding(kz_spec_data::specs::Control::written_control))]
 fn text_of_control(alloc: Global, id: i32, epoch: i32, now: i64) -> Result<String, AllocError>
     ensures { IfOk result (λ text. string_bytes text ≡ written_control id epoch now) }
 {
@@ -55,7 +55,7 @@ fn recorded_value(alloc: Global, recorded: &Recorded) -> Result<Value, AllocErro
     })
 }
 
-#[tactic(auto, using(crate::proofs::Floats::recorded_has_no_float), unfolding(kz_spec_values::specs::Control::written_recorded))]
+#[tactic(auto, using(crate::proofs::Floats::recorded_has_no_float), unfolding(kz_spec_data::specs::Control::written_recorded))]
 fn text_of_recorded(alloc: Global, recorded: &Recorded) -> Result<String, AllocError>
     ensures { IfOk result (λ text. string_bytes text ≡ written_recorded recorded.now) }
 {

@@ -3,11 +3,11 @@ use Rattle.std.proofs.Common.{◌≡◌, ◌≢◌, ℕ, ◌+◌, ◌<◌, ◌�
 use Rattle.kz_types.specs.declared.limits.Limit.TheVariants as limits
 use Rattle.kz_types.specs.Limits.{number_of_limit}
 use Rattle.kz_types.specs.declared.limits.TheConstants.{MAX_INPUT_BYTES, MAX_LINE_BYTES}
-use Rattle.kz_spec_lines.specs.Lines.{line}
-use Rattle.kz_laws_cut.proofs.Cut.{is_not, coming_byte, coming_end, coming_long, coming_much, coming_end_much}
-use Rattle.kz_spec_runs.specs.Output.{Place, outcome, end_of_run, has_line_end, whole_lines, no_further, progress_of}
+use Rattle.kz_spec_data.specs.Lines.{line}
+use Rattle.kz_laws_values.proofs.CutLines.{is_not, coming_byte, coming_end, coming_long, coming_much, coming_end_much}
+use Rattle.kz_spec_machine.specs.Output.{Place, outcome, end_of_run, has_line_end, whole_lines, no_further, progress_of}
 use Rattle.kz_types.specs.declared.outside.Status.TheVariants as status
-use Rattle.kz_spec_runs.specs.Moments.{moments}
+use Rattle.kz_spec_machine.specs.Moments.{moments}
 use Rattle.kz_stream.specs.Pending.{State, lines_to_come, outcome_to_come, moments_to_come, pending_lines}
 use Rattle.kz_stream.proofs.Outcomes.{outcome_long, outcome_much, written_end}
 

@@ -7,19 +7,19 @@ use Rattle.kz_types.specs.declared.machine.Event.{Event}
 use Rattle.kz_types.specs.declared.machine.Event.TheVariants as event
 use Rattle.kz_types.specs.declared.machine.Answer.{Answer}
 use Rattle.kz_types.specs.declared.machine.Answer.TheVariants as answer
-use Rattle.kz_spec_lines.specs.Replies.{reply_text, reply_line, reply_lines}
+use Rattle.kz_spec_data.specs.Replies.{reply_text, reply_line, reply_lines}
 use Rattle.kz_spec_machine.specs.Driver.{Shared, Driver, step}
 use Rattle.kz_spec_machine.specs.Machine.{World, TurnResult, driver_of, ends, next, running_ids, running_refusal, turn, with_reply, work}
 use Rattle.kz_spec_machine.specs.Failures.{is_failed_step, is_failure, CutOffTurn, IsCutOff, IsLeft}
-use Rattle.kz_spec_runs.specs.Output.{Place, ending, steps_of}
-use Rattle.kz_spec_runs.specs.Endings.{IsFront}
+use Rattle.kz_spec_machine.specs.Output.{Place, ending, steps_of}
+use Rattle.kz_spec_machine.specs.Endings.{IsFront}
 use Rattle.kz_stream.specs.declared.ending.Next.{Next}
 use Rattle.kz_stream.specs.declared.ending.Next.TheVariants as next_is
 use Rattle.kz_stream.specs.Lines.{Effect, effect_of_event, Prints}
-use Rattle.kz_failures.specs.declared.failure.Failure.{Failure}
-use Rattle.kz_failures.specs.Failures.{failure_of}
+use Rattle.kz_stream.specs.declared.failure.Failure.{Failure}
+use Rattle.kz_stream.specs.Failures.{failure_of}
 use Rattle.kz_stream.specs.Machines.{printed_lines, NextBy, out_of_memory, IsPrinted}
-use Rattle.kz_failures.proofs.Answers.{is_failed, is_done}
+use Rattle.kz_stream.proofs.Answers.{is_failed, is_done}
 use Rattle.kz_stream.proofs.Outcomes.{no_text, prints_all}
 
 -- the lines of these steps

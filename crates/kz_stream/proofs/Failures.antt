@@ -1,7 +1,7 @@
 -- A run ends at the call that failed.
 use Rattle.std.proofs.Common.{◌≡◌, ◌≢◌, ℕ, Bool, true, ◌∙◌, subst}
 use Rattle.kz_types.specs.Causes.{Rose}
-use Rattle.kz_spec_runs.specs.Endings.{EndsAtFailure}
+use Rattle.kz_spec_machine.specs.Endings.{EndsAtFailure}
 
 -- a call failed
 pub at_failure : {A : Type 0} (own result : A) (f g : ℕ) (b d : Bool) → result ≡ own → Rose f g → d ≡ true → EndsAtFailure own result f g b d

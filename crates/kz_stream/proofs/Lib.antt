@@ -1,3 +1,8 @@
+pub mod Answers
+pub mod Stores
+pub mod Requests
+pub mod Rollbacks
+pub mod Events
 pub mod Outcomes
 pub mod Cut
 pub mod Takings

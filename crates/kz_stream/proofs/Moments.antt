@@ -9,22 +9,22 @@ use Rattle.kz_types.specs.declared.machine.Reply.{Reply}
 use Rattle.kz_types.specs.declared.memory.NoMemory.{NoMemory}
 use Rattle.kz_types.specs.declared.outside.Status.{Status}
 use Rattle.kz_types.specs.declared.plan.Plan.TheVariants as plan
-use Rattle.kz_spec_lines.specs.Lines.{Item, line, long, much, is_passed_over}
-use Rattle.kz_spec_lines.specs.Events.{line_event}
-use Rattle.kz_spec_lines.specs.Replies.{reply_text, reply_line, reply_lines}
-use Rattle.kz_spec_stores.specs.Tree.{Tree}
-use Rattle.kz_spec_stores.specs.Log.{Log}
-use Rattle.kz_spec_stores.specs.Requests.{Only}
+use Rattle.kz_spec_data.specs.Lines.{Item, line, long, much, is_passed_over}
+use Rattle.kz_spec_data.specs.Events.{line_event}
+use Rattle.kz_spec_data.specs.Replies.{reply_text, reply_line, reply_lines}
+use Rattle.kz_spec_data.specs.Tree.{Tree}
+use Rattle.kz_spec_data.specs.Log.{Log}
+use Rattle.kz_spec_data.specs.Requests.{Only}
 use Rattle.kz_spec_machine.specs.Driver.{Shared, Driver, step}
 use Rattle.kz_spec_machine.specs.Machine.{World, Pair, pair_of, step_pairs, ends, work, running_ids, driver_of, next, event_pairs}
 use Rattle.kz_spec_machine.specs.Failures.{is_failure, IsCutOff, CutOffTurn, IsLeft}
-use Rattle.kz_spec_runs.specs.Output.{Place, place_after_line, place_after_event, written_for, ending, summary}
-use Rattle.kz_spec_runs.specs.Endings.{IsFront}
-use Rattle.kz_spec_runs.specs.Moments.{Moment, moment_at, moments_at, moment_after, later, turn_moments, driver_moments, moments_of_turn, request_moments, moments_unless, moments_on, moments, StandsAt, LeavesMoment}
-use Rattle.kz_turns.specs.Stops.{LeavesOneOf, last_step_pairs, turn_failure_pairs, failure_pairs}
-use Rattle.kz_failures.specs.declared.failure.Failure.{Failure}
-use Rattle.kz_failures.specs.Failures.{failure_of}
-use Rattle.kz_failures.proofs.Answers.{is_failed, is_done}
+use Rattle.kz_spec_machine.specs.Output.{Place, place_after_line, place_after_event, written_for, ending, summary}
+use Rattle.kz_spec_machine.specs.Endings.{IsFront}
+use Rattle.kz_spec_machine.specs.Moments.{Moment, moment_at, moments_at, moment_after, later, turn_moments, driver_moments, moments_of_turn, request_moments, moments_unless, moments_on, moments, StandsAt, LeavesMoment}
+use Rattle.kz_world_parts.specs.TurnStops.{LeavesOneOf, last_step_pairs, turn_failure_pairs, failure_pairs}
+use Rattle.kz_stream.specs.declared.failure.Failure.{Failure}
+use Rattle.kz_stream.specs.Failures.{failure_of}
+use Rattle.kz_stream.proofs.Answers.{is_failed, is_done}
 use Rattle.kz_stream.specs.declared.ending.Next.{Next}
 use Rattle.kz_stream.specs.declared.ending.Next.TheVariants as next_is
 use Rattle.kz_stream.specs.declared.ending.Printed.{Printed}

@@ -6,11 +6,11 @@ use Rattle.kz_types.specs.Limits.{number_of_limit}
 use Rattle.kz_types.specs.declared.machine.Event.{Event}
 use Rattle.kz_types.specs.declared.outside.Status.{Status}
 use Rattle.kz_types.specs.declared.outside.Status.TheVariants as status
-use Rattle.kz_spec_lines.specs.Lines.{Item, line, long, much, is_passed_over}
-use Rattle.kz_spec_lines.specs.Events.{line_event}
-use Rattle.kz_spec_runs.specs.Output.{Outcome, Place, outcome, after, end_of_run, unless_ended, on_event, place_after_line, summary, Progress, no_further, progress_after, unless_over, progress_on_event, progress_of}
+use Rattle.kz_spec_data.specs.Lines.{Item, line, long, much, is_passed_over}
+use Rattle.kz_spec_data.specs.Events.{line_event}
+use Rattle.kz_spec_machine.specs.Output.{Outcome, Place, outcome, after, end_of_run, unless_ended, on_event, place_after_line, summary, Progress, no_further, progress_after, unless_over, progress_on_event, progress_of}
 use Rattle.kz_spec_machine.specs.Machine.{World}
-use Rattle.kz_spec_runs.specs.Endings.{IsFront}
+use Rattle.kz_spec_machine.specs.Endings.{IsFront}
 use Rattle.kz_stream.specs.declared.ending.Next.{Next}
 use Rattle.kz_stream.specs.declared.ending.Next.TheVariants as next_is
 use Rattle.kz_stream.specs.Endings.{status_of, IsNext, Begins}

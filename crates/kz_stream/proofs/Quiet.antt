@@ -4,13 +4,13 @@ use Rattle.kz_types.specs.declared.machine.Event.{Event}
 use Rattle.kz_types.specs.Causes.{Rose}
 use Rattle.kz_types.specs.declared.memory.NoMemory.{NoMemory}
 use Rattle.kz_types.specs.declared.machine.Answer.{Answer}
-use Rattle.kz_spec_stores.specs.Requests.{Disk}
-use Rattle.kz_driver.specs.Disks.{Disks}
-use Rattle.kz_turns.specs.Stops.{AreUp}
-use Rattle.kz_failures.specs.declared.failure.Failure.{Failure}
-use Rattle.kz_failures.specs.declared.failure.Failure.TheVariants as failure
-use Rattle.kz_failures.specs.Failures.{failure_of}
-use Rattle.kz_failures.specs.Disks.{IsQuiet, HasFailed, AreQuiet, AnswerDisks}
+use Rattle.kz_spec_data.specs.Requests.{Disk}
+use Rattle.kz_world_parts.specs.Disks.{Disks}
+use Rattle.kz_world_parts.specs.TurnStops.{AreUp}
+use Rattle.kz_stream.specs.declared.failure.Failure.{Failure}
+use Rattle.kz_stream.specs.declared.failure.Failure.TheVariants as failure
+use Rattle.kz_stream.specs.Failures.{failure_of}
+use Rattle.kz_stream.specs.FailureDisks.{IsQuiet, HasFailed, AreQuiet, AnswerDisks}
 use Rattle.kz_stream.specs.declared.ending.Next.{Next}
 use Rattle.kz_stream.specs.declared.ending.Next.TheVariants as next_is
 use Rattle.kz_stream.specs.declared.ending.Printed.{Printed}

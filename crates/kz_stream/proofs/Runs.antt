@@ -3,18 +3,18 @@ use Rattle.std.proofs.Common.{◌≡◌, ℕ, ◌+◌, ◌<◌, Bool, true, fals
 use Rattle.std.specs.Io.KnownBytes.{Consumes}
 use Rattle.kz_types.specs.declared.outside.Status.{Status}
 use Rattle.kz_types.specs.declared.outside.Status.TheVariants as status
-use Rattle.kz_spec_runs.specs.Output.{Outcome, Progress, after, progress_after}
+use Rattle.kz_spec_machine.specs.Output.{Outcome, Progress, after, progress_after}
 use Rattle.kz_spec_machine.specs.Machine.{World}
 use Rattle.kz_spec_machine.specs.Sound.{Sound}
-use Rattle.kz_spec_runs.specs.Endings.{IsFront, EndsAs, EndsAtLimit, is_file_limit}
+use Rattle.kz_spec_machine.specs.Endings.{IsFront, EndsAs, EndsAtLimit, is_file_limit}
 use Rattle.kz_stream.specs.declared.ending.Next.{Next}
 use Rattle.kz_stream.specs.declared.ending.Next.TheVariants as next_is
 use Rattle.kz_stream.specs.declared.ending.Stop.{Stop}
 use Rattle.kz_stream.specs.declared.ending.Stop.TheVariants as stop
 use Rattle.kz_stream.specs.Endings.{Stops}
-use Rattle.kz_spec_runs.specs.Moments.{Moment, moment_after, LeavesMoment}
-use Rattle.kz_spec_stores.specs.Tree.{Tree}
-use Rattle.kz_spec_stores.specs.Log.{Log}
+use Rattle.kz_spec_machine.specs.Moments.{Moment, moment_after, LeavesMoment}
+use Rattle.kz_spec_data.specs.Tree.{Tree}
+use Rattle.kz_spec_data.specs.Log.{Log}
 use Rattle.kz_stream.specs.Pending.{State, outcome_to_come, moments_to_come, pending_lines, Takes, GoesOn, GoesSoundly, StopsSoundly}
 use Rattle.kz_stream.proofs.Moments.{leaves_later}
 

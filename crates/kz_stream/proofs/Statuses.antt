@@ -5,10 +5,10 @@ use Rattle.kz_types.specs.Limits.{number_of_limit}
 use Rattle.kz_types.specs.declared.limits.TheConstants.{MAX_RECORDS}
 use Rattle.kz_types.specs.declared.outside.Status.{Status}
 use Rattle.kz_types.specs.declared.outside.Status.TheVariants as status
-use Rattle.kz_spec_runs.specs.Output.{Outcome, Progress, limit_status}
+use Rattle.kz_spec_machine.specs.Output.{Outcome, Progress, limit_status}
 use Rattle.kz_spec_machine.specs.Machine.{World}
-use Rattle.kz_failures.specs.declared.failure.Failure.TheVariants as failure
-use Rattle.kz_spec_runs.specs.Endings.{EndsAs, EndsAtLimit, is_file_limit}
+use Rattle.kz_stream.specs.declared.failure.Failure.TheVariants as failure
+use Rattle.kz_spec_machine.specs.Endings.{EndsAs, EndsAtLimit, is_file_limit}
 use Rattle.kz_stream.specs.declared.ending.Ending.{Ending}
 use Rattle.kz_stream.specs.declared.ending.Ending.TheVariants as ending
 use Rattle.kz_stream.specs.declared.ending.Stop.{Stop}

@@ -2,14 +2,14 @@
 use Rattle.std.proofs.Common.{◌≡◌, ℕ, ◌+◌, ◌<◌, List, [], ◌∷◌, ◌++◌, Contains, refl, sym, ap, ◌∙◌, subst, append-nil}
 use Rattle.kz_types.specs.declared.limits.TheConstants.{MAX_INPUT_BYTES}
 use Rattle.kz_types.specs.declared.outside.Status.TheVariants as status
-use Rattle.kz_spec_runs.specs.Output.{Outcome, Place, after, end_of_run, outcome, progress_after, summary, whole_lines}
+use Rattle.kz_spec_machine.specs.Output.{Outcome, Place, after, end_of_run, outcome, progress_after, summary, whole_lines}
 use Rattle.kz_spec_machine.specs.Machine.{World}
 use Rattle.kz_stream.specs.declared.ending.Ending.{Ending}
 use Rattle.kz_stream.specs.declared.ending.Next.{Next}
 use Rattle.kz_stream.specs.declared.ending.Next.TheVariants as next_is
 use Rattle.kz_stream.specs.Endings.{status_of, Begins}
 use Rattle.kz_stream.specs.Lines.{effect_of_line, Prints}
-use Rattle.kz_spec_runs.specs.Moments.{Moment, moment_after}
+use Rattle.kz_spec_machine.specs.Moments.{Moment, moment_after}
 use Rattle.kz_stream.specs.Pending.{State, lines_to_come, outcome_to_come, moments_to_come, pending_lines, Takes}
 use Rattle.kz_stream.proofs.Cut.{state, pending_end, lines_end, lines_at_start, moments_end}
 use Rattle.kz_stream.proofs.Moments.{line_goes}

@@ -1,12 +1,12 @@
 -- What a part of a run does to the disks below the tree and the log, where neither store was down before it.
 use Rattle.std.specs.Prelude.{◌≡◌, ⊤, Option, Some, Result, Ok, Err}
-use Rattle.kz_driver.specs.Disks.{Disks}
-use Rattle.kz_turns.specs.Stops.{AreUp}
+use Rattle.kz_world_parts.specs.Disks.{Disks}
+use Rattle.kz_world_parts.specs.TurnStops.{AreUp}
 use Rattle.kz_types.specs.declared.memory.NoMemory.{NoMemory}
 use Rattle.kz_spec_machine.specs.Machine.{World}
 use Rattle.kz_spec_machine.specs.Sound.{Sound}
-use Rattle.kz_failures.specs.declared.failure.Failure.{Failure}
-use Rattle.kz_failures.specs.Disks.{AreQuiet, AnswerDisks}
+use Rattle.kz_stream.specs.declared.failure.Failure.{Failure}
+use Rattle.kz_stream.specs.FailureDisks.{AreQuiet, AnswerDisks}
 use Rattle.kz_stream.specs.declared.ending.Next.{Next}
 use Rattle.kz_stream.specs.declared.ending.Next.TheVariants as next_is
 use Rattle.kz_stream.specs.declared.ending.Printed.{Printed}

@@ -5,11 +5,11 @@ use Rattle.kz_types.specs.Limits.{number_of_limit}
 use Rattle.kz_types.specs.declared.limits.TheConstants.{MAX_FILE_BYTES, MAX_INPUT_BYTES, MAX_LINE_BYTES}
 use Rattle.kz_types.specs.declared.outside.Status.{Status}
 use Rattle.kz_types.specs.declared.outside.Status.TheVariants as status
-use Rattle.kz_failures.specs.declared.failure.Failure.{Failure}
-use Rattle.kz_failures.specs.declared.failure.Failure.TheVariants as failure
+use Rattle.kz_stream.specs.declared.failure.Failure.{Failure}
+use Rattle.kz_stream.specs.declared.failure.Failure.TheVariants as failure
 use Rattle.kz_spec_machine.specs.Machine.{World}
-use Rattle.kz_spec_runs.specs.Output.{Outcome, after, limit_status}
-use Rattle.kz_spec_runs.specs.Endings.{IsFront, EndsAtFailure}
+use Rattle.kz_spec_machine.specs.Output.{Outcome, after, limit_status}
+use Rattle.kz_spec_machine.specs.Endings.{IsFront, EndsAtFailure}
 use Rattle.kz_stream.specs.declared.ending.Ending.{Ending}
 use Rattle.kz_stream.specs.declared.ending.Ending.TheVariants as ending
 use Rattle.kz_stream.specs.declared.ending.Next.{Next}

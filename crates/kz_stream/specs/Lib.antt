@@ -1,3 +1,5 @@
+pub mod Failures
+pub mod FailureDisks
 pub mod Machines
 pub mod Kept
 pub mod Endings

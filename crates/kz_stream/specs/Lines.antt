@@ -3,11 +3,11 @@ use Rattle.std.specs.Prelude.{◌≡◌, ℕ, ◌+◌, Bool, true, false, List, 
 use Rattle.kz_types.specs.declared.machine.Event.{Event}
 use Rattle.kz_types.specs.declared.outside.Status.{Status}
 use Rattle.kz_types.specs.declared.outside.Status.TheVariants as status
-use Rattle.kz_spec_lines.specs.Lines.{is_passed_over}
-use Rattle.kz_spec_lines.specs.Events.{line_event}
+use Rattle.kz_spec_data.specs.Lines.{is_passed_over}
+use Rattle.kz_spec_data.specs.Events.{line_event}
 use Rattle.kz_spec_machine.specs.Machine.{next}
-use Rattle.kz_spec_runs.specs.Output.{Place, place_after_line, place_after_event, written_for, ending}
-use Rattle.kz_spec_runs.specs.Endings.{IsFront}
+use Rattle.kz_spec_machine.specs.Output.{Place, place_after_line, place_after_event, written_for, ending}
+use Rattle.kz_spec_machine.specs.Endings.{IsFront}
 use Rattle.kz_stream.specs.declared.ending.Next.{Next}
 use Rattle.kz_stream.specs.declared.ending.Next.TheVariants as next_is
 use Rattle.kz_stream.specs.Endings.{status_of}

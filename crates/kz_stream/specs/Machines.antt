@@ -1,14 +1,14 @@
 -- A run that stands at a place of its script, by its machine.
 use Rattle.std.specs.Prelude.{◌≡◌, ◌⊎◌, ℕ, List, [], Option, Some, None, is_some, if◌then◌else◌}
-use Rattle.kz_spec_lines.specs.Replies.{reply_lines}
+use Rattle.kz_spec_data.specs.Replies.{reply_lines}
 use Rattle.kz_types.specs.declared.machine.Answer.{Answer}
 use Rattle.kz_types.specs.declared.machine.Event.{Event}
 use Rattle.kz_types.specs.declared.machine.Event.TheVariants as event
 use Rattle.kz_spec_machine.specs.Machine.{World}
-use Rattle.kz_spec_runs.specs.Output.{Place, ending}
-use Rattle.kz_failures.specs.declared.failure.Failure.{Failure}
-use Rattle.kz_failures.specs.declared.failure.Failure.TheVariants as failure
-use Rattle.kz_failures.specs.Failures.{failure_of}
+use Rattle.kz_spec_machine.specs.Output.{Place, ending}
+use Rattle.kz_stream.specs.declared.failure.Failure.{Failure}
+use Rattle.kz_stream.specs.declared.failure.Failure.TheVariants as failure
+use Rattle.kz_stream.specs.Failures.{failure_of}
 use Rattle.kz_stream.specs.declared.ending.Next.{Next}
 use Rattle.kz_stream.specs.declared.ending.Next.TheVariants as next_is
 use Rattle.kz_stream.specs.Endings.{IsNext}

@@ -2,12 +2,12 @@
 use Rattle.std.specs.Prelude.{ℕ, List, [], ◌∷◌, ◌++◌, Option, Some, Result, Ok, Err}
 use Rattle.kz_types.specs.declared.machine.Event.{Event}
 use Rattle.kz_types.specs.declared.memory.NoMemory.{NoMemory}
-use Rattle.kz_spec_lines.specs.Lines.{Item, line}
-use Rattle.kz_spec_stores.specs.Tree.{Tree}
-use Rattle.kz_spec_stores.specs.Log.{Log}
-use Rattle.kz_spec_runs.specs.Output.{Place, summary}
-use Rattle.kz_spec_runs.specs.Endings.{IsFront}
-use Rattle.kz_spec_runs.specs.Moments.{Moment, moments, moments_on, LeavesMoment}
+use Rattle.kz_spec_data.specs.Lines.{Item, line}
+use Rattle.kz_spec_data.specs.Tree.{Tree}
+use Rattle.kz_spec_data.specs.Log.{Log}
+use Rattle.kz_spec_machine.specs.Output.{Place, summary}
+use Rattle.kz_spec_machine.specs.Endings.{IsFront}
+use Rattle.kz_spec_machine.specs.Moments.{Moment, moments, moments_on, LeavesMoment}
 use Rattle.kz_stream.specs.declared.ending.Next.{Next}
 use Rattle.kz_stream.specs.declared.ending.Next.TheVariants as next_is
 use Rattle.kz_stream.specs.declared.ending.Printed.{Printed}

@@ -1,11 +1,11 @@
 -- What a run that stands in the middle of its input is still to write.
 use Rattle.std.specs.Prelude.{◌≡◌, ℕ, ◌+◌, List, [], ◌++◌, length, Contains, if◌then◌else◌}
-use Rattle.kz_spec_lines.specs.Lines.{Item}
-use Rattle.kz_laws_cut.specs.Coming.{lines_after}
+use Rattle.kz_spec_data.specs.Lines.{Item}
+use Rattle.kz_laws_values.specs.Coming.{lines_after}
 use Rattle.kz_spec_machine.specs.Machine.{World}
 use Rattle.kz_spec_machine.specs.Sound.{Sound}
-use Rattle.kz_spec_runs.specs.Output.{Outcome, Place, Progress, outcome, has_line_end, whole_lines, no_further, progress_after, progress_of}
-use Rattle.kz_spec_runs.specs.Moments.{Moment, moment_after, moments}
+use Rattle.kz_spec_machine.specs.Output.{Outcome, Place, Progress, outcome, has_line_end, whole_lines, no_further, progress_after, progress_of}
+use Rattle.kz_spec_machine.specs.Moments.{Moment, moment_after, moments}
 use Rattle.kz_stream.specs.declared.ending.Next.{Next}
 use Rattle.kz_stream.specs.declared.ending.Next.TheVariants as next_is
 use Rattle.kz_stream.specs.declared.ending.Stop.{Stop}

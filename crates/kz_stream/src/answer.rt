@@ -1,12 +1,12 @@
 //! What an answer of the machine means for the run.
 ghost use Rattle.std.specs.Prelude.{◌≡◌, option_map};
 ghost use Rattle.std.specs.List.{filter_map};
-ghost use Rattle.kz_spec_runs.specs.Output.{steps_of, ending, ending_of_reply, first_ending};
+ghost use Rattle.kz_spec_machine.specs.Output.{steps_of, ending, ending_of_reply, first_ending};
 ghost use Rattle.kz_stream.specs.Endings.{status_of};
 ghost use Rattle.kz_stream.specs.Machines.{IsNextAfter, out_of_memory};
 
 use crate::ending::{Ending, Next};
-use kz_failures::{Failure, failure_of};
+use crate::{Failure, failure_of};
 use kz_types::{Answer, LogFault, Reply, TreeFault};
 
 /// How many steps of a driver it tells.

@@ -3,10 +3,10 @@ ghost use Rattle.std.specs.Prelude.{◌≡◌, []};
 ghost use Rattle.kz_types.specs.declared.limits.TheConstants.{MAX_FILE_BYTES};
 ghost use Rattle.kz_types.specs.Limits.{number_of_limit};
 ghost use Rattle.kz_types.specs.declared.outside.Status.TheVariants as status;
-ghost use Rattle.kz_spec_runs.specs.Output.{limit_status};
+ghost use Rattle.kz_spec_machine.specs.Output.{limit_status};
 ghost use Rattle.kz_stream.specs.Endings.{status_of, failure_status, stop_status};
 
-use kz_failures::Failure;
+use crate::Failure;
 use kz_types::{Limit, MAX_FILE_BYTES, MAX_INPUT_BYTES, MAX_LINE_BYTES, MAX_RECORDS, Status};
 use std::alloc::Global;
 

@@ -1,16 +1,16 @@
 //! What a run asks of the machine.
 ghost use Rattle.std.specs.Prelude.{◌≡◌, true, false, Option, IfOk};
-ghost use Rattle.kz_spec_stores.specs.Tree.{Tree};
-ghost use Rattle.kz_spec_stores.specs.Log.{Log, end_of};
-ghost use Rattle.kz_spec_stores.specs.Requests.{Only};
+ghost use Rattle.kz_spec_data.specs.Tree.{Tree};
+ghost use Rattle.kz_spec_data.specs.Log.{Log, end_of};
+ghost use Rattle.kz_spec_data.specs.Requests.{Only};
 ghost use Rattle.kz_spec_machine.specs.Machine.{World, next};
 ghost use Rattle.kz_spec_machine.specs.Sound.{Sound, IsLawful};
 ghost use Rattle.kz_spec_machine.specs.Failures.{is_failure, IsLeft};
-ghost use Rattle.kz_spec_runs.specs.Output.{recorded_offset};
-ghost use Rattle.kz_driver.specs.Disks.{Disks};
-ghost use Rattle.kz_turns.specs.Stops.{AreUp, LeavesOneOf, failure_pairs};
-ghost use Rattle.kz_failures.specs.Failures.{failure_of};
-ghost use Rattle.kz_failures.specs.Disks.{AnswerDisks};
+ghost use Rattle.kz_spec_machine.specs.Output.{recorded_offset};
+ghost use Rattle.kz_world_parts.specs.Disks.{Disks};
+ghost use Rattle.kz_world_parts.specs.TurnStops.{AreUp, LeavesOneOf, failure_pairs};
+ghost use Rattle.kz_stream.specs.Failures.{failure_of};
+ghost use Rattle.kz_stream.specs.FailureDisks.{AnswerDisks};
 
 use kz_types::{Answer, Event, NoMemory};
 

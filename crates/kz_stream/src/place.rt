@@ -1,8 +1,8 @@
 //! Where a run stands between two lines.
 ghost use Rattle.std.specs.Prelude.{◌≡◌, ◌+◌, ◌<◌, ◌≤◌, ◌^◌, IfOk};
-ghost use Rattle.kz_spec_lines.specs.Lines.{is_passed_over};
+ghost use Rattle.kz_spec_data.specs.Lines.{is_passed_over};
 ghost use Rattle.kz_spec_machine.specs.Sound.{Sound, IsLawful};
-ghost use Rattle.kz_spec_runs.specs.Output.{summary};
+ghost use Rattle.kz_spec_machine.specs.Output.{summary};
 ghost use Rattle.kz_stream.specs.Machines.{PlaceOver, plain_place, printed_lines, IsPrinted};
 ghost use Rattle.kz_stream.specs.Kept.{IsPlace};
 ghost use Rattle.kz_stream.specs.Lines.{effect_of_event, effect_of_line, Prints};
@@ -11,8 +11,8 @@ ghost use Rattle.kz_stream.specs.Moments.{EventKeepsUp, LineKeepsUp, text_of};
 
 use crate::answer::{next_after, out_of_memory, steps_of};
 use crate::ending::{Ending, Next, Printed};
+use crate::failure_of;
 use crate::machine::Machine;
-use kz_failures::failure_of;
 use kz_script::{LineFault, read_event, summary, write_answer};
 use kz_types::{Answer, Event, NoMemory};
 use std::alloc::Global;

@@ -3,12 +3,12 @@ ghost use Rattle.std.specs.Prelude.{◌≡◌, ◌≢◌, ◌+◌, ◌<◌, ◌�
 ghost use Rattle.std.specs.Io.KnownBytes.{Appends};
 ghost use Rattle.kz_types.specs.declared.limits.TheConstants.{MAX_INPUT_BYTES, MAX_LINE_BYTES};
 ghost use Rattle.kz_types.specs.declared.outside.Status.TheVariants as status;
-ghost use Rattle.kz_spec_lines.specs.Lines.{with_front};
+ghost use Rattle.kz_spec_data.specs.Lines.{with_front};
 ghost use Rattle.kz_spec_machine.specs.Machine.{World};
 ghost use Rattle.kz_spec_machine.specs.Sound.{Sound};
-ghost use Rattle.kz_spec_runs.specs.Output.{Outcome, end_of_run, outcome};
-ghost use Rattle.kz_spec_runs.specs.Endings.{IsFront};
-ghost use Rattle.kz_spec_runs.specs.Moments.{Moment, moment_after, moments, LeavesMoment};
+ghost use Rattle.kz_spec_machine.specs.Output.{Outcome, end_of_run, outcome};
+ghost use Rattle.kz_spec_machine.specs.Endings.{IsFront};
+ghost use Rattle.kz_spec_machine.specs.Moments.{Moment, moment_after, moments, LeavesMoment};
 ghost use Rattle.kz_stream.specs.Machines.{StreamOver, plain_place};
 ghost use Rattle.kz_stream.specs.Endings.{Begins, Stops, StopsAtSink};
 ghost use Rattle.kz_stream.specs.Kept.{IsKept};
@@ -16,10 +16,10 @@ ghost use Rattle.kz_stream.specs.Pending.{state_of, outcome_to_come, TakesSoundl
 ghost use Rattle.kz_stream.specs.Disks.{PrintedDisks, PartDisks, OverSound, IsEndOf};
 ghost use Rattle.kz_stream.specs.Moments.{KeepsUp, BytesKeepUp, LeavesPart, text_of, summarised};
 
+use crate::Failure;
 use crate::ending::{Ending, Next, Printed, Stop};
 use crate::machine::Machine;
 use crate::place::Place;
-use kz_failures::Failure;
 use kz_io::{Sink, send};
 use kz_types::{Failed, MAX_INPUT_BYTES, MAX_LINE_BYTES, NoMemory};
 use std::alloc::Global;

@@ -16,7 +16,7 @@ fn user(alloc: Global, name: &str) -> Result<EntityKey, &'static str> {
 
 /// Whether a legal key has a path.
 fn has_path(key: &EntityKey) -> Option<bool> {
-    key.is_legal().then(|| kz_path_buffer::has_path(key))
+    key.is_legal().then(|| kz_paths::has_path(key))
 }
 
 // A name may make a path too long, and may be a part that no path has.

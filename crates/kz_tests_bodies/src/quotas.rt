@@ -1,5 +1,5 @@
 //! Quotas, on tables of literals.
-use kz_quotas::QuotaText;
+use kz_body_parts::QuotaText;
 use kz_types::{QuotaFault, QuotaValue};
 use std::test::Fail;
 

@@ -1,6 +1,6 @@
 //! Records as bytes, from the log of a cluster and from its faults.
 ghost use Rattle.std.specs.Prelude.{◌≡◌, length};
-ghost use Rattle.kz_spec_values.specs.Records.{LengthsFit};
+ghost use Rattle.kz_spec_data.specs.Records.{LengthsFit};
 
 use kz_codec::{read_value, value_size, write_value};
 use kz_types::{CodecFault, MetaRecord, Text};

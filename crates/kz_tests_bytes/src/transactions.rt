@@ -1,6 +1,6 @@
 ghost use Rattle.std.specs.Prelude.{◌≡◌, ◌<◌, ◌^◌, ◌∷◌, [], length};
-ghost use Rattle.kz_spec_values.specs.Forms.{AllFit};
-ghost use Rattle.kz_spec_files.specs.Transactions.{path, op, row, list_of, TxnFits};
+ghost use Rattle.kz_spec_data.specs.Forms.{AllFit};
+ghost use Rattle.kz_spec_data.specs.Transactions.{path, op, row, list_of, TxnFits};
 
 use kz_txn::{Txn, TxnFault, read_txn, txn_size, write_txn};
 use kz_types::{Op, Row, Sequence, ZPath};

@@ -1,6 +1,6 @@
 //! The operations of a change, and how many bodies are asked for.
 ghost use Rattle.std.specs.Prelude.{◌≡◌, pos};
-ghost use Rattle.kz_spec_stores.specs.Image.{all_applied};
+ghost use Rattle.kz_spec_data.specs.Image.{all_applied};
 
 use crate::changes::{another_leader, changed, image, made, member, member_of_topic, removal};
 use kz_image::Image;

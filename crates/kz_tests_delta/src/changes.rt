@@ -1,6 +1,6 @@
 //! Metadata with a topic, and changes of it.
 ghost use Rattle.std.specs.Prelude.{◌≡◌, pos, Ok};
-ghost use Rattle.kz_spec_stores.specs.Image.{all_applied};
+ghost use Rattle.kz_spec_data.specs.Image.{all_applied};
 
 use kz_image::Image;
 use kz_types::{

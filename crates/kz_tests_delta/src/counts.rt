@@ -1,11 +1,11 @@
 //! The counts of a rendering after a change, and limits by them.
 ghost use Rattle.std.specs.Prelude.{◌≡◌, pos, IfSome};
-ghost use Rattle.kz_spec_stores.specs.Image.{all_applied};
-ghost use Rattle.kz_spec_znodes.specs.Rendering.{render};
-ghost use Rattle.kz_counts.specs.Counting.{counts_of};
+ghost use Rattle.kz_spec_data.specs.Image.{all_applied};
+ghost use Rattle.kz_spec_data.specs.Rendering.{render};
+ghost use Rattle.kz_counted_view.specs.Counting.{counts_of};
 
 use crate::changes::{another_leader, changed, image, made, member, removal};
-use kz_counts::{Counts, counts_after, counts_of, passed_limit};
+use kz_counted_view::{Counts, counts_after, counts_of, passed_limit};
 use kz_image::Image;
 use kz_render::render;
 use kz_types::{MAX_BODIES_BYTES, MAX_ZNODES, MetaRecord};

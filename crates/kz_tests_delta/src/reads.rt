@@ -1,5 +1,5 @@
 //! What is read after a view, and the limits of a change after it.
-ghost use Rattle.kz_spec_stores.specs.Log.{IsViewOf};
+ghost use Rattle.kz_spec_data.specs.Log.{IsViewOf};
 
 use crate::changes::{made, member};
 use kz_counted_view::{CountedView, read_to_end};

@@ -1,5 +1,5 @@
 use kz_io::MemorySource;
-use kz_loading::{LoadStop, Loaded, read_tree, stop_status};
+use kz_load::{LoadStop, Loaded, read_tree, stop_status};
 use kz_types::Status;
 use std::alloc::Global;
 use std::process::Abort;

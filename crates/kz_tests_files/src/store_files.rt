@@ -1,6 +1,5 @@
 use kz_disk::MemoryDisk;
-use kz_journal::Journal;
-use kz_store_file::{ChangeFault, write_frame, write_seal};
+use kz_journal::{ChangeFault, Journal, write_frame, write_seal};
 use std::alloc::Global;
 use std::process::Abort;
 

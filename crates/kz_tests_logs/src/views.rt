@@ -1,6 +1,6 @@
 //! Tests of views over feeds.
 ghost use Rattle.std.specs.Prelude.{◌≡◌, ◌<◌, length};
-ghost use Rattle.kz_spec_stores.specs.Log.{IsViewOf};
+ghost use Rattle.kz_spec_data.specs.Log.{IsViewOf};
 
 use kz_image::Image;
 use kz_log::{Feed, MemoryLog, MetaLog, View, read_to_end, views_stay};

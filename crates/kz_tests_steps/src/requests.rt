@@ -1,4 +1,4 @@
-ghost use Rattle.kz_spec_stores.specs.Log.{IsViewOf};
+ghost use Rattle.kz_spec_data.specs.Log.{IsViewOf};
 
 use kz_log::{LogWire, MemoryLog, MetaLog, View};
 use kz_requests::{StepFault, append, broker_ids, multi, page, path_at, read, rows_at};

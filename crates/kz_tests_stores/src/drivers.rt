@@ -2,7 +2,7 @@
 //!
 //! A test lets go of drivers and stores by `drop`, which makes its proof much shorter than their end of scope.
 ghost use Rattle.std.specs.Prelude.{◌≡◌, ◌<◌, ◌≤ℤ◌, pos, length};
-ghost use Rattle.kz_spec_stores.specs.Log.{View, IsViewOf, new_view};
+ghost use Rattle.kz_spec_data.specs.Log.{View, IsViewOf, new_view};
 
 use crate::made::{body_of, broker_record, config_record, ids_of, made, path_of, put};
 use kz_driver::{Driver, Peers};

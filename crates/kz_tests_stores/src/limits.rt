@@ -1,7 +1,7 @@
 //! The limit of all data together, at its last byte.
 ghost use Rattle.std.specs.Prelude.{◌≡◌, List, [], ◌∷◌, ◌++◌, All, length, Some, None, codes};
 ghost use Rattle.kz_types.specs.declared.tree.Rendered.{Rendered};
-ghost use Rattle.kz_spec_znodes.specs.Rendering.{excess_of};
+ghost use Rattle.kz_spec_data.specs.Rendering.{excess_of};
 
 /// Of 64 znodes with 1,048,575 bytes each and a last one, the data together is 67,108,864 bytes where the last has 64, and
 /// keeps the limits. With one byte more it passes the sixth.

@@ -1,8 +1,7 @@
 //! The znodes of metadata, and their limits.
 use crate::made::{are_znodes, image_of, long_body, made, path_of, put};
 use kz_image::Image;
-use kz_render::{bare_roots, first_excess, fits, render, whole_path};
-use kz_render_one::render_one;
+use kz_render::{bare_roots, first_excess, fits, render, render_one, whole_path};
 use kz_types::{Duplicate, Rendered, Sequence};
 use std::alloc::Global;
 use std::process::Abort;

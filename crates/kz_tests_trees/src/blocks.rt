@@ -1,6 +1,5 @@
 //! Each call with ample memory, on lists that have more items than a block.
-use kz_blocks::Blocks;
-use kz_sorted::Keyed;
+use kz_sorted::{Blocks, Keyed};
 use kz_types::{Duplicate, NoMemory};
 use std::alloc::Global;
 use std::process::Abort;

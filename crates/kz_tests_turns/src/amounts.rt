@@ -1,6 +1,6 @@
 //! Each public call with ample memory. The bounds are counted by hand.
 ghost use Rattle.std.specs.Prelude.{◌≡◌};
-ghost use Rattle.kz_spec_stores.specs.Log.{image_of};
+ghost use Rattle.kz_spec_data.specs.Log.{image_of};
 
 use kz_driver::Driver;
 use kz_image::Image;
@@ -8,7 +8,7 @@ use kz_log::{MemoryLog, MetaLog};
 use kz_render::bare_roots;
 use kz_tree::Tree;
 use kz_types::{MetaRecord, Op, Rendered, Sequence, ZPath};
-use kz_work::{read_whole, work};
+use kz_world_parts::{read_whole, work};
 use std::alloc::Global;
 use std::process::Abort;
 

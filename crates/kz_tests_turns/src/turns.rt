@@ -1,15 +1,14 @@
 ghost use Rattle.std.specs.Prelude.{◌≡◌};
 ghost use Rattle.kz_types.specs.declared.plan.Plan.TheVariants as plan;
-ghost use Rattle.kz_spec_stores.specs.Log.{IsViewOf};
+ghost use Rattle.kz_spec_data.specs.Log.{IsViewOf};
 
 use kz_driver::{Driver, Peers};
 use kz_image::Image;
 use kz_log::{LogWire, MemoryLog, MetaLog};
 use kz_session::MemoryTree;
 use kz_tree::{Tree, Wire};
-use kz_turns::{step, turn};
 use kz_types::{DriverState, Plan, Reply, Sequence};
-use kz_work::TurnStart;
+use kz_world_parts::{TurnStart, step, turn};
 use std::alloc::Global;
 use std::process::Abort;
 

@@ -1,6 +1,6 @@
 //! Lists in the order of their keys.
-ghost use Rattle.kz_ordered.specs.Order.{bytes_cmp};
-ghost use Rattle.kz_ordered.specs.Ordered.{Rises};
+ghost use Rattle.kz_types.specs.Order.{bytes_cmp};
+ghost use Rattle.kz_types.specs.Ordered.{Rises};
 
 use crate::copies::{configuration, pair, rendered, row};
 use crate::made::text_of;

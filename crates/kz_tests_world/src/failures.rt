@@ -1,4 +1,4 @@
-use kz_failures::{Failure, failure_of};
+use kz_stream::{Failure, failure_of};
 use kz_types::{Answer, DriverState, LogFault, Reply, Sequence, TreeFault};
 use std::alloc::Global;
 use std::process::Abort;

@@ -61,8 +61,8 @@ impl Listed {
 
 impl Machine for Listed {
     ghost use Rattle.std.specs.Prelude.{[], negsuc};
-    ghost use Rattle.kz_spec_stores.specs.Log.{empty_log};
-    ghost use Rattle.kz_spec_stores.specs.Requests.{no_disk};
+    ghost use Rattle.kz_spec_data.specs.Log.{empty_log};
+    ghost use Rattle.kz_spec_data.specs.Requests.{no_disk};
 
     ghost world = { λ _. record { shared = record { tree = record { zxid = negsuc 0; sessions = []; rows = [] }; log = empty_log; declared = [] }; drivers = [] } };
 

@@ -4,11 +4,11 @@ use Rattle.std.specs.List.{filter, count_by}
 use Rattle.std.proofs.lemmas.List.Sums.{length-filter}
 use Rattle.kz_types.specs.declared.tree.Row.{Row}
 use Rattle.kz_types.specs.Paths.{is_migrated}
-use Rattle.kz_ordered.specs.Order.{bytes_cmp}
-use Rattle.kz_ordered.specs.Ordered.{Rises, RisesAbove}
-use Rattle.kz_ordered.proofs.Order.{bytes_order}
-use Rattle.kz_ordered.proofs.Maps.{Rises-map, Rises-filter}
-use Rattle.kz_spec_stores.specs.Tree.{path_of_row, rendered_row, is_after, path_of_rendered}
+use Rattle.kz_types.specs.Order.{bytes_cmp}
+use Rattle.kz_types.specs.Ordered.{Rises, RisesAbove}
+use Rattle.kz_types.proofs.Order.{bytes_order}
+use Rattle.kz_types.proofs.Maps.{Rises-map, Rises-filter}
+use Rattle.kz_spec_data.specs.Tree.{path_of_row, rendered_row, is_after, path_of_rendered}
 use Rattle.kz_tree.specs.Kept.{AreRows}
 
 pub migrated_rise : (rows : List Row) → AreRows rows → Rises bytes_cmp path_of_row (filter (λ (row : Row). is_migrated row.path) rows)

@@ -3,9 +3,9 @@ use Rattle.std.proofs.Common.{ℕ, ℤ, List, Option, Some, None}
 use Rattle.kz_types.specs.declared.tree.Row.{Row}
 use Rattle.kz_types.specs.declared.tree.Op.{Op}
 use Rattle.kz_types.specs.declared.tree.Op.TheVariants.{Create, Set, Delete, Check}
-use Rattle.kz_ordered.proofs.Order.{bytes_order}
-use Rattle.kz_ordered.proofs.Lookup.{Rises-put, Rises-without}
-use Rattle.kz_spec_stores.specs.Tree.{path_of_row, row_at, with_child_change, after_set, after_op, set_row, created_row, parent_of}
+use Rattle.kz_types.proofs.Order.{bytes_order}
+use Rattle.kz_types.proofs.Lookup.{Rises-put, Rises-without}
+use Rattle.kz_spec_data.specs.Tree.{path_of_row, row_at, with_child_change, after_set, after_op, set_row, created_row, parent_of}
 use Rattle.kz_tree.specs.Kept.{AreRows}
 
 pub rises_touched : (zxid : ℤ) (o : Option Row) (rows : List Row) → AreRows rows → AreRows (with_child_change zxid o rows)

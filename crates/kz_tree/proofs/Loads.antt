@@ -7,12 +7,12 @@ use Rattle.std.specs.List.{filter, list_all}
 use Rattle.std.specs.Ordering.{match_ordering}
 use Rattle.std.proofs.lemmas.Int.{ints}
 use Rattle.kz_types.specs.declared.tree.Row.{Row}
-use Rattle.kz_ordered.specs.Order.{bytes_cmp}
-use Rattle.kz_ordered.specs.Ordered.{RisesAbove}
-use Rattle.kz_ordered.proofs.Order.{below, equal, above, place, cmp_equal, cmp_greater, bytes_order}
-use Rattle.kz_ordered.proofs.Lookup.{Rises-put}
-use Rattle.kz_spec_stores.specs.Tree.{Tree, path_of_row, row_at, put_row, is_after, first_row}
-use Rattle.kz_spec_files.specs.Loads.{LoadRefusal, broken, rise_from, is_header, is_before, is_loadable, row_refusal, are_loadable, is_load}
+use Rattle.kz_types.specs.Order.{bytes_cmp}
+use Rattle.kz_types.specs.Ordered.{RisesAbove}
+use Rattle.kz_types.proofs.Order.{below, equal, above, place, cmp_equal, cmp_greater, bytes_order}
+use Rattle.kz_types.proofs.Lookup.{Rises-put}
+use Rattle.kz_spec_data.specs.Tree.{Tree, path_of_row, row_at, put_row, is_after, first_row}
+use Rattle.kz_spec_data.specs.Loads.{LoadRefusal, broken, rise_from, is_header, is_before, is_loadable, row_refusal, are_loadable, is_load}
 use Rattle.kz_tree.specs.Kept.{AreSessions}
 use Rattle.kz_tree.specs.Loads.{IsChecked, with_row}
 

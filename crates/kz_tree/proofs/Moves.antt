@@ -8,8 +8,8 @@ use Rattle.kz_types.specs.declared.limits.Limit.TheVariants as limits
 use Rattle.kz_types.specs.Limits.{number_of_limit}
 use Rattle.kz_types.specs.declared.tree.Row.{Row}
 use Rattle.kz_types.specs.declared.move_fault.MoveFault.TheVariants.{Known, Unknown, Limit}
-use Rattle.kz_ordered.specs.Ordered.{put, without}
-use Rattle.kz_spec_stores.specs.Tree.{Tree, is_live, begin_session, end_session, without_owned}
+use Rattle.kz_types.specs.Ordered.{put, without}
+use Rattle.kz_spec_data.specs.Tree.{Tree, is_live, begin_session, end_session, without_owned}
 
 -- ---- a transaction of sessions
 

@@ -9,7 +9,7 @@ use Rattle.kz_types.specs.declared.tree.Row.{Row}
 use Rattle.kz_types.specs.declared.tree.Op.{Op}
 use Rattle.kz_types.specs.declared.fault.TreeFault.{TreeFault}
 use Rattle.kz_types.specs.declared.fault.TreeFault.TheVariants as fault
-use Rattle.kz_spec_stores.specs.Tree.{Tree, after_ops, multi, with_zxid}
+use Rattle.kz_spec_data.specs.Tree.{Tree, after_ops, multi, with_zxid}
 use Rattle.kz_tree.specs.Refusals.{IsMultiFaultOf}
 use Rattle.kz_tree.specs.declared.faults.MultiFault.{MultiFault}
 use Rattle.kz_tree.specs.declared.faults.MultiFault.TheVariants as multi_fault

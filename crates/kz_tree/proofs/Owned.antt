@@ -7,10 +7,10 @@ use Rattle.std.proofs.lemmas.List.Elements.{filter-append}
 use Rattle.std.proofs.lemmas.List.Folds.{list_any-append}
 use Rattle.kz_types.specs.declared.tree.Row.{Row}
 use Rattle.kz_types.proofs.NumberLemmas.{bytes_eq-true}
-use Rattle.kz_ordered.proofs.Order.{bytes_order}
-use Rattle.kz_ordered.proofs.Append.{without_at_split, put_at_split, find_at_split, below_split}
-use Rattle.kz_ordered.proofs.Lookup.{Rises-put, Rises-without}
-use Rattle.kz_spec_stores.specs.Tree.{path_of_row, row_at, without_row, with_child_change, is_owned, loses_child, after_loss, parent_of}
+use Rattle.kz_types.proofs.Order.{bytes_order}
+use Rattle.kz_types.proofs.Append.{without_at_split, put_at_split, find_at_split, below_split}
+use Rattle.kz_types.proofs.Lookup.{Rises-put, Rises-without}
+use Rattle.kz_spec_data.specs.Tree.{path_of_row, row_at, without_row, with_child_change, is_owned, loses_child, after_loss, parent_of}
 use Rattle.kz_tree.specs.Kept.{AreRows}
 
 -- ---- parents

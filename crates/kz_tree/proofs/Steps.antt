@@ -4,7 +4,7 @@ use Rattle.std.proofs.lemmas.List.{drop_all}
 use Rattle.kz_types.specs.declared.tree.Row.{Row}
 use Rattle.kz_types.specs.declared.tree.Op.{Op}
 use Rattle.kz_types.specs.declared.fault.TreeFault.{TreeFault}
-use Rattle.kz_spec_stores.specs.Tree.{Refusal, code, limit, op_refusal, after_op, after_ops, rows_unless_refused}
+use Rattle.kz_spec_data.specs.Tree.{Refusal, code, limit, op_refusal, after_op, after_ops, rows_unless_refused}
 use Rattle.kz_tree.specs.Kept.{AreRows}
 use Rattle.kz_tree.proofs.Kept.{rises_after_op}
 

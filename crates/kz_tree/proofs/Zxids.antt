@@ -9,8 +9,8 @@ use Rattle.kz_types.specs.declared.tree.Row.{Row}
 use Rattle.kz_types.specs.declared.tree.Op.{Op}
 use Rattle.kz_types.specs.declared.tree.Op.TheVariants.{Create, Set, Delete, Check}
 use Rattle.kz_types.specs.declared.fault.TreeFault.{TreeFault}
-use Rattle.kz_ordered.specs.Order.{bytes_cmp}
-use Rattle.kz_spec_stores.specs.Tree.{Refusal, code, limit, row_at, put_row, without_row, parent_of, has_children, is_ephemeral, count_beside, create_refusal, set_refusal, delete_refusal, check_refusal, op_refusal, created_row, set_row, with_child_change, after_set, after_op, rows_unless_refused, after_ops}
+use Rattle.kz_types.specs.Order.{bytes_cmp}
+use Rattle.kz_spec_data.specs.Tree.{Refusal, code, limit, row_at, put_row, without_row, parent_of, has_children, is_ephemeral, count_beside, create_refusal, set_refusal, delete_refusal, check_refusal, op_refusal, created_row, set_row, with_child_change, after_set, after_op, rows_unless_refused, after_ops}
 
 -- a znode without its zxids
 abbrev bare : Row → Row

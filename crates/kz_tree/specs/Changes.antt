@@ -1,7 +1,7 @@
 -- Which tree a change makes of another.
 use Rattle.std.specs.Prelude.{◌≡◌, Ok}
-use Rattle.kz_spec_stores.specs.Tree.{Tree, multi, begin_session, end_session}
-use Rattle.kz_spec_stores.specs.Requests.{TreeChange, Multi, BeginSession, EndSession}
+use Rattle.kz_spec_data.specs.Tree.{Tree, multi, begin_session, end_session}
+use Rattle.kz_spec_data.specs.Requests.{TreeChange, Multi, BeginSession, EndSession}
 
 -- nothing refuses the change, and it makes this tree
 abbrev pub Makes : TreeChange → Tree → Tree → Type 0

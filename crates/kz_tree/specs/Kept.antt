@@ -3,7 +3,7 @@ pub use Rattle.kz_tree_rows.specs.Kept.{AreRows}
 use Rattle.std.specs.Prelude.{ℤ, pos, List, ◌≤ℤ◌}
 use Rattle.std.specs.Ordering.{int_cmp}
 use Rattle.kz_types.specs.declared.tree.Row.{Row}
-use Rattle.kz_ordered.specs.Ordered.{Rises}
+use Rattle.kz_types.specs.Ordered.{Rises}
 use Rattle.kz_tree_rows.specs.Kept.{AreRows}
 
 -- the sessions rise, each stands once

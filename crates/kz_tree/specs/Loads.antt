@@ -1,8 +1,8 @@
 -- What the check of a load answers, and what is true of it.
 use Rattle.std.specs.Prelude.{◌≡◌, Bool, true, false, ℤ, List, [], ◌∷◌, ◌++◌, Option, Some, ⊤}
 use Rattle.kz_types.specs.declared.tree.Row.{Row}
-use Rattle.kz_spec_stores.specs.Tree.{Tree}
-use Rattle.kz_spec_files.specs.Loads.{LoadRefusal, broken, limit, is_load}
+use Rattle.kz_spec_data.specs.Tree.{Tree}
+use Rattle.kz_spec_data.specs.Loads.{LoadRefusal, broken, limit, is_load}
 use Rattle.kz_tree.specs.declared.load.LoadFault.{LoadFault}
 use Rattle.kz_tree.specs.declared.load.LoadFault.TheVariants as fault
 use Rattle.kz_tree.specs.Kept.{IsKept}

@@ -4,7 +4,7 @@ use Rattle.kz_types.specs.declared.fault.TreeFault.{TreeFault}
 use Rattle.kz_types.specs.declared.fault.TreeFault.TheVariants as fault
 use Rattle.kz_types.specs.declared.move_fault.MoveFault.{MoveFault}
 use Rattle.kz_types.specs.declared.move_fault.MoveFault.TheVariants as move_fault
-use Rattle.kz_spec_stores.specs.Tree as tree
+use Rattle.kz_spec_data.specs.Tree as tree
 use Rattle.kz_tree.specs.declared.faults.MultiFault.{MultiFault}
 use Rattle.kz_tree.specs.declared.faults.MultiFault.TheVariants as multi_fault
 use Rattle.kz_tree.specs.declared.faults.ClosedFault.{ClosedFault}

@@ -1,8 +1,8 @@
 -- What arrives of the answers of a store of a tree over a connection.
 use Rattle.std.specs.Prelude.{◌≡◌, Bool, true, false, Result, Ok, Err, ⊤}
 use Rattle.kz_types.specs.declared.fault.TreeFault.{TreeFault}
-use Rattle.kz_spec_stores.specs.Tree.{Tree}
-use Rattle.kz_spec_stores.specs.Requests.{StoreAnswer, Done, Refused, NoMemory, Failed, Down, Full, answer_of_tree_fault}
+use Rattle.kz_spec_data.specs.Tree.{Tree}
+use Rattle.kz_spec_data.specs.Requests.{StoreAnswer, Done, Refused, NoMemory, Failed, Down, Full, answer_of_tree_fault}
 use Rattle.kz_connection.specs.Connections.{Arrival, Answered, Lost, Expired}
 use Rattle.kz_tree.specs.declared.wire.WireFault.{WireFault}
 use Rattle.kz_tree.specs.declared.wire.WireFault.TheVariants as wire_fault

@@ -1,7 +1,7 @@
 //! What operations make of znodes.
 ghost use Rattle.std.specs.Prelude.{◌≡◌, ◌<ℤ◌, IfOk, OnOk, IfErr, Ok, Some, None, []};
 ghost use Rattle.kz_types.specs.declared.limits.TheConstants.{MAX_VERSION};
-ghost use Rattle.kz_spec_stores.specs.Tree.{set_row, created_row, after_op, after_ops, op_refusal, rows_unless_refused};
+ghost use Rattle.kz_spec_data.specs.Tree.{set_row, created_row, after_op, after_ops, op_refusal, rows_unless_refused};
 ghost use Rattle.kz_tree.specs.Kept.{AreRows};
 ghost use Rattle.kz_tree.specs.Refusals.{IsMultiFaultOf, meaning};
 

@@ -1,6 +1,6 @@
 //! The check of a tree that is loaded.
 ghost use Rattle.std.specs.Prelude.{◌≡◌, [], None, true, IfOk, IfErr, OnOk, OnErr};
-ghost use Rattle.kz_spec_files.specs.Loads.{is_header, row_refusal, is_load};
+ghost use Rattle.kz_spec_data.specs.Loads.{is_header, row_refusal, is_load};
 ghost use Rattle.kz_tree.specs.Loads.{IsHeaderFaultOf, IsRowFaultOf, with_row};
 
 use crate::load_rules::{admit, is_header};
@@ -32,7 +32,7 @@ pub struct LoadCheck {
 }
 
 impl Model for LoadCheck {
-    ghost use Rattle.kz_spec_stores.specs.Tree.{Tree};
+    ghost use Rattle.kz_spec_data.specs.Tree.{Tree};
     ghost use Rattle.kz_tree.specs.Loads.{IsChecked};
 
     ghost Value = { Tree };

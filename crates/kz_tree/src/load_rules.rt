@@ -3,8 +3,8 @@ ghost use Rattle.std.specs.Prelude.{◌≡◌, ◌&&◌, ◌||◌, not, pos, int
 ghost use Rattle.std.specs.List.{list_all};
 ghost use Rattle.kz_types.specs.declared.limits.TheConstants.{MAX_VERSION};
 ghost use Rattle.kz_types.specs.Paths.{kind_of};
-ghost use Rattle.kz_spec_stores.specs.Tree.{row_at, has_parent, is_ephemeral, parent_of};
-ghost use Rattle.kz_spec_files.specs.Loads.{rise_from, is_header, is_before, are_zxids, is_lasting, is_reserved, is_loadable, row_refusal};
+ghost use Rattle.kz_spec_data.specs.Tree.{row_at, has_parent, is_ephemeral, parent_of};
+ghost use Rattle.kz_spec_data.specs.Loads.{rise_from, is_header, is_before, are_zxids, is_lasting, is_reserved, is_loadable, row_refusal};
 ghost use Rattle.kz_tree.specs.Loads.{IsRowFaultOf};
 
 use crate::load::LoadFault;
@@ -124,7 +124,7 @@ fn may_be_owned(alloc: Global, row: &Row) -> Result<bool, NoMemory>
 }
 
 // Whether a znode keeps the rules, after those before it.
-#[tactic(auto, unfolding(kz_spec_files::specs::Loads::is_loadable))]
+#[tactic(auto, unfolding(kz_spec_data::specs::Loads::is_loadable))]
 fn is_loadable(
     alloc: Global,
     zxid: i64,

@@ -1,6 +1,6 @@
 //! A change of a tree that is ready to be made.
 ghost use Rattle.std.specs.Prelude.{◌≡◌};
-ghost use Rattle.kz_spec_stores.specs.Tree.{Tree};
+ghost use Rattle.kz_spec_data.specs.Tree.{Tree};
 ghost use Rattle.kz_tree.specs.Kept.{IsKept};
 
 use kz_tree_rows::Rows;

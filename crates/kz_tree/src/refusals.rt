@@ -1,7 +1,7 @@
 //! Why an operation is refused.
 ghost use Rattle.std.specs.Prelude.{◌≡◌, ◌≢◌, [], option_map, nat_le, IfOk};
 ghost use Rattle.kz_types.specs.declared.limits.TheConstants.{MAX_ZNODES};
-ghost use Rattle.kz_spec_stores.specs.Tree.{may_own, row_at, is_root, has_parent, is_ephemeral, fits_version, count_beside, limit_beside, create_refusal, set_refusal, delete_refusal, check_refusal, op_refusal};
+ghost use Rattle.kz_spec_data.specs.Tree.{may_own, row_at, is_root, has_parent, is_ephemeral, fits_version, count_beside, limit_beside, create_refusal, set_refusal, delete_refusal, check_refusal, op_refusal};
 ghost use Rattle.kz_tree.specs.Refusals.{meaning};
 
 use kz_tree_rows::{Rows, has_children, is_migrated, parent_of};

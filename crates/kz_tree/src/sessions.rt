@@ -3,8 +3,8 @@ ghost use Rattle.std.specs.Prelude.{◌≡◌, true, ℕ, List, IfOk, OnOk};
 ghost use Rattle.std.specs.Ordering.{int_cmp};
 ghost use Rattle.std.specs.List.{list_any};
 ghost use Rattle.std.specs.Str.{bytes_eq};
-ghost use Rattle.kz_ordered.specs.Ordered.{put, without};
-ghost use Rattle.kz_spec_stores.specs.Tree.{is_live, is_owned, loses_child, without_owned};
+ghost use Rattle.kz_types.specs.Ordered.{put, without};
+ghost use Rattle.kz_spec_data.specs.Tree.{is_live, is_owned, loses_child, without_owned};
 ghost use Rattle.kz_tree.specs.Kept.{AreRows, AreSessions};
 
 use kz_tree_rows::{Rows, parent_of};

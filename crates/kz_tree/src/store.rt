@@ -1,10 +1,10 @@
 //! A store that holds a tree.
 ghost use Rattle.std.specs.Prelude.{◌≡◌, ℕ, false, Option, option_map, IfOk, IfErr, OnErr, IsErrOf, Ok};
-ghost use Rattle.kz_ordered.specs.Order.{bytes_cmp};
-ghost use Rattle.kz_ordered.specs.Ordered.{Rises};
-ghost use Rattle.kz_spec_stores.specs.Tree as znodes;
-ghost use Rattle.kz_spec_stores.specs.Tree.{Tree as TreeValue, path_of_row};
-ghost use Rattle.kz_spec_stores.specs.Requests.{Disk, TreeChange, Multi, answer_by, answer_of_tree_fault, IsTaken, ChangesDisk, ReadsDisk, Only, Between};
+ghost use Rattle.kz_types.specs.Order.{bytes_cmp};
+ghost use Rattle.kz_types.specs.Ordered.{Rises};
+ghost use Rattle.kz_spec_data.specs.Tree as znodes;
+ghost use Rattle.kz_spec_data.specs.Tree.{Tree as TreeValue, path_of_row};
+ghost use Rattle.kz_spec_data.specs.Requests.{Disk, TreeChange, Multi, answer_by, answer_of_tree_fault, IsTaken, ChangesDisk, ReadsDisk, Only, Between};
 ghost use Rattle.kz_tree.specs.Requests.{IsRefusal};
 
 use crate::Tree;

@@ -1,10 +1,10 @@
 //! The tree.
 ghost use Rattle.std.specs.Prelude.{◌≡◌, ◌+ℤ◌, ◌<ℤ◌, ◌≤ℤ◌, pos, length, option_map, map, None, Ok, IfOk, IfErr, OnOk, OnErr};
 ghost use Rattle.kz_types.specs.declared.limits.TheConstants.{MAX_LONG};
-ghost use Rattle.kz_spec_stores.specs.Tree as tree;
-ghost use Rattle.kz_spec_stores.specs.Tree.{path_of_row, path_of_rendered};
-ghost use Rattle.kz_ordered.specs.Order.{bytes_cmp};
-ghost use Rattle.kz_ordered.specs.Ordered.{Rises};
+ghost use Rattle.kz_spec_data.specs.Tree as tree;
+ghost use Rattle.kz_spec_data.specs.Tree.{path_of_row, path_of_rendered};
+ghost use Rattle.kz_types.specs.Order.{bytes_cmp};
+ghost use Rattle.kz_types.specs.Ordered.{Rises};
 ghost use Rattle.kz_tree.specs.Changes.{IsMadeFrom};
 ghost use Rattle.kz_tree.specs.Kept.{IsKept};
 ghost use Rattle.kz_tree.specs.Refusals.{IsFaultOf, IsMultiFaultOf, IsMoveFaultOf, IsClosedFaultOf};
@@ -13,7 +13,7 @@ use crate::effects::after_ops;
 use crate::faults::{ClosedFault, MultiFault, tree_fault};
 use crate::prepared::Prepared;
 use crate::sessions::{is_live, with_session, without_owned, without_session};
-use kz_blocks::Items;
+use kz_sorted::Items;
 use kz_tree_rows::{Rows, reads};
 use kz_types::{
     Duplicate, Limit, MAX_LONG, MoveFault, NoMemory, Op, Recorded, Rendered, Row, TreeFault, ZPath,
@@ -45,7 +45,7 @@ impl Drop for Tree {
 
 impl Model for Tree {
     ghost use Rattle.std.specs.Prelude.{◌≡◌};
-    ghost use Rattle.kz_spec_stores.specs.Tree.{Tree};
+    ghost use Rattle.kz_spec_data.specs.Tree.{Tree};
     ghost use Rattle.kz_tree.specs.Kept.{IsKept};
 
     ghost Value = { Tree };

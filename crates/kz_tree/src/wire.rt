@@ -1,11 +1,11 @@
 //! A connection to a store that may lose requests.
 ghost use Rattle.std.specs.Prelude.{◌≡◌, ⊤, option_map, IfOk, IfErr, IsErrOf, Ok};
 ghost use Rattle.std.specs.Borrow.{sem};
-ghost use Rattle.kz_ordered.specs.Order.{bytes_cmp};
-ghost use Rattle.kz_ordered.specs.Ordered.{Rises};
-ghost use Rattle.kz_spec_stores.specs.Tree as znodes;
-ghost use Rattle.kz_spec_stores.specs.Tree.{path_of_row};
-ghost use Rattle.kz_spec_stores.specs.Requests.{Multi, Done, answer_by, answer_of_tree_fault, IsTaken, ChangesDisk, ReadsDisk, Between};
+ghost use Rattle.kz_types.specs.Order.{bytes_cmp};
+ghost use Rattle.kz_types.specs.Ordered.{Rises};
+ghost use Rattle.kz_spec_data.specs.Tree as znodes;
+ghost use Rattle.kz_spec_data.specs.Tree.{path_of_row};
+ghost use Rattle.kz_spec_data.specs.Requests.{Multi, Done, answer_by, answer_of_tree_fault, IsTaken, ChangesDisk, ReadsDisk, Between};
 ghost use Rattle.kz_connection.specs.Connections.{IsSpent, EndsBy, OverConnection};
 ghost use Rattle.kz_tree.specs.Requests.{IsRefusal};
 ghost use Rattle.kz_tree.specs.Wires.{arrival_of, IfStore, IsUnanswered, after_multi};

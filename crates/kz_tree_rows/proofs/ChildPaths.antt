@@ -7,11 +7,11 @@ use Rattle.std.specs.Ordering.{match_ordering}
 use Rattle.kz_types.specs.declared.tree.Row.{Row}
 use Rattle.kz_types.specs.PathRule.{is_path, has_path_form}
 use Rattle.kz_types.proofs.NumberLemmas.{bytes_eq-true, bytes_eq-same}
-use Rattle.kz_ordered.specs.Order.{bytes_cmp}
-use Rattle.kz_ordered.specs.Ordered.{RisesAbove}
-use Rattle.kz_ordered.proofs.Order.{below, equal, above, place, nat_order, bytes_order, cmp_greater, less_differs, less_differs_back}
-use Rattle.kz_ordered.proofs.Lookup.{some_is_none, find_here, find_skip}
-use Rattle.kz_spec_stores.specs.Tree.{path_of_row, row_at, parent_of, has_children, is_after}
+use Rattle.kz_types.specs.Order.{bytes_cmp}
+use Rattle.kz_types.specs.Ordered.{RisesAbove}
+use Rattle.kz_types.proofs.Order.{below, equal, above, place, nat_order, bytes_order, cmp_greater, less_differs, less_differs_back}
+use Rattle.kz_types.proofs.Lookup.{some_is_none, find_here, find_skip}
+use Rattle.kz_spec_data.specs.Tree.{path_of_row, row_at, parent_of, has_children, is_after}
 use Rattle.kz_tree_rows.specs.Kept.{AreRows}
 use Rattle.kz_tree_rows.proofs.LastSlash.{or_true, parent_slash}
 

@@ -4,11 +4,11 @@ use Rattle.std.specs.List.{sum_by, count_by}
 use Rattle.std.proofs.lemmas.List.Sums.{sum_by-cons, count_by-le-length}
 use Rattle.kz_types.specs.Paths.{is_migrated}
 use Rattle.kz_types.specs.declared.tree.Row.{Row}
-use Rattle.kz_ordered.specs.Order.{TotalOrder}
-use Rattle.kz_ordered.specs.Ordered.{find, put, without, Rises}
-use Rattle.kz_ordered.proofs.Order.{below, equal, above, place, cmp_equal, cmp_greater, less_differs, less_differs_back, bytes_order}
-use Rattle.kz_ordered.proofs.Lookup.{some_is_none, same_some, find_here, find_skip, find_below_first, rest_rises, key_of_found, without_here, without_skip, Rises-put, Rises-without}
-use Rattle.kz_spec_stores.specs.Tree.{path_of_row, row_at, put_row, without_row, count_beside}
+use Rattle.kz_types.specs.Order.{TotalOrder}
+use Rattle.kz_types.specs.Ordered.{find, put, without, Rises}
+use Rattle.kz_types.proofs.Order.{below, equal, above, place, cmp_equal, cmp_greater, less_differs, less_differs_back, bytes_order}
+use Rattle.kz_types.proofs.Lookup.{some_is_none, same_some, find_here, find_skip, find_below_first, rest_rises, key_of_found, without_here, without_skip, Rises-put, Rises-without}
+use Rattle.kz_spec_data.specs.Tree.{path_of_row, row_at, put_row, without_row, count_beside}
 use Rattle.kz_tree_rows.specs.Kept.{AreRows, AreCounted}
 
 module _ {A K : Type 0} {cmp : K → K → Ordering} (o : TotalOrder cmp) (key : A → K) (w : A → ℕ) where

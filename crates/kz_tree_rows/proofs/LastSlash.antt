@@ -4,7 +4,7 @@ use Rattle.std.specs.Bool.{nat_eq}
 use Rattle.std.specs.List.{list_any}
 use Rattle.std.proofs.lemmas.List.{take_more, drop_all, drop-append-le}
 use Rattle.std.proofs.lemmas.List.Folds.{list_any-append}
-use Rattle.kz_spec_stores.specs.Tree.{parent_of, name_of}
+use Rattle.kz_spec_data.specs.Tree.{parent_of, name_of}
 
 pub or_true : (a : Bool) → (a || true) ≡ true
 or_true true = refl

@@ -8,12 +8,12 @@ use Rattle.std.proofs.lemmas.List.{get_or_past, length-map}
 use Rattle.std.proofs.lemmas.List.Elements.{filter-append}
 use Rattle.kz_types.specs.Paths.{is_migrated}
 use Rattle.kz_types.specs.declared.tree.Row.{Row}
-use Rattle.kz_blocks.specs.BlockLists.{items_of}
-use Rattle.kz_segments.specs.declared.numbers.Numbers.{Numbers}
-use Rattle.kz_segments.specs.Joins as joins
-use Rattle.kz_segments.specs.Joins.{is_above}
-use Rattle.kz_segments.proofs.Joining.{above_greater, later_joined}
-use Rattle.kz_spec_stores.specs.Tree.{is_later, first_row}
+use Rattle.kz_sorted.specs.BlockLists.{items_of}
+use Rattle.kz_tree_rows.specs.declared.joined_numbers.Numbers.{Numbers}
+use Rattle.kz_tree_rows.specs.Joins as joins
+use Rattle.kz_tree_rows.specs.Joins.{is_above}
+use Rattle.kz_tree_rows.proofs.Joining.{above_greater, later_joined}
+use Rattle.kz_spec_data.specs.Tree.{is_later, first_row}
 use Rattle.kz_tree_rows.specs.Numbered.{numbers_of_row, numbers_of}
 
 abbrev pub first_in : ℤ → List Row → Option Row

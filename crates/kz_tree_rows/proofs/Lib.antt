@@ -1,3 +1,5 @@
+pub mod Joining
+pub mod LevelLemmas
 pub mod BrokerPaths
 pub mod ChildPaths
 pub mod Counts

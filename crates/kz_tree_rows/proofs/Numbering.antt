@@ -5,16 +5,16 @@ use Rattle.std.proofs.lemmas.Int.{ints, clamps}
 use Rattle.std.proofs.lemmas.List.{append_cancel_left, append_cancel_right, map-append, map-set, set-get_or, get_or-set_same, length-map, take_more, take-map, drop-map}
 use Rattle.kz_types.specs.Paths.{is_migrated}
 use Rattle.kz_types.specs.declared.tree.Row.{Row}
-use Rattle.kz_ordered.specs.Order.{bytes_cmp}
-use Rattle.kz_ordered.proofs.Order.{below, equal, above, place, cmp_equal, cmp_greater, less_differs_back, bytes_order}
-use Rattle.kz_ordered.proofs.Lookup.{some_is_none, same_some, find_here, find_skip, find_below_first, rest_rises}
-use Rattle.kz_blocks.specs.BlockLists.{items_of, AreBlocks, IsBlockFor, IsOneChanged}
-use Rattle.kz_blocks.proofs.ItemsOf.{items_of_split, items_of-set}
-use Rattle.kz_blocks.proofs.BlockFor.{put-items_of}
-use Rattle.kz_segments.specs.declared.numbers.Numbers.{Numbers}
-use Rattle.kz_segments.specs.Joins.{greater, no_numbers, joined, all_joined}
-use Rattle.kz_segments.proofs.Joining.{same_numbers, greater-assoc, greater-turned, joined-assoc, joined-turned, all_joined_push}
-use Rattle.kz_spec_stores.specs.Tree.{path_of_row, row_at, put_row}
+use Rattle.kz_types.specs.Order.{bytes_cmp}
+use Rattle.kz_types.proofs.Order.{below, equal, above, place, cmp_equal, cmp_greater, less_differs_back, bytes_order}
+use Rattle.kz_types.proofs.Lookup.{some_is_none, same_some, find_here, find_skip, find_below_first, rest_rises}
+use Rattle.kz_sorted.specs.BlockLists.{items_of, AreBlocks, IsBlockFor, IsOneChanged}
+use Rattle.kz_sorted.proofs.ItemsOf.{items_of_split, items_of-set}
+use Rattle.kz_sorted.proofs.BlockFor.{put-items_of}
+use Rattle.kz_tree_rows.specs.declared.joined_numbers.Numbers.{Numbers}
+use Rattle.kz_tree_rows.specs.Joins.{greater, no_numbers, joined, all_joined}
+use Rattle.kz_tree_rows.proofs.Joining.{same_numbers, greater-assoc, greater-turned, joined-assoc, joined-turned, all_joined_push}
+use Rattle.kz_spec_data.specs.Tree.{path_of_row, row_at, put_row}
 use Rattle.kz_tree_rows.specs.Kept.{AreRows}
 use Rattle.kz_tree_rows.specs.Numbered.{latest_of, numbers_of_row, numbers_of, AreNumbered}
 use Rattle.kz_tree_rows.proofs.Counts.{length_found}

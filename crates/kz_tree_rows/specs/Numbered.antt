@@ -3,11 +3,11 @@ use Rattle.std.specs.Prelude.{◌≡◌, ℤ, List, map, Option, Some, None, if�
 use Rattle.std.specs.Int.{int_max}
 use Rattle.kz_types.specs.Paths.{is_migrated}
 use Rattle.kz_types.specs.declared.tree.Row.{Row}
-use Rattle.kz_ordered.specs.Order.{bytes_cmp}
-use Rattle.kz_blocks.specs.BlockLists.{AreBlocks}
-use Rattle.kz_segments.specs.declared.numbers.Numbers.{Numbers}
-use Rattle.kz_segments.specs.Joins.{all_joined}
-use Rattle.kz_spec_stores.specs.Tree.{path_of_row}
+use Rattle.kz_types.specs.Order.{bytes_cmp}
+use Rattle.kz_sorted.specs.BlockLists.{AreBlocks}
+use Rattle.kz_tree_rows.specs.declared.joined_numbers.Numbers.{Numbers}
+use Rattle.kz_tree_rows.specs.Joins.{all_joined}
+use Rattle.kz_spec_data.specs.Tree.{path_of_row}
 
 -- the last transaction that wrote a migrated znode, or its children
 abbrev pub latest_of : Row → Option ℤ

@@ -1,18 +1,17 @@
 //! Changes of blocks of znodes and of their numbers.
 ghost use Rattle.std.specs.Prelude.{◌≡◌, ◌≢◌, ◌<◌, [], None, ◌+◌, length, slice_index_or, set, insert, remove, IfOk, OnOk, OnErr};
-ghost use Rattle.kz_ordered.specs.Order.{bytes_cmp};
-ghost use Rattle.kz_blocks.specs.BlockLists.{items_of, AreBlocks, IsBlockFor};
-ghost use Rattle.kz_blocks.specs.declared.limits.TheConstants.{MAX_BLOCK_ITEMS};
-ghost use Rattle.kz_spec_stores.specs.Tree.{path_of_row, row_at, put_row, without_row};
+ghost use Rattle.kz_types.specs.Order.{bytes_cmp};
+ghost use Rattle.kz_sorted.specs.BlockLists.{items_of, AreBlocks, IsBlockFor};
+ghost use Rattle.kz_sorted.specs.declared.limits.TheConstants.{MAX_BLOCK_ITEMS};
+ghost use Rattle.kz_spec_data.specs.Tree.{path_of_row, row_at, put_row, without_row};
 ghost use Rattle.kz_tree_rows.specs.Numbered.{numbers_of, AreNumbered};
 
 use crate::numbers::{numbers_of, numbers_with, segments_of};
-use kz_blocks::{
-    Block, HALF_BLOCK_ITEMS, MAX_BLOCK_ITEMS, Shared, block_for, put_first, put_in_block,
+use crate::{Numbers, Segments};
+use kz_sorted::{
+    Block, HALF_BLOCK_ITEMS, Keyed, MAX_BLOCK_ITEMS, Shared, block_for, put_first, put_in_block,
     remove_from_block,
 };
-use kz_segments::{Numbers, Segments};
-use kz_sorted::Keyed;
 use kz_types::{NoMemory, Row};
 use std::alloc::Global;
 

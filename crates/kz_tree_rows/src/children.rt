@@ -1,8 +1,8 @@
 //! The children of a znode.
 ghost use Rattle.std.specs.Prelude.{◌≡◌, ◌≢◌, ◌∷◌, ◌++◌, [], true, false, IfOk};
 ghost use Rattle.std.specs.Ordering.{match_ordering};
-ghost use Rattle.kz_ordered.specs.Order.{bytes_cmp};
-ghost use Rattle.kz_spec_stores.specs.Tree.{has_children};
+ghost use Rattle.kz_types.specs.Order.{bytes_cmp};
+ghost use Rattle.kz_spec_data.specs.Tree.{has_children};
 
 use crate::names::parent_of;
 use crate::rows::Rows;

@@ -2,10 +2,10 @@
 ghost use Rattle.std.specs.Prelude.{◌≡◌, option_map};
 ghost use Rattle.std.specs.List.{filter};
 ghost use Rattle.kz_types.specs.Paths.{is_migrated};
-ghost use Rattle.kz_spec_stores.specs.Tree.{is_later, first_row};
+ghost use Rattle.kz_spec_data.specs.Tree.{is_later, first_row};
 
 use crate::migrated::is_migrated;
-use kz_blocks::Shared;
+use kz_sorted::Shared;
 use kz_types::Row;
 
 fn is_later(zxid: i64, row: &Row) -> bool

@@ -1,6 +1,6 @@
 //! The parts of a path at its last `/`.
 ghost use Rattle.std.specs.Prelude.{◌≡◌};
-ghost use Rattle.kz_spec_stores.specs.Tree.{parent_of, name_of};
+ghost use Rattle.kz_spec_data.specs.Tree.{parent_of, name_of};
 
 /// The path of the parent: what stands before the last `/`. It is empty where the parent is the root.
 pub fn parent_of(path: &[u8]) -> &[u8]

@@ -2,13 +2,12 @@
 ghost use Rattle.std.specs.Prelude.{◌≡◌, [], Some, length, min, option_map, IfOk, OnOk, OnErr};
 ghost use Rattle.std.specs.List.{filter};
 ghost use Rattle.kz_types.specs.Paths.{is_migrated};
-ghost use Rattle.kz_spec_stores.specs.Tree.{row_at, put_row, without_row, is_after, is_later, first_row};
+ghost use Rattle.kz_spec_data.specs.Tree.{row_at, put_row, without_row, is_after, is_later, first_row};
 ghost use Rattle.kz_tree_rows.specs.Kept.{AreRows};
 
-use crate::changes;
 use crate::later::first_later;
-use kz_blocks::{Block, Items, Shared, block_for, items_after};
-use kz_segments::Segments;
+use crate::{Segments, changes};
+use kz_sorted::{Block, Items, Shared, block_for, items_after};
 use kz_types::{Duplicate, NoMemory, Row, copy_all};
 use std::alloc::Global;
 use std::marker::Model;
@@ -28,7 +27,7 @@ pub struct NumberedRows {
 impl Model for NumberedRows {
     ghost use Rattle.std.specs.Prelude.{List};
     ghost use Rattle.kz_types.specs.declared.tree.Row.{Row};
-    ghost use Rattle.kz_blocks.specs.BlockLists.{items_of};
+    ghost use Rattle.kz_sorted.specs.BlockLists.{items_of};
     ghost use Rattle.kz_tree_rows.specs.Numbered.{AreNumbered};
 
     ghost Value = { List Row };

@@ -1,13 +1,13 @@
 //! The numbers of znodes.
 ghost use Rattle.std.specs.Prelude.{◌≡◌, ◌≤ℤ◌, List, map, IfOk, IfSome, IsTrue, ◌↔◌, option_map};
 ghost use Rattle.kz_types.specs.declared.tree.Row.{Row};
-ghost use Rattle.kz_spec_stores.specs.Tree.{row_at, put_row};
+ghost use Rattle.kz_spec_data.specs.Tree.{row_at, put_row};
 ghost use Rattle.kz_tree_rows.specs.Kept.{AreRows};
 ghost use Rattle.kz_tree_rows.specs.Numbered.{latest_of, numbers_of_row, numbers_of};
 
 use crate::migrated::is_migrated;
-use kz_blocks::{Block, Shared};
-use kz_segments::{Numbers, Segments, join};
+use crate::{Numbers, Segments, join};
+use kz_sorted::{Block, Shared};
 use kz_types::{NoMemory, Row};
 use std::alloc::Global;
 

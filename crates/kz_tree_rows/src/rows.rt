@@ -2,12 +2,12 @@
 ghost use Rattle.std.specs.Prelude.{◌≡◌, ◌≢◌, [], None, length, option_map, Some, IfOk, OnOk, OnErr, if◌then◌else◌};
 ghost use Rattle.std.specs.List.{filter, count_by};
 ghost use Rattle.kz_types.specs.Paths.{is_migrated};
-ghost use Rattle.kz_spec_stores.specs.Tree.{row_at, put_row, without_row, with_child_change, is_after, is_later, first_row, count_beside};
+ghost use Rattle.kz_spec_data.specs.Tree.{row_at, put_row, without_row, with_child_change, is_after, is_later, first_row, count_beside};
 ghost use Rattle.kz_tree_rows.specs.Kept.{AreRows};
 
 use crate::migrated::is_migrated;
 use crate::numbered::NumberedRows;
-use kz_blocks::Items;
+use kz_sorted::Items;
 use kz_types::{Duplicate, NoMemory, Row, ZPath};
 use std::alloc::Global;
 use std::marker::Model;

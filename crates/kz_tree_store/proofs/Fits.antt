@@ -10,17 +10,17 @@ use Rattle.std.specs.Int.{w32, w64, to_be_bytes, cast_unsigned}
 use Rattle.std.specs.Int.RustNames.{FitsSigned}
 use Rattle.std.proofs.lemmas.Bool.Decides.{Decides-int_eq}
 use Rattle.std.proofs.lemmas.Int.{ints}
-use Rattle.kz_ordered.specs.Ordered.{Rises, RisesAbove, put, without}
+use Rattle.kz_types.specs.Ordered.{Rises, RisesAbove, put, without}
 use Rattle.kz_types.specs.declared.limits.TheConstants.{MAX_LONG}
 use Rattle.kz_types.specs.declared.tree.Row.{Row}
 use Rattle.kz_types.specs.declared.tree.Op.{Op}
 use Rattle.kz_types.specs.declared.tree.Op.TheVariants.{Create, Set, Delete, Check}
 use Rattle.kz_types.specs.declared.fault.TreeFault.{TreeFault}
-use Rattle.kz_spec_values.specs.Forms.{items_written, AllFit}
-use Rattle.kz_spec_stores.specs.Tree.{Tree, Refusal, code, limit, is_live, may_own, op_refusal, after_op, rows_unless_refused, without_owned, after_ops, with_zxid, with_sessions, multi, begin_session, end_session}
-use Rattle.kz_spec_files.specs.declared.files.Txn.TheVariants.{Multi, LoadRows, LoadEnd, Begin, End}
-use Rattle.kz_spec_files.specs.Transactions.{byte_field, owner_bytes, session, max_session, MayBeOwner, create, set, at_version, op, op_written, row, txn_written}
-use Rattle.kz_spec_files.specs.Loads.{LoadRefusal, rise_from, is_header, is_loadable, is_lasting, is_reserved, row_refusal, are_loadable, is_load}
+use Rattle.kz_spec_data.specs.Forms.{items_written, AllFit}
+use Rattle.kz_spec_data.specs.Tree.{Tree, Refusal, code, limit, is_live, may_own, op_refusal, after_op, rows_unless_refused, without_owned, after_ops, with_zxid, with_sessions, multi, begin_session, end_session}
+use Rattle.kz_spec_data.specs.declared.files.Txn.TheVariants.{Multi, LoadRows, LoadEnd, Begin, End}
+use Rattle.kz_spec_data.specs.Transactions.{byte_field, owner_bytes, session, max_session, MayBeOwner, create, set, at_version, op, op_written, row, txn_written}
+use Rattle.kz_spec_data.specs.Loads.{LoadRefusal, rise_from, is_header, is_loadable, is_lasting, is_reserved, row_refusal, are_loadable, is_load}
 use Rattle.kz_tree_store.specs.Held.{ArePositive}
 use Rattle.kz_tree_store.specs.Changes.{FitsIfFew}
 use Rattle.kz_tree_store.specs.Payloads.{IsOwnerHeld, IsOpHeld, IsRowHeld}

@@ -1,14 +1,14 @@
 -- One frame more in a tree's file.
 use Rattle.std.proofs.Common.{◌≡◌, ◌⊎◌, ◌+◌, ℕ, Bool, true, false, cond, List, [], ◌∷◌, ◌++◌, Option, Some, None, is_some, Result, Ok, Err, refl, sym, ap, ◌∙◌, subst, inl, inr}
 use Rattle.kz_disk.specs.Disks.{StaysTold}
-use Rattle.kz_spec_stores.specs.Tree.{Tree}
-use Rattle.kz_spec_files.specs.declared.files.Txn.{Txn}
-use Rattle.kz_spec_files.specs.Frames.{Framed, Journal, journal_with_frame, tree_letter, journal_of, journal_with_seal, LeftBySeal, end_after}
-use Rattle.kz_spec_files.specs.Transactions.{txn_of}
-use Rattle.kz_spec_files.specs.TreeFile.{Stored, nothing_stored, after_reading, or_damaged, after_frames, whole_or_damaged, stored_in, tree_of_stored}
-use Rattle.kz_spec_stores.specs.Requests.{Disk}
+use Rattle.kz_spec_data.specs.Tree.{Tree}
+use Rattle.kz_spec_data.specs.declared.files.Txn.{Txn}
+use Rattle.kz_spec_data.specs.Frames.{Framed, Journal, journal_with_frame, tree_letter, journal_of, journal_with_seal, LeftBySeal, end_after}
+use Rattle.kz_spec_data.specs.Transactions.{txn_of}
+use Rattle.kz_spec_data.specs.TreeFile.{Stored, nothing_stored, after_reading, or_damaged, after_frames, whole_or_damaged, stored_in, tree_of_stored}
+use Rattle.kz_spec_data.specs.Requests.{Disk}
 use Rattle.kz_journal.specs.Held.{IsSealed}
-use Rattle.kz_store_file.specs.Changes.{SealsFile}
+use Rattle.kz_journal.specs.Changes.{SealsFile}
 use Rattle.kz_tree_store.specs.Opened.{Known, known_of, known_in, IsTreeFile, LeavesTree, tree_found, tree_known}
 use Rattle.kz_tree_store.specs.Changes.{MakesKnown, HasTxnMore, HasTxn, LeftByTxn}
 

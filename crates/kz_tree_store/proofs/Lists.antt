@@ -1,7 +1,7 @@
 -- What holds of each item of a list, one item after another.
 use Rattle.std.proofs.Common.{◌≡◌, ℕ, ◌+◌, ◌<◌, ◌≤◌, List, [], ◌∷◌, ◌++◌, length, take, get_or, sym, subst}
 use Rattle.std.proofs.lemmas.List.{take_more, take_all}
-use Rattle.kz_spec_values.specs.Forms.{AllFit}
+use Rattle.kz_spec_data.specs.Forms.{AllFit}
 
 fit_push : {X : Type 0} (P : X → Type 0) (xs : List X) (x : X) → AllFit P xs → P x → AllFit P (xs ++ x ∷ [])
 fit_push P [] x all p = (p, tt)

@@ -2,10 +2,10 @@
 use Rattle.std.proofs.Common.{◌≡◌, List, Option, Some, None, refl, inl, subst}
 use Rattle.kz_types.specs.declared.tree.Row.{Row}
 use Rattle.kz_types.specs.declared.fault.TreeFault.TheVariants as tree_fault
-use Rattle.kz_spec_stores.specs.Tree.{Tree}
-use Rattle.kz_spec_stores.specs.Requests.{Only}
-use Rattle.kz_store_file.specs.declared.fault.ChangeFault.{ChangeFault}
-use Rattle.kz_store_file.specs.declared.fault.ChangeFault.TheVariants as change
+use Rattle.kz_spec_data.specs.Tree.{Tree}
+use Rattle.kz_spec_data.specs.Requests.{Only}
+use Rattle.kz_journal.specs.declared.change_fault.ChangeFault.{ChangeFault}
+use Rattle.kz_journal.specs.declared.change_fault.ChangeFault.TheVariants as change
 use Rattle.kz_tree_store.specs.declared.last.LoadLast.{LoadLast}
 use Rattle.kz_tree_store.specs.LoadCalls.{load_fault_of, LeftByLoad}
 

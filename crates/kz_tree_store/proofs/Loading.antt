@@ -3,9 +3,9 @@ use Rattle.std.proofs.Common.{◌≡◌, ℕ, ◌+◌, ◌<◌, ℤ, Bool, true,
 use Rattle.std.proofs.lemmas.List.{take_more, drop_more}
 use Rattle.std.specs.Prelude.{is_none, ◌&&◌}
 use Rattle.kz_types.specs.declared.tree.Row.{Row}
-use Rattle.kz_spec_stores.specs.Tree.{Tree}
-use Rattle.kz_spec_files.specs.Loads.{LoadRefusal, is_header, row_refusal, are_loadable, is_load}
-use Rattle.kz_spec_files.specs.TreeFile.{over, under_way, stored_by_load}
+use Rattle.kz_spec_data.specs.Tree.{Tree}
+use Rattle.kz_spec_data.specs.Loads.{LoadRefusal, is_header, row_refusal, are_loadable, is_load}
+use Rattle.kz_spec_data.specs.TreeFile.{over, under_way, stored_by_load}
 use Rattle.kz_tree.specs.declared.load.LoadFault.{LoadFault}
 use Rattle.kz_tree.specs.declared.load.LoadFault.TheVariants.{Broken, Limit, NoMemory}
 use Rattle.kz_tree.specs.Loads.{IsHeaderFaultOf, IsRowFaultOf, with_row}

@@ -4,14 +4,14 @@ use Rattle.std.specs.Prelude.{is_none, not}
 use Rattle.std.proofs.lemmas.Bool.Decides.{Decides-int_eq}
 use Rattle.kz_types.specs.declared.tree.Row.{Row}
 use Rattle.kz_types.specs.declared.tree.Op.{Op}
-use Rattle.kz_spec_stores.specs.Tree.{Tree, multi, begin_session, end_session}
-use Rattle.kz_spec_files.specs.declared.files.Txn.{Txn}
-use Rattle.kz_spec_files.specs.declared.files.Txn.TheVariants.{Multi, LoadRows, LoadEnd, Begin, End}
-use Rattle.kz_spec_stores.specs.Requests.{Either, Between}
-use Rattle.kz_spec_files.specs.Loads.{is_header, are_loadable, is_load}
-use Rattle.kz_spec_files.specs.TreeFile.{Load, fresh, under_way, over, is_fresh, Stored, stored_of, stored_next, load_with_rows, with_load, stored_by_load, after_txn}
+use Rattle.kz_spec_data.specs.Tree.{Tree, multi, begin_session, end_session}
+use Rattle.kz_spec_data.specs.declared.files.Txn.{Txn}
+use Rattle.kz_spec_data.specs.declared.files.Txn.TheVariants.{Multi, LoadRows, LoadEnd, Begin, End}
+use Rattle.kz_spec_data.specs.Requests.{Either, Between}
+use Rattle.kz_spec_data.specs.Loads.{is_header, are_loadable, is_load}
+use Rattle.kz_spec_data.specs.TreeFile.{Load, fresh, under_way, over, is_fresh, Stored, stored_of, stored_next, load_with_rows, with_load, stored_by_load, after_txn}
 use Rattle.kz_disk.specs.Disks.{StaysTold}
-use Rattle.kz_spec_files.specs.Frames.{tree_letter, journal_of}
+use Rattle.kz_spec_data.specs.Frames.{tree_letter, journal_of}
 use Rattle.kz_tree_store.specs.Opened.{Known, known_of, rows_known, IsTreeFile, LeavesTree}
 use Rattle.kz_tree_store.specs.Changes.{MakesTree, MakesKnown, HasTxn, LeftByTxn}
 use Rattle.kz_tree_store.proofs.Frames.{same_after, left_by_change}

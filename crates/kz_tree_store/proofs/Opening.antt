@@ -1,7 +1,7 @@
 -- How a file is opened as a tree, or why it isn't.
 use Rattle.std.proofs.Common.{◌≡◌, ◌+◌, ◌≤◌, ℕ, false, List, length, Option, Some, None, is_some, Err, refl, sym, ap, ◌∙◌, subst, arith}
-use Rattle.kz_spec_files.specs.Frames.{tree_letter}
-use Rattle.kz_spec_files.specs.TreeFile.{after_frames, stored_in, tree_of_stored}
+use Rattle.kz_spec_data.specs.Frames.{tree_letter}
+use Rattle.kz_spec_data.specs.TreeFile.{after_frames, stored_in, tree_of_stored}
 use Rattle.kz_journal.specs.declared.fault.JournalFault.{JournalFault}
 use Rattle.kz_journal.specs.declared.fault.JournalFault.TheVariants.{DiskFault, Damaged, Full, NoMemory, Down}
 use Rattle.kz_journal.specs.Openings.{no_journal, IsRefused}

@@ -7,18 +7,18 @@ use Rattle.std.specs.declared.cmp.Ordering.TheVariants.{Less, Equal, Greater}
 use Rattle.std.specs.Int.{w8, w64}
 use Rattle.std.proofs.lemmas.Bool.{leb-true}
 use Rattle.std.proofs.lemmas.Int.{ints}
-use Rattle.kz_ordered.specs.Ordered.{put, without}
+use Rattle.kz_types.specs.Ordered.{put, without}
 use Rattle.kz_types.specs.declared.tree.Op.{Op}
 use Rattle.kz_types.specs.declared.tree.Row.{Row}
 use Rattle.kz_types.specs.declared.fault.TreeFault.{TreeFault}
 use Rattle.kz_types.specs.declared.limits.TheConstants.{MAX_LONG}
-use Rattle.kz_spec_values.specs.Fields.{Reading, ◌>>=◌, start}
-use Rattle.kz_spec_stores.specs.Tree.{Tree, multi as made_by, begin_session, end_session, after_ops, is_live, with_zxid, with_sessions, without_owned}
-use Rattle.kz_spec_files.specs.declared.files.Txn.{Txn}
-use Rattle.kz_spec_files.specs.declared.files.Txn.TheVariants.{Multi, LoadRows, LoadEnd, Begin, End}
-use Rattle.kz_spec_files.specs.Transactions.{Flaw, at_byte, goes_on, digits_at, within, int, session, max_session, move, multi, load_rows, load_end, fields_at, txn_alone, txn_of}
-use Rattle.kz_spec_files.specs.Loads.{rise_from, is_header, are_loadable, is_load}
-use Rattle.kz_spec_files.specs.TreeFile.{Load, fresh, under_way, over, Stored, stored_of, load_with_rows, with_load, stored_by_load, after_txn}
+use Rattle.kz_spec_data.specs.Fields.{Reading, ◌>>=◌, start}
+use Rattle.kz_spec_data.specs.Tree.{Tree, multi as made_by, begin_session, end_session, after_ops, is_live, with_zxid, with_sessions, without_owned}
+use Rattle.kz_spec_data.specs.declared.files.Txn.{Txn}
+use Rattle.kz_spec_data.specs.declared.files.Txn.TheVariants.{Multi, LoadRows, LoadEnd, Begin, End}
+use Rattle.kz_spec_data.specs.Transactions.{Flaw, at_byte, goes_on, digits_at, within, int, session, max_session, move, multi, load_rows, load_end, fields_at, txn_alone, txn_of}
+use Rattle.kz_spec_data.specs.Loads.{rise_from, is_header, are_loadable, is_load}
+use Rattle.kz_spec_data.specs.TreeFile.{Load, fresh, under_way, over, Stored, stored_of, load_with_rows, with_load, stored_by_load, after_txn}
 use Rattle.kz_tree_store.specs.Held.{ArePositive}
 use Rattle.kz_tree_store.specs.declared.fault.FrameFault.{FrameFault}
 use Rattle.kz_tree_store.specs.Taken.{Says, BeginsFromOne}

@@ -1,13 +1,13 @@
 -- What a journal stands for that is read frame after frame.
 use Rattle.std.proofs.Common.{◌≡◌, ℕ, Bool, false, cond, List, [], Option, Some, None, Ok, Err, refl, sym, ap, ◌∙◌}
-use Rattle.kz_spec_files.specs.Frames.{Framed, Journal, after_frame, tree_letter, journal_of}
-use Rattle.kz_spec_files.specs.Transactions.{txn_of}
-use Rattle.kz_spec_files.specs.TreeFile.{Stored, is_fresh, after_reading, or_damaged, after_frames, whole_or_damaged, stored_in}
+use Rattle.kz_spec_data.specs.Frames.{Framed, Journal, after_frame, tree_letter, journal_of}
+use Rattle.kz_spec_data.specs.Transactions.{txn_of}
+use Rattle.kz_spec_data.specs.TreeFile.{Stored, is_fresh, after_reading, or_damaged, after_frames, whole_or_damaged, stored_in}
 use Rattle.kz_journal.specs.Nexts.{IsAllRead, IsDamagedAt}
 use Rattle.kz_tree_store.specs.declared.fault.TreeOpenFault.{TreeOpenFault}
 use Rattle.kz_tree_store.specs.declared.fault.TreeOpenFault.TheVariants.{DiskFault, Damaged, NoMemory}
 use Rattle.kz_tree_store.specs.Opened.{known_in, read_known, IsTreeFile, stored_after, HasRead, TakesFrame, IsFrameTaken, Steps}
-use Rattle.kz_spec_stores.specs.Tree.{Tree}
+use Rattle.kz_spec_data.specs.Tree.{Tree}
 
 -- ---- one frame after another
 

@@ -2,13 +2,13 @@
 use Rattle.std.proofs.Common.{◌≡◌, inl, inr, ℕ, ◌+◌, ◌≤◌, max, Bool, List, length, Option, Some, Result, Ok, Err, ap, ◌∙◌, subst, arith}
 use Rattle.std.specs.Prelude.{OnOk, ⊤}
 use Rattle.kz_types.specs.declared.limits.TheConstants.{MAX_FILE_BYTES}
-use Rattle.kz_spec_stores.specs.Requests.{Disk, StoreFile, answer_by, ChangesDisk}
-use Rattle.kz_spec_files.specs.declared.files.Txn.{Txn}
-use Rattle.kz_spec_files.specs.Frames.{tree_letter, journal_of, journal_with_frame, LeftByAppend}
-use Rattle.kz_spec_files.specs.Transactions.{TxnFits, txn_of, txn_written}
-use Rattle.kz_store_file.specs.declared.fault.ChangeFault.{ChangeFault}
-use Rattle.kz_store_file.specs.declared.fault.ChangeFault.TheVariants.{Failed, Full, NoMemory}
-use Rattle.kz_store_file.specs.Changes.{answer_of_change_fault, HasFrame}
+use Rattle.kz_spec_data.specs.Requests.{Disk, StoreFile, answer_by, ChangesDisk}
+use Rattle.kz_spec_data.specs.declared.files.Txn.{Txn}
+use Rattle.kz_spec_data.specs.Frames.{tree_letter, journal_of, journal_with_frame, LeftByAppend}
+use Rattle.kz_spec_data.specs.Transactions.{TxnFits, txn_of, txn_written}
+use Rattle.kz_journal.specs.declared.change_fault.ChangeFault.{ChangeFault}
+use Rattle.kz_journal.specs.declared.change_fault.ChangeFault.TheVariants.{Failed, Full, NoMemory}
+use Rattle.kz_journal.specs.Changes.{answer_of_change_fault, HasFrame}
 use Rattle.kz_tree_store.specs.Changes.{IsPayloadOf, HasTxn, LeftByTxn}
 
 -- where the file keeps the limit, so does the payload

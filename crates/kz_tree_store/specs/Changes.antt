@@ -1,11 +1,11 @@
 -- What a transaction makes of what a store knows of its file, and what writing it did to the file's journal.
 use Rattle.std.specs.Prelude.{◌≡◌, ◌⊎◌, ◌≤◌, ℕ, is_some, List, length, Option, Some, Ok}
 use Rattle.kz_types.specs.declared.limits.TheConstants.{MAX_FILE_BYTES}
-use Rattle.kz_spec_stores.specs.Tree.{Tree}
-use Rattle.kz_spec_files.specs.declared.files.Txn.{Txn}
-use Rattle.kz_spec_files.specs.Frames.{Journal, tree_letter, journal_of, journal_with_frame}
-use Rattle.kz_spec_files.specs.Transactions.{TxnFits, txn_of, txn_written}
-use Rattle.kz_spec_files.specs.TreeFile.{Load, over, Stored, after_txn}
+use Rattle.kz_spec_data.specs.Tree.{Tree}
+use Rattle.kz_spec_data.specs.declared.files.Txn.{Txn}
+use Rattle.kz_spec_data.specs.Frames.{Journal, tree_letter, journal_of, journal_with_frame}
+use Rattle.kz_spec_data.specs.Transactions.{TxnFits, txn_of, txn_written}
+use Rattle.kz_spec_data.specs.TreeFile.{Load, over, Stored, after_txn}
 use Rattle.kz_tree_store.specs.Opened.{Known, known_of}
 
 -- ---- transactions

@@ -1,7 +1,7 @@
 -- What the frames of a tree's file stand for, as it is held while they are read.
 use Rattle.std.specs.Prelude.{◌≡◌, ℤ, pos, int_le, true, List}
 use Rattle.std.specs.List.{list_all}
-use Rattle.kz_spec_files.specs.TreeFile.{Load, fresh, under_way, over, Stored}
+use Rattle.kz_spec_data.specs.TreeFile.{Load, fresh, under_way, over, Stored}
 use Rattle.kz_tree_store.specs.declared.held.Loading.{Loading}
 use Rattle.kz_tree_store.specs.declared.held.Loading.TheVariants as loading
 use Rattle.kz_tree_store.specs.declared.held.Held.{Held}

@@ -3,14 +3,14 @@ use Rattle.std.specs.Prelude.{◌≡◌, ⊤, ℤ, Bool, true, false, ℕ, List,
 use Rattle.kz_types.specs.declared.tree.Row.{Row}
 use Rattle.kz_types.specs.declared.fault.TreeFault.{TreeFault}
 use Rattle.kz_types.specs.declared.fault.TreeFault.TheVariants as tree_fault
-use Rattle.kz_spec_stores.specs.Tree.{Tree}
-use Rattle.kz_spec_stores.specs.Requests.{Disk, StoreAnswer, Done, Refused, NoMemory, Failed, Down, Full, ChangesDisk, Only, Either}
-use Rattle.kz_spec_files.specs.declared.files.Txn.TheVariants.{LoadRows, LoadEnd}
-use Rattle.kz_spec_files.specs.Transactions.{txn_written}
-use Rattle.kz_spec_files.specs.Loads.{is_load}
+use Rattle.kz_spec_data.specs.Tree.{Tree}
+use Rattle.kz_spec_data.specs.Requests.{Disk, StoreAnswer, Done, Refused, NoMemory, Failed, Down, Full, ChangesDisk, Only, Either}
+use Rattle.kz_spec_data.specs.declared.files.Txn.TheVariants.{LoadRows, LoadEnd}
+use Rattle.kz_spec_data.specs.Transactions.{txn_written}
+use Rattle.kz_spec_data.specs.Loads.{is_load}
 use Rattle.kz_tree_store.specs.declared.last.LoadLast.{LoadLast}
-use Rattle.kz_store_file.specs.declared.fault.ChangeFault.{ChangeFault}
-use Rattle.kz_store_file.specs.declared.fault.ChangeFault.TheVariants as change
+use Rattle.kz_journal.specs.declared.change_fault.ChangeFault.{ChangeFault}
+use Rattle.kz_journal.specs.declared.change_fault.ChangeFault.TheVariants as change
 use Rattle.kz_tree_store.specs.Opened.{Known}
 
 -- the znodes of a load so far

@@ -4,15 +4,15 @@ use Rattle.std.proofs.Common.{ap}
 use Rattle.kz_types.specs.Causes.{Rose}
 use Rattle.kz_types.specs.declared.tree.Row.{Row}
 use Rattle.kz_disk.specs.Disks.{NothingPends}
-use Rattle.kz_spec_stores.specs.Tree.{Tree}
-use Rattle.kz_spec_stores.specs.Requests.{Disk}
-use Rattle.kz_spec_files.specs.Frames.{Framed, Journal, tree_letter, after_frame, journal_of}
-use Rattle.kz_spec_files.specs.Transactions.{txn_of}
-use Rattle.kz_spec_files.specs.TreeFile.{Load, fresh, under_way, over, is_fresh, Stored, nothing_stored, after_reading, after_frames, whole_or_damaged, stored_in, tree_of_stored, tree_of}
+use Rattle.kz_spec_data.specs.Tree.{Tree}
+use Rattle.kz_spec_data.specs.Requests.{Disk}
+use Rattle.kz_spec_data.specs.Frames.{Framed, Journal, tree_letter, after_frame, journal_of}
+use Rattle.kz_spec_data.specs.Transactions.{txn_of}
+use Rattle.kz_spec_data.specs.TreeFile.{Load, fresh, under_way, over, is_fresh, Stored, nothing_stored, after_reading, after_frames, whole_or_damaged, stored_in, tree_of_stored, tree_of}
 use Rattle.kz_journal.specs.declared.fault.JournalFault.{JournalFault}
 use Rattle.kz_journal.specs.declared.fault.JournalFault.TheVariants as journal_fault
 use Rattle.kz_journal.specs.Nexts.{IsAllRead}
-use Rattle.kz_store_file.specs.Values.{LeavesValue, settled_value}
+use Rattle.kz_journal.specs.Values.{LeavesValue, settled_value}
 use Rattle.kz_tree_store.specs.declared.fault.TreeOpenFault.{TreeOpenFault}
 use Rattle.kz_tree_store.specs.declared.fault.TreeOpenFault.TheVariants as fault
 

@@ -6,12 +6,12 @@ use Rattle.kz_types.specs.PathRule.{is_path}
 use Rattle.kz_types.specs.declared.tree.Row.{Row}
 use Rattle.kz_types.specs.declared.tree.Op.{Op}
 use Rattle.kz_types.specs.declared.tree.Op.TheVariants.{Create, Set, Delete, Check}
-use Rattle.kz_spec_stores.specs.Tree.{Tree}
-use Rattle.kz_spec_stores.specs.Requests.{TreeChange}
-use Rattle.kz_spec_stores.specs.Requests as changes
-use Rattle.kz_spec_files.specs.declared.files.Txn.{Txn}
-use Rattle.kz_spec_files.specs.declared.files.Txn.TheVariants.{Multi, Begin, End}
-use Rattle.kz_spec_files.specs.Transactions.{txn_written}
+use Rattle.kz_spec_data.specs.Tree.{Tree}
+use Rattle.kz_spec_data.specs.Requests.{TreeChange}
+use Rattle.kz_spec_data.specs.Requests as changes
+use Rattle.kz_spec_data.specs.declared.files.Txn.{Txn}
+use Rattle.kz_spec_data.specs.declared.files.Txn.TheVariants.{Multi, Begin, End}
+use Rattle.kz_spec_data.specs.Transactions.{txn_written}
 
 -- the transaction of a change of a tree, with the next zxid
 abbrev pub txn_of_change : Tree → TreeChange → Txn

@@ -3,8 +3,8 @@ use Rattle.std.specs.Prelude.{◌≡◌, ℕ, Bool, true, false, ⊤, List, Opti
 use Rattle.kz_types.specs.Causes.{Rose}
 use Rattle.kz_types.specs.declared.fault.TreeFault.{TreeFault}
 use Rattle.kz_types.specs.declared.fault.TreeFault.TheVariants as tree_fault
-use Rattle.kz_spec_stores.specs.Requests.{Disk, Fits, IsTooLong}
-use Rattle.kz_spec_files.specs.Frames.{HasNoRoomForSeal}
+use Rattle.kz_spec_data.specs.Requests.{Disk, Fits, IsTooLong}
+use Rattle.kz_spec_data.specs.Frames.{HasNoRoomForSeal}
 use Rattle.kz_journal.specs.Held.{IsSealed}
 use Rattle.kz_journal.specs.Journals.{sealed_file}
 

@@ -3,11 +3,11 @@ use Rattle.std.specs.Prelude.{◌≡◌, ◌⊎◌, ◌<◌, ◌^◌, ℕ, Bool,
 use Rattle.kz_types.specs.Causes.{Rose}
 use Rattle.kz_types.specs.declared.tree.Row.{Row}
 use Rattle.kz_disk.specs.Disks.{NothingPends}
-use Rattle.kz_spec_stores.specs.Tree.{Tree}
-use Rattle.kz_spec_stores.specs.Requests.{Disk}
-use Rattle.kz_spec_files.specs.Frames.{tree_letter, journal_of}
-use Rattle.kz_spec_files.specs.TreeFile.{Stored, stored_in, tree_of}
-use Rattle.kz_spec_files.specs.TreeFile as loads
+use Rattle.kz_spec_data.specs.Tree.{Tree}
+use Rattle.kz_spec_data.specs.Requests.{Disk}
+use Rattle.kz_spec_data.specs.Frames.{tree_letter, journal_of}
+use Rattle.kz_spec_data.specs.TreeFile.{Stored, stored_in, tree_of}
+use Rattle.kz_spec_data.specs.TreeFile as loads
 use Rattle.kz_journal.specs.Held.{disk_of, disk_state}
 use Rattle.kz_tree_store.specs.declared.fault.TreeOpenFault.{TreeOpenFault}
 use Rattle.kz_tree_store.specs.declared.fault.TreeOpenFault.TheVariants as fault

@@ -1,9 +1,9 @@
 -- What the payloads of frames make of what is stored, as they are read.
 use Rattle.std.specs.Prelude.{◌≡◌, pos, ◌≤ℤ◌, ⊤, Option, Some, None, Result, Ok, Err}
-use Rattle.kz_spec_stores.specs.Tree.{Tree}
-use Rattle.kz_spec_files.specs.TreeFile.{Stored, over}
-use Rattle.kz_spec_files.specs.declared.files.Txn.{Txn}
-use Rattle.kz_spec_files.specs.declared.files.Txn.TheVariants.{Multi, LoadRows, LoadEnd, Begin, End}
+use Rattle.kz_spec_data.specs.Tree.{Tree}
+use Rattle.kz_spec_data.specs.TreeFile.{Stored, over}
+use Rattle.kz_spec_data.specs.declared.files.Txn.{Txn}
+use Rattle.kz_spec_data.specs.declared.files.Txn.TheVariants.{Multi, LoadRows, LoadEnd, Begin, End}
 use Rattle.kz_tree.specs.declared.load.LoadFault.{LoadFault}
 use Rattle.kz_tree.specs.declared.load.LoadFault.TheVariants as load_fault
 use Rattle.kz_tree_store.specs.declared.fault.FrameFault.{FrameFault}

@@ -1,18 +1,17 @@
 //! Writing a frame for a transaction.
 ghost use Rattle.std.specs.Prelude.{◌≡◌, true, false, length, List, ℕ, Some, ⊤, OnOk, IsErrOf};
 ghost use Rattle.kz_disk.specs.Disks.{StaysTold};
-ghost use Rattle.kz_spec_stores.specs.Requests.{answer_by, ChangesDisk};
-ghost use Rattle.kz_spec_files.specs.Frames.{tree_letter, journal_of};
-ghost use Rattle.kz_spec_files.specs.Transactions.{txn_written};
+ghost use Rattle.kz_spec_data.specs.Requests.{answer_by, ChangesDisk};
+ghost use Rattle.kz_spec_data.specs.Frames.{tree_letter, journal_of};
+ghost use Rattle.kz_spec_data.specs.Transactions.{txn_written};
 ghost use Rattle.kz_journal.specs.Held.{disk_of, letter_of, has_ended, is_down, disk_state};
-ghost use Rattle.kz_store_file.specs.Changes.{answer_of_change_fault, IfUnwritten};
+ghost use Rattle.kz_journal.specs.Changes.{answer_of_change_fault, IfUnwritten};
 ghost use Rattle.kz_tree_store.specs.Changes.{FitsIfFew, HasTxn, LeftByTxn};
 
 use crate::payload::txn_bytes;
 use kz_disk::Disk;
-use kz_journal::Journal;
-use kz_spec_files::Txn;
-use kz_store_file::{ChangeFault, write_frame};
+use kz_journal::{ChangeFault, Journal, write_frame};
+use kz_spec_data::Txn;
 use std::alloc::Global;
 
 /// Appends a frame with this transaction.

@@ -23,7 +23,7 @@ pub(crate) struct Held {
 
 impl Held {
     ghost use Rattle.std.specs.Prelude.{◌≡◌};
-    ghost use Rattle.kz_spec_files.specs.TreeFile.{nothing_stored, is_fresh};
+    ghost use Rattle.kz_spec_data.specs.TreeFile.{nothing_stored, is_fresh};
     ghost use Rattle.kz_tree_store.specs.Held.{load_of, stored};
 
     /// What no frame stands for.

@@ -2,7 +2,7 @@
 ghost use Rattle.std.specs.Prelude.{◌≡◌, ◌++◌, IfOk};
 ghost use Rattle.kz_tree_store.specs.LoadCalls.{load_fault_of, rows_so_far};
 
-use kz_store_file::ChangeFault;
+use kz_journal::ChangeFault;
 use kz_tree::TreeFault;
 use kz_types::{NoMemory, Row, Sequence, copy_all};
 use std::alloc::Global;

@@ -7,18 +7,18 @@ use crate::loads::loaded_tree;
 use crate::store::TreeStore;
 use crate::txns::{load_end_txn, load_rows_txn};
 use kz_disk::Disk;
-use kz_store_file::ChangeFault;
+use kz_journal::ChangeFault;
 use kz_tree::TreeFault;
 use kz_types::Row;
 
 impl<D: Disk> TreeStore<D> {
     ghost use Rattle.std.specs.Prelude.{◌≡◌, ◌++◌, true, false, is_none, None, Some, List, OnOk, OnErr, IsErrOf, length, ⊤};
     ghost use Rattle.kz_types.specs.declared.tree.Row.{Row as RowValue};
-    ghost use Rattle.kz_spec_stores.specs.Requests.{answer_by, answer_of_tree_fault, ChangesDisk, Only};
-    ghost use Rattle.kz_spec_files.specs.declared.files.Txn.TheVariants.{LoadRows, LoadEnd};
-    ghost use Rattle.kz_spec_files.specs.Transactions.{txn_written};
-    ghost use Rattle.kz_spec_files.specs.Loads.{is_load};
-    ghost use Rattle.kz_store_file.specs.Changes.{answer_of_change_fault};
+    ghost use Rattle.kz_spec_data.specs.Requests.{answer_by, answer_of_tree_fault, ChangesDisk, Only};
+    ghost use Rattle.kz_spec_data.specs.declared.files.Txn.TheVariants.{LoadRows, LoadEnd};
+    ghost use Rattle.kz_spec_data.specs.Transactions.{txn_written};
+    ghost use Rattle.kz_spec_data.specs.Loads.{is_load};
+    ghost use Rattle.kz_journal.specs.Changes.{answer_of_change_fault};
     ghost use Rattle.kz_tree_store.specs.Stores.{held_tree, is_fresh, loaded, known, store_down, store_state, left_of};
     ghost use Rattle.kz_tree_store.specs.LoadCalls.{rows_so_far, KeepRules, after_load, without_load, load_payloads, WritesFrames, LeftByLoad};
 

@@ -1,6 +1,6 @@
 //! The tree of a load.
 ghost use Rattle.std.specs.Prelude.{◌≡◌};
-ghost use Rattle.kz_spec_files.specs.TreeFile.{stored_by_load, under_way};
+ghost use Rattle.kz_spec_data.specs.TreeFile.{stored_by_load, under_way};
 ghost use Rattle.kz_tree_store.specs.Taken.{Says, ended, frame_fault_of};
 
 use crate::fault::FrameFault;

@@ -1,9 +1,9 @@
 //! Opening a tree's file.
 ghost use Rattle.std.specs.Prelude.{◌≡◌, ◌^◌, ◌<◌, ℕ, List, Some, Ok, true, false, length, IfOk, OnOk};
 ghost use Rattle.kz_disk.specs.Disks.{StaysTold};
-ghost use Rattle.kz_spec_files.specs.Frames.{tree_letter, journal_of};
-ghost use Rattle.kz_spec_files.specs.Transactions.{txn_of};
-ghost use Rattle.kz_spec_files.specs.TreeFile.{after_reading};
+ghost use Rattle.kz_spec_data.specs.Frames.{tree_letter, journal_of};
+ghost use Rattle.kz_spec_data.specs.Transactions.{txn_of};
+ghost use Rattle.kz_spec_data.specs.TreeFile.{after_reading};
 ghost use Rattle.kz_journal.specs.Held.{disk_of, letter_of, has_ended, is_down, disk_state, bytes_left, unread};
 ghost use Rattle.kz_tree_store.specs.Held.{stored, ArePositive};
 ghost use Rattle.kz_tree_store.specs.Opened.{open_fault_of, GrowsByOne, TakesFrame, Steps, EndsFrames, Reads, EndsReading};

@@ -1,12 +1,12 @@
 //! What is written for a transaction.
 ghost use Rattle.std.specs.Prelude.{◌≡◌, length, IfOk};
-ghost use Rattle.kz_spec_values.specs.Forms.{AllFit};
+ghost use Rattle.kz_spec_data.specs.Forms.{AllFit};
 ghost use Rattle.std.specs.Int.{w32, w64};
 ghost use Rattle.std.specs.Int.RustNames.{FitsSigned};
 ghost use Rattle.kz_tree_store.specs.Changes.{FitsIfFew, IsPayloadOf};
 ghost use Rattle.kz_tree_store.specs.Payloads.{IsOwnerHeld, IsPathHeld, IsOpHeld, IsRowHeld};
 
-use kz_spec_files::Txn;
+use kz_spec_data::Txn;
 use kz_txn::{txn_size, write_txn, written_is_read};
 use kz_types::{MAX_FILE_BYTES, NoMemory, Op, Row, ZPath};
 use std::alloc::Global;

@@ -5,20 +5,20 @@ use crate::change::write_change;
 use crate::store::TreeStore;
 use crate::txns::{begin_txn, end_txn, multi_txn};
 use kz_disk::Disk;
+use kz_journal::{ChangeFault, write_seal};
 use kz_session::{SessionFault, ZSessions};
-use kz_spec_files::Txn;
-use kz_store_file::{ChangeFault, write_seal};
+use kz_spec_data::Txn;
 use kz_tree::{MultiFault, Prepared, Tree, TreeFault, ZTree};
 use kz_types::{MoveFault, NoMemory, Op, Row, ZPath};
 
 impl<D: Disk> TreeStore<D> {
     ghost use Rattle.std.specs.Prelude.{List, ℕ, Some, IfOk, OnOk, OnErr, IsErrOf, length, ⊤};
     ghost use Rattle.kz_disk.specs.Disks.{StaysTold};
-    ghost use Rattle.kz_spec_stores.specs.Requests.{answer_by, ChangesDisk, Only, Either};
-    ghost use Rattle.kz_spec_files.specs.Frames.{tree_letter};
-    ghost use Rattle.kz_spec_files.specs.Transactions.{txn_written};
+    ghost use Rattle.kz_spec_data.specs.Requests.{answer_by, ChangesDisk, Only, Either};
+    ghost use Rattle.kz_spec_data.specs.Frames.{tree_letter};
+    ghost use Rattle.kz_spec_data.specs.Transactions.{txn_written};
     ghost use Rattle.kz_tree.specs.Changes.{IsMadeFrom};
-    ghost use Rattle.kz_store_file.specs.Changes.{answer_of_change_fault};
+    ghost use Rattle.kz_journal.specs.Changes.{answer_of_change_fault};
     ghost use Rattle.kz_tree_store.specs.Held.{ArePositive};
     ghost use Rattle.kz_tree_store.specs.Changes.{MakesTree, FitsIfFew};
     ghost use Rattle.kz_tree_store.specs.Stores.{held_tree, known, store_disk, store_down, store_state, left_of};

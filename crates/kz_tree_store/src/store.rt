@@ -1,6 +1,6 @@
 //! A tree on a disk.
 ghost use Rattle.std.specs.Prelude.{◌≡◌, ℕ, List, Some, true, false};
-ghost use Rattle.kz_spec_files.specs.Frames.{tree_letter};
+ghost use Rattle.kz_spec_data.specs.Frames.{tree_letter};
 ghost use Rattle.kz_journal.specs.Held.{disk_of, letter_of, has_ended, is_down};
 ghost use Rattle.kz_tree_store.specs.Held.{ArePositive};
 ghost use Rattle.kz_tree_store.specs.Opened.{IsTreeFile};

@@ -1,16 +1,16 @@
 //! Taking the payloads of frames into what is held.
 ghost use Rattle.std.specs.Prelude.{◌≡◌, ◌≤ℤ◌, ◌+ℤ◌, ◌++◌, pos, if◌then◌else◌, IfOk, OnOk};
 ghost use Rattle.std.specs.Ordering.{int_eq};
-ghost use Rattle.kz_spec_stores.specs.Tree.{multi, begin_session, end_session};
-ghost use Rattle.kz_spec_files.specs.TreeFile.{stored_next, with_load, load_with_rows, stored_by_load, after_txn, after_reading};
-ghost use Rattle.kz_spec_files.specs.Transactions.{txn_of};
+ghost use Rattle.kz_spec_data.specs.Tree.{multi, begin_session, end_session};
+ghost use Rattle.kz_spec_data.specs.TreeFile.{stored_next, with_load, load_with_rows, stored_by_load, after_txn, after_reading};
+ghost use Rattle.kz_spec_data.specs.Transactions.{txn_of};
 ghost use Rattle.kz_tree_store.specs.Held.{load_of, stored, ArePositive};
 ghost use Rattle.kz_tree_store.specs.Taken.{Says, BeginsFromOne};
 
 use crate::fault::FrameFault;
 use crate::held::{Held, Loading};
 use crate::loads::loaded_tree;
-use kz_spec_files::Txn;
+use kz_spec_data::Txn;
 use kz_tree::MultiFault;
 use kz_txn::{TxnFault, read_txn};
 use kz_types::{MoveFault, NoMemory, Op, Row};
@@ -172,7 +172,7 @@ fn take_load_end(
 }
 
 // Takes a transaction.
-#[tactic(auto, unfolding(kz_spec_files::specs::TreeFile::after_txn))]
+#[tactic(auto, unfolding(kz_spec_data::specs::TreeFile::after_txn))]
 fn take_txn(alloc: Global, held: &mut Held, txn: Txn) -> Result<(), FrameFault>
     requires { BeginsFromOne txn }
     ensures { Says (λ done. stored held.new) result (after_txn (stored held.old) txn) }

@@ -1,19 +1,19 @@
 //! The transactions of a tree's changes.
 ghost use Rattle.std.specs.Prelude.{◌≡◌, ◌+ℤ◌, ◌≤ℤ◌, ◌<ℤ◌, pos, List, ◌++◌, true, None, Ok, IfOk};
 ghost use Rattle.kz_types.specs.declared.limits.TheConstants.{MAX_LONG};
-ghost use Rattle.kz_spec_stores.specs.Tree.{Tree as TreeValue, multi, begin_session, end_session};
+ghost use Rattle.kz_spec_data.specs.Tree.{Tree as TreeValue, multi, begin_session, end_session};
 ghost use Rattle.kz_types.specs.declared.tree.Row.{Row as RowValue};
-ghost use Rattle.kz_spec_files.specs.declared.files.Txn.TheVariants.{LoadRows, LoadEnd};
-ghost use Rattle.kz_spec_files.specs.Loads.{is_header};
+ghost use Rattle.kz_spec_data.specs.declared.files.Txn.TheVariants.{LoadRows, LoadEnd};
+ghost use Rattle.kz_spec_data.specs.Loads.{is_header};
 ghost use Rattle.kz_tree_store.specs.LoadCalls.{KeepRules};
-ghost use Rattle.kz_spec_stores.specs.Requests.{Multi, BeginSession, EndSession};
+ghost use Rattle.kz_spec_data.specs.Requests.{Multi, BeginSession, EndSession};
 ghost use Rattle.kz_tree_store.specs.Held.{ArePositive};
 ghost use Rattle.kz_tree_store.specs.Changes.{FitsIfFew};
 ghost use Rattle.kz_tree_store.specs.Payloads.{txn_of_change};
 
 use crate::last::LoadLast;
 use crate::payload::{are_ops_held, are_rows_held, are_sessions_held};
-use kz_spec_files::Txn;
+use kz_spec_data::Txn;
 use kz_tree::Tree;
 use kz_types::{Duplicate, NoMemory, Op, Row, Sequence, copy_all};
 use std::alloc::Global;

@@ -1,8 +1,8 @@
 -- Fields that are appended one after another, and how long they are.
 use Rattle.std.proofs.Common.{◌≡◌, ℕ, zero, suc, ◌*◌, ◌<◌, ℤ, List, [], ◌∷◌, ◌++◌, length, get_or, refl, sym, ap, ◌∙◌, append_assoc, arith}
 use Rattle.std.proofs.lemmas.List.{length-append, append-nil}
-use Rattle.kz_spec_values.specs.Forms.{items_written, AllFit}
-use Rattle.kz_spec_files.specs.Transactions.{session}
+use Rattle.kz_spec_data.specs.Forms.{items_written, AllFit}
+use Rattle.kz_spec_data.specs.Transactions.{session}
 
 pub seq : (old a mid b new : List ℕ) → mid ≡ old ++ a → new ≡ mid ++ b → new ≡ old ++ (a ++ b)
 seq old a mid b new e f = f ∙ ap (λ (l : List ℕ). l ++ b) e ∙ append_assoc old a b

@@ -4,10 +4,10 @@ use Rattle.std.specs.Prelude.{◌==◌}
 use Rattle.std.proofs.lemmas.Bool.{ne_eqb}
 use Rattle.std.proofs.lemmas.List.{append-nil}
 use Rattle.std.specs.Int.{w8, w64}
-use Rattle.kz_spec_values.specs.Fields.{Reading, ◌>>=◌, start}
-use Rattle.kz_spec_values.specs.Forms.{items_at}
-use Rattle.kz_spec_files.specs.Transactions.{Flaw, at_byte, IsAt, within, max_session, sessions_at, fields_at, txn_alone, txn_of}
-use Rattle.kz_spec_files.specs.declared.files.Txn.{Txn}
+use Rattle.kz_spec_data.specs.Fields.{Reading, ◌>>=◌, start}
+use Rattle.kz_spec_data.specs.Forms.{items_at}
+use Rattle.kz_spec_data.specs.Transactions.{Flaw, at_byte, IsAt, within, max_session, sessions_at, fields_at, txn_alone, txn_of}
+use Rattle.kz_spec_data.specs.declared.files.Txn.{Txn}
 use Rattle.kz_txn.specs.declared.fault.TxnFault.{TxnFault}
 use Rattle.kz_txn.specs.declared.fault.TxnFault.TheVariants.{Malformed, NoMemory}
 use Rattle.kz_txn.specs.Reads.{Fails}

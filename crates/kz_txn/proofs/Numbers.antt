@@ -4,7 +4,7 @@ use Rattle.std.specs.Prelude.{nat_le, ◌&&◌}
 use Rattle.std.proofs.Math.Nat.{pow-le-pow_right, one-le-pow, pow-suc, mul-le-mul_left, div-add-mod}
 use Rattle.std.proofs.lemmas.Nat.{mod_below}
 use Rattle.std.proofs.lemmas.Bool.{le-leb, lt-leb, leb-true, leb-false}
-use Rattle.kz_spec_files.specs.Transactions.{at_byte, goes_on, digits_at, owner_of}
+use Rattle.kz_spec_data.specs.Transactions.{at_byte, goes_on, digits_at, owner_of}
 
 -- a power of 256 below the eighth is a number of 64 bits
 pub scale_fits : (n : ℕ) → n < 8 → 256 ^ n < 2 ^ 64

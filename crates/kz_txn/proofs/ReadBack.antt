@@ -9,15 +9,15 @@ use Rattle.std.proofs.lemmas.Nat.{mod_below, div-add-mod'}
 use Rattle.std.proofs.lemmas.Bool.{le-leb}
 use Rattle.std.proofs.lemmas.Int.{ints, to_z-of_z}
 use Rattle.std.proofs.lemmas.List.{take_at, drop_at}
-use Rattle.kz_ordered.specs.Ordered.{Rises, RisesAbove}
+use Rattle.kz_types.specs.Ordered.{Rises, RisesAbove}
 use Rattle.kz_types.specs.PathRule.{is_path}
 use Rattle.kz_types.specs.declared.tree.Op.{Op}
 use Rattle.kz_types.specs.declared.tree.Op.TheVariants.{Create, Set, Delete, Check}
-use Rattle.kz_spec_values.specs.Fields.{Reading, Format, ◌>>=◌, start, front, past}
-use Rattle.kz_spec_values.specs.Forms.{◌⊗◌, items_at, items_written, AllFit}
-use Rattle.kz_spec_files.specs.declared.files.Txn.{Txn}
-use Rattle.kz_spec_files.specs.declared.files.Txn.TheVariants.{Multi, LoadRows, LoadEnd, Begin, End}
-use Rattle.kz_spec_files.specs.Transactions.{Flaw, at_byte, goes_on, digits_at, within, int, count, field_or_flaw, byte_field, path_or_flaw, path, max_session, session, owner_of, owner, flag, list_of, sessions_at, sessions, create, set, at_version, op_at, op, row_of, fields_of, row, multi, load_rows, load_end, move, fields_at, txn_alone, txn_of, txn_written, TxnFits}
+use Rattle.kz_spec_data.specs.Fields.{Reading, Format, ◌>>=◌, start, front, past}
+use Rattle.kz_spec_data.specs.Forms.{◌⊗◌, items_at, items_written, AllFit}
+use Rattle.kz_spec_data.specs.declared.files.Txn.{Txn}
+use Rattle.kz_spec_data.specs.declared.files.Txn.TheVariants.{Multi, LoadRows, LoadEnd, Begin, End}
+use Rattle.kz_spec_data.specs.Transactions.{Flaw, at_byte, goes_on, digits_at, within, int, count, field_or_flaw, byte_field, path_or_flaw, path, max_session, session, owner_of, owner, flag, list_of, sessions_at, sessions, create, set, at_version, op_at, op, row_of, fields_of, row, multi, load_rows, load_end, move, fields_at, txn_alone, txn_of, txn_written, TxnFits}
 use Rattle.kz_txn.proofs.Numbers.{scale_some, owner_some, both_true}
 
 -- This reading takes these bytes as this value, whatever follows.

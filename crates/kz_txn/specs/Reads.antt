@@ -1,9 +1,9 @@
 -- What a call that reads answers, and where the bytes stop being a transaction.
 use Rattle.std.specs.Prelude.{◌≡◌, ℕ, ◌+◌, ⊤, [], ◌∷◌, Option, Some, None, Result, Ok, Err}
 use Rattle.std.specs.Int.{w8}
-use Rattle.kz_spec_values.specs.Fields.{Reading, ◌>>=◌}
-use Rattle.kz_spec_files.specs.Transactions.{Flaw, IsAt, within, fields_at}
-use Rattle.kz_spec_files.specs.declared.files.Txn.{Txn}
+use Rattle.kz_spec_data.specs.Fields.{Reading, ◌>>=◌}
+use Rattle.kz_spec_data.specs.Transactions.{Flaw, IsAt, within, fields_at}
+use Rattle.kz_spec_data.specs.declared.files.Txn.{Txn}
 use Rattle.kz_txn.specs.declared.fault.TxnFault.{TxnFault}
 use Rattle.kz_txn.specs.declared.fault.TxnFault.TheVariants.{Malformed, NoMemory}
 

@@ -1,8 +1,8 @@
 //! The fields of a transaction, read from bytes.
 ghost use Rattle.std.specs.Prelude.{◌≡◌, ◌+◌, ◌*◌, ◌^◌, ◌<◌, ◌≤◌, length, IfOk, MatchResult};
 ghost use Rattle.std.specs.Int.{w32, w64};
-ghost use Rattle.kz_spec_values.specs.Fields.{front};
-ghost use Rattle.kz_spec_files.specs.Transactions.{goes_on, digits_at, int, count, byte_field, field_or_flaw, path, session, owner_of, owner, flag};
+ghost use Rattle.kz_spec_data.specs.Fields.{front};
+ghost use Rattle.kz_spec_data.specs.Transactions.{goes_on, digits_at, int, count, byte_field, field_or_flaw, path, session, owner_of, owner, flag};
 ghost use Rattle.kz_txn.specs.Reads.{Gives, Fails, TakesByte};
 
 use crate::TxnFault;

@@ -9,7 +9,7 @@ mod size;
 mod write;
 
 pub use fault::TxnFault;
-pub use kz_spec_files::Txn;
+pub use kz_spec_data::Txn;
 pub use laws::written_is_read;
 pub use read::read_txn;
 pub use size::txn_size;

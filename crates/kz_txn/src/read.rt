@@ -1,7 +1,7 @@
 //! Transactions, read from bytes.
 ghost use Rattle.std.specs.Prelude.{◌≡◌, ◌≤◌, ◌<◌, ◌^◌, pos};
-ghost use Rattle.kz_spec_values.specs.Forms.{items_at};
-ghost use Rattle.kz_spec_files.specs.Transactions.{op_at, op, row, list_of, sessions, sessions_at, fields_at, txn_of};
+ghost use Rattle.kz_spec_data.specs.Forms.{items_at};
+ghost use Rattle.kz_spec_data.specs.Transactions.{op_at, op, row, list_of, sessions, sessions_at, fields_at, txn_of};
 ghost use Rattle.kz_txn.specs.Reads.{Gives, txn_at};
 
 use crate::TxnFault;
@@ -9,7 +9,7 @@ use crate::fields::{
     MAX_SESSION, bytes, count, flag, int32, int64, next_byte, owner, path, session, within,
 };
 use kz_bytes::Reader;
-use kz_spec_files::Txn;
+use kz_spec_data::Txn;
 use kz_types::{Op, Row, Sequence};
 use std::alloc::Global;
 
@@ -235,7 +235,7 @@ fn read_next(alloc: Global, reader: &mut Reader) -> Result<Txn, TxnFault>
 /// first byte with which no transaction goes on, or the number of bytes where they end too early. A path is judged once its
 /// bytes are taken, by the rule of [`ZPath`](kz_types::ZPath). A list takes memory for the items that were read, whatever
 /// count stands before them.
-#[tactic(auto, unfolding(kz_spec_files::specs::Transactions::txn_of))]
+#[tactic(auto, unfolding(kz_spec_data::specs::Transactions::txn_of))]
 pub fn read_txn(alloc: Global, bytes: &[u8]) -> Result<Txn, TxnFault>
     ensures { Gives (λ x. x) result (txn_of bytes.now) }
 {

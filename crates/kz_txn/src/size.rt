@@ -1,9 +1,9 @@
 //! How many bytes a transaction has.
 ghost use Rattle.std.specs.Prelude.{◌≡◌, ◌+◌, ◌*◌, ◌≤◌, ◌^◌, length};
-ghost use Rattle.kz_spec_values.specs.Forms.{items_written};
-ghost use Rattle.kz_spec_files.specs.Transactions.{byte_field, sessions, op, row, list_of, txn_written};
+ghost use Rattle.kz_spec_data.specs.Forms.{items_written};
+ghost use Rattle.kz_spec_data.specs.Transactions.{byte_field, sessions, op, row, list_of, txn_written};
 
-use kz_spec_files::Txn;
+use kz_spec_data::Txn;
 use kz_types::{Op, Row};
 
 // A length, and so many bytes.
@@ -82,7 +82,7 @@ fn sessions_size(items: &[i64]) -> u128
 }
 
 /// How many bytes `write_txn` would write for a transaction, whether or not its lengths fit their fields. It takes no memory.
-#[tactic(auto, unfolding(kz_spec_files::specs::Transactions::txn_written))]
+#[tactic(auto, unfolding(kz_spec_data::specs::Transactions::txn_written))]
 pub fn txn_size(t: &Txn) -> u128
     ensures { result ≡ length (txn_written t.now) }
 {

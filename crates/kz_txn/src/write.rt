@@ -1,11 +1,11 @@
 //! Transactions, written to bytes.
 ghost use Rattle.std.specs.Prelude.{◌≡◌, ◌<◌, ◌^◌, [], ◌∷◌, ◌++◌, length, OnOk, IfOk};
 ghost use Rattle.std.specs.Int.{w32, w64, to_be_bytes};
-ghost use Rattle.kz_spec_values.specs.Forms.{items_written, AllFit};
-ghost use Rattle.kz_spec_files.specs.Transactions.{int, byte_field, path, owner, flag, session, sessions, create, set, at_version, op, row, list_of, multi, load_rows, load_end, txn_written, TxnFits};
+ghost use Rattle.kz_spec_data.specs.Forms.{items_written, AllFit};
+ghost use Rattle.kz_spec_data.specs.Transactions.{int, byte_field, path, owner, flag, session, sessions, create, set, at_version, op, row, list_of, multi, load_rows, load_end, txn_written, TxnFits};
 
 use kz_bytes::{put_i32, put_i64};
-use kz_spec_files::Txn;
+use kz_spec_data::Txn;
 use kz_types::{NoMemory, Op, Row, Sequence, ZPath};
 use std::alloc::Global;
 
@@ -231,7 +231,7 @@ fn put_move(out: &mut Vec<u8>, kind: u8, zxid: i64, live: i64) -> Result<(), NoM
     Ok(())
 }
 
-#[tactic(auto, unfolding(kz_spec_files::specs::Transactions::txn_written))]
+#[tactic(auto, unfolding(kz_spec_data::specs::Transactions::txn_written))]
 fn put_txn(out: &mut Vec<u8>, t: &Txn) -> Result<(), NoMemory>
     requires { TxnFits t.now }
     ensures { OnOk result (out.new.items ≡ out.old.items ++ txn_written t.now) }

@@ -1,3 +1,12 @@
+pub mod Order
+pub mod Lookup
+pub mod Append
+pub mod Difference
+pub mod Edits
+pub mod Puts
+pub mod Maps
+pub mod Covering
+pub mod Spot
 pub mod OnLiterals
 pub mod PathRules
 pub mod Leads

@@ -1,3 +1,11 @@
+pub mod Order
+pub mod Ordered
+pub mod Difference
+pub mod Edits
+pub mod Covering
+pub mod Spot
+pub mod OrderedLaws
+pub mod DifferenceLaws
 pub mod Causes
 pub mod QuotaEntities
 pub mod Faults

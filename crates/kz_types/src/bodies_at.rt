@@ -1,8 +1,8 @@
 //! The bodies of znodes, asked for by path.
 ghost use Rattle.std.specs.Prelude.{◌≡◌, ◌≤◌, ◌+◌, ℕ, List, option_map, IfOk};
 ghost use Rattle.kz_types.specs.declared.tree.Rendered.{Rendered};
-ghost use Rattle.kz_ordered.specs.Order.{bytes_cmp};
-ghost use Rattle.kz_ordered.specs.Ordered.{find, Rises};
+ghost use Rattle.kz_types.specs.Order.{bytes_cmp};
+ghost use Rattle.kz_types.specs.Ordered.{find, Rises};
 
 use crate::memory::NoMemory;
 use crate::path::ZPath;

@@ -22,6 +22,7 @@ mod machine;
 mod memory;
 mod move_fault;
 mod number;
+mod ordered;
 mod outside;
 mod path;
 mod path_rule;

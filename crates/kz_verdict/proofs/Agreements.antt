@@ -7,9 +7,9 @@ use Rattle.kz_types.specs.declared.tree.Rendered.{Rendered}
 use Rattle.kz_types.specs.declared.machine.AheadPath.{AheadPath}
 use Rattle.kz_types.specs.declared.machine.Verdict.{Verdict}
 use Rattle.kz_types.specs.declared.machine.Verdict.TheVariants.{Ahead, Disagrees}
-use Rattle.kz_spec_stores.specs.Tree.{Tree, area}
-use Rattle.kz_spec_stores.specs.Log.{Log, batch_ends, image_at}
-use Rattle.kz_spec_znodes.specs.Rendering.{render}
+use Rattle.kz_spec_data.specs.Tree.{Tree, area}
+use Rattle.kz_spec_data.specs.Log.{Log, batch_ends, image_at}
+use Rattle.kz_spec_data.specs.Rendering.{render}
 use Rattle.kz_spec_machine.specs.Verdicts.{agrees_at, disagrees, ahead_path, paths_at, unless_disagrees, closed_or_ahead, verdict_at}
 use Rattle.kz_verdict.specs.declared.comparison.Found.{Found}
 use Rattle.kz_verdict.specs.Agreement.{agrees_in, first_among, all_first, marks_at_end, all_found, found_at, is_disagreeing, ahead_of, found_verdict, found_closed_or_ahead, unless_one_disagrees}

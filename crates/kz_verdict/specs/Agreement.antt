@@ -5,9 +5,9 @@ use Rattle.kz_types.specs.declared.tree.Rendered.{Rendered}
 use Rattle.kz_types.specs.declared.machine.AheadPath.{AheadPath}
 use Rattle.kz_types.specs.declared.machine.Verdict.{Verdict}
 use Rattle.kz_types.specs.declared.machine.Verdict.TheVariants.{Closed, Ahead, Disagrees}
-use Rattle.kz_spec_stores.specs.Tree.{Tree, area as area_of}
-use Rattle.kz_spec_stores.specs.Log.{Log, batch_ends, image_at}
-use Rattle.kz_spec_znodes.specs.Rendering.{body_at, render}
+use Rattle.kz_spec_data.specs.Tree.{Tree, area as area_of}
+use Rattle.kz_spec_data.specs.Log.{Log, batch_ends, image_at}
+use Rattle.kz_spec_data.specs.Rendering.{body_at, render}
 use Rattle.kz_spec_machine.specs.Verdicts.{same_bodies, agrees_at}
 use Rattle.kz_verdict.specs.declared.comparison.Found.{Found}
 

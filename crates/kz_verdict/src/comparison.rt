@@ -2,11 +2,11 @@
 ghost use Rattle.std.specs.Prelude.{◌≡◌, ◌∷◌, List, ℤ, length, map, IfOk, OnOk, option_map, is_none, if◌then◌else◌};
 ghost use Rattle.std.specs.List.{find as find_by, filter_map};
 ghost use Rattle.kz_types.specs.declared.tree.Rendered.{Rendered as RenderedValue};
-ghost use Rattle.kz_ordered.specs.Order.{bytes_cmp};
-ghost use Rattle.kz_ordered.specs.Ordered.{all_put, put as put_in, Rises};
-ghost use Rattle.kz_spec_stores.specs.Tree.{area as area_of, migration_record, unclosed_path, path_of_rendered};
-ghost use Rattle.kz_spec_stores.specs.Log.{image_at, batch_ends};
-ghost use Rattle.kz_spec_znodes.specs.Rendering.{body_at, render};
+ghost use Rattle.kz_types.specs.Order.{bytes_cmp};
+ghost use Rattle.kz_types.specs.Ordered.{all_put, put as put_in, Rises};
+ghost use Rattle.kz_spec_data.specs.Tree.{area as area_of, migration_record, unclosed_path, path_of_rendered};
+ghost use Rattle.kz_spec_data.specs.Log.{image_at, batch_ends};
+ghost use Rattle.kz_spec_data.specs.Rendering.{body_at, render};
 ghost use Rattle.kz_spec_machine.specs.Verdicts.{paths_at, verdict, verdict_at, verdict_of};
 ghost use Rattle.kz_verdict.specs.Agreement.{agrees_in, all_first, marks_at_end, all_found, found_at, is_disagreeing, ahead_of, found_verdict};
 

@@ -5,15 +5,15 @@ use Rattle.std.proofs.lemmas.List.{append-nil}
 use Rattle.kz_types.specs.declared.key.EntityKey.{EntityKey}
 use Rattle.kz_types.specs.declared.record.MetaRecord.{MetaRecord}
 use Rattle.kz_types.specs.Paths.{is_legal}
-use Rattle.kz_spec_stores.specs.Metadata.{Image}
-use Rattle.kz_spec_stores.specs.Image.{image_with, all_applied}
-use Rattle.kz_spec_stores.specs.Log.{Log, View, Feed as LogFeed, feed_from, read_view}
-use Rattle.kz_spec_znodes.specs.Rendering.{render}
-use Rattle.kz_spec_delta.specs.Spans.{CoverDifference}
-use Rattle.kz_spec_delta.specs.Touched.{Lead, Leads, AreTouched, touched_keys, records_of_feed}
-use Rattle.kz_laws_writable.specs.Writable.{IsHeld}
-use Rattle.kz_laws_delta.proofs.Suffice.{touched_cover}
-use Rattle.kz_laws_feeds.proofs.Leads.{feed_leads}
+use Rattle.kz_spec_data.specs.Metadata.{Image}
+use Rattle.kz_spec_data.specs.Image.{image_with, all_applied}
+use Rattle.kz_spec_data.specs.Log.{Log, View, Feed as LogFeed, feed_from, read_view}
+use Rattle.kz_spec_data.specs.Rendering.{render}
+use Rattle.kz_spec_data.specs.Spans.{CoverDifference}
+use Rattle.kz_spec_data.specs.Touched.{Lead, Leads, AreTouched, touched_keys, records_of_feed}
+use Rattle.kz_laws_znodes.specs.Writable.{IsHeld}
+use Rattle.kz_laws_znodes.proofs.Suffice.{touched_cover}
+use Rattle.kz_laws_machine.proofs.Leads.{feed_leads}
 use Rattle.kz_image.specs.declared.feed.Feed.{Feed}
 use Rattle.kz_log.specs.Requests.{IsFeed}
 use Rattle.kz_delta.specs.Feeds.{feed_of}

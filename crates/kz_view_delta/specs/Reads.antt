@@ -1,6 +1,6 @@
 -- What was read after a view.
 use Rattle.std.specs.Prelude.{◌≡◌}
-use Rattle.kz_spec_stores.specs.Log.{Log, View, IsLog, IsViewOf, feed_from, read_view}
+use Rattle.kz_spec_data.specs.Log.{Log, View, IsLog, IsViewOf, feed_from, read_view}
 use Rattle.kz_image.specs.declared.feed.Feed.{Feed}
 use Rattle.kz_log.specs.Requests.{IsFeed}
 

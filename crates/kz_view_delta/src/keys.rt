@@ -1,8 +1,8 @@
 //! The keys that are touched between two metadata.
 ghost use Rattle.std.specs.Prelude.{◌≡◌, IfOk, IfSome};
-ghost use Rattle.kz_spec_znodes.specs.Rendering.{render};
-ghost use Rattle.kz_spec_delta.specs.Spans.{CoverDifference};
-ghost use Rattle.kz_spec_delta.specs.Touched.{Lead, Leads};
+ghost use Rattle.kz_spec_data.specs.Rendering.{render};
+ghost use Rattle.kz_spec_data.specs.Spans.{CoverDifference};
+ghost use Rattle.kz_spec_data.specs.Touched.{Lead, Leads};
 ghost use Rattle.kz_delta.specs.Feeds.{feed_of};
 ghost use Rattle.kz_view_delta.specs.Reads.{WasRead};
 

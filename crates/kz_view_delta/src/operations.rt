@@ -1,8 +1,8 @@
 //! The operations between two metadata.
 ghost use Rattle.std.specs.Prelude.{◌≡◌, IfOk};
-ghost use Rattle.kz_spec_znodes.specs.Difference.{diff};
-ghost use Rattle.kz_spec_znodes.specs.Rendering.{render};
-ghost use Rattle.kz_spec_delta.specs.Spans.{CoverDifference};
+ghost use Rattle.kz_spec_data.specs.Difference.{diff};
+ghost use Rattle.kz_spec_data.specs.Rendering.{render};
+ghost use Rattle.kz_spec_data.specs.Spans.{CoverDifference};
 ghost use Rattle.kz_view_delta.specs.Reads.{WasRead};
 
 use crate::keys::keys_between;

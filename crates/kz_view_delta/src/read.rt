@@ -1,7 +1,7 @@
 //! Reading a log to its end.
 ghost use Rattle.std.specs.Prelude.{◌≡◌, true, false, IfOk};
-ghost use Rattle.kz_spec_stores.specs.Requests.{Done, ReadsDisk};
-ghost use Rattle.kz_spec_stores.specs.Log.{IsViewOf, read_view};
+ghost use Rattle.kz_spec_data.specs.Requests.{Done, ReadsDisk};
+ghost use Rattle.kz_spec_data.specs.Log.{IsViewOf, read_view};
 ghost use Rattle.kz_requests.specs.Fares.{Fares};
 ghost use Rattle.kz_requests.specs.Disks.{LogDisk};
 ghost use Rattle.kz_view_delta.specs.Reads.{IsReadAfter, WasRead, Makes};

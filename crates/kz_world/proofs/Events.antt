@@ -11,26 +11,26 @@ use Rattle.kz_types.specs.declared.machine.Event.TheVariants as event
 use Rattle.kz_types.specs.declared.machine.Reply.{Reply}
 use Rattle.kz_types.specs.declared.machine.Reply.TheVariants as reply
 use Rattle.kz_types.specs.declared.plan.Plan.{Plan}
-use Rattle.kz_spec_stores.specs.Tree.{Tree, begin_session, end_session, multi}
-use Rattle.kz_spec_stores.specs.Log.{Log}
+use Rattle.kz_spec_data.specs.Tree.{Tree, begin_session, end_session, multi}
+use Rattle.kz_spec_data.specs.Log.{Log}
 use Rattle.kz_spec_machine.specs.Driver.{Shared, Driver, StepResult, planned_step, step}
 use Rattle.kz_spec_machine.specs.Machine.{World, next, running_ids, driver_of, with_driver, running_refusal, outcome_unless, unless_refused, ends, TurnResult, turn, with_reply, work, step_result, turn_result, moved_world, client_refusal, client_world, quorum_refusal, declared_world, start_refusal, started_world, stop_refusal, stopped_world, election_refusal, elected_world, election_answer, change_refusal, changed_world, register_refusal, final_records, finalise_refusal, exit_ops, tree_after_ops, reset_world, given_back, rollback_refusal, is_rollback, registration, snapshot_refusal, cut_world}
 use Rattle.kz_spec_machine.specs.Failures.{is_failed_step, is_failure, IsCutOff, CutOffTurn, IsLeftByTurn, IsLeftByStep, IsLeftByTree, IsLeftByLog, IsLeftOutOfMemory, IsLeft}
 use Rattle.kz_spec_machine.specs.Sound.{IsTime, IsLawful, Sound}
-use Rattle.kz_laws_fence.specs.Fence.{IsOfFence}
-use Rattle.kz_laws_fence.proofs.Drivers.{fenced_driver}
-use Rattle.kz_laws_fence.proofs.Replies.{fenced_reply, leader_alone}
-use Rattle.kz_laws_steps.proofs.Worlds.{stepped}
+use Rattle.kz_laws_machine.specs.Fence.{IsOfFence}
+use Rattle.kz_laws_machine.proofs.FenceDrivers.{fenced_driver}
+use Rattle.kz_laws_machine.proofs.Replies.{fenced_reply, leader_alone}
+use Rattle.kz_laws_events.proofs.Worlds.{stepped}
 use Rattle.kz_laws_events.proofs.Turned.{turn_keeps, turn_own}
 use Rattle.kz_laws_events.proofs.Fenced.{fenced_turn, fenced_cut_off}
 use Rattle.kz_laws_events.proofs.Every.{event_sound}
-use Rattle.kz_driver.specs.Disks.{Disks, Payloads}
-use Rattle.kz_turns.specs.Stops.{AreUp, LeavesOneOf, failure_pairs}
+use Rattle.kz_world_parts.specs.Disks.{Disks, Payloads}
+use Rattle.kz_world_parts.specs.TurnStops.{AreUp, LeavesOneOf, failure_pairs}
 use Rattle.kz_world_parts.specs.declared.faults.EventFault.{EventFault}
-use Rattle.kz_world_parts.specs.Disks.{ResultDisks, EventDisks}
+use Rattle.kz_world_parts.specs.EventDisks.{ResultDisks, EventDisks}
 use Rattle.kz_world_parts.specs.Faults.{answer_of_fault, answer_of_result, result_of_answer}
 use Rattle.kz_world_parts.specs.Fences.{IsFencedDriver, IsOfFenced, TellsFence}
-use Rattle.kz_world_parts.specs.Stops.{EventLeaves}
+use Rattle.kz_world_parts.specs.EventStops.{EventLeaves}
 use Rattle.kz_world_parts.specs.Worlds.{IsOutcome}
 use Rattle.kz_world_parts.proofs.Outcomes.{true_or_false}
 use Rattle.kz_laws_events.proofs.Exits.{reset_world_sound}

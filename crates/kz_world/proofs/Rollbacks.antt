@@ -10,22 +10,22 @@ use Rattle.kz_types.specs.declared.machine.Event.{Event}
 use Rattle.kz_types.specs.declared.machine.Event.TheVariants as event
 use Rattle.kz_types.specs.declared.plan.Plan.{Plan}
 use Rattle.kz_types.specs.declared.tree.Op.{Op}
-use Rattle.kz_spec_stores.specs.Tree.{Tree, multi}
-use Rattle.kz_spec_stores.specs.Log.{Log, View, IsViewOf, reset}
-use Rattle.kz_spec_stores.specs.Requests.{Disk, TreeChange, Done}
+use Rattle.kz_spec_data.specs.Tree.{Tree, multi}
+use Rattle.kz_spec_data.specs.Log.{Log, View, IsViewOf, reset}
+use Rattle.kz_spec_data.specs.Requests.{Disk, TreeChange, Done}
 use Rattle.kz_spec_machine.specs.Driver.{Driver, least, less_of}
 use Rattle.kz_spec_machine.specs.Machine.{World, next, running_ids, first_of, unless_refused, Pair, pair_of, pairs_unless, event_pairs, tree_pairs, exit_refusal, rollback_refusal, exit_ops, tree_after_ops, reset_world, given_back, exit_pairs, is_rollback}
 use Rattle.kz_spec_machine.specs.Failures.{IsLeft}
-use Rattle.kz_driver.specs.Disks.{Disks}
-use Rattle.kz_turns.specs.Stops.{AreUp, LeavesOneOf}
-use Rattle.kz_turns.proofs.Stops.{Settled}
+use Rattle.kz_world_parts.specs.Disks.{Disks}
+use Rattle.kz_world_parts.specs.TurnStops.{AreUp, LeavesOneOf}
+use Rattle.kz_world_parts.proofs.TurnStops.{Settled}
 use Rattle.kz_exit.specs.declared.faults.ExitFault.{ExitFault}
 use Rattle.kz_exit.specs.declared.faults.ExitFault.TheVariants as exit
 use Rattle.kz_exit.specs.Disks.{ResetsDisk, LogDisk, TreeDisk}
 use Rattle.kz_exit.specs.Rollbacks.{IsTakenBack, IsRefused, IsLeft as IsExitLeft}
 use Rattle.kz_exit.specs.Stops.{pairs_made, rollback_pairs, RollbackLeaves}
 use Rattle.kz_world_parts.specs.Faults.{answer_of_fault, after_exit}
-use Rattle.kz_world_parts.specs.Stops.{EventLeaves}
+use Rattle.kz_world_parts.specs.EventStops.{EventLeaves}
 use Rattle.kz_world_parts.specs.Worlds.{AreViews, IsKept, IsDone}
 
 -- the world with this tree and this log

@@ -8,21 +8,21 @@ use Rattle.kz_types.specs.declared.machine.Event.TheVariants as event
 use Rattle.kz_types.specs.declared.machine.Reply.{Reply}
 use Rattle.kz_types.specs.declared.machine.Reply.TheVariants as reply
 use Rattle.kz_types.specs.declared.plan.Plan.{Plan}
-use Rattle.kz_spec_stores.specs.Tree.{Tree}
-use Rattle.kz_spec_stores.specs.Log.{Log}
+use Rattle.kz_spec_data.specs.Tree.{Tree}
+use Rattle.kz_spec_data.specs.Log.{Log}
 use Rattle.kz_spec_machine.specs.Driver.{Shared, Driver, planned_step, step}
 use Rattle.kz_spec_machine.specs.Machine.{World, next, running_ids, driver_of, running_refusal, unless_refused, ends, turn, work, stepped_world, step_result, turned_world, turn_result, Pair, pair_of, step_pairs, pairs_unless, event_step_pairs, event_pairs}
 use Rattle.kz_spec_machine.specs.Failures.{is_failed_step, is_failure, IsCutOff}
 use Rattle.kz_spec_machine.specs.Sound.{IsTime, Sound}
-use Rattle.kz_driver.specs.Disks.{Disks, Payloads}
-use Rattle.kz_turns.specs.Disks.{StepRequestDisks}
-use Rattle.kz_turns.specs.Pairs.{IsSoundPair}
-use Rattle.kz_turns.specs.Steps.{StepEnds, TurnEnds}
-use Rattle.kz_turns.specs.Stops.{AreUp, LeavesOneOf, turn_failure_pairs}
+use Rattle.kz_world_parts.specs.Disks.{Disks, Payloads}
+use Rattle.kz_world_parts.specs.TurnDisks.{StepRequestDisks}
+use Rattle.kz_world_parts.specs.Pairs.{IsSoundPair}
+use Rattle.kz_world_parts.specs.Steps.{StepEnds, TurnEnds}
+use Rattle.kz_world_parts.specs.TurnStops.{AreUp, LeavesOneOf, turn_failure_pairs}
 use Rattle.kz_world_parts.specs.declared.faults.EventFault.{EventFault}
-use Rattle.kz_world_parts.specs.Disks.{DriverTurnDisks, TurnEventDisks, DriverStepDisks, ResultDisks}
+use Rattle.kz_world_parts.specs.EventDisks.{DriverTurnDisks, TurnEventDisks, DriverStepDisks, ResultDisks}
 use Rattle.kz_world_parts.specs.Faults.{answer_of_result}
-use Rattle.kz_world_parts.specs.Stops.{TurnLeaves, EventLeaves}
+use Rattle.kz_world_parts.specs.EventStops.{TurnLeaves, EventLeaves}
 use Rattle.kz_world_parts.specs.Turns.{IsStepped, IsTurned}
 use Rattle.kz_world_parts.specs.Worlds.{AreDistinct, IsOutcome}
 use Rattle.kz_world_parts.proofs.Listings.{one_place}

@@ -6,8 +6,8 @@ use Rattle.kz_types.specs.declared.machine.Answer.{Answer}
 use Rattle.kz_types.specs.declared.machine.Answer.TheVariants as answer
 use Rattle.kz_types.specs.declared.machine.Event.TheVariants as event
 use Rattle.kz_types.specs.declared.machine.Recorded.{Recorded}
-use Rattle.kz_spec_stores.specs.Tree.{migration_record}
-use Rattle.kz_spec_stores.specs.Log.{Log, is_migrated_log, may_be_base, snapshot}
+use Rattle.kz_spec_data.specs.Tree.{migration_record}
+use Rattle.kz_spec_data.specs.Log.{Log, is_migrated_log, may_be_base, snapshot}
 use Rattle.kz_spec_machine.specs.Machine.{World, Pair, pair_of, pairs_unless, next, event_pairs, outcome_unless, unless, snapshot_offset, snapshot_refusal, cut_log, cut_world}
 use Rattle.kz_log.specs.Requests.{IsRefusal, made_by_snapshot}
 use Rattle.kz_world_parts.specs.Faults.{after_log_fault}

@@ -2,12 +2,12 @@
 use Rattle.std.proofs.Common.{ℕ, ℤ, Option, Some, None, Err}
 use Rattle.kz_types.specs.declared.fault.LogFault.TheVariants as log_fault
 use Rattle.kz_types.specs.declared.machine.Answer.{Answer}
-use Rattle.kz_spec_stores.specs.Log.{Log}
-use Rattle.kz_spec_stores.specs.Requests.{Disk, ChangesDisk, ReadsDisk}
-use Rattle.kz_driver.specs.Disks.{Disks, Payloads}
+use Rattle.kz_spec_data.specs.Log.{Log}
+use Rattle.kz_spec_data.specs.Requests.{Disk, ChangesDisk, ReadsDisk}
+use Rattle.kz_world_parts.specs.Disks.{Disks, Payloads}
 use Rattle.kz_world_parts.specs.declared.faults.EventFault.{EventFault}
 use Rattle.kz_world_parts.specs.declared.faults.EventFault.TheVariants as event_fault
-use Rattle.kz_world_parts.specs.Disks.{UnlessRefused, CutsLog}
+use Rattle.kz_world_parts.specs.EventDisks.{UnlessRefused, CutsLog}
 use Rattle.kz_world_parts.specs.Stores.{OnLogFault, ReadsLog}
 
 -- a log that wasn't read tells what it would tell of an append

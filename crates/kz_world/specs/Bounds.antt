@@ -1,6 +1,6 @@
 -- How the bound on the steps of a turn is told, and what that does to the disks.
 use Rattle.std.specs.Prelude.{ℕ, Result, Ok, Err}
-use Rattle.kz_driver.specs.Disks.{Disks}
+use Rattle.kz_world_parts.specs.Disks.{Disks}
 use Rattle.kz_world_parts.specs.declared.faults.EventFault.{EventFault}
 use Rattle.kz_world_parts.specs.declared.faults.EventFault.TheVariants as event_fault
 use Rattle.kz_world_parts.specs.Stores.{ReadsLog}

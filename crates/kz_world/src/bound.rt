@@ -2,7 +2,7 @@
 ghost use Rattle.std.specs.Prelude.{◌≡◌, ◌<◌, length, Some, IfOk, slice_get};
 ghost use Rattle.kz_spec_machine.specs.Driver.{Driver as DriverValue};
 ghost use Rattle.kz_spec_machine.specs.Machine.{work};
-ghost use Rattle.kz_world_parts.specs.Disks.{disks_in};
+ghost use Rattle.kz_world_parts.specs.EventDisks.{disks_in};
 ghost use Rattle.kz_world_parts.specs.Worlds.{world_of, world_of_parts, AreKept};
 ghost use Rattle.kz_world.specs.Bounds.{ReadsForBound};
 

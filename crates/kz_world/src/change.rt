@@ -1,10 +1,10 @@
 //! A change.
 ghost use Rattle.std.specs.Prelude.{◌≡◌, ◌<◌, length, IfOk, OnErr};
 ghost use Rattle.kz_types.specs.declared.machine.Event.TheVariants as event;
-ghost use Rattle.kz_driver.specs.Disks.{payloads_of};
+ghost use Rattle.kz_world_parts.specs.Disks.{payloads_of};
 ghost use Rattle.kz_world_parts.specs.Stores.{ReadsLog};
-ghost use Rattle.kz_world_parts.specs.Disks.{disks_in, AppendsRecords, ResultDisks, UnlessRefused};
-ghost use Rattle.kz_world_parts.specs.Stops.{EventLeaves};
+ghost use Rattle.kz_world_parts.specs.EventDisks.{disks_in, AppendsRecords, ResultDisks, UnlessRefused};
+ghost use Rattle.kz_world_parts.specs.EventStops.{EventLeaves};
 ghost use Rattle.kz_world_parts.specs.Worlds.{world_of, world_of_parts, IsDone, AreKept};
 
 use kz_log::MetaLog;

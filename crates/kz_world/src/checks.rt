@@ -3,16 +3,15 @@ ghost use Rattle.std.specs.Prelude.{◌≡◌, false, IfOk, OnErr};
 ghost use Rattle.kz_types.specs.declared.machine.Event.TheVariants as event;
 ghost use Rattle.kz_spec_machine.specs.Verdicts.{verdict};
 ghost use Rattle.kz_world_parts.specs.Stores.{ReadsLog};
-ghost use Rattle.kz_world_parts.specs.Disks.{disks_in};
-ghost use Rattle.kz_world_parts.specs.Stops.{EventLeaves};
+ghost use Rattle.kz_world_parts.specs.EventDisks.{disks_in};
+ghost use Rattle.kz_world_parts.specs.EventStops.{EventLeaves};
 ghost use Rattle.kz_world_parts.specs.Worlds.{world_of, world_of_parts, IsDone, AreKept};
 
 use kz_log::MetaLog;
 use kz_tree::{Tree, ZTree};
 use kz_types::{Answer, NoMemory, Verdict};
 use kz_verdict::verdict;
-use kz_work::read_whole;
-use kz_world_parts::{EventFault, Parts, read};
+use kz_world_parts::{EventFault, Parts, read, read_whole};
 use std::alloc::Global;
 
 // How the tree and a log that isn't down agree.

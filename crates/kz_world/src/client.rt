@@ -3,12 +3,12 @@ ghost use Rattle.std.specs.Prelude.{◌≡◌, ◌&&◌, ◌||◌, is_some, fals
 ghost use Rattle.std.specs.Str.{bytes_eq};
 ghost use Rattle.kz_types.specs.Paths.{base_paths, is_among, is_migrated};
 ghost use Rattle.kz_types.specs.declared.machine.Event.TheVariants as event;
-ghost use Rattle.kz_spec_values.specs.Control.{control_path, epoch_path, shown_epoch};
+ghost use Rattle.kz_spec_data.specs.Control.{control_path, epoch_path, shown_epoch};
 ghost use Rattle.kz_spec_machine.specs.Machine.{is_reserved, is_held, is_held_path, is_held_tree, first_told, client_refusal};
 ghost use Rattle.kz_spec_machine.specs.Failures.{is_failure};
-ghost use Rattle.kz_driver.specs.Disks.{payloads_of};
-ghost use Rattle.kz_world_parts.specs.Disks.{disks_in, ResultDisks};
-ghost use Rattle.kz_world_parts.specs.Stops.{EventLeaves};
+ghost use Rattle.kz_world_parts.specs.Disks.{payloads_of};
+ghost use Rattle.kz_world_parts.specs.EventDisks.{disks_in, ResultDisks};
+ghost use Rattle.kz_world_parts.specs.EventStops.{EventLeaves};
 ghost use Rattle.kz_world_parts.specs.Worlds.{world_of, world_of_parts, IsDone, AreKept};
 
 use kz_log::MetaLog;

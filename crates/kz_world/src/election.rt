@@ -1,18 +1,19 @@
 //! An election.
 ghost use Rattle.std.specs.Prelude.{◌≡◌, ◌<◌, ◌∷◌, [], ◌++◌, length, None, IfOk, OnOk, OnErr, if◌then◌else◌};
 ghost use Rattle.kz_types.specs.declared.machine.Event.TheVariants as event;
-ghost use Rattle.kz_spec_stores.specs.Log.{elect};
+ghost use Rattle.kz_spec_data.specs.Log.{elect};
 ghost use Rattle.kz_spec_machine.specs.Machine.{election_records, running_refusal};
-ghost use Rattle.kz_driver.specs.Disks.{payloads_of};
-ghost use Rattle.kz_world_parts.specs.Disks.{disks_in, ElectsController, ResultDisks};
-ghost use Rattle.kz_world_parts.specs.Stops.{EventLeaves};
+ghost use Rattle.kz_world_parts.specs.Disks.{payloads_of};
+ghost use Rattle.kz_world_parts.specs.EventDisks.{disks_in, ElectsController, ResultDisks};
+ghost use Rattle.kz_world_parts.specs.EventStops.{EventLeaves};
 ghost use Rattle.kz_world_parts.specs.Worlds.{world_of, world_of_parts, records_on_election, IsDone, AreKept};
 
-use kz_counted_view::CountedView;
 use kz_log::MetaLog;
 use kz_tree::ZTree;
 use kz_types::{Answer, MetaRecord, NO_MIGRATION, NoMemory, PRE_MIGRATION};
-use kz_world_parts::{EventFault, Parts, after_log_fault, elect_driver, read, running_refusal};
+use kz_world_parts::{
+    CountedView, EventFault, Parts, after_log_fault, elect_driver, read, running_refusal,
+};
 use std::alloc::Global;
 
 // Adds a record where it is wanted.

@@ -1,13 +1,13 @@
 //! The end of a migration, after which no controller writes to ZooKeeper.
 ghost use Rattle.std.specs.Prelude.{◌≡◌, false, IfOk, IfSome, OnErr};
 ghost use Rattle.kz_types.specs.declared.machine.Event.TheVariants as event;
-ghost use Rattle.kz_spec_stores.specs.Log.{end_of, image_of};
+ghost use Rattle.kz_spec_data.specs.Log.{end_of, image_of};
 ghost use Rattle.kz_spec_machine.specs.Failures.{is_failure};
 ghost use Rattle.kz_spec_machine.specs.Machine.{driver_of, dual_write_refusal, is_dual_write, rest_refusal, unless};
-ghost use Rattle.kz_driver.specs.Disks.{payloads_of};
-ghost use Rattle.kz_world_parts.specs.Disks.{disks_in, ResultDisks};
+ghost use Rattle.kz_world_parts.specs.Disks.{payloads_of};
+ghost use Rattle.kz_world_parts.specs.EventDisks.{disks_in, ResultDisks};
 ghost use Rattle.kz_world_parts.specs.Refusals.{end_refusal};
-ghost use Rattle.kz_world_parts.specs.Stops.{EventLeaves};
+ghost use Rattle.kz_world_parts.specs.EventStops.{EventLeaves};
 ghost use Rattle.kz_world_parts.specs.Worlds.{world_of, world_of_parts, IsDone, AreKept};
 
 use kz_exit::{ExitFault, may_finalise};

@@ -1,17 +1,17 @@
 //! The machine.
 ghost use Rattle.std.specs.Prelude.{◌≡◌, ◌⊎◌, ◌∷◌, [], true, false, Some, is_some, IfOk, IfErr, OnErr};
-ghost use Rattle.kz_spec_stores.specs.Tree.{migration_record};
-ghost use Rattle.kz_spec_stores.specs.Log.{end_of};
+ghost use Rattle.kz_spec_data.specs.Tree.{migration_record};
+ghost use Rattle.kz_spec_data.specs.Log.{end_of};
 ghost use Rattle.kz_spec_machine.specs.Driver.{Driver as DriverValue};
 ghost use Rattle.kz_spec_machine.specs.Machine.{next, driver_of, is_rollback, work};
 ghost use Rattle.kz_spec_machine.specs.Sound.{Sound, IsLawful};
-ghost use Rattle.kz_turns.specs.Stops.{AreUp, LeavesOneOf, failure_pairs};
+ghost use Rattle.kz_world_parts.specs.TurnStops.{AreUp, LeavesOneOf, failure_pairs};
 ghost use Rattle.kz_world_parts.specs.Fences.{IsOfFenced, TellsFence};
 ghost use Rattle.kz_spec_machine.specs.Failures.{is_failure, IsLeft};
-ghost use Rattle.kz_driver.specs.Disks.{payloads_of};
-ghost use Rattle.kz_world_parts.specs.Disks.{disks_in, ResultDisks, EventDisks};
+ghost use Rattle.kz_world_parts.specs.Disks.{payloads_of};
+ghost use Rattle.kz_world_parts.specs.EventDisks.{disks_in, ResultDisks, EventDisks};
 ghost use Rattle.kz_world_parts.specs.Faults.{answer_of_fault};
-ghost use Rattle.kz_world_parts.specs.Stops.{EventLeaves};
+ghost use Rattle.kz_world_parts.specs.EventStops.{EventLeaves};
 ghost use Rattle.kz_world_parts.specs.Worlds.{WorldOver, world_of, plain_world, world_of_parts, AreKept, IsOutcome};
 ghost use Rattle.kz_world.specs.Bounds.{ReadsForBound};
 
@@ -27,12 +27,11 @@ use crate::sessions::{expire, open};
 use crate::single_steps::step_of;
 use crate::snapshot::snapshot;
 use crate::turns::turn_of;
-use kz_counted_view::CountedView;
 use kz_log::{LogWire, MetaLog};
 use kz_session::ZSessions;
 use kz_tree::Wire;
 use kz_types::{Answer, Event, NoMemory, Recorded, Sequence};
-use kz_world_parts::{EventFault, Parts, answered, declare, place_of, start, stop};
+use kz_world_parts::{CountedView, EventFault, Parts, answered, declare, place_of, start, stop};
 use std::alloc::Global;
 use std::marker::Model;
 

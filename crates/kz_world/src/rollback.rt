@@ -2,18 +2,17 @@
 ghost use Rattle.std.specs.Prelude.{◌≡◌, IfOk, IfErr};
 ghost use Rattle.kz_types.specs.declared.machine.Event.TheVariants as event;
 ghost use Rattle.kz_spec_machine.specs.Failures.{IsLeft};
-ghost use Rattle.kz_driver.specs.Disks.{payloads_of};
-ghost use Rattle.kz_world_parts.specs.Disks.{disks_in, ResultDisks};
+ghost use Rattle.kz_world_parts.specs.Disks.{payloads_of};
+ghost use Rattle.kz_world_parts.specs.EventDisks.{disks_in, ResultDisks};
 ghost use Rattle.kz_world_parts.specs.Faults.{answer_of_fault};
-ghost use Rattle.kz_world_parts.specs.Stops.{EventLeaves};
+ghost use Rattle.kz_world_parts.specs.EventStops.{EventLeaves};
 ghost use Rattle.kz_world_parts.specs.Worlds.{world_of, world_of_parts, IsDone, AreKept};
 
-use kz_counted_view::CountedView;
 use kz_exit::rollback;
 use kz_log::MetaLog;
 use kz_tree::ZTree;
 use kz_types::Answer;
-use kz_world_parts::{EventFault, Parts, after_exit, least_running};
+use kz_world_parts::{CountedView, EventFault, Parts, after_exit, least_running};
 use std::alloc::Global;
 
 /// Takes the migration back. Refused, it changes nothing. The log is reset first, and the world's view begins anew, as the log

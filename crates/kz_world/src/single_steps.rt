@@ -5,22 +5,20 @@ ghost use Rattle.kz_spec_machine.specs.Driver.{Driver as DriverValue};
 ghost use Rattle.kz_spec_machine.specs.Machine.{pair_of, running_ids, step_pairs};
 ghost use Rattle.kz_spec_machine.specs.Failures.{is_failed_step};
 ghost use Rattle.kz_spec_machine.specs.Sound.{IsTime, Sound};
-ghost use Rattle.kz_driver.specs.Disks.{payloads_of};
-ghost use Rattle.kz_turns.specs.Disks.{StepRequestDisks};
-ghost use Rattle.kz_turns.specs.Pairs.{IsSoundPair};
-ghost use Rattle.kz_turns.specs.Stops.{AreUp, LeavesOneOf};
-ghost use Rattle.kz_world_parts.specs.Disks.{disks_in, ResultDisks};
-ghost use Rattle.kz_world_parts.specs.Stops.{EventLeaves};
+ghost use Rattle.kz_world_parts.specs.Disks.{payloads_of};
+ghost use Rattle.kz_world_parts.specs.TurnDisks.{StepRequestDisks};
+ghost use Rattle.kz_world_parts.specs.Pairs.{IsSoundPair};
+ghost use Rattle.kz_world_parts.specs.TurnStops.{AreUp, LeavesOneOf};
+ghost use Rattle.kz_world_parts.specs.EventDisks.{disks_in, ResultDisks};
+ghost use Rattle.kz_world_parts.specs.EventStops.{EventLeaves};
 ghost use Rattle.kz_world_parts.specs.Turns.{IsStepped};
 ghost use Rattle.kz_world_parts.specs.Worlds.{world_of, world_of_parts, AreKept, IsOutcome};
 
 use crate::turns::peers;
-use kz_driver::Peers;
 use kz_log::MetaLog;
 use kz_tree::ZTree;
-use kz_turns::step;
 use kz_types::{Answer, Plan, Reply};
-use kz_world_parts::{EventFault, Parts, place_of, running_refusal};
+use kz_world_parts::{EventFault, Parts, Peers, place_of, running_refusal, step};
 use std::alloc::Global;
 
 // A step of the driver at this place, whose request fares by this plan.

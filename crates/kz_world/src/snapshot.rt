@@ -2,19 +2,18 @@
 ghost use Rattle.std.specs.Prelude.{◌≡◌, [], ◌∷◌, Some, false, IfOk, OnErr};
 ghost use Rattle.kz_types.specs.declared.machine.Answer.TheVariants as answer;
 ghost use Rattle.kz_types.specs.declared.machine.Event.TheVariants as event;
-ghost use Rattle.kz_spec_stores.specs.Tree.{migration_record};
-ghost use Rattle.kz_spec_stores.specs.Log.{image_of, is_migrated_log};
+ghost use Rattle.kz_spec_data.specs.Tree.{migration_record};
+ghost use Rattle.kz_spec_data.specs.Log.{image_of, is_migrated_log};
 ghost use Rattle.kz_spec_machine.specs.Machine.{cut_world, pair_of, snapshot_offset};
-ghost use Rattle.kz_driver.specs.Disks.{payloads_of};
-ghost use Rattle.kz_world_parts.specs.Disks.{disks_in, CutsLog, ResultDisks};
-ghost use Rattle.kz_world_parts.specs.Stops.{EventLeaves, FailureLeaves};
+ghost use Rattle.kz_world_parts.specs.Disks.{payloads_of};
+ghost use Rattle.kz_world_parts.specs.EventDisks.{disks_in, CutsLog, ResultDisks};
+ghost use Rattle.kz_world_parts.specs.EventStops.{EventLeaves, FailureLeaves};
 ghost use Rattle.kz_world_parts.specs.Worlds.{world_of, world_of_parts, IsDone, AreKept};
 
 use kz_log::{LogRows, MetaLog};
 use kz_tree::{Tree, ZTree};
 use kz_types::{Answer, MIGRATION, NoMemory, Recorded};
-use kz_work::read_whole;
-use kz_world_parts::{EventFault, Parts, after_log_fault, read};
+use kz_world_parts::{EventFault, Parts, after_log_fault, read, read_whole};
 use std::alloc::Global;
 
 // Whether the migration is committed. The world's view is at the log's end.

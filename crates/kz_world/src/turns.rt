@@ -1,26 +1,25 @@
 //! A turn.
 ghost use Rattle.std.specs.Prelude.{◌≡◌, ◌<◌, ◌∷◌, false, length, Some, IfOk, OnOk, OnErr, slice_get};
 ghost use Rattle.kz_types.specs.declared.machine.Event.TheVariants as event;
-ghost use Rattle.kz_spec_stores.specs.Log.{image_of};
+ghost use Rattle.kz_spec_data.specs.Log.{image_of};
 ghost use Rattle.kz_spec_machine.specs.Driver.{Driver as DriverValue};
 ghost use Rattle.kz_spec_machine.specs.Machine.{running_ids};
 ghost use Rattle.kz_spec_machine.specs.Sound.{IsTime, Sound};
-ghost use Rattle.kz_driver.specs.Disks.{payloads_of};
-ghost use Rattle.kz_turns.specs.Pairs.{IsSoundPair};
-ghost use Rattle.kz_work.specs.Starts.{start_of};
+ghost use Rattle.kz_world_parts.specs.Disks.{payloads_of};
+ghost use Rattle.kz_world_parts.specs.Pairs.{IsSoundPair};
+ghost use Rattle.kz_world_parts.specs.Starts.{start_of};
 ghost use Rattle.kz_world_parts.specs.Stores.{ReadsLog};
-ghost use Rattle.kz_world_parts.specs.Disks.{disks_in, DriverTurnDisks, ResultDisks};
-ghost use Rattle.kz_world_parts.specs.Stops.{TurnLeaves, EventLeaves};
+ghost use Rattle.kz_world_parts.specs.EventDisks.{disks_in, DriverTurnDisks, ResultDisks};
+ghost use Rattle.kz_world_parts.specs.EventStops.{TurnLeaves, EventLeaves};
 ghost use Rattle.kz_world_parts.specs.Turns.{IsTurned};
 ghost use Rattle.kz_world_parts.specs.Worlds.{world_of, world_of_parts, AreKept, IsOutcome};
 
-use kz_driver::Peers;
 use kz_log::MetaLog;
 use kz_tree::ZTree;
-use kz_turns::turn;
 use kz_types::{Answer, Duplicate, NoMemory, Sequence};
-use kz_work::TurnStart;
-use kz_world_parts::{EventFault, Parts, place_of, read, running_ids, running_refusal};
+use kz_world_parts::{
+    EventFault, Parts, Peers, TurnStart, place_of, read, running_ids, running_refusal, turn,
+};
 use std::alloc::Global;
 
 /// The controllers that a driver is told of.

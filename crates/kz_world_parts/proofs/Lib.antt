@@ -1,5 +1,13 @@
+pub mod Stages
+pub mod Starts
+pub mod Least
+pub mod Replies
+pub mod Requests
+pub mod TurnStops
+pub mod SingleStep
+pub mod Turns
 pub mod Listings
 pub mod Outcomes
-pub mod Stops
+pub mod EventStops
 pub mod Told
 pub mod Views

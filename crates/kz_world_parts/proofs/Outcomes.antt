@@ -12,18 +12,18 @@ use Rattle.kz_types.specs.declared.machine.Event.{Event}
 use Rattle.kz_types.specs.declared.machine.Event.TheVariants as event
 use Rattle.kz_types.specs.declared.record.MetaRecord.{MetaRecord}
 use Rattle.kz_types.specs.declared.tree.Op.{Op}
-use Rattle.kz_spec_stores.specs.Image.{all_applied, first_bad}
-use Rattle.kz_spec_stores.specs.Tree.{Tree, begin_session, end_session, multi}
-use Rattle.kz_spec_stores.specs.Log.{Log, append, elect, end_of, full_log, log_unless_limit, with_batch, image_of, begun_of, is_migrated_log}
-use Rattle.kz_spec_znodes.specs.Rendering.{excess}
+use Rattle.kz_spec_data.specs.Image.{all_applied, first_bad}
+use Rattle.kz_spec_data.specs.Tree.{Tree, begin_session, end_session, multi}
+use Rattle.kz_spec_data.specs.Log.{Log, append, elect, end_of, full_log, log_unless_limit, with_batch, image_of, begun_of, is_migrated_log}
+use Rattle.kz_spec_data.specs.Rendering.{excess}
 use Rattle.kz_spec_machine.specs.Driver.{Driver}
 use Rattle.kz_spec_machine.specs.Machine.{World, next, is_running, start_refusal, outcome_unless, first_of, unless, over, full, running_refusal, leader_refusal, change_refusal, over_excess, election_refusal, election_records, elected_log, elected_world, election_answer, next_epoch, changed_log, changed_world, register_refusal, registration, bad_record, Pair, pair_of, pairs_unless, tree_pairs, client_refusal, event_pairs, driver_of, is_finalised_log, dual_write_refusal, rest_refusal, finalise_refusal, final_records}
 use Rattle.kz_spec_machine.specs.Failures.{is_failure}
 use Rattle.kz_log.specs.Requests.{IsRefusal}
-use Rattle.kz_world_parts.specs.Disks.{UnlessRefused}
+use Rattle.kz_world_parts.specs.EventDisks.{UnlessRefused}
 use Rattle.kz_world_parts.specs.Faults.{after_log_fault}
 use Rattle.kz_world_parts.specs.Refusals.{records_refusal, end_refusal}
-use Rattle.kz_world_parts.specs.Stops.{append_pairs}
+use Rattle.kz_world_parts.specs.EventStops.{append_pairs}
 use Rattle.kz_world_parts.specs.Worlds.{elected_drivers, world_after_append, IsDone, IsOutcome}
 use Rattle.kz_world_parts.proofs.Told.{told_answer, log_refuses}
 use Rattle.kz_world_parts.proofs.Listings.{itself}

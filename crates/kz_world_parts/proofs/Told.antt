@@ -11,9 +11,9 @@ use Rattle.kz_types.specs.declared.machine.Event.TheVariants as event
 use Rattle.kz_types.specs.declared.machine.Answer.{Answer}
 use Rattle.kz_types.specs.declared.machine.Answer.TheVariants as answer
 use Rattle.kz_types.specs.declared.move_fault.MoveFault.{MoveFault}
-use Rattle.kz_spec_stores.specs.Tree.{Tree, multi, begin_session, end_session, migration_record}
-use Rattle.kz_spec_stores.specs.Log.{Log, append, elect, begun_of, image_of}
-use Rattle.kz_spec_stores.specs.Requests.{Disk, StoreAnswer, Done, Multi, BeginSession, EndSession, Append, Elect, IsTaken, ChangesDisk, ReadsDisk, answer_of_tree_fault, answer_of_log_fault, Snapshot}
+use Rattle.kz_spec_data.specs.Tree.{Tree, multi, begin_session, end_session, migration_record}
+use Rattle.kz_spec_data.specs.Log.{Log, append, elect, begun_of, image_of}
+use Rattle.kz_spec_data.specs.Requests.{Disk, StoreAnswer, Done, Multi, BeginSession, EndSession, Append, Elect, IsTaken, ChangesDisk, ReadsDisk, answer_of_tree_fault, answer_of_log_fault, Snapshot}
 use Rattle.kz_spec_machine.specs.Driver.{Driver, least}
 use Rattle.kz_spec_machine.specs.Machine.{World, running_refusal, leader_refusal, client_refusal, driver_of, running_ids, election_records, registration, final_records, is_rollback, snapshot_refusal, snapshot_offset}
 use Rattle.kz_spec_machine.specs.Failures.{is_tree_failure, is_log_failure, is_failure, IsLeftByTree, IsLeftByLog, IsLeftOutOfMemory, IsLeft}
@@ -30,7 +30,7 @@ use Rattle.kz_session.specs.Sessions.{answer_of_session_fault, IsRefusal as IsSe
 use Rattle.kz_exit.specs.declared.faults.ExitFault.{ExitFault}
 use Rattle.kz_exit.specs.declared.faults.ExitFault.TheVariants as exit
 use Rattle.kz_world_parts.specs.Faults.{result_of_answer, answer_of_fault, after_log_fault, after_tree_fault, after_session_fault, after_exit}
-use Rattle.kz_world_parts.specs.Disks.{UnlessRefused, TurnEventDisks, DriverStepDisks, TakesBack, ResultDisks, CutsLog}
+use Rattle.kz_world_parts.specs.EventDisks.{UnlessRefused, TurnEventDisks, DriverStepDisks, TakesBack, ResultDisks, CutsLog}
 use Rattle.kz_world_parts.specs.Refusals.{records_refusal, end_refusal}
 
 -- ---- answers that tell a fault

@@ -4,10 +4,10 @@ use Rattle.std.specs.Prelude.{slice_get, unwrap_or}
 use Rattle.std.specs.Ordering.{int_eq}
 use Rattle.kz_types.specs.declared.plan.Plan.{Plan}
 use Rattle.kz_types.specs.declared.plan.Plan.TheVariants as plan
-use Rattle.kz_spec_stores.specs.Log.{Log, View, IsViewOf}
+use Rattle.kz_spec_data.specs.Log.{Log, View, IsViewOf}
 use Rattle.kz_spec_machine.specs.Driver.{Driver, elected_driver}
 use Rattle.kz_spec_machine.specs.Machine.{is_running, drivers_without}
-use Rattle.kz_spec_stores.specs.Requests.{Disk}
+use Rattle.kz_spec_data.specs.Requests.{Disk}
 use Rattle.kz_driver.specs.Disks.{Disks, disks_of}
 use Rattle.kz_world_parts.specs.Worlds.{AreDistinct, AreViews, IsKept, elected_drivers}
 use Rattle.kz_world_parts.proofs.Listings.{started_distinct, elected_ids, same_ids, filter_distinct}

@@ -7,7 +7,7 @@ use Rattle.kz_types.specs.declared.machine.Answer.TheVariants as answer
 use Rattle.kz_spec_machine.specs.Driver.{Shared, Driver}
 use Rattle.kz_spec_machine.specs.Machine.{World, driver_of, leader_refusal}
 use Rattle.kz_spec_machine.specs.Sound.{IsBelowShown, shown_in}
-use Rattle.kz_laws_fence.specs.Fence.{IsOfFence}
+use Rattle.kz_laws_machine.specs.Fence.{IsOfFence}
 
 -- the epoch of a driver that runs is below the one that `/controller` shows
 abbrev pub IsFencedDriver : Shared → Option Driver → Type 0

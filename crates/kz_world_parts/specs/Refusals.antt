@@ -6,9 +6,9 @@ use Rattle.kz_types.specs.Limits.{number_of_limit}
 use Rattle.kz_types.specs.declared.machine.Answer.{Answer}
 use Rattle.kz_types.specs.declared.machine.Answer.TheVariants as answer
 use Rattle.kz_types.specs.declared.record.MetaRecord.{MetaRecord}
-use Rattle.kz_spec_stores.specs.Image.{Image, all_applied, first_bad, is_migrated_state}
-use Rattle.kz_spec_znodes.specs.Rendering.{excess}
-use Rattle.kz_spec_stores.specs.Log.{end_of, is_migrated_log}
+use Rattle.kz_spec_data.specs.Image.{Image, all_applied, first_bad, is_migrated_state}
+use Rattle.kz_spec_data.specs.Rendering.{excess}
+use Rattle.kz_spec_data.specs.Log.{end_of, is_migrated_log}
 use Rattle.kz_spec_machine.specs.Machine.{World, driver_of, first_of, unless, over, over_excess, bad_record, is_finalised_log, dual_write_refusal, rest_refusal}
 
 -- why a leader's change of a log of this epoch, with this metadata, is refused, before the log's room is asked for

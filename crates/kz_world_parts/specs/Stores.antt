@@ -1,6 +1,6 @@
 -- What an event that asks a store by itself does to the store's disk.
 use Rattle.std.specs.Prelude.{◌≡◌, ℕ, Result, Ok, Err}
-use Rattle.kz_spec_stores.specs.Requests.{Disk, StoreAnswer, Done, NoMemory, answer_of_tree_fault, answer_of_log_fault, IsTaken, ChangesDisk, ReadsDisk}
+use Rattle.kz_spec_data.specs.Requests.{Disk, StoreAnswer, Done, NoMemory, answer_of_tree_fault, answer_of_log_fault, IsTaken, ChangesDisk, ReadsDisk}
 use Rattle.kz_requests.specs.Disks.{IsOfStore, answer_of_made}
 use Rattle.kz_driver.specs.Disks.{Disks}
 use Rattle.kz_world_parts.specs.declared.faults.EventFault.{EventFault}

@@ -9,8 +9,8 @@ use Rattle.kz_types.specs.declared.machine.Answer.{Answer}
 use Rattle.kz_types.specs.declared.machine.Answer.TheVariants as answer
 use Rattle.kz_types.specs.declared.record.MetaRecord.{MetaRecord}
 use Rattle.kz_types.specs.declared.record.MetaRecord.TheVariants as meta
-use Rattle.kz_spec_stores.specs.Log.{Log, View, IsViewOf, end_of}
-use Rattle.kz_spec_stores.specs.Tree.{Tree}
+use Rattle.kz_spec_data.specs.Log.{Log, View, IsViewOf, end_of}
+use Rattle.kz_spec_data.specs.Tree.{Tree}
 use Rattle.kz_spec_machine.specs.Driver.{Driver, elected_driver, is_one_of}
 use Rattle.kz_spec_machine.specs.Machine.{World, next, running_ids, outcome_unless, full, changed_log, changed_world}
 use Rattle.kz_spec_machine.specs.Failures.{is_failure, IsLeft}

@@ -2,8 +2,8 @@
 ghost use Rattle.std.specs.Prelude.{◌≡◌, ◌<◌, pos, false, ◌≤ℤ◌, length, IfOk, OnErr};
 ghost use Rattle.kz_spec_machine.specs.Failures.{is_failure};
 ghost use Rattle.kz_driver.specs.Disks.{payloads_of};
-ghost use Rattle.kz_world_parts.specs.Disks.{disks_in, AppendsRecords};
-ghost use Rattle.kz_world_parts.specs.Stops.{FailureLeaves, append_pairs};
+ghost use Rattle.kz_world_parts.specs.EventDisks.{disks_in, AppendsRecords};
+ghost use Rattle.kz_world_parts.specs.EventStops.{FailureLeaves, append_pairs};
 ghost use Rattle.kz_world_parts.specs.Worlds.{world_of, world_of_parts, world_after_append, AreKept};
 
 use crate::faults::{EventFault, after_log_fault};

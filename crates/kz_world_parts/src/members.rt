@@ -1,7 +1,7 @@
 //! Which controllers are declared, and which run.
 ghost use Rattle.std.specs.Prelude.{◌≡◌, IfOk, OnErr};
 ghost use Rattle.kz_types.specs.declared.machine.Event.TheVariants as event;
-ghost use Rattle.kz_world_parts.specs.Disks.{disks_in};
+ghost use Rattle.kz_world_parts.specs.EventDisks.{disks_in};
 ghost use Rattle.kz_world_parts.specs.Worlds.{world_of, world_of_parts, IsDone, AreKept};
 
 use crate::drivers::stop_drivers;

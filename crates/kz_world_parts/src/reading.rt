@@ -1,8 +1,8 @@
 //! Reading the log.
 ghost use Rattle.std.specs.Prelude.{◌≡◌, OnOk};
-ghost use Rattle.kz_spec_stores.specs.Log.{begun_of, image_of};
+ghost use Rattle.kz_spec_data.specs.Log.{begun_of, image_of};
 ghost use Rattle.kz_world_parts.specs.Stores.{ReadsLog};
-ghost use Rattle.kz_world_parts.specs.Disks.{disks_in};
+ghost use Rattle.kz_world_parts.specs.EventDisks.{disks_in};
 ghost use Rattle.kz_world_parts.specs.Worlds.{world_of, world_of_parts, AreKept};
 
 use crate::faults::EventFault;

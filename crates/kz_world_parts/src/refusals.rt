@@ -1,7 +1,7 @@
 //! Why an event is refused. A refusal tells of no failure, and takes no memory, unless the metadata has to be read.
 ghost use Rattle.std.specs.Prelude.{◌≡◌, pos, false, ◌≤ℤ◌, IfNone, IfSome, IfOk};
-ghost use Rattle.kz_spec_stores.specs.Image.{all_applied, first_bad, rule_number};
-ghost use Rattle.kz_spec_znodes.specs.Rendering.{excess};
+ghost use Rattle.kz_spec_data.specs.Image.{all_applied, first_bad, rule_number};
+ghost use Rattle.kz_spec_data.specs.Rendering.{excess};
 ghost use Rattle.kz_spec_machine.specs.Machine.{quorum_refusal, start_refusal, stop_refusal, running_refusal, epoch_refusal, driver_refusal, driver_of, leader_refusal, over_excess, bad_record};
 ghost use Rattle.kz_spec_machine.specs.Failures.{is_failure};
 ghost use Rattle.kz_world_parts.specs.Refusals.{records_refusal};

@@ -8,7 +8,7 @@ use Rattle.std.proofs.lemmas.List.{length-take, length-take-le, take_more, take-
 use Rattle.std.proofs.lemmas.List.Sums.{sum-map, sum_by-append, sum_by-take-le}
 use Rattle.kz_types.specs.declared.limits.TheConstants.{MAX_CHUNK_BYTES}
 use Rattle.kz_types.specs.declared.tree.Op.{Op}
-use Rattle.kz_spec_znodes.specs.Difference.{op_size, keeps_bytes, chunk_length}
+use Rattle.kz_spec_data.specs.Difference.{op_size, keeps_bytes, chunk_length}
 
 -- the bytes of the first so many operations
 abbrev pub first_bytes : ℕ → List Op → ℕ

@@ -8,19 +8,19 @@ use Rattle.std.proofs.lemmas.List.Elements.{Contains-append_cases, Contains-appe
 use Rattle.kz_types.specs.declared.key.EntityKey.{EntityKey}
 use Rattle.kz_types.specs.declared.tree.Rendered.{Rendered}
 use Rattle.kz_types.specs.Paths.{is_path}
-use Rattle.kz_ordered.specs.Order.{bytes_cmp}
-use Rattle.kz_ordered.specs.Ordered.{find, put, all_put, Rises}
-use Rattle.kz_ordered.specs.Difference.{DecidesEqual}
-use Rattle.kz_ordered.specs.Covering.{at_keys, Covers}
-use Rattle.kz_ordered.proofs.Order.{bytes_order}
-use Rattle.kz_ordered.proofs.Lookup.{some_is_none, same_some, Contains-head, Contains-tail, Contains-nil, Contains-cons_cases, key_of_found, found_is_contained}
-use Rattle.kz_ordered.proofs.Puts.{Rises-all_put}
-use Rattle.kz_ordered.proofs.Maps.{Rises-map}
-use Rattle.kz_ordered.proofs.Covering.{Rises-at_keys, covered_difference}
+use Rattle.kz_types.specs.Order.{bytes_cmp}
+use Rattle.kz_types.specs.Ordered.{find, put, all_put, Rises}
+use Rattle.kz_types.specs.Difference.{DecidesEqual}
+use Rattle.kz_types.specs.Covering.{at_keys, Covers}
+use Rattle.kz_types.proofs.Order.{bytes_order}
+use Rattle.kz_types.proofs.Lookup.{some_is_none, same_some, Contains-head, Contains-tail, Contains-nil, Contains-cons_cases, key_of_found, found_is_contained}
+use Rattle.kz_types.proofs.Puts.{Rises-all_put}
+use Rattle.kz_types.proofs.Maps.{Rises-map}
+use Rattle.kz_types.proofs.Covering.{Rises-at_keys, covered_difference}
 use Rattle.kz_laws_znodes.proofs.Puts.{put_is_found}
-use Rattle.kz_spec_stores.specs.Tree.{path_of_rendered}
-use Rattle.kz_spec_znodes.specs.Difference.{same_body, op_of, diff}
-use Rattle.kz_spec_delta.specs.Spans.{spanned_paths, all_spanned_paths, CoverDifference}
+use Rattle.kz_spec_data.specs.Tree.{path_of_rendered}
+use Rattle.kz_spec_data.specs.Difference.{same_body, op_of, diff}
+use Rattle.kz_spec_data.specs.Spans.{spanned_paths, all_spanned_paths, CoverDifference}
 use Rattle.kz_writer.specs.declared.spanned.SpannedPath.{SpannedPath}
 use Rattle.kz_writer.specs.PathLists.{path_of_spanned, path_or_nothing, spanned_by, spanned_by_all, DifferAtPathsAlone, RisesBy}
 

@@ -19,17 +19,17 @@ use Rattle.kz_types.specs.PathRule.{is_path}
 use Rattle.kz_types.specs.Paths.{roots, has_path, is_topic_name, key_of, path_of}
 use Rattle.kz_types.proofs.OnLiterals.{values_on_literals}
 use Rattle.kz_types.proofs.KeyLemmas.{path_of_key_of}
-use Rattle.kz_ordered.specs.Order.{bytes_cmp}
-use Rattle.kz_ordered.specs.Ordered.{find}
-use Rattle.kz_ordered.proofs.Order.{bytes_order}
-use Rattle.kz_ordered.proofs.Lookup.{Contains-cons_cases, Contains-nil, key_of_found, found_is_contained}
-use Rattle.kz_ordered.proofs.Puts.{Contains-all_put_cases}
+use Rattle.kz_types.specs.Order.{bytes_cmp}
+use Rattle.kz_types.specs.Ordered.{find}
+use Rattle.kz_types.proofs.Order.{bytes_order}
+use Rattle.kz_types.proofs.Lookup.{Contains-cons_cases, Contains-nil, key_of_found, found_is_contained}
+use Rattle.kz_types.proofs.Puts.{Contains-all_put_cases}
 use Rattle.kz_paths.proofs.Tables.{roots_are_paths}
-use Rattle.kz_spec_stores.specs.Tree.{path_of_rendered}
-use Rattle.kz_spec_stores.specs.Metadata.{Image}
-use Rattle.kz_spec_stores.specs.InOrder.{IsQuotaFilled, IsUserFilled, IsInOrder}
-use Rattle.kz_spec_stores.specs.Legal.{IsScramEntry, IsAcl}
-use Rattle.kz_spec_znodes.specs.Rendering.{bare, znode, partitions_path, number_path, state_body, partition_znodes, topic_znode, topic_config_znodes, topic_znodes, broker_key, config_znode, client_parents, quota_parents, znode_of_quotas, own_znodes, user_znode, quota_znodes, acl_key, acl_znode, producer_znodes, entity_znodes, render}
+use Rattle.kz_spec_data.specs.Tree.{path_of_rendered}
+use Rattle.kz_spec_data.specs.Metadata.{Image}
+use Rattle.kz_spec_data.specs.InOrder.{IsQuotaFilled, IsUserFilled, IsInOrder}
+use Rattle.kz_spec_data.specs.Legal.{IsScramEntry, IsAcl}
+use Rattle.kz_spec_data.specs.Rendering.{bare, znode, partitions_path, number_path, state_body, partition_znodes, topic_znode, topic_config_znodes, topic_znodes, broker_key, config_znode, client_parents, quota_parents, znode_of_quotas, own_znodes, user_znode, quota_znodes, acl_key, acl_znode, producer_znodes, entity_znodes, render}
 use Rattle.kz_laws_znodes.specs.RoundTrip.{IsWritable}
 use Rattle.kz_laws_znodes.proofs.Within.{from_flat, from_map}
 use Rattle.kz_laws_znodes.proofs.Scaffolds.{clients_path}

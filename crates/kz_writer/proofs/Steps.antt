@@ -3,11 +3,11 @@ use Rattle.std.proofs.Common.{◌≡◌, ℕ, suc, ◌+◌, ◌-◌, ◌<◌, Li
 use Rattle.std.proofs.lemmas.List.{map-append}
 use Rattle.kz_types.specs.declared.tree.Op.{Op}
 use Rattle.kz_types.specs.declared.tree.Rendered.{Rendered}
-use Rattle.kz_ordered.specs.Order.{bytes_cmp}
-use Rattle.kz_ordered.specs.Ordered.{find}
-use Rattle.kz_ordered.specs.Difference.{drops, makes, drop_unless, make_or_alter}
-use Rattle.kz_spec_stores.specs.Tree.{path_of_rendered}
-use Rattle.kz_spec_znodes.specs.Difference.{op_of, same_body, diff}
+use Rattle.kz_types.specs.Order.{bytes_cmp}
+use Rattle.kz_types.specs.Ordered.{find}
+use Rattle.kz_types.specs.Difference.{drops, makes, drop_unless, make_or_alter}
+use Rattle.kz_spec_data.specs.Tree.{path_of_rendered}
+use Rattle.kz_spec_data.specs.Difference.{op_of, same_body, diff}
 use Rattle.kz_writer.specs.Parts.{delete_of, put_of, deletes, puts}
 
 deletes-cons : (r : Rendered) (have want : List Rendered) → deletes (r ∷ have) want ≡ deletes have want ++ delete_of r want

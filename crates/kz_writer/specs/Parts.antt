@@ -2,11 +2,11 @@
 use Rattle.std.specs.Prelude.{List, map}
 use Rattle.kz_types.specs.declared.tree.Op.{Op}
 use Rattle.kz_types.specs.declared.tree.Rendered.{Rendered}
-use Rattle.kz_ordered.specs.Order.{bytes_cmp}
-use Rattle.kz_ordered.specs.Ordered.{find}
-use Rattle.kz_ordered.specs.Difference.{drops, makes, drop_unless, make_or_alter}
-use Rattle.kz_spec_stores.specs.Tree.{path_of_rendered}
-use Rattle.kz_spec_znodes.specs.Difference.{op_of, same_body}
+use Rattle.kz_types.specs.Order.{bytes_cmp}
+use Rattle.kz_types.specs.Ordered.{find}
+use Rattle.kz_types.specs.Difference.{drops, makes, drop_unless, make_or_alter}
+use Rattle.kz_spec_data.specs.Tree.{path_of_rendered}
+use Rattle.kz_spec_data.specs.Difference.{op_of, same_body}
 
 -- the delete of a znode that isn't wanted
 abbrev pub delete_of : Rendered → List Rendered → List Op

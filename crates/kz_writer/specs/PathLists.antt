@@ -4,10 +4,10 @@ use Rattle.std.specs.List.{flat_map}
 use Rattle.kz_types.specs.declared.key.EntityKey.{EntityKey}
 use Rattle.kz_types.specs.declared.tree.Rendered.{Rendered}
 use Rattle.kz_types.specs.Paths.{is_path}
-use Rattle.kz_ordered.specs.Order.{bytes_cmp}
-use Rattle.kz_ordered.specs.Ordered.{find, all_put}
-use Rattle.kz_spec_stores.specs.Tree.{path_of_rendered}
-use Rattle.kz_spec_delta.specs.Spans.{spanned_paths}
+use Rattle.kz_types.specs.Order.{bytes_cmp}
+use Rattle.kz_types.specs.Ordered.{find, all_put}
+use Rattle.kz_spec_data.specs.Tree.{path_of_rendered}
+use Rattle.kz_spec_data.specs.Spans.{spanned_paths}
 use Rattle.kz_writer.specs.declared.spanned.SpannedPath.{SpannedPath}
 
 abbrev pub path_of_spanned : SpannedPath → List ℕ

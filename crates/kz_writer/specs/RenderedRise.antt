@@ -1,13 +1,13 @@
 -- The paths of a rendering rise.
 use Rattle.std.specs.Prelude.{map}
 use Rattle.kz_types.specs.Paths.{roots}
-use Rattle.kz_ordered.specs.Order.{bytes_cmp}
-use Rattle.kz_ordered.specs.Ordered.{Rises}
-use Rattle.kz_ordered.proofs.Order.{bytes_order}
-use Rattle.kz_ordered.proofs.Puts.{Rises-all_put}
-use Rattle.kz_spec_stores.specs.Tree.{path_of_rendered}
-use Rattle.kz_spec_stores.specs.Metadata.{Image}
-use Rattle.kz_spec_znodes.specs.Rendering.{bare, entity_znodes, render}
+use Rattle.kz_types.specs.Order.{bytes_cmp}
+use Rattle.kz_types.specs.Ordered.{Rises}
+use Rattle.kz_types.proofs.Order.{bytes_order}
+use Rattle.kz_types.proofs.Puts.{Rises-all_put}
+use Rattle.kz_spec_data.specs.Tree.{path_of_rendered}
+use Rattle.kz_spec_data.specs.Metadata.{Image}
+use Rattle.kz_spec_data.specs.Rendering.{bare, entity_znodes, render}
 use Rattle.kz_render.proofs.BareRoots.{bare_roots_rise}
 
 -- They are put in order, one after another.

@@ -1,6 +1,6 @@
 //! The operations of one write.
 ghost use Rattle.std.specs.Prelude.{◌≡◌, ◌+◌, ◌<◌, ◌≤◌, length, MatchOption};
-ghost use Rattle.kz_spec_znodes.specs.Difference.{op_size, chunk as chunk_of};
+ghost use Rattle.kz_spec_data.specs.Difference.{op_size, chunk as chunk_of};
 
 use kz_types::{MAX_CHUNK, MAX_CHUNK_BYTES, OP_BYTES, Op};
 

@@ -1,12 +1,12 @@
 //! The operations between two lists of znodes that differ at known paths alone.
 ghost use Rattle.std.specs.Prelude.{◌≡◌, ◌++◌, true, map, length, option_to_list, IfOk, OnOk, All};
 ghost use Rattle.kz_types.specs.Paths.{is_legal};
-ghost use Rattle.kz_ordered.specs.Order.{bytes_cmp};
-ghost use Rattle.kz_ordered.specs.Ordered.{find};
-ghost use Rattle.kz_ordered.specs.Covering.{at_keys};
-ghost use Rattle.kz_spec_stores.specs.Tree.{path_of_rendered};
-ghost use Rattle.kz_spec_znodes.specs.Difference.{diff};
-ghost use Rattle.kz_spec_delta.specs.Spans.{all_spanned_paths, CoverDifference};
+ghost use Rattle.kz_types.specs.Order.{bytes_cmp};
+ghost use Rattle.kz_types.specs.Ordered.{find};
+ghost use Rattle.kz_types.specs.Covering.{at_keys};
+ghost use Rattle.kz_spec_data.specs.Tree.{path_of_rendered};
+ghost use Rattle.kz_spec_data.specs.Difference.{diff};
+ghost use Rattle.kz_spec_data.specs.Spans.{all_spanned_paths, CoverDifference};
 ghost use Rattle.kz_writer.specs.PathLists.{path_of_spanned, DifferAtPathsAlone, RisesBy};
 
 use crate::diff::diff_renderings;

@@ -1,62 +1,66 @@
 //! The difference of two renderings.
 ghost use Rattle.std.specs.Prelude.{◌≡◌, ◌++◌, map, option_map, IfOk, OnOk, OnErr};
-ghost use Rattle.kz_ordered.specs.Order.{bytes_cmp};
-ghost use Rattle.kz_ordered.specs.Ordered.{find as find_in, Rises};
-ghost use Rattle.kz_spec_stores.specs.Tree.{path_of_row, path_of_rendered, rendered_row};
-ghost use Rattle.kz_spec_znodes.specs.Difference.{diff};
+ghost use Rattle.kz_types.specs.Order.{bytes_cmp};
+ghost use Rattle.kz_types.specs.Ordered.{find as find_in, Rises};
+ghost use Rattle.kz_spec_data.specs.Tree.{path_of_row, path_of_rendered, rendered_row};
+ghost use Rattle.kz_spec_data.specs.Difference.{diff};
 ghost use Rattle.kz_writer.specs.Parts.{deletes, puts, delete_of, put_of};
 
+use crate::near::find_near;
 use crate::znode::Znode;
-use kz_sorted::find;
 use kz_types::{Duplicate, NoMemory, Op, Rendered, Row};
 use std::alloc::Global;
 
-// The znode with this path.
-fn find_znode<'a, Z: Znode>(znodes: &'a [Z], path: &[u8]) -> Option<&'a Z>
+// The znode with this path, and the place where the search ended.
+fn find_znode<'a, Z: Znode>(znodes: &'a [Z], path: &[u8], place: usize) -> (Option<&'a Z>, usize)
     requires { Rises bytes_cmp Z.key znodes.now }
-    ensures { option_map (λ z. Z.rendered z.now) result ≡ find_in bytes_cmp path_of_rendered path.now (map Z.rendered znodes.entry.now) }
+    ensures { option_map (λ z. Z.rendered z.now) result.0 ≡ find_in bytes_cmp path_of_rendered path.now (map Z.rendered znodes.entry.now) }
 {
-    find(znodes, path)
+    find_near(znodes, path, place)
 }
 
-// A delete of a znode that isn't wanted.
+// A delete of a znode that isn't wanted. Tells the place where it would stand.
 fn push_delete<Z: Znode>(
     alloc: Global,
     ops: &mut Vec<Op>,
     znode: &Z,
     want: &[Rendered],
-) -> Result<(), NoMemory>
+    place: usize,
+) -> Result<usize, NoMemory>
     requires { Rises bytes_cmp path_of_rendered want.now }
     ensures { OnOk result (ops.new.items ≡ ops.old.items ++ delete_of (Z.rendered znode.now) want.now) }
 {
-    if find(want, znode.path().bytes()).is_none() {
+    let (found, at) = find_near(want, znode.path().bytes(), place);
+    if found.is_none() {
         ops.push(Op::Delete {
             path: znode.path().copy(alloc)?,
             version: -1,
         })?;
     }
-    Ok(())
+    Ok(at)
 }
 
-// A create or a set of a znode that is absent or has another body.
+// A create or a set of a znode that is absent or has another body. Tells the place after it.
 fn push_put<Z: Znode>(
     alloc: Global,
     ops: &mut Vec<Op>,
     have: &[Z],
     znode: &Rendered,
-) -> Result<(), NoMemory>
+    place: usize,
+) -> Result<usize, NoMemory>
     requires { Rises bytes_cmp Z.key have.now }
     ensures { OnOk result (ops.new.items ≡ ops.old.items ++ put_of (map Z.rendered have.now) znode.now) }
 {
-    match find_znode(have, znode.path.bytes()) {
-        None => {
+    match find_znode(have, znode.path.bytes(), place) {
+        (None, at) => {
             ops.push(Op::Create {
                 path: znode.path.copy(alloc)?,
                 body: znode.body.copy(alloc)?,
                 owner: None,
             })?;
+            Ok(at)
         }
-        Some(present) => {
+        (Some(present), at) => {
             if present.body() != znode.body.as_slice() {
                 ops.push(Op::Set {
                     path: znode.path.copy(alloc)?,
@@ -64,11 +68,12 @@ fn push_put<Z: Znode>(
                     version: -1,
                 })?;
             }
+            Ok(at.saturating_add(1))
         }
     }
-    Ok(())
 }
 
+// Both lists rise, so that the znodes that are looked for one after another stand one after another.
 fn push_deletes<Z: Znode>(
     alloc: Global,
     ops: &mut Vec<Op>,
@@ -79,8 +84,10 @@ fn push_deletes<Z: Znode>(
     ensures { OnOk result (ops.new.items ≡ ops.old.items ++ deletes (map Z.rendered have.now) want.now) }
 {
     let count = have.len();
+    let mut place = want.len();
     for done in 0..count {
-        push_delete(alloc, ops, &have[count - 1 - done], want)?;
+        let znode = &have[count - 1 - done];
+        place = push_delete(alloc, ops, znode, want, place.saturating_sub(1))?;
     }
     Ok(())
 }
@@ -94,8 +101,9 @@ fn push_puts<Z: Znode>(
     requires { Rises bytes_cmp Z.key have.now }
     ensures { OnOk result (ops.new.items ≡ ops.old.items ++ puts (map Z.rendered have.now) want.now) }
 {
+    let mut place = 0;
     for znode in want {
-        push_put(alloc, ops, have, znode)?;
+        place = push_put(alloc, ops, have, znode, place)?;
     }
     Ok(())
 }

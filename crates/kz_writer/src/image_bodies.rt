@@ -1,10 +1,10 @@
 //! The bodies of the znodes that stand for metadata.
 ghost use Rattle.std.specs.Prelude.{◌≡◌};
-ghost use Rattle.kz_spec_znodes.specs.Rendering.{render};
+ghost use Rattle.kz_spec_data.specs.Rendering.{render};
 ghost use Rattle.kz_writer.specs.RenderedRise.{render_rises};
 
 use kz_image::Image;
-use kz_render_one::render_one;
+use kz_render::render_one;
 use kz_types::{Bodies, NoMemory, ZPath};
 use std::alloc::Global;
 use std::marker::Model;

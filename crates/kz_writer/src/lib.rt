@@ -5,6 +5,7 @@ mod chunks;
 mod delta;
 mod diff;
 mod image_bodies;
+mod near;
 mod rendered;
 mod spanned;
 mod znode;

@@ -1,5 +1,5 @@
 //! What is known of the paths of renderings.
-ghost use Rattle.kz_spec_znodes.specs.Rendering.{render};
+ghost use Rattle.kz_spec_data.specs.Rendering.{render};
 ghost use Rattle.kz_writer.specs.PathLists.{DifferAtPathsAlone};
 
 use kz_image::Image;

@@ -4,13 +4,12 @@ ghost use Rattle.std.specs.List.{flat_map};
 ghost use Rattle.std.specs.Fmt.{signed_decimal};
 ghost use Rattle.kz_types.specs.Paths.{path_of, is_legal};
 ghost use Rattle.kz_types.specs.declared.key.EntityKey.TheVariants as key;
-ghost use Rattle.kz_spec_znodes.specs.Rendering.{partitions_path, number_path};
-ghost use Rattle.kz_spec_delta.specs.Spans.{clients_path};
+ghost use Rattle.kz_spec_data.specs.Rendering.{partitions_path, number_path};
+ghost use Rattle.kz_spec_data.specs.Spans.{clients_path};
 ghost use Rattle.kz_writer.specs.PathLists.{path_of_spanned, path_or_nothing, spanned_by, spanned_by_all};
 
 use kz_path::{path_of, sanitise};
-use kz_sorted::Keyed;
-use kz_sorting::put_all;
+use kz_sorted::{Keyed, put_all};
 use kz_types::{EntityKey, NoMemory, PathFault, Text, ZPath};
 use std::alloc::Global;
 

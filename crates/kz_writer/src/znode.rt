@@ -1,7 +1,7 @@
 //! What has a path and a body.
 ghost use Rattle.std.specs.Prelude.{◌≡◌, refl};
 ghost use Rattle.kz_types.specs.declared.tree.Rendered.{Rendered};
-ghost use Rattle.kz_spec_stores.specs.Tree.{rendered_row};
+ghost use Rattle.kz_spec_data.specs.Tree.{rendered_row};
 
 use kz_sorted::Keyed;
 use kz_types::{Rendered, Row, ZPath};

@@ -1,6 +1,6 @@
 use Rattle.std.proofs.Common.{◌≡◌, ℕ, ◌^◌, ◌-◌, List, ◌++◌, sym, ap, ◌∙◌}
 use Rattle.std.specs.Int.Bits.{bit_xor}
-use Rattle.kz_spec_values.specs.Checksum.{crc32c, after_bytes}
+use Rattle.kz_spec_data.specs.Checksum.{crc32c, after_bytes}
 use Rattle.kz_crc.proofs.Pieces.{after_pieces, turned_twice}
 use Rattle.kz_crc.proofs.crc32c_add.Goals as goal
 

@@ -1,5 +1,5 @@
 use Rattle.std.proofs.Common.{ℕ, sym, ap}
-use Rattle.kz_spec_values.specs.Checksum.{after_bytes}
+use Rattle.kz_spec_data.specs.Checksum.{after_bytes}
 use Rattle.kz_crc.proofs.Linear.{one_byte}
 use Rattle.kz_crc.proofs.with_byte.Goals as goal
 

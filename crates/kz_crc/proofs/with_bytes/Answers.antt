@@ -1,6 +1,6 @@
 use Rattle.std.proofs.Common.{◌≡◌, ℕ, [], drop, arith}
 use Rattle.std.proofs.lemmas.List.{drop_all}
-use Rattle.kz_spec_values.specs.Checksum.{after_bytes}
+use Rattle.kz_spec_data.specs.Checksum.{after_bytes}
 use Rattle.kz_crc.proofs.with_bytes.Goals as goal
 
 pub returns : goal.returns

@@ -1,5 +1,5 @@
 use Rattle.std.proofs.Common.{◌≡◌, length, drop}
-use Rattle.kz_spec_values.specs.Checksum.{after_bytes}
+use Rattle.kz_spec_data.specs.Checksum.{after_bytes}
 use Rattle.kz_crc.proofs.with_bytes.Given as goal
 
 abbrev pub invariant-loop-left : goal.invariant-loop-left

@@ -3,8 +3,8 @@ use Rattle.std.specs.Int.{w64, cast_signed, cast_unsigned}
 use Rattle.std.specs.Ordering.{int_eq}
 use Rattle.std.proofs.lemmas.List.{length-append}
 use Rattle.std.proofs.lemmas.Result.{err_from_is_err_and}
-use Rattle.kz_spec_values.specs.Forms.{items_at}
-use Rattle.kz_spec_values.specs.Batches.{entry, delta_of, is_numbered}
+use Rattle.kz_spec_data.specs.Forms.{items_at}
+use Rattle.kz_spec_data.specs.Batches.{entry, delta_of, is_numbered}
 use Rattle.kz_batch.proofs.Loops.{from_none, numbered_push, items_step, items_fault, items_done}
 use Rattle.kz_batch.proofs.records.read_records.Goals as goal
 

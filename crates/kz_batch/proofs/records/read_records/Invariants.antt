@@ -1,6 +1,6 @@
 use Rattle.std.proofs.Common.{◌≡◌, ◌-◌, ℕ, List, length}
-use Rattle.kz_spec_values.specs.Forms.{items_at}
-use Rattle.kz_spec_values.specs.Batches.{Content, entry, is_numbered}
+use Rattle.kz_spec_data.specs.Forms.{items_at}
+use Rattle.kz_spec_data.specs.Batches.{Content, entry, is_numbered}
 use Rattle.kz_batch.proofs.Loops.{with_front}
 use Rattle.kz_batch.proofs.records.read_records.Given as goal
 

@@ -1,7 +1,7 @@
 use Rattle.std.proofs.Common.{◌≡◌, ◌++◌, ◌∷◌, []}
 use Rattle.std.proofs.lemmas.Result.{err_from_is_err_and}
-use Rattle.kz_spec_values.specs.Forms.{items_at}
-use Rattle.kz_spec_values.specs.Batches.{header}
+use Rattle.kz_spec_data.specs.Forms.{items_at}
+use Rattle.kz_spec_data.specs.Batches.{header}
 use Rattle.kz_batch.proofs.Loops.{from_none, items_step, items_fault, items_done}
 use Rattle.kz_batch.proofs.records.skip_so_many.Goals as goal
 

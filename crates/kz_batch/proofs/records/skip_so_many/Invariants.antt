@@ -1,6 +1,6 @@
 use Rattle.std.proofs.Common.{◌≡◌, ◌-◌, ℕ, List, Option}
-use Rattle.kz_spec_values.specs.Forms.{items_at}
-use Rattle.kz_spec_values.specs.Batches.{header}
+use Rattle.kz_spec_data.specs.Forms.{items_at}
+use Rattle.kz_spec_data.specs.Batches.{header}
 use Rattle.kz_batch.proofs.Loops.{with_front}
 use Rattle.kz_batch.proofs.records.skip_so_many.Given as goal
 

@@ -2,8 +2,8 @@ use Rattle.std.proofs.Common.{◌≡◌, ℕ, ℤ, pos, negsuc, ◌+◌, ◌++�
 use Rattle.std.specs.Prelude.{◌+ℤ◌}
 use Rattle.std.specs.Int.{w16, w32, w64, to_be_bytes, cast_unsigned}
 use Rattle.std.proofs.lemmas.List.{length-map}
-use Rattle.kz_spec_values.specs.Checksum.{crc32c}
-use Rattle.kz_spec_values.specs.Batches.{header_written, records_written}
+use Rattle.kz_spec_data.specs.Checksum.{crc32c}
+use Rattle.kz_spec_data.specs.Batches.{header_written, records_written}
 use Rattle.kz_batch.proofs.Written.{seq}
 use Rattle.kz_batch.proofs.write.put_header.Goals as goal
 

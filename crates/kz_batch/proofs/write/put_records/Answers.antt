@@ -1,5 +1,5 @@
 use Rattle.std.proofs.Common.{◌≡◌, ℕ, ◌+◌, ◌++◌, List, length, map, take, ap, sym, ◌∙◌, append_assoc, arith}
-use Rattle.kz_spec_values.specs.Batches.{entry, content_with, records_written}
+use Rattle.kz_spec_data.specs.Batches.{entry, content_with, records_written}
 use Rattle.kz_batch.proofs.Written.{holds_at, records_more}
 use Rattle.kz_batch.proofs.write.put_records.Goals as goal
 

@@ -1,5 +1,5 @@
 use Rattle.std.proofs.Common.{◌≡◌, ◌+◌, ◌*◌, ◌^◌, ◌≤◌, ◌++◌, length, map, take}
-use Rattle.kz_spec_values.specs.Batches.{records_written}
+use Rattle.kz_spec_data.specs.Batches.{records_written}
 use Rattle.kz_batch.proofs.write.put_records.Given as goal
 
 abbrev pub invariant-loop-value : goal.invariant-loop-value

@@ -1,6 +1,6 @@
 use Rattle.std.proofs.Common.{◌≡◌, ℕ, ℤ, ◌++◌, length, map, ap, sym, ◌∙◌, to_z-of_z}
 use Rattle.std.proofs.lemmas.List.{length-map}
-use Rattle.kz_spec_values.specs.Batches.{header_written, records_written}
+use Rattle.kz_spec_data.specs.Batches.{header_written, records_written}
 use Rattle.kz_batch.proofs.Written.{seq}
 use Rattle.kz_batch.proofs.write.put_summed.Goals as goal
 

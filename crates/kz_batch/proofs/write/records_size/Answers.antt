@@ -1,6 +1,6 @@
 use Rattle.std.proofs.Common.{◌≡◌, ℕ, ◌+◌, ◌^◌, ◌<◌, ◌≤◌, ◌++◌, List, length, map, take, ap, sym, ◌∙◌, arith, rules}
 use Rattle.std.proofs.lemmas.List.{length-append}
-use Rattle.kz_spec_values.specs.Batches.{entry, content_with, records_written}
+use Rattle.kz_spec_data.specs.Batches.{entry, content_with, records_written}
 use Rattle.kz_batch.proofs.Written.{records_more}
 use Rattle.kz_batch.proofs.write.records_size.Goals as goal
 

@@ -1,7 +1,7 @@
 use Rattle.std.proofs.Common.{◌≡◌, ◌+◌, drop, ap, ◌∙◌}
 use Rattle.std.proofs.lemmas.Str.{is_utf8-from_IsUtf8}
 use Rattle.std.specs.Str.Lossy.{utf8_valid_len}
-use Rattle.kz_spec_values.specs.Fields.{text_beginning_length}
+use Rattle.kz_spec_data.specs.Fields.{text_beginning_length}
 use Rattle.kz_bytes.proofs.Facts.{not_utf8}
 use Rattle.kz_bytes.proofs.text.text_fault.Goals as goal
 

@@ -1,5 +1,5 @@
 use Rattle.std.proofs.Common.{◌≡◌, ◌+◌, ◌-◌, ◌/◌, ◌%◌, ◌∷◌, [], ◌++◌, ap, sym, ◌∙◌, append_assoc}
-use Rattle.kz_spec_values.specs.Fields.{groups_of}
+use Rattle.kz_spec_data.specs.Fields.{groups_of}
 use Rattle.kz_bytes.proofs.Facts.{groups_step}
 use Rattle.kz_bytes.proofs.writer.+push_groups.Goals as goal
 

@@ -1,7 +1,7 @@
 use Rattle.std.proofs.Common.{◌≡◌, ◌++◌, ◌<◌, List, ℕ, ℤ, pos, length, take, get_or, ap, sym, ◌∙◌, append_assoc, arith, rules, SFits, to_z-of_z}
 use Rattle.std.proofs.lemmas.List.{take_more}
 use Rattle.std.specs.Int.{w32, to_be_bytes, cast_unsigned, cast_signed}
-use Rattle.kz_spec_values.specs.Fields.{int_bytes}
+use Rattle.kz_spec_data.specs.Fields.{int_bytes}
 use Rattle.kz_bytes.proofs.Facts.{int_bytes_push}
 use Rattle.kz_bytes.proofs.writer.push_ints.Goals as goal
 

@@ -1,5 +1,5 @@
 use Rattle.std.proofs.Common.{◌≡◌, ◌++◌, take}
-use Rattle.kz_spec_values.specs.Fields.{int_bytes}
+use Rattle.kz_spec_data.specs.Fields.{int_bytes}
 use Rattle.kz_bytes.proofs.writer.push_ints.Given as goal
 
 abbrev pub invariant-loop-number : goal.invariant-loop-number

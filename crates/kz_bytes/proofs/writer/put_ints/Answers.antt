@@ -1,5 +1,5 @@
 use Rattle.std.proofs.Common.{◌+◌, ◌++◌, List, ℕ, length, ap, sym, ◌∙◌, append_assoc}
-use Rattle.kz_spec_values.specs.Fields.{int_bytes, groups_of}
+use Rattle.kz_spec_data.specs.Fields.{int_bytes, groups_of}
 use Rattle.kz_bytes.proofs.Facts.{ints_written}
 use Rattle.kz_bytes.proofs.writer.put_ints.Goals as goal
 

@@ -1,5 +1,5 @@
 use Rattle.std.proofs.Common.{◌≡◌, ◌++◌, length}
-use Rattle.kz_spec_values.specs.Fields.{ints_of}
+use Rattle.kz_spec_data.specs.Fields.{ints_of}
 use Rattle.kz_codec_read.proofs.fields.ints_of.Given as goal
 
 abbrev pub invariant-loop-left : goal.invariant-loop-left

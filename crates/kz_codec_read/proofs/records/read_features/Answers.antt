@@ -1,6 +1,6 @@
 use Rattle.std.proofs.lemmas.Result.{err_from_is_err_and}
-use Rattle.kz_spec_values.specs.Forms.{items_at}
-use Rattle.kz_spec_values.specs.Records.{feature}
+use Rattle.kz_spec_data.specs.Forms.{items_at}
+use Rattle.kz_spec_data.specs.Records.{feature}
 use Rattle.kz_codec_read.proofs.Loops.{items_step, items_fault, items_done}
 use Rattle.kz_codec_read.proofs.records.read_features.Goals as goal
 

@@ -1,6 +1,6 @@
 use Rattle.std.proofs.Common.{◌≡◌, ◌-◌}
-use Rattle.kz_spec_values.specs.Forms.{items_at}
-use Rattle.kz_spec_values.specs.Records.{feature}
+use Rattle.kz_spec_data.specs.Forms.{items_at}
+use Rattle.kz_spec_data.specs.Records.{feature}
 use Rattle.kz_codec_read.proofs.Loops.{with_front}
 use Rattle.kz_codec_read.proofs.records.read_features.Given as goal
 

@@ -1,6 +1,6 @@
 use Rattle.std.proofs.Common.{◌≡◌, ◌-◌}
-use Rattle.kz_spec_values.specs.Forms.{tags_at}
-use Rattle.kz_spec_values.specs.Records.{change_tags}
+use Rattle.kz_spec_data.specs.Forms.{tags_at}
+use Rattle.kz_spec_data.specs.Records.{change_tags}
 use Rattle.kz_codec_read.specs.Changes.{parts_of}
 use Rattle.kz_codec_read.proofs.tags.parts_among.Given as goal
 

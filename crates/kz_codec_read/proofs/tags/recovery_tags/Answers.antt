@@ -1,8 +1,8 @@
 use Rattle.std.proofs.Common.{◌≡◌, ℕ, Ok, subst}
 use Rattle.std.proofs.lemmas.Result.{err_from_is_err_and}
-use Rattle.kz_spec_values.specs.Forms.{tags_at}
-use Rattle.kz_spec_values.specs.Records.{partition_tags}
-use Rattle.kz_spec_values.specs.Records.{Fails}
+use Rattle.kz_spec_data.specs.Forms.{tags_at}
+use Rattle.kz_spec_data.specs.Records.{partition_tags}
+use Rattle.kz_spec_data.specs.Records.{Fails}
 use Rattle.kz_codec_read.proofs.Loops.{tags_step, tags_fault, take_fault, tags_done}
 use Rattle.kz_codec_read.proofs.tags.recovery_tags.Goals as goal
 

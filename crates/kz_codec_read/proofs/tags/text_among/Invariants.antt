@@ -1,6 +1,6 @@
 use Rattle.std.proofs.Common.{◌≡◌, ◌-◌}
-use Rattle.kz_spec_values.specs.Forms.{tags_at}
-use Rattle.kz_spec_values.specs.Records.{text_tags}
+use Rattle.kz_spec_data.specs.Forms.{tags_at}
+use Rattle.kz_spec_data.specs.Records.{text_tags}
 use Rattle.kz_codec_read.proofs.tags.text_among.Given as goal
 
 abbrev pub invariant-loop : goal.invariant-loop

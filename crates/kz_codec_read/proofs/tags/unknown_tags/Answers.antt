@@ -1,6 +1,6 @@
 use Rattle.std.proofs.Common.{refl}
 use Rattle.std.proofs.lemmas.Result.{err_from_is_err_and}
-use Rattle.kz_spec_values.specs.Forms.{nothing, tags_at}
+use Rattle.kz_spec_data.specs.Forms.{nothing, tags_at}
 use Rattle.kz_codec_read.proofs.Loops.{tags_step, tags_fault, tags_done}
 use Rattle.kz_codec_read.proofs.tags.unknown_tags.Goals as goal
 

@@ -1,5 +1,5 @@
 use Rattle.std.proofs.Common.{◌≡◌, ◌-◌}
-use Rattle.kz_spec_values.specs.Forms.{nothing, tags_at}
+use Rattle.kz_spec_data.specs.Forms.{nothing, tags_at}
 use Rattle.kz_codec_read.proofs.tags.unknown_tags.Given as goal
 
 abbrev pub invariant-loop : goal.invariant-loop

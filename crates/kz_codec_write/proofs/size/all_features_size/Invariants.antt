@@ -1,6 +1,6 @@
 use Rattle.std.proofs.Common.{◌≡◌, ◌+◌, ◌*◌, ◌^◌, ◌≤◌, length, take}
-use Rattle.kz_spec_values.specs.Forms.{items_written}
-use Rattle.kz_spec_values.specs.Records.{feature}
+use Rattle.kz_spec_data.specs.Forms.{items_written}
+use Rattle.kz_spec_data.specs.Records.{feature}
 use Rattle.kz_codec_write.proofs.size.all_features_size.Given as goal
 
 abbrev pub invariant-loop-item : goal.invariant-loop-item

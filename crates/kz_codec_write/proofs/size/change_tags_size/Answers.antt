@@ -1,8 +1,8 @@
 use Rattle.std.proofs.Common.{◌≡◌, ◌++◌, ℤ, length, ap, ◌∙◌, arith, rules, SFits, to_z-of_z}
 use Rattle.std.specs.Int.{w8, w32}
 use Rattle.std.proofs.lemmas.List.{length-append}
-use Rattle.kz_spec_values.specs.Forms.{tags_written}
-use Rattle.kz_spec_values.specs.Records.{ints_tag, leader_tag, stated_recovery_tag}
+use Rattle.kz_spec_data.specs.Forms.{tags_written}
+use Rattle.kz_spec_data.specs.Records.{ints_tag, leader_tag, stated_recovery_tag}
 use Rattle.kz_codec_write.proofs.Appends.{tags_six}
 use Rattle.kz_codec_write.proofs.size.change_tags_size.Goals as goal
 

@@ -1,7 +1,7 @@
 use Rattle.std.proofs.Common.{◌≡◌, ◌++◌, length, arith}
 use Rattle.std.proofs.lemmas.List.{length-append}
-use Rattle.kz_spec_values.specs.Forms.{nothing, section}
-use Rattle.kz_spec_values.specs.Records.{int16, string}
+use Rattle.kz_spec_data.specs.Forms.{nothing, section}
+use Rattle.kz_spec_data.specs.Records.{int16, string}
 use Rattle.kz_codec_write.proofs.Appends.{no_tags_length}
 use Rattle.kz_codec_write.proofs.size.feature_size.Goals as goal
 

@@ -1,5 +1,5 @@
 use Rattle.std.proofs.Common.{◌≡◌, ◌+◌, length, ap, ◌∙◌, arith}
-use Rattle.kz_spec_values.specs.Fields.{groups_of}
+use Rattle.kz_spec_data.specs.Fields.{groups_of}
 use Rattle.kz_codec_write.proofs.Appends.{ints_length}
 use Rattle.kz_codec_write.proofs.size.ints_size.Goals as goal
 

@@ -1,8 +1,8 @@
 use Rattle.std.proofs.Common.{◌≡◌, ◌++◌, ℤ, length, ap, ◌∙◌, arith, rules, SFits, to_z-of_z}
 use Rattle.std.specs.Int.{w8}
 use Rattle.std.proofs.lemmas.List.{length-append}
-use Rattle.kz_spec_values.specs.Forms.{section}
-use Rattle.kz_spec_values.specs.Records.{int32, ints, partition_tags, uuid}
+use Rattle.kz_spec_data.specs.Forms.{section}
+use Rattle.kz_spec_data.specs.Records.{int32, ints, partition_tags, uuid}
 use Rattle.kz_codec_write.proofs.size.partition_size.Goals as goal
 
 pub returns-clause-size : goal.returns-clause-size

@@ -1,7 +1,7 @@
 use Rattle.std.proofs.Common.{◌≡◌, ◌++◌, length, ap, ◌∙◌, arith}
 use Rattle.std.proofs.lemmas.List.{length-append}
-use Rattle.kz_spec_values.specs.Forms.{flag, list_of, nothing, section}
-use Rattle.kz_spec_values.specs.Records.{endpoint, feature, int32, int64, nullable_string, uuid}
+use Rattle.kz_spec_data.specs.Forms.{flag, list_of, nothing, section}
+use Rattle.kz_spec_data.specs.Records.{endpoint, feature, int32, int64, nullable_string, uuid}
 use Rattle.kz_codec_write.proofs.Appends.{no_tags_length}
 use Rattle.kz_codec_write.proofs.size.register_broker_size.Goals as goal
 

@@ -1,6 +1,6 @@
 use Rattle.std.proofs.Common.{◌≡◌, ◌+◌, length, ap, ◌∙◌, arith}
-use Rattle.kz_spec_values.specs.Fields.{groups_of}
-use Rattle.kz_spec_values.specs.Records.{string}
+use Rattle.kz_spec_data.specs.Fields.{groups_of}
+use Rattle.kz_spec_data.specs.Records.{string}
 use Rattle.kz_codec_write.proofs.Appends.{no_tags_length, one_tag_length}
 use Rattle.kz_codec_write.proofs.size.tagged_text_size.Goals as goal
 

@@ -1,7 +1,7 @@
 use Rattle.std.proofs.Common.{◌≡◌, ◌++◌, length, ap, ◌∙◌, arith}
 use Rattle.std.proofs.lemmas.List.{length-append}
-use Rattle.kz_spec_values.specs.Forms.{nothing, section}
-use Rattle.kz_spec_values.specs.Records.{bytes, int32, int8, string}
+use Rattle.kz_spec_data.specs.Forms.{nothing, section}
+use Rattle.kz_spec_data.specs.Records.{bytes, int32, int8, string}
 use Rattle.kz_codec_write.proofs.Appends.{no_tags_length}
 use Rattle.kz_codec_write.proofs.size.user_scram_credential_size.Goals as goal
 

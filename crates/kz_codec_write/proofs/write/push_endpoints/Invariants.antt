@@ -1,6 +1,6 @@
 use Rattle.std.proofs.Common.{◌≡◌, ◌++◌, take}
-use Rattle.kz_spec_values.specs.Forms.{items_written}
-use Rattle.kz_spec_values.specs.Records.{endpoint}
+use Rattle.kz_spec_data.specs.Forms.{items_written}
+use Rattle.kz_spec_data.specs.Records.{endpoint}
 use Rattle.kz_codec_write.proofs.write.push_endpoints.Given as goal
 
 abbrev pub invariant-loop-item : goal.invariant-loop-item

@@ -1,7 +1,7 @@
 use Rattle.std.proofs.Common.{◌≡◌, ◌+◌, ◌++◌, ◌∷◌, [], List, ℕ, take, ap, sym, ◌∙◌, append_assoc}
 use Rattle.std.proofs.lemmas.List.{take_more}
-use Rattle.kz_spec_values.specs.Forms.{items_written}
-use Rattle.kz_spec_values.specs.Records.{quota_entity, ShortEntity}
+use Rattle.kz_spec_data.specs.Forms.{items_written}
+use Rattle.kz_spec_data.specs.Records.{quota_entity, ShortEntity}
 use Rattle.kz_codec_write.proofs.Appends.{AllFit_at, items_written_push}
 use Rattle.kz_codec_write.proofs.write.push_entities.Goals as goal
 

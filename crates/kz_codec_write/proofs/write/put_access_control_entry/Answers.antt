@@ -1,7 +1,7 @@
 use Rattle.std.proofs.Common.{◌≡◌, ◌++◌, ℤ, ap, ◌∙◌, rules, SFits, to_z-of_z}
 use Rattle.std.specs.Int.{w8}
-use Rattle.kz_spec_values.specs.Forms.{nothing, section}
-use Rattle.kz_spec_values.specs.Records.{int8, string, uuid}
+use Rattle.kz_spec_data.specs.Forms.{nothing, section}
+use Rattle.kz_spec_data.specs.Records.{int8, string, uuid}
 use Rattle.kz_codec_write.proofs.Appends.{seq}
 use Rattle.kz_codec_write.proofs.write.put_access_control_entry.Goals as goal
 

@@ -1,7 +1,7 @@
 use Rattle.std.proofs.Common.{◌≡◌, ◌++◌, ℤ, ℕ, List, ap, sym, ◌∙◌, rules, SFits, to_z-of_z}
 use Rattle.std.specs.Int.{w8, w32}
-use Rattle.kz_spec_values.specs.Forms.{tags_written}
-use Rattle.kz_spec_values.specs.Records.{ints_tag, leader_tag, stated_recovery_tag}
+use Rattle.kz_spec_data.specs.Forms.{tags_written}
+use Rattle.kz_spec_data.specs.Records.{ints_tag, leader_tag, stated_recovery_tag}
 use Rattle.kz_codec_write.proofs.Appends.{seq, tags_six}
 use Rattle.kz_codec_write.proofs.write.put_change_tags.Goals as goal
 

@@ -1,7 +1,7 @@
 use Rattle.std.proofs.Common.{◌≡◌, ◌+◌, ◌*◌, ◌++◌, ◌^◌, ◌<◌, ℕ, List, length, ap, sym, ◌∙◌, arith}
 use Rattle.std.specs.Prelude.{Some}
 use Rattle.std.proofs.lemmas.List.{append-nil}
-use Rattle.kz_spec_values.specs.Fields.{groups_of, int_bytes, items_with_count}
+use Rattle.kz_spec_data.specs.Fields.{groups_of, int_bytes, items_with_count}
 use Rattle.kz_codec_write.proofs.Appends.{seq, ints_length, ints_few}
 use Rattle.kz_codec_write.proofs.write.put_one_list.Goals as goal
 

@@ -1,7 +1,7 @@
 use Rattle.std.proofs.Common.{◌≡◌, ◌++◌, ℤ, ap, ◌∙◌, rules, SFits, to_z-of_z}
 use Rattle.std.specs.Int.{w8, w32}
-use Rattle.kz_spec_values.specs.Forms.{section}
-use Rattle.kz_spec_values.specs.Records.{int32, ints, partition_tags, uuid}
+use Rattle.kz_spec_data.specs.Forms.{section}
+use Rattle.kz_spec_data.specs.Records.{int32, ints, partition_tags, uuid}
 use Rattle.kz_codec_write.proofs.Appends.{seq}
 use Rattle.kz_codec_write.proofs.write.put_partition.Goals as goal
 

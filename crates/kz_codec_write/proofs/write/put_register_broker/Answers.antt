@@ -1,7 +1,7 @@
 use Rattle.std.proofs.Common.{◌≡◌, ◌++◌, ℤ, ap, ◌∙◌, rules, SFits, to_z-of_z}
 use Rattle.std.specs.Int.{w32, w64}
-use Rattle.kz_spec_values.specs.Forms.{flag, list_of, nothing, section}
-use Rattle.kz_spec_values.specs.Records.{endpoint, feature, int32, int64, nullable_string, uuid}
+use Rattle.kz_spec_data.specs.Forms.{flag, list_of, nothing, section}
+use Rattle.kz_spec_data.specs.Records.{endpoint, feature, int32, int64, nullable_string, uuid}
 use Rattle.kz_codec_write.proofs.Appends.{seq}
 use Rattle.kz_codec_write.proofs.write.put_register_broker.Goals as goal
 

@@ -1,7 +1,7 @@
 use Rattle.std.proofs.Common.{◌≡◌, ◌++◌, ℤ, ap, ◌∙◌, rules, SFits, to_z-of_z}
 use Rattle.std.specs.Int.{w8, w32}
-use Rattle.kz_spec_values.specs.Forms.{nothing, section}
-use Rattle.kz_spec_values.specs.Records.{bytes, int32, int8, string}
+use Rattle.kz_spec_data.specs.Forms.{nothing, section}
+use Rattle.kz_spec_data.specs.Records.{bytes, int32, int8, string}
 use Rattle.kz_codec_write.proofs.Appends.{seq}
 use Rattle.kz_codec_write.proofs.write.put_user_scram_credential.Goals as goal
 

@@ -1,6 +1,6 @@
 use Rattle.std.proofs.Common.{ℕ, List, [], ◌∷◌, ◌++◌, Option, IfOk, IfErr, refl, subst}
-use Rattle.kz_spec_files.specs.Frames.{log_letter, plain_header, closed_gate, new_file}
-use Rattle.kz_spec_commands.specs.Init.{log_refusal, has_log}
+use Rattle.kz_spec_data.specs.Frames.{log_letter, plain_header, closed_gate, new_file}
+use Rattle.kz_spec_machine.specs.Init.{log_refusal, has_log}
 use Rattle.kz_commands.specs.declared.making.Found.{Found}
 use Rattle.kz_commands.specs.Making.{IsShortFound, IsLogFound, IsRefusedFor, OfFile}
 use Rattle.kz_commands.proofs.Made.{short_found, short_log_none, short_no_log, EmptyLog, summed_log, plain_log, same_told}

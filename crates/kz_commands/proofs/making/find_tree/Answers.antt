@@ -1,8 +1,8 @@
 use Rattle.std.proofs.Common.{ℕ, List, [], ◌∷◌, ◌++◌, Option, is_some, IfOk, IfErr, refl, ap, subst}
 use Rattle.kz_disk.specs.Disks.{StaysTold}
 use Rattle.kz_tree_store.specs.Opened.{GrowsByOne}
-use Rattle.kz_spec_files.specs.Frames.{tree_letter, plain_header, closed_gate, new_file}
-use Rattle.kz_spec_commands.specs.Init.{tree_refusal, has_tree}
+use Rattle.kz_spec_data.specs.Frames.{tree_letter, plain_header, closed_gate, new_file}
+use Rattle.kz_spec_machine.specs.Init.{tree_refusal, has_tree}
 use Rattle.kz_commands.specs.declared.making.Found.{Found}
 use Rattle.kz_commands.specs.Making.{IsShortFound, IsTreeFound, IsRefusedFor, OfFile}
 use Rattle.kz_commands.proofs.Made.{short_found, short_tree_none, short_no_tree, EmptyTree, summed_tree, plain_tree, same_told}

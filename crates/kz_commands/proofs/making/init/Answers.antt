@@ -1,6 +1,6 @@
 use Rattle.std.proofs.Common.{◌∙◌}
-use Rattle.kz_spec_files.specs.Frames.{tree_letter, log_letter}
-use Rattle.kz_spec_commands.specs.Init.{tree_refusal, has_tree, log_refusal, has_log}
+use Rattle.kz_spec_data.specs.Frames.{tree_letter, log_letter}
+use Rattle.kz_spec_machine.specs.Init.{tree_refusal, has_tree, log_refusal, has_log}
 use Rattle.kz_commands.proofs.Made.{EmptyTree, EmptyLog, log_inits, taken_inits, done_inits, taken_either, made_told}
 use Rattle.kz_commands.proofs.Left.{made_leaves}
 use Rattle.kz_commands.proofs.Grown.{made_grown}

@@ -1,7 +1,7 @@
 use Rattle.std.proofs.Common.{ap, sym, ◌∙◌, subst}
-use Rattle.kz_spec_files.specs.Frames.{tree_letter, log_letter}
-use Rattle.kz_spec_files.specs.TreeFile.{tree_of, tree_of_stored, stored_in}
-use Rattle.kz_spec_files.specs.LogFile.{log_in}
+use Rattle.kz_spec_data.specs.Frames.{tree_letter, log_letter}
+use Rattle.kz_spec_data.specs.TreeFile.{tree_of, tree_of_stored, stored_in}
+use Rattle.kz_spec_data.specs.LogFile.{log_in}
 use Rattle.kz_tree_store.specs.Stores as trees
 use Rattle.kz_log_store.specs.Stores as logs
 use Rattle.kz_commands.specs.Stops.{StandsAtStop}

@@ -1,5 +1,5 @@
 use Rattle.std.proofs.Common.{Err, sym, ◌∙◌, subst}
-use Rattle.kz_spec_files.specs.Frames.{log_letter}
+use Rattle.kz_spec_data.specs.Frames.{log_letter}
 use Rattle.kz_log_store.specs.Stores.{store_disk, store_state, SealsDisk, SealsTold}
 use Rattle.kz_commands.proofs.Disks.{not_both, one_file}
 use Rattle.kz_commands.proofs.Sealed.{sums}

@@ -1,5 +1,5 @@
 use Rattle.std.proofs.Common.{Err, sym, ◌∙◌, subst}
-use Rattle.kz_spec_files.specs.Frames.{tree_letter}
+use Rattle.kz_spec_data.specs.Frames.{tree_letter}
 use Rattle.kz_tree_store.specs.Stores.{store_disk, store_state}
 use Rattle.kz_tree_store.specs.Seals.{SealsDisk, SealsTold}
 use Rattle.kz_commands.proofs.Disks.{not_both, one_file}

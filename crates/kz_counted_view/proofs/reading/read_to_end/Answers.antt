@@ -1,5 +1,5 @@
 use Rattle.std.proofs.Common.{◌≡◌, inr, sym, subst, w64, to_z, of_z, rules}
-use Rattle.kz_spec_stores.specs.Log.{feed_from, IsViewOf}
+use Rattle.kz_spec_data.specs.Log.{feed_from, IsViewOf}
 use Rattle.kz_log.specs.Requests.{IsFeed}
 use Rattle.kz_log.proofs.Views.{read_is_view}
 use Rattle.kz_counted_view.proofs.reading.read_to_end.Goals as goal

@@ -1,5 +1,5 @@
 use Rattle.std.proofs.Common.{sym, subst}
-use Rattle.kz_spec_delta.specs.Touched.{Lead}
+use Rattle.kz_spec_data.specs.Touched.{Lead}
 use Rattle.kz_view_delta.proofs.Covered.{applied_lead}
 use Rattle.kz_counted_view.proofs.view.counts_of_change.Goals as goal
 

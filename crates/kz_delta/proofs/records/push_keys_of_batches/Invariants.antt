@@ -1,7 +1,7 @@
 use Rattle.std.proofs.Common.{◌≡◌, ◌++◌, drop}
 use Rattle.std.specs.List.{flat_map}
 use Rattle.kz_types.specs.declared.log.BatchRow.{BatchRow}
-use Rattle.kz_spec_delta.specs.Touched.{touched_keys}
+use Rattle.kz_spec_data.specs.Touched.{touched_keys}
 use Rattle.kz_delta.proofs.records.push_keys_of_batches.Given as goal
 
 abbrev pub invariant-loop-batch : goal.invariant-loop-batch

@@ -1,5 +1,5 @@
 use Rattle.std.proofs.Common.{◌≡◌, ◌++◌, drop}
-use Rattle.kz_spec_delta.specs.Touched.{touched_keys}
+use Rattle.kz_spec_data.specs.Touched.{touched_keys}
 use Rattle.kz_delta.proofs.records.push_touched_keys.Given as goal
 
 abbrev pub invariant-loop-change : goal.invariant-loop-change

@@ -1,6 +1,6 @@
 use Rattle.std.proofs.Common.{◌≡◌, ◌++◌, map}
 use Rattle.kz_types.specs.declared.image.AclEntry.{AclEntry}
-use Rattle.kz_spec_znodes.specs.Rendering.{acl_key}
+use Rattle.kz_spec_data.specs.Rendering.{acl_key}
 use Rattle.kz_delta.proofs.whole.push_acls.Given as goal
 
 abbrev pub invariant-loop-entry : goal.invariant-loop-entry

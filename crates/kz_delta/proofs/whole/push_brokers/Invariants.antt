@@ -1,6 +1,6 @@
 use Rattle.std.proofs.Common.{◌≡◌, ◌++◌, map}
 use Rattle.kz_types.specs.declared.image.Configuration.{Configuration}
-use Rattle.kz_spec_znodes.specs.Rendering.{broker_key}
+use Rattle.kz_spec_data.specs.Rendering.{broker_key}
 use Rattle.kz_delta.proofs.whole.push_brokers.Given as goal
 
 abbrev pub invariant-loop-config : goal.invariant-loop-config

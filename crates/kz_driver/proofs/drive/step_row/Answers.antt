@@ -8,11 +8,11 @@ use Rattle.kz_types.specs.declared.machine.Reply.{Reply}
 use Rattle.kz_types.specs.declared.machine.Reply.TheVariants as reply
 use Rattle.kz_types.specs.declared.fault.TreeFault.TheVariants as tree_fault
 use Rattle.kz_types.specs.declared.fault.LogFault.TheVariants as log_fault
-use Rattle.kz_spec_stores.specs.Tree.{Tree, empty_tree, multi, scan, broker_ids, rendered_row}
-use Rattle.kz_spec_stores.specs.Log.{Log, IsViewOf, read_view, append}
-use Rattle.kz_spec_znodes.specs.Rendering.{render}
-use Rattle.kz_spec_znodes.specs.Difference.{diff}
-use Rattle.kz_spec_znodes.specs.Translation.{translate}
+use Rattle.kz_spec_data.specs.Tree.{Tree, empty_tree, multi, scan, broker_ids, rendered_row}
+use Rattle.kz_spec_data.specs.Log.{Log, IsViewOf, read_view, append}
+use Rattle.kz_spec_data.specs.Rendering.{render}
+use Rattle.kz_spec_data.specs.Difference.{diff}
+use Rattle.kz_spec_data.specs.Translation.{translate}
 use Rattle.kz_spec_machine.specs.Driver.{look_up, list_brokers, read_page, at_stage, epoch_or_zero, after_brokers, missing_broker, after_look, seen_in, claim_ops, after_page, last_path, driver_at_log_end, after_quorum, unless_finalised, after_translation, after_append, after_records, next_records, writes}
 use Rattle.kz_stages.specs.Rows.{driver_of, stage_of}
 use Rattle.kz_stages.specs.Drivers.{IsElected, HasEpoch, IsKept, shared_of}

@@ -1,6 +1,6 @@
 use Rattle.std.proofs.Common.{◌≡◌, map, take}
 use Rattle.serde_json.specs.View.{view}
-use Rattle.kz_spec_lines.specs.Members.{whole_data}
+use Rattle.kz_spec_data.specs.Members.{whole_data}
 use Rattle.kz_dump.proofs.lines.session_values.Given as goal
 
 abbrev pub invariant-loop-session : goal.invariant-loop-session

@@ -1,7 +1,7 @@
 use Rattle.std.proofs.Common.{◌≡◌, ◌++◌, drop}
 use Rattle.std.specs.Prelude.{option_map}
 use Rattle.serde_json.specs.View.{items_view}
-use Rattle.kz_spec_lines.specs.Fields.{int64, all_of}
+use Rattle.kz_spec_data.specs.LineFields.{int64, all_of}
 use Rattle.kz_dump.proofs.load_lines.sessions_in.Given as goal
 
 abbrev pub invariant-loop-value : goal.invariant-loop-value

@@ -1,6 +1,6 @@
 use Rattle.std.proofs.Common.{◌≡◌, ◌++◌, take}
 use Rattle.std.specs.List.{flat_map}
-use Rattle.kz_spec_dumps.specs.Dumps.{ahead_line}
+use Rattle.kz_spec_machine.specs.Dumps.{ahead_line}
 use Rattle.kz_dump.proofs.verdicts.push_paths.Given as goal
 
 abbrev pub invariant-loop-ahead : goal.invariant-loop-ahead

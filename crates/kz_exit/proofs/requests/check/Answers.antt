@@ -1,5 +1,5 @@
 use Rattle.std.proofs.Common.{◌≡◌, None, OnOk, IfErr, subst}
-use Rattle.kz_spec_stores.specs.Log.{View}
+use Rattle.kz_spec_data.specs.Log.{View}
 use Rattle.kz_spec_machine.specs.Machine.{exit_refusal}
 use Rattle.kz_exit.specs.Requests.{IsViewFault, refusal_of}
 use Rattle.kz_exit.proofs.Refusals.{viewed_checked, viewed_disk, read_checked, read_disk}

@@ -1,5 +1,5 @@
 use Rattle.std.proofs.Common.{sym, subst}
-use Rattle.kz_spec_stores.specs.Log.{IsViewOf}
+use Rattle.kz_spec_data.specs.Log.{IsViewOf}
 use Rattle.kz_log.proofs.Views.{new_is_view}
 use Rattle.kz_exit.proofs.requests.read.Goals as goal
 

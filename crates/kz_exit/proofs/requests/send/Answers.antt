@@ -1,7 +1,7 @@
 use Rattle.std.proofs.Common.{◌≡◌, Result, Ok, OnOk, IfErr, sym, ◌∙◌, subst}
 use Rattle.kz_types.specs.declared.fault.TreeFault.{TreeFault}
-use Rattle.kz_spec_stores.specs.Tree.{Tree as TreeValue}
-use Rattle.kz_spec_stores.specs.Requests.{Between}
+use Rattle.kz_spec_data.specs.Tree.{Tree as TreeValue}
+use Rattle.kz_spec_data.specs.Requests.{Between}
 use Rattle.kz_exit.specs.Requests.{IsMultiFault}
 use Rattle.kz_exit.proofs.Sending.{none_sent, none_made, some_sent, some_made}
 use Rattle.kz_exit.proofs.requests.send.Goals as goal

@@ -1,7 +1,7 @@
 use Rattle.std.proofs.Common.{◌≡◌, List, Ok, OnOk, IfErr, subst}
 use Rattle.kz_types.specs.declared.tree.Op.{Op}
-use Rattle.kz_spec_stores.specs.Log.{Log as LogValue}
-use Rattle.kz_spec_stores.specs.Requests.{Reset, Only, Between}
+use Rattle.kz_spec_data.specs.Log.{Log as LogValue}
+use Rattle.kz_spec_data.specs.Requests.{Reset, Only, Between}
 use Rattle.kz_spec_machine.specs.Machine.{exit_ops, tree_after_ops}
 use Rattle.kz_exit.specs.Disks.{TreeDisk}
 use Rattle.kz_exit.specs.Requests.{IsMultiFault}

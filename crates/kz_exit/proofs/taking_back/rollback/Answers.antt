@@ -1,7 +1,7 @@
 use Rattle.std.proofs.Common.{◌≡◌, None, OnOk, IfErr, sym, subst}
-use Rattle.kz_spec_stores.specs.Tree.{Tree as TreeValue}
-use Rattle.kz_spec_stores.specs.Log.{Log as LogValue}
-use Rattle.kz_spec_stores.specs.Requests.{Disk, Reset}
+use Rattle.kz_spec_data.specs.Tree.{Tree as TreeValue}
+use Rattle.kz_spec_data.specs.Log.{Log as LogValue}
+use Rattle.kz_spec_data.specs.Requests.{Disk, Reset}
 use Rattle.kz_spec_machine.specs.Machine.{exit_refusal, exit_ops}
 use Rattle.kz_exit.specs.Disks.{LogDisk}
 use Rattle.kz_exit.specs.Requests.{IsCheckFault}

@@ -2,7 +2,7 @@ use Rattle.std.proofs.Common.{◌++◌, sym, subst}
 use Rattle.std.specs.Io.KnownBytes.{Appends}
 use Rattle.kz_output.specs.Outputs.{WritesFront}
 use Rattle.kz_output.proofs.Chains.{flushed, from_nothing, front_of_flush}
-use Rattle.kz_spec_dumps.specs.Generator.{events_after, opening_events, closing_events}
+use Rattle.kz_spec_machine.specs.Generator.{events_after, opening_events, closing_events}
 use Rattle.kz_generator.specs.Texts.{lines_of}
 use Rattle.kz_generator.proofs.Parts.{on_ok, on_err, in_parts}
 use Rattle.kz_generator.proofs.script.generate.Goals as goal

@@ -2,7 +2,7 @@ use Rattle.std.proofs.Common.{rules, ◌+◌, ◌-◌, ◌++◌, refl, sym, subs
 use Rattle.kz_output.specs.Outputs.{Puts}
 use Rattle.kz_output.proofs.Chains.{nothing_put, no_call, one_more, front_then}
 use Rattle.kz_output.proofs.Loops.{front_goes_on}
-use Rattle.kz_spec_dumps.specs.Generator.{events_at, events_after}
+use Rattle.kz_spec_machine.specs.Generator.{events_at, events_after}
 use Rattle.kz_generator.specs.Texts.{lines_of}
 use Rattle.kz_generator.proofs.Parts.{lines_none, next_at, next_change, around_change}
 use Rattle.kz_generator.proofs.script.put_changes.Goals as goal

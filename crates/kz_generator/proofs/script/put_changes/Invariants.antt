@@ -1,6 +1,6 @@
 use Rattle.std.proofs.Common.{◌≡◌, ◌<◌, ◌^◌}
 use Rattle.kz_output.specs.Outputs.{Puts, HasNotFailed}
-use Rattle.kz_spec_dumps.specs.Generator.{value_at, events_after}
+use Rattle.kz_spec_machine.specs.Generator.{value_at, events_after}
 use Rattle.kz_generator.specs.Texts.{lines_of}
 use Rattle.kz_generator.proofs.script.put_changes.Given as goal
 

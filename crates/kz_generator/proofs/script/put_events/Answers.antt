@@ -1,6 +1,6 @@
 use Rattle.std.proofs.Common.{rules}
 use Rattle.kz_output.proofs.Loops.{puts_next, front_of_list}
-use Rattle.kz_spec_dumps.specs.Generator.{event_line}
+use Rattle.kz_spec_machine.specs.Generator.{event_line}
 use Rattle.kz_generator.specs.Texts.{lines_of}
 use Rattle.kz_generator.proofs.script.put_events.Goals as goal
 

@@ -1,7 +1,7 @@
 use Rattle.std.proofs.Common.{take}
 use Rattle.std.specs.List.{flat_map}
 use Rattle.kz_output.specs.Outputs.{Puts, HasNotFailed}
-use Rattle.kz_spec_dumps.specs.Generator.{event_line}
+use Rattle.kz_spec_machine.specs.Generator.{event_line}
 use Rattle.kz_generator.proofs.script.put_events.Given as goal
 
 abbrev pub invariant-loop-event : goal.invariant-loop-event

@@ -1,7 +1,7 @@
 use Rattle.std.proofs.Common.{◌++◌, refl, sym, append_assoc}
 use Rattle.kz_output.proofs.Chains.{one_more, front_then}
 use Rattle.kz_output.proofs.Loops.{front_goes_on}
-use Rattle.kz_spec_dumps.specs.Generator.{events_after, opening_events, closing_events}
+use Rattle.kz_spec_machine.specs.Generator.{events_after, opening_events, closing_events}
 use Rattle.kz_generator.specs.Texts.{lines_of}
 use Rattle.kz_generator.proofs.Parts.{on_ok, on_err}
 use Rattle.kz_generator.proofs.script.put_script.Goals as goal

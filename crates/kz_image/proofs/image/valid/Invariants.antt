@@ -1,5 +1,5 @@
 use Rattle.std.proofs.Common.{◌≡◌, drop}
-use Rattle.kz_spec_stores.specs.Image.{first_bad}
+use Rattle.kz_spec_data.specs.Image.{first_bad}
 use Rattle.kz_image.proofs.image.valid.Given as goal
 
 abbrev pub invariant-loop-index : goal.invariant-loop-index

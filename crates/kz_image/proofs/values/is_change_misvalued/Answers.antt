@@ -1,8 +1,8 @@
 use Rattle.std.proofs.Common.{◌∙◌, ap, not, w32, rules}
 use Rattle.std.proofs.lemmas.Int.{to_z-of_z}
 use mir.Val.{SFits}
-use Rattle.kz_spec_stores.specs.Metadata.{partition_of}
-use Rattle.kz_spec_stores.specs.ImageRules.{leaves_row}
+use Rattle.kz_spec_data.specs.Metadata.{partition_of}
+use Rattle.kz_spec_data.specs.ImageRules.{leaves_row}
 use Rattle.kz_image.proofs.values.is_change_misvalued.Goals as goal
 
 pub returns : goal.returns

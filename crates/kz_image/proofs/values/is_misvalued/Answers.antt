@@ -1,5 +1,5 @@
 use Rattle.std.proofs.Common.{◌∙◌, ap, sym}
-use Rattle.kz_spec_stores.specs.ImageRules.{is_misvalued}
+use Rattle.kz_spec_data.specs.ImageRules.{is_misvalued}
 use Rattle.kz_image.proofs.values.is_misvalued.Goals as goal
 
 pub returns-in-RegisterBroker : goal.returns-in-RegisterBroker

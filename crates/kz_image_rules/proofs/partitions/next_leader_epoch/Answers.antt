@@ -2,8 +2,8 @@ use Rattle.std.proofs.Common.{ap, ◌∙◌, ◌+ℤ◌, pos, w32, rules}
 use Rattle.std.proofs.lemmas.Int.{to_z-of_z}
 use mir.Val.{SFits}
 use Rattle.std.specs.Prelude.{if◌then◌else◌}
-use Rattle.kz_spec_stores.specs.ImageRules.{is_epoch, changed_row, states_leader}
-use Rattle.kz_laws_images.proofs.Unbroken.{row_epochs}
+use Rattle.kz_spec_data.specs.ImageRules.{is_epoch, changed_row, states_leader}
+use Rattle.kz_laws_znodes.proofs.Unbroken.{row_epochs}
 use Rattle.kz_image_rules.proofs.partitions.next_leader_epoch.Goals as goal
 
 pub leader_epoch_raised-requires : goal.leader_epoch_raised-requires

@@ -1,7 +1,7 @@
 use Rattle.std.proofs.Common.{◌<◌, Some, length, ap, sym, ◌∙◌, arith}
 use Rattle.kz_types.specs.Paths.{path_of, has_path}
 use Rattle.kz_types.specs.declared.key.EntityKey.TheVariants as key
-use Rattle.kz_path_buffer.proofs.PathBuffers.{no_long_path}
+use Rattle.kz_paths.proofs.PathBuffers.{no_long_path}
 use Rattle.kz_image_rules.proofs.paths.has_user_path.Goals as goal
 
 pub returns-else-push_user : goal.returns-else-push_user

@@ -1,5 +1,5 @@
 use Rattle.kz_types.specs.Paths.{path_of}
-use Rattle.kz_path_buffer.proofs.PathBuffers.{joined}
+use Rattle.kz_paths.proofs.PathBuffers.{joined}
 use Rattle.kz_image_rules.proofs.paths.push_user.Goals as goal
 
 pub returns-then-push-clause-added : goal.returns-then-push-clause-added

@@ -1,7 +1,7 @@
 use Rattle.std.proofs.Common.{◌<◌, length, ap, arith}
 use Rattle.kz_types.specs.Paths.{path_of}
-use Rattle.kz_path_buffer.proofs.PathBuffers.{no_long_path}
-use Rattle.kz_laws_paths.proofs.Keys.{path_holds}
+use Rattle.kz_paths.proofs.PathBuffers.{no_long_path}
+use Rattle.kz_laws_values.proofs.Keys.{path_holds}
 use Rattle.kz_image_rules.specs.QuotaKeys.{entity_of}
 use Rattle.kz_image_rules.proofs.quota_keys.path_of.Goals as goal
 

@@ -1,7 +1,7 @@
 use Rattle.std.proofs.Common.{ap, sym, ◌∙◌, ◌++◌, codes}
 use Rattle.std.proofs.lemmas.List.{append_assoc}
 use Rattle.kz_types.specs.Paths.{path_of, part_or_default, part_for_name}
-use Rattle.kz_path_buffer.proofs.PathBuffers.{joined}
+use Rattle.kz_paths.proofs.PathBuffers.{joined}
 use Rattle.kz_image_rules.specs.QuotaKeys.{entity_of}
 use Rattle.kz_image_rules.proofs.quota_keys.push_path.Goals as goal
 

@@ -1,7 +1,7 @@
 use Rattle.std.proofs.Common.{inl, inr, ◌+◌, [], ◌∷◌, length, arith}
 use Rattle.kz_disk.specs.Disks.{with_piece}
 use Rattle.kz_disk.proofs.Moments.{joined, weaker}
-use Rattle.kz_spec_files.specs.Frames.{open_gate}
+use Rattle.kz_spec_data.specs.Frames.{open_gate}
 use Rattle.kz_journal.specs.Appends.{IsTornOr, IsCutAppend}
 use Rattle.kz_journal.proofs.Crashes.{torn_once, told_after, still_within, option_twice}
 use Rattle.kz_journal.proofs.device.write_after.Goals as goal

@@ -1,7 +1,7 @@
 use Rattle.std.proofs.Common.{◌≡◌, ◌+◌, ◌<◌, ◌≤◌, ◌++◌, ◌∷◌, ℕ, List, length, take, drop, sym, ap, ◌∙◌, arith, length-drop}
 use Rattle.std.specs.Int.{w32, from_be_bytes}
-use Rattle.kz_spec_values.specs.Checksum.{crc32c}
-use Rattle.kz_spec_files.specs.Frames.{open_gate}
+use Rattle.kz_spec_data.specs.Checksum.{crc32c}
+use Rattle.kz_spec_data.specs.Frames.{open_gate}
 use Rattle.kz_journal.proofs.Gates.{plain_cut, plain_frame, plain_bytes}
 use Rattle.kz_journal.proofs.find.find_plain.Goals as goal
 

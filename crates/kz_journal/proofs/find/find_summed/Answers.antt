@@ -1,6 +1,6 @@
 use Rattle.std.proofs.Common.{◌≡◌, ◌+◌, ◌<◌, ◌≤◌, ◌++◌, ℕ, List, length, take, drop, sym, ap, ◌∙◌, arith, length-drop}
 use Rattle.std.specs.Int.{w32, from_be_bytes}
-use Rattle.kz_spec_values.specs.Checksum.{crc32c}
+use Rattle.kz_spec_data.specs.Checksum.{crc32c}
 use Rattle.kz_journal.proofs.Gates.{summed_cut, summed_frame, summed_damaged}
 use Rattle.kz_journal.proofs.find.find_summed.Goals as goal
 

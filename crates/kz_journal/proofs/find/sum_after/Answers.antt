@@ -1,6 +1,6 @@
 use Rattle.std.proofs.Common.{[], ◌∷◌, ◌++◌, ap, ◌∙◌, append_assoc}
-use Rattle.kz_spec_values.specs.Checksum.{crc32c}
-use Rattle.kz_spec_files.specs.Frames.{open_gate}
+use Rattle.kz_spec_data.specs.Checksum.{crc32c}
+use Rattle.kz_spec_data.specs.Frames.{open_gate}
 use Rattle.kz_journal.proofs.find.sum_after.Goals as goal
 
 pub returns : goal.returns

@@ -1,6 +1,6 @@
 use Rattle.std.proofs.Common.{◌∙◌, ◌<◌, length, arith}
 use Rattle.kz_disk.proofs.Moments.{started, weaker}
-use Rattle.kz_spec_files.specs.Frames.{journal_of, LeftByAppend}
+use Rattle.kz_spec_data.specs.Frames.{journal_of, LeftByAppend}
 use Rattle.kz_journal.specs.Appends.{IsCutAppend}
 use Rattle.kz_journal.proofs.Appended.{append_done, append_cut, untouched}
 use Rattle.kz_journal.proofs.frame.append_frame.Goals as goal

@@ -1,6 +1,6 @@
 use Rattle.std.proofs.Common.{◌≡◌, sym}
 use Rattle.kz_disk.proofs.Moments.{weaker}
-use Rattle.kz_spec_files.specs.Frames.{journal_of}
+use Rattle.kz_spec_data.specs.Frames.{journal_of}
 use Rattle.kz_journal.proofs.Steps.{read_whole, still_says}
 use Rattle.kz_journal.proofs.next.end_at.Goals as goal
 

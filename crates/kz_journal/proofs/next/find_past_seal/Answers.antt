@@ -1,6 +1,6 @@
 use Rattle.std.proofs.Common.{◌≡◌, ◌+◌, true, take, drop, refl, sym, subst}
 use Rattle.std.proofs.lemmas.Result.{IfOk-weaker}
-use Rattle.kz_spec_files.specs.Frames.{Seal, found_at}
+use Rattle.kz_spec_data.specs.Frames.{Seal, found_at}
 use Rattle.kz_journal.specs.declared.place.Place.{Place}
 use Rattle.kz_journal.specs.Journals.{IsReadTo, journal_at}
 use Rattle.kz_journal.specs.Pieces.{StandsAt}

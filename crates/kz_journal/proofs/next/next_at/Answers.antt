@@ -1,5 +1,5 @@
 use Rattle.std.proofs.Common.{◌≡◌, ◌+◌, ◌≤◌, ℕ, List, length, sym, ap, ◌∙◌, subst, arith}
-use Rattle.kz_spec_files.specs.Frames.{size_before}
+use Rattle.kz_spec_data.specs.Frames.{size_before}
 use Rattle.kz_journal.specs.Nexts.{IsReadPast}
 use Rattle.kz_journal.specs.Pieces.{StandsAt, IsSumAfter}
 use Rattle.kz_journal.proofs.Steps.{read_past, read_damaged}

@@ -1,6 +1,6 @@
 use Rattle.std.proofs.Common.{take, refl}
 use Rattle.kz_disk.proofs.Moments.{weaker}
-use Rattle.kz_spec_files.specs.Frames.{journal_of, LeftBySeal}
+use Rattle.kz_spec_data.specs.Frames.{journal_of, LeftBySeal}
 use Rattle.kz_journal.specs.Appends.{IsCutAppend}
 use Rattle.kz_journal.proofs.Sealed.{seal_done, seal_cut}
 use Rattle.kz_journal.proofs.seal.seal_at.Goals as goal

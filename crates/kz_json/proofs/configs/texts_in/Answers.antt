@@ -2,7 +2,7 @@ use Rattle.std.proofs.Common.{◌∙◌, ◌++◌, ap}
 use Rattle.std.specs.Prelude.{option_map}
 use Rattle.std.specs.String.{string_bytes}
 use Rattle.serde_json.specs.View.{view, members_view}
-use Rattle.kz_spec_values.specs.Bodies.{texts_in}
+use Rattle.kz_spec_data.specs.Bodies.{texts_in}
 use Rattle.kz_json.proofs.JsonLemmas.{next_text}
 use Rattle.kz_json.proofs.configs.texts_in.Goals as goal
 

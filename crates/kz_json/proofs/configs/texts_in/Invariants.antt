@@ -1,7 +1,7 @@
 use Rattle.std.proofs.Common.{◌≡◌, ◌++◌}
 use Rattle.std.specs.Prelude.{option_map}
 use Rattle.serde_json.specs.View.{members_view}
-use Rattle.kz_spec_values.specs.Bodies.{texts_in}
+use Rattle.kz_spec_data.specs.Bodies.{texts_in}
 use Rattle.kz_json.proofs.configs.texts_in.Given as goal
 
 abbrev pub invariant-loop-name : goal.invariant-loop-name

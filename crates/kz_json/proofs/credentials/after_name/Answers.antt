@@ -1,6 +1,6 @@
 use Rattle.std.proofs.Common.{◌∙◌, ap}
 use Rattle.std.specs.Prelude.{option_map}
-use Rattle.kz_spec_values.specs.Credentials.{after_name}
+use Rattle.kz_spec_data.specs.Credentials.{after_name}
 use Rattle.kz_json.proofs.CredentialLemmas.{after_no_name, after_a_name}
 use Rattle.kz_json.proofs.credentials.after_name.Goals as goal
 

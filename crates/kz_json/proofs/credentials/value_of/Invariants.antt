@@ -1,5 +1,5 @@
 use Rattle.std.proofs.Common.{◌≡◌, drop, map}
-use Rattle.kz_spec_values.specs.Credentials.{value_of}
+use Rattle.kz_spec_data.specs.Credentials.{value_of}
 use Rattle.kz_json.proofs.credentials.value_of.Given as goal
 
 abbrev pub invariant-loop-piece : goal.invariant-loop-piece

@@ -1,5 +1,5 @@
 use Rattle.std.proofs.Common.{◌+◌, drop, ◌∙◌, sym, ap, Ok, Err, arith}
-use Rattle.kz_spec_values.specs.Credentials.{entries_of, both}
+use Rattle.kz_spec_data.specs.Credentials.{entries_of, both}
 use Rattle.kz_json.specs.Entries.{entry_value}
 use Rattle.kz_json.proofs.EntryLemmas.{one_more, at_fault, no_more}
 use Rattle.kz_json.proofs.entries.entries_of.Goals as goal

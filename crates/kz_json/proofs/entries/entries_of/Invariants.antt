@@ -1,5 +1,5 @@
 use Rattle.std.proofs.Common.{◌≡◌, drop, Ok}
-use Rattle.kz_spec_values.specs.Credentials.{entries_of, both}
+use Rattle.kz_spec_data.specs.Credentials.{entries_of, both}
 use Rattle.kz_json.proofs.entries.entries_of.Given as goal
 
 abbrev pub invariant-loop-pair : goal.invariant-loop-pair

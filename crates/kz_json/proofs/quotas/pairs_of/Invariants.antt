@@ -1,5 +1,5 @@
 use Rattle.std.proofs.Common.{◌≡◌, ◌++◌, map, take}
-use Rattle.kz_spec_values.specs.Credentials.{quota_pair, credential_pair}
+use Rattle.kz_spec_data.specs.Credentials.{quota_pair, credential_pair}
 use Rattle.kz_json.proofs.quotas.pairs_of.Given as goal
 
 abbrev pub invariant-loop-row : goal.invariant-loop-row

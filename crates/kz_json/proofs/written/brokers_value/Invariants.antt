@@ -1,6 +1,6 @@
 use Rattle.std.proofs.Common.{◌≡◌, map, take}
 use Rattle.serde_json.specs.View.{view}
-use Rattle.kz_spec_values.specs.Bodies.{whole_data}
+use Rattle.kz_spec_data.specs.Bodies.{whole_data}
 use Rattle.kz_json.proofs.written.brokers_value.Given as goal
 
 abbrev pub invariant-loop-id : goal.invariant-loop-id

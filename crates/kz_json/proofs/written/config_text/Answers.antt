@@ -2,7 +2,7 @@ use Rattle.std.proofs.Common.{◌≡◌, ◌∙◌, ap, codes, pos}
 use Rattle.serde_json.specs.View.{view}
 use Rattle.serde_json.specs.Data.{object, member, no_members}
 use Rattle.serde_json.specs.Written.{compact_text, has_float}
-use Rattle.kz_spec_values.specs.Bodies.{config_data, whole_data}
+use Rattle.kz_spec_data.specs.Bodies.{config_data, whole_data}
 use Rattle.kz_json.proofs.WrittenLemmas.{config_no_float}
 use Rattle.kz_json.proofs.written.config_text.Goals as goal
 

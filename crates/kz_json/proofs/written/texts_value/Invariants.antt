@@ -1,7 +1,7 @@
 use Rattle.std.proofs.Common.{◌≡◌, drop}
 use Rattle.serde_json.specs.View.{members_view}
 use Rattle.serde_json.specs.Data.{no_members}
-use Rattle.kz_spec_values.specs.Bodies.{with_texts}
+use Rattle.kz_spec_data.specs.Bodies.{with_texts}
 use Rattle.kz_json.proofs.written.texts_value.Given as goal
 
 abbrev pub invariant-loop-pair : goal.invariant-loop-pair

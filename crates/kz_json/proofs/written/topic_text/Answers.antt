@@ -1,7 +1,7 @@
 use Rattle.std.proofs.Common.{◌∙◌, ap, codes, pos}
 use Rattle.serde_json.specs.Data.{object, member, no_members}
 use Rattle.serde_json.specs.Written.{has_float}
-use Rattle.kz_spec_values.specs.Bodies.{whole_data}
+use Rattle.kz_spec_data.specs.Bodies.{whole_data}
 use Rattle.kz_json.proofs.WrittenLemmas.{topic_no_float}
 use Rattle.kz_json.proofs.written.topic_text.Goals as goal
 

@@ -1,6 +1,6 @@
 use Rattle.std.proofs.Common.{subst}
 use Rattle.std.proofs.lemmas.Str.{is_utf8-from_IsUtf8}
-use Rattle.kz_laws_bodies.specs.Readable.{IsText}
+use Rattle.kz_laws_values.specs.Readable.{IsText}
 use Rattle.kz_laws_lines.proofs.held.text.Goals as goal
 
 pub returns : goal.returns

@@ -1,8 +1,8 @@
 use Rattle.std.proofs.Common.{◌≡◌, ◌<◌, ◌++◌, Err, ℕ, ℤ, true, false, List, Some, is_none, refl, sym, ap, ◌∙◌, subst, to_z, of_z, to_z-of_z, SFits, rules, w64}
 use Rattle.kz_types.specs.declared.fault.TreeFault.TheVariants as tree_fault
-use Rattle.kz_spec_stores.specs.Requests.{Either, answer_of_tree_fault}
-use Rattle.kz_spec_dumps.specs.Loading.{tree_with}
-use Rattle.kz_spec_files.specs.Frames.{tree_letter}
+use Rattle.kz_spec_data.specs.Requests.{Either, answer_of_tree_fault}
+use Rattle.kz_spec_machine.specs.Loading.{tree_with}
+use Rattle.kz_spec_data.specs.Frames.{tree_letter}
 use Rattle.kz_journal.specs.declared.place.Place.{Place}
 use Rattle.kz_journal.specs.Journals.{IsReadTo, HasClosedGate, file_at, file_of}
 use Rattle.kz_journal.proofs.Steps.{held_closed}

@@ -1,9 +1,9 @@
 use Rattle.std.proofs.Common.{refl, subst}
-use Rattle.kz_spec_commands.specs.Init.{Inits}
+use Rattle.kz_spec_machine.specs.Init.{Inits}
 use Rattle.kz_commands.specs.Outside.{outside}
 use Rattle.kz_commands.specs.Makes.{MakesFiles}
 use Rattle.kz_commands.specs.Stops.{contents}
-use Rattle.kz_load.proofs.Loaded.{refused_loads, made_loads}
+use Rattle.kz_load.proofs.LoadedTrees.{refused_loads, made_loads}
 use Rattle.kz_load.proofs.Left.{unmade_stops, made_stops}
 use Rattle.kz_load.proofs.command.load.Goals as goal
 

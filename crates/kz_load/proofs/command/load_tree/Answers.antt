@@ -3,7 +3,7 @@ use Rattle.kz_tree_store.specs.Stores.{store_disk, held_tree}
 use Rattle.kz_commands.specs.Outside.{outside}
 use Rattle.kz_load.specs.Leaves.{LeavesNewOrLoaded}
 use Rattle.kz_load.specs.LoadsTrees.{LoadsTree, IsUnopenedStatus}
-use Rattle.kz_load.proofs.Loaded.{unopened_loads, opened_loads}
+use Rattle.kz_load.proofs.LoadedTrees.{unopened_loads, opened_loads}
 use Rattle.kz_load.proofs.Left.{unopened_left, opened_left}
 use Rattle.kz_load.proofs.command.load_tree.Goals as goal
 

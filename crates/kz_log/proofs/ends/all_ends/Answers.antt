@@ -1,7 +1,7 @@
 use Rattle.std.proofs.Common.{◌≡◌, ◌∙◌, ◌++◌, ◌∷◌, [], ap, sym, to_z, of_z, w64, rules, arith}
 use Rattle.std.proofs.lemmas.Int.{ints, to_z-of_z}
 use mir.Val.{SFits}
-use Rattle.kz_spec_stores.specs.Log.{last_of}
+use Rattle.kz_spec_data.specs.Log.{last_of}
 use Rattle.kz_log.proofs.Batches.{last_at, ends_more, count_more}
 use Rattle.kz_log.proofs.ends.all_ends.Goals as goal
 

@@ -1,5 +1,5 @@
 use Rattle.std.proofs.Common.{◌≡◌, ◌∷◌, take, map}
-use Rattle.kz_spec_stores.specs.Log.{last_of, record_count}
+use Rattle.kz_spec_data.specs.Log.{last_of, record_count}
 use Rattle.kz_log.proofs.ends.all_ends.Given as goal
 
 abbrev pub invariant-loop-batch : goal.invariant-loop-batch

@@ -1,5 +1,5 @@
 use Rattle.std.proofs.Common.{◌≡◌, take}
-use Rattle.kz_spec_stores.specs.Log.{record_count}
+use Rattle.kz_spec_data.specs.Log.{record_count}
 use Rattle.kz_log.proofs.ends.count_of.Given as goal
 
 abbrev pub invariant-loop-batch : goal.invariant-loop-batch

@@ -2,7 +2,7 @@ use Rattle.std.proofs.Common.{◌∙◌, ◌+ℤ◌, ap, sym, subst, pos, List, 
 use Rattle.std.proofs.lemmas.Int.{ints, to_z-of_z}
 use mir.Val.{SFits}
 use Rattle.kz_types.specs.declared.log.Entry.{Entry}
-use Rattle.kz_spec_stores.specs.Log.{all_entries_applied}
+use Rattle.kz_spec_data.specs.Log.{all_entries_applied}
 use Rattle.kz_log.specs.Reading.{entries_after, unread_entries, Knows, image_after}
 use Rattle.kz_log.proofs.Batches.{is_before, is_not_before, within, pass_none, unread_consecutive}
 use Rattle.kz_log.proofs.pass.later_image.Goals as goal

@@ -1,6 +1,6 @@
 use Rattle.std.proofs.Common.{◌∙◌, [], ◌∷◌, ap, map, subst}
 use Rattle.std.proofs.lemmas.List.{map-append}
-use Rattle.kz_laws_records.specs.Texts.{AreBytes}
+use Rattle.kz_laws_values.specs.Texts.{AreBytes}
 use Rattle.kz_log_frames.proofs.Payloads.{values_more, bytes_more}
 use Rattle.kz_log_frames.proofs.payload.all_values.Goals as goal
 

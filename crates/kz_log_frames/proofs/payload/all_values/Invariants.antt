@@ -1,5 +1,5 @@
 use Rattle.std.proofs.Common.{take, map, All}
-use Rattle.kz_laws_records.specs.Texts.{AreBytes}
+use Rattle.kz_laws_values.specs.Texts.{AreBytes}
 use Rattle.kz_log_frames.specs.Payloads.{AreValuesOf}
 use Rattle.kz_log_frames.proofs.payload.all_values.Given as goal
 

@@ -1,5 +1,5 @@
 use Rattle.std.proofs.Common.{take}
-use Rattle.kz_laws_records.specs.Texts.{AreBytes}
+use Rattle.kz_laws_values.specs.Texts.{AreBytes}
 use Rattle.kz_log_frames.proofs.payload.are_bytes.Given as goal
 
 abbrev pub invariant-loop-byte : goal.invariant-loop-byte

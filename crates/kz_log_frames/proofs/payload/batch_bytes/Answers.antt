@@ -1,7 +1,7 @@
 use Rattle.std.proofs.Common.{sym, subst, map, All}
 use Rattle.std.proofs.lemmas.Result.{IfOk-weaker}
-use Rattle.kz_laws_records.specs.Texts.{AreBytes}
-use Rattle.kz_laws_snapshot_files.specs.ReadBack.{IsReadBack}
+use Rattle.kz_laws_values.specs.Texts.{AreBytes}
+use Rattle.kz_laws_znodes.specs.ReadBack.{IsReadBack}
 use Rattle.kz_log_frames.specs.Payloads.{AreValuesOf}
 use Rattle.kz_log_frames.proofs.Growing.{values_read_back}
 use Rattle.kz_log_frames.proofs.payload.batch_bytes.Goals as goal

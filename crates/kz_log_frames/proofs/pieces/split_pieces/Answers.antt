@@ -1,6 +1,6 @@
 use Rattle.std.proofs.Common.{◌≡◌, ◌-◌, suc, [], ◌∷◌, map, sym, ap, ◌∙◌, arith}
 use Rattle.std.proofs.lemmas.List.{map-append}
-use Rattle.kz_spec_files.specs.LogFile.{read_pieces}
+use Rattle.kz_spec_data.specs.LogFile.{read_pieces}
 use Rattle.kz_log_frames.proofs.ReadingPieces.{with_pieces, piece_cut, piece_more}
 use Rattle.kz_log_frames.proofs.pieces.split_pieces.Goals as goal
 

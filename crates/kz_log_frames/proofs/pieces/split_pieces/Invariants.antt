@@ -1,5 +1,5 @@
 use Rattle.std.proofs.Common.{◌≡◌, map}
-use Rattle.kz_spec_files.specs.LogFile.{read_pieces}
+use Rattle.kz_spec_data.specs.LogFile.{read_pieces}
 use Rattle.kz_log_frames.proofs.ReadingPieces.{with_pieces}
 use Rattle.kz_log_frames.proofs.pieces.split_pieces.Given as goal
 

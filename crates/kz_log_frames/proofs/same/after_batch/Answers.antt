@@ -3,9 +3,9 @@ use Rattle.std.specs.Ordering.{int_eq}
 use Rattle.std.specs.Str.{bytes_eq}
 use Rattle.std.proofs.lemmas.Int.{to_z-of_z}
 use Rattle.std.proofs.lemmas.List.{nil_from_length}
-use Rattle.kz_spec_values.specs.Records.{bytes_of_record}
-use Rattle.kz_spec_snapshots.specs.Records.{in_epoch}
-use Rattle.kz_spec_files.specs.LogFile.{same_records}
+use Rattle.kz_spec_data.specs.Records.{bytes_of_record}
+use Rattle.kz_spec_data.specs.SnapshotRecords.{in_epoch}
+use Rattle.kz_spec_data.specs.LogFile.{same_records}
 use Rattle.kz_log_frames.proofs.SameRecords.{item_none, item_epoch, item_bytes}
 use Rattle.kz_log_frames.proofs.same.after_batch.Goals as goal
 

@@ -1,7 +1,7 @@
 use Rattle.std.proofs.Common.{◌+◌, drop, sym, ◌∙◌, w32, rules}
 use Rattle.std.proofs.lemmas.Int.{to_z-of_z}
 use mir.Val.{SFits}
-use Rattle.kz_spec_snapshots.specs.Batches.{records_of_batches}
+use Rattle.kz_spec_data.specs.SnapshotBatches.{records_of_batches}
 use Rattle.kz_log_frames.proofs.SameRecords.{if_none, if_some, batch_differs, batch_same}
 use Rattle.kz_log_frames.proofs.same.same_rows.Goals as goal
 

@@ -2,7 +2,7 @@ use Rattle.std.proofs.Common.{◌≤◌, length, map, take, drop, refl, sym, ap,
 use Rattle.std.specs.Int.{from_be_bytes}
 use Rattle.std.proofs.lemmas.Int.{to_z-of_z}
 use mir.Val.{SFits}
-use Rattle.kz_spec_files.specs.LogFile.{read_pieces}
+use Rattle.kz_spec_data.specs.LogFile.{read_pieces}
 use Rattle.kz_log_frames.proofs.Cutting.{cut_said, says_same}
 use Rattle.kz_log_frames.proofs.snapshot.take_snapshot.Goals as goal
 

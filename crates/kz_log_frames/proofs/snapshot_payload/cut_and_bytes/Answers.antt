@@ -1,6 +1,6 @@
 use Rattle.std.proofs.Common.{◌≡◌, ap, ◌∙◌, w32, w64, rules, to_z, of_z, FitsSigned}
 use Rattle.std.proofs.lemmas.Int.{to_z-of_z}
-use Rattle.kz_spec_stores.specs.Log.{Log, snapshot}
+use Rattle.kz_spec_data.specs.Log.{Log, snapshot}
 use Rattle.kz_log_frames.proofs.Growing.{snapshot_made_by}
 use Rattle.kz_log_frames.proofs.snapshot_payload.cut_and_bytes.Goals as goal
 

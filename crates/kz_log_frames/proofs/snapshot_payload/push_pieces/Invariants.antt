@@ -1,7 +1,7 @@
 use Rattle.std.proofs.Common.{take}
 use Rattle.std.specs.List.{All, flat_map}
-use Rattle.kz_spec_files.specs.LogFile.{piece_written}
-use Rattle.kz_laws_snapshot_files.specs.ReadBack.{IsBatchReadBack}
+use Rattle.kz_spec_data.specs.LogFile.{piece_written}
+use Rattle.kz_laws_znodes.specs.ReadBack.{IsBatchReadBack}
 use Rattle.kz_log_frames.specs.Payloads.{Grows}
 use Rattle.kz_log_frames.proofs.snapshot_payload.push_pieces.Given as goal
 

@@ -1,5 +1,5 @@
 use Rattle.std.proofs.Common.{◌≡◌, length}
-use Rattle.kz_spec_files.specs.LogFile.{read_values}
+use Rattle.kz_spec_data.specs.LogFile.{read_values}
 use Rattle.kz_log_frames.proofs.Taking.{prefixed}
 use Rattle.kz_log_frames.proofs.take.read_items.Given as goal
 

@@ -1,6 +1,6 @@
 use Rattle.std.proofs.Common.{◌≡◌, false, ℕ, List, Some}
 use Rattle.kz_disk.specs.Disks.{StaysTold}
-use Rattle.kz_spec_files.specs.Frames.{log_letter}
+use Rattle.kz_spec_data.specs.Frames.{log_letter}
 use Rattle.kz_journal.specs.Held.{disk_of, letter_of, is_down, disk_state, bytes_left, unread}
 use Rattle.kz_log_store.specs.Opened.{HasRead}
 use Rattle.kz_log_store.proofs.open.read_frames.Given as goal

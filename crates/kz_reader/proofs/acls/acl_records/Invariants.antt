@@ -1,5 +1,5 @@
 use Rattle.std.proofs.Common.{◌≡◌, ◌+◌, ◌++◌, drop}
-use Rattle.kz_spec_znodes.specs.Translation.{acl_records}
+use Rattle.kz_spec_data.specs.Translation.{acl_records}
 use Rattle.kz_reader.proofs.acls.acl_records.Given as goal
 
 abbrev pub invariant-loop-index : goal.invariant-loop-index

@@ -1,5 +1,5 @@
 use Rattle.std.proofs.Common.{◌≡◌, ◌++◌, map, drop}
-use Rattle.kz_spec_znodes.specs.Translation.{config_record}
+use Rattle.kz_spec_data.specs.Translation.{config_record}
 use Rattle.kz_reader.proofs.configs.member_records.Given as goal
 
 abbrev pub invariant-loop-pair : goal.invariant-loop-pair

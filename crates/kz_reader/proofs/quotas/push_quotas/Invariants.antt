@@ -1,5 +1,5 @@
 use Rattle.std.proofs.Common.{◌≡◌, ◌++◌, map, drop}
-use Rattle.kz_spec_znodes.specs.Translation.{quota_record}
+use Rattle.kz_spec_data.specs.Translation.{quota_record}
 use Rattle.kz_reader.proofs.quotas.push_quotas.Given as goal
 
 abbrev pub invariant-loop-quota : goal.invariant-loop-quota

@@ -1,5 +1,5 @@
 use Rattle.std.proofs.Common.{◌≡◌, ◌++◌, map, drop}
-use Rattle.kz_spec_znodes.specs.Translation.{scram_record}
+use Rattle.kz_spec_data.specs.Translation.{scram_record}
 use Rattle.kz_reader.proofs.quotas.records_of_scrams.Given as goal
 
 abbrev pub invariant-loop-scram : goal.invariant-loop-scram

@@ -1,5 +1,5 @@
 use Rattle.std.proofs.Common.{◌≡◌, ◌++◌, map, drop}
-use Rattle.kz_spec_znodes.specs.Translation.{partition_record, topic_records}
+use Rattle.kz_spec_data.specs.Translation.{partition_record, topic_records}
 use Rattle.kz_reader.proofs.topics.topic_records.Given as goal
 
 abbrev pub invariant-loop-assigned : goal.invariant-loop-assigned

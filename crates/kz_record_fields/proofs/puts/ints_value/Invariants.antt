@@ -1,6 +1,6 @@
 use Rattle.std.proofs.Common.{◌≡◌, map, take}
 use Rattle.serde_json.specs.View.{view}
-use Rattle.kz_spec_lines.specs.Members.{whole_data}
+use Rattle.kz_spec_data.specs.Members.{whole_data}
 use Rattle.kz_record_fields.proofs.puts.ints_value.Given as goal
 
 abbrev pub invariant-loop-number : goal.invariant-loop-number

@@ -1,6 +1,6 @@
 use Rattle.std.proofs.Common.{◌≡◌, map, take}
 use Rattle.serde_json.specs.View.{view}
-use Rattle.kz_spec_lines.specs.WrittenRecords.{entity_data}
+use Rattle.kz_spec_data.specs.WrittenRecords.{entity_data}
 use Rattle.kz_record_json.proofs.users.entity_values.Given as goal
 
 abbrev pub invariant-loop-part : goal.invariant-loop-part

@@ -1,8 +1,8 @@
 use Rattle.std.proofs.Common.{◌≡◌, ◌++◌, drop}
 use Rattle.std.specs.Prelude.{option_map}
 use Rattle.serde_json.specs.View.{items_view}
-use Rattle.kz_spec_lines.specs.Fields.{all_of}
-use Rattle.kz_spec_lines.specs.UserRecords.{entity_of}
+use Rattle.kz_spec_data.specs.LineFields.{all_of}
+use Rattle.kz_spec_data.specs.UserRecords.{entity_of}
 use Rattle.kz_record_json.proofs.users.parts_in.Given as goal
 
 abbrev pub invariant-loop-value : goal.invariant-loop-value

@@ -1,5 +1,5 @@
 use Rattle.std.proofs.Common.{◌≡◌, ◌++◌, map}
-use Rattle.kz_spec_znodes.specs.Rendering.{config_znode}
+use Rattle.kz_spec_data.specs.Rendering.{config_znode}
 use Rattle.kz_render.proofs.configs.push_configs.Given as goal
 
 abbrev pub invariant-loop-config : goal.invariant-loop-config

@@ -1,8 +1,8 @@
 use Rattle.std.proofs.Common.{◌++◌}
 use Rattle.std.specs.List.{flat_map}
 use Rattle.std.proofs.lemmas.List.Elements.{All-rest}
-use Rattle.kz_spec_stores.specs.Legal.{IsQuotaEntry}
-use Rattle.kz_spec_znodes.specs.Rendering.{own_znodes}
+use Rattle.kz_spec_data.specs.Legal.{IsQuotaEntry}
+use Rattle.kz_spec_data.specs.Rendering.{own_znodes}
 use Rattle.kz_render.proofs.Going.{flat_map_next}
 use Rattle.kz_render.proofs.quotas.push_all_own.Goals as goal
 

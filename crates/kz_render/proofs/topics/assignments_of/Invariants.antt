@@ -1,5 +1,5 @@
 use Rattle.std.proofs.Common.{◌≡◌, map, take}
-use Rattle.kz_spec_znodes.specs.Rendering.{assignment_of}
+use Rattle.kz_spec_data.specs.Rendering.{assignment_of}
 use Rattle.kz_render.proofs.topics.assignments_of.Given as goal
 
 abbrev pub invariant-loop-partition : goal.invariant-loop-partition

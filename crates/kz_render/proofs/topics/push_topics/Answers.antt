@@ -1,8 +1,8 @@
 use Rattle.std.proofs.Common.{◌++◌}
 use Rattle.std.specs.List.{flat_map}
 use Rattle.std.proofs.lemmas.List.Elements.{All-rest}
-use Rattle.kz_spec_stores.specs.Legal.{IsTopic}
-use Rattle.kz_spec_znodes.specs.Rendering.{topic_znodes}
+use Rattle.kz_spec_data.specs.Legal.{IsTopic}
+use Rattle.kz_spec_data.specs.Rendering.{topic_znodes}
 use Rattle.kz_render.proofs.Going.{flat_map_next}
 use Rattle.kz_render.proofs.topics.push_topics.Goals as goal
 

@@ -1,7 +1,7 @@
 use Rattle.std.proofs.Common.{◌≡◌, ◌++◌}
 use Rattle.std.specs.List.{All, flat_map}
-use Rattle.kz_spec_stores.specs.Legal.{IsTopic}
-use Rattle.kz_spec_znodes.specs.Rendering.{topic_znodes}
+use Rattle.kz_spec_data.specs.Legal.{IsTopic}
+use Rattle.kz_spec_data.specs.Rendering.{topic_znodes}
 use Rattle.kz_render.proofs.topics.push_topics.Given as goal
 
 abbrev pub invariant-loop-topic : goal.invariant-loop-topic

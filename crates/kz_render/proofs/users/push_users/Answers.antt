@@ -1,8 +1,8 @@
 use Rattle.std.proofs.Common.{◌≡◌, ◌++◌, map, ap, ◌∙◌}
 use Rattle.std.proofs.lemmas.List.Elements.{All-rest}
-use Rattle.kz_spec_stores.specs.InOrder.{IsUserFilled}
-use Rattle.kz_spec_stores.specs.Legal.{IsScramEntry}
-use Rattle.kz_spec_znodes.specs.Rendering.{user_znode}
+use Rattle.kz_spec_data.specs.InOrder.{IsUserFilled}
+use Rattle.kz_spec_data.specs.Legal.{IsScramEntry}
+use Rattle.kz_spec_data.specs.Rendering.{user_znode}
 use Rattle.kz_render.proofs.Going.{map_next, all_left, all_next}
 use Rattle.kz_render.proofs.users.push_users.Goals as goal
 

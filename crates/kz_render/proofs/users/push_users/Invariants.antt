@@ -1,8 +1,8 @@
 use Rattle.std.proofs.Common.{◌≡◌, ◌++◌, map}
 use Rattle.std.specs.List.{All}
-use Rattle.kz_spec_stores.specs.InOrder.{IsUserFilled}
-use Rattle.kz_spec_stores.specs.Legal.{IsScramEntry}
-use Rattle.kz_spec_znodes.specs.Rendering.{user_znode}
+use Rattle.kz_spec_data.specs.InOrder.{IsUserFilled}
+use Rattle.kz_spec_data.specs.Legal.{IsScramEntry}
+use Rattle.kz_spec_data.specs.Rendering.{user_znode}
 use Rattle.kz_render.proofs.users.push_users.Given as goal
 
 abbrev pub invariant-loop-user : goal.invariant-loop-user

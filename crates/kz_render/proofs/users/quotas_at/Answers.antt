@@ -1,9 +1,9 @@
 use Rattle.std.proofs.Common.{rules, ◌≡◌, true, sym, subst}
-use Rattle.kz_ordered.specs.Order.{bytes_cmp}
-use Rattle.kz_ordered.specs.Ordered.{find}
+use Rattle.kz_types.specs.Order.{bytes_cmp}
+use Rattle.kz_types.specs.Ordered.{find}
 use Rattle.kz_json.specs.Entries.{are_quotas}
-use Rattle.kz_spec_stores.specs.Metadata.{path_of_quotas}
-use Rattle.kz_spec_stores.specs.Image.{quotas_in}
+use Rattle.kz_spec_data.specs.Metadata.{path_of_quotas}
+use Rattle.kz_spec_data.specs.Image.{quotas_in}
 use Rattle.kz_render.proofs.QuotaLists.{found_quotas}
 use Rattle.kz_render.proofs.users.quotas_at.Goals as goal
 

@@ -1,5 +1,5 @@
 use Rattle.std.proofs.Common.{◌≡◌, ◌++◌, map, rules, subst}
-use Rattle.kz_spec_znodes.specs.Rendering.{acl_znode, producer_znodes}
+use Rattle.kz_spec_data.specs.Rendering.{acl_znode, producer_znodes}
 use Rattle.kz_render.specs.Gathered.{PutAlike}
 use Rattle.kz_render.proofs.Entities.{entities_alike}
 use Rattle.kz_render.proofs.znodes.push_entities.Goals as goal

@@ -1,16 +1,16 @@
 use Rattle.std.proofs.Common.{ℕ, List, IfSome, is_some, sym, ap, ◌∙◌, subst}
 use Rattle.std.specs.Io.KnownBytes.{Appends, Consumes}
 use Rattle.kz_spec_machine.specs.Sound.{Sound}
-use Rattle.kz_spec_runs.specs.Endings.{EndsAs}
-use Rattle.kz_driver.specs.Disks.{disks_of}
-use Rattle.kz_turns.specs.Stops.{AreUp}
-use Rattle.kz_world_parts.specs.Worlds.{plain_world}
-use Rattle.kz_world_parts.specs.Disks.{disks_in}
+use Rattle.kz_spec_machine.specs.Endings.{EndsAs}
+use Rattle.kz_world.specs.Disks.{disks_of}
+use Rattle.kz_world.specs.TurnStops.{AreUp}
+use Rattle.kz_world.specs.Worlds.{plain_world}
+use Rattle.kz_world.specs.EventDisks.{disks_in}
 use Rattle.kz_tree_store.specs.Opened.{LeavesTree}
 use Rattle.kz_tree_store.specs.Stores as trees
 use Rattle.kz_log_store.specs.Opened.{LeavesLog}
 use Rattle.kz_log_store.specs.Stores as logs
-use Rattle.kz_spec_runs.specs.Moments.{LeavesMoment}
+use Rattle.kz_spec_machine.specs.Moments.{LeavesMoment}
 use Rattle.kz_stream.specs.Pending.{state_of, outcome_to_come, moments_to_come, pending_lines}
 use Rattle.kz_commands.specs.Outside.{outside}
 use Rattle.kz_replay.specs.Disks.{RunDisks}

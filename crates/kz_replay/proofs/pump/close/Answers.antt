@@ -1,6 +1,6 @@
 use Rattle.std.proofs.Common.{[], sym, subst}
 use Rattle.kz_types.specs.declared.outside.Status.{Status}
-use Rattle.kz_spec_runs.specs.Endings.{EndsAs}
+use Rattle.kz_spec_machine.specs.Endings.{EndsAs}
 use Rattle.kz_stream.specs.Pending.{state_of, outcome_to_come}
 use Rattle.kz_stream.proofs.Statuses.{Stops-EndsAs}
 use Rattle.kz_replay.specs.Disks.{RunDisks}

@@ -3,10 +3,10 @@ use Rattle.std.proofs.KnownBytes.{Appends-trans, Consumes-trans, Consumes-kept, 
 use Rattle.std.specs.Io.KnownBytes.{Appends, Consumes}
 use Rattle.kz_types.specs.declared.outside.Status.{Status}
 use Rattle.kz_types.specs.declared.outside.Status.TheVariants as status
-use Rattle.kz_failures.specs.Disks.{AreQuiet}
-use Rattle.kz_spec_runs.specs.Endings.{EndsAs}
+use Rattle.kz_stream.specs.FailureDisks.{AreQuiet}
+use Rattle.kz_spec_machine.specs.Endings.{EndsAs}
 use Rattle.kz_stream.specs.Endings.{Stops}
-use Rattle.kz_spec_runs.specs.Moments.{LeavesMoment}
+use Rattle.kz_spec_machine.specs.Moments.{LeavesMoment}
 use Rattle.kz_stream.specs.Pending.{outcome_to_come, lines_to_come, moments_to_come, pending_lines, state_of}
 use Rattle.kz_stream.proofs.Moments.{leaves_here}
 use Rattle.kz_stream.proofs.Runs.{told, goes_soundly, stops_soundly, leaves_after, ends_after, lines_taken}

@@ -1,7 +1,7 @@
 use Rattle.std.proofs.Common.{◌≡◌, ℕ, ◌≤◌, true, List, length}
 use Rattle.std.specs.Io.KnownBytes.{Appends, Consumes}
 use Rattle.kz_types.specs.declared.limits.TheConstants.{MAX_INPUT_BYTES}
-use Rattle.kz_failures.specs.Disks.{AreQuiet}
+use Rattle.kz_stream.specs.FailureDisks.{AreQuiet}
 use Rattle.kz_stream.specs.Pending.{GoesSoundly, state_of}
 use Rattle.kz_stream.specs.Disks.{OverSound}
 use Rattle.kz_replay.proofs.pump.pump.Given as goal

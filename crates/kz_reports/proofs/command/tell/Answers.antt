@@ -1,6 +1,6 @@
 use Rattle.std.proofs.Common.{sym, subst}
-use Rattle.kz_spec_files.specs.TreeFile.{tree_of}
-use Rattle.kz_spec_files.specs.LogFile.{log_of}
+use Rattle.kz_spec_data.specs.TreeFile.{tree_of}
+use Rattle.kz_spec_data.specs.LogFile.{log_of}
 use Rattle.kz_tree_store.specs.Stores as trees
 use Rattle.kz_log_store.specs.Stores as logs
 use Rattle.kz_commands.specs.Outside.{outside}

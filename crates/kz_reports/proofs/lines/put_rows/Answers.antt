@@ -1,6 +1,6 @@
 use Rattle.std.proofs.Common.{◌≡◌, ◌∷◌, ap, ◌∙◌, subst, sym, rules}
 use Rattle.std.specs.List.{flat_map}
-use Rattle.kz_spec_dumps.specs.Dumps.{row_line}
+use Rattle.kz_spec_machine.specs.Dumps.{row_line}
 use Rattle.kz_reports.proofs.Lists.{IsPutUpTo, at_start, with_line, at_fault}
 use Rattle.kz_reports.proofs.lines.put_rows.Goals as goal
 

@@ -1,6 +1,6 @@
 use Rattle.std.specs.List.{flat_map}
 use Rattle.kz_output.specs.Outputs.{HasNotFailed}
-use Rattle.kz_spec_dumps.specs.Dumps.{row_line}
+use Rattle.kz_spec_machine.specs.Dumps.{row_line}
 use Rattle.kz_reports.proofs.Lists.{IsPutUpTo}
 use Rattle.kz_reports.proofs.lines.put_rows.Given as goal
 

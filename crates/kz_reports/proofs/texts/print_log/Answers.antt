@@ -2,8 +2,8 @@ use Rattle.std.proofs.Common.{◌≡◌, List, ℕ, ◌++◌, subst, ◌∙◌}
 use Rattle.std.specs.List.{flat_map}
 use Rattle.kz_types.specs.declared.log.BatchRow.{BatchRow}
 use Rattle.kz_output.specs.Outputs.{WritesFront}
-use Rattle.kz_spec_stores.specs.Log.{end_of}
-use Rattle.kz_spec_dumps.specs.Dumps.{log_head_line, batch_line}
+use Rattle.kz_spec_data.specs.Log.{end_of}
+use Rattle.kz_spec_machine.specs.Dumps.{log_head_line, batch_line}
 use Rattle.kz_reports.proofs.Lists.{head_fault, rest_fault, flush_fault}
 use Rattle.kz_reports.proofs.texts.print_log.Goals as goal
 

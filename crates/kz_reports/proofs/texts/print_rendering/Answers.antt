@@ -1,7 +1,7 @@
 use Rattle.std.proofs.Common.{List, subst, ◌∙◌, to_z-of_z}
 use Rattle.std.specs.List.{flat_map}
 use Rattle.kz_types.specs.declared.tree.Rendered.{Rendered}
-use Rattle.kz_spec_dumps.specs.Dumps.{rendered_line}
+use Rattle.kz_spec_machine.specs.Dumps.{rendered_line}
 use Rattle.kz_output.specs.Outputs.{WritesFront}
 use Rattle.kz_reports.proofs.Lists.{text_flush_fault}
 use Rattle.kz_reports.proofs.texts.print_rendering.Goals as goal

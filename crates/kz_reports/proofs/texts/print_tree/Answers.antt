@@ -1,7 +1,7 @@
 use Rattle.std.proofs.Common.{◌≡◌, List, ℕ, ◌++◌, subst, ◌∙◌}
 use Rattle.std.specs.List.{flat_map}
 use Rattle.kz_output.specs.Outputs.{WritesFront}
-use Rattle.kz_spec_dumps.specs.Dumps.{tree_head_line, row_line}
+use Rattle.kz_spec_machine.specs.Dumps.{tree_head_line, row_line}
 use Rattle.kz_reports.proofs.Lists.{head_fault, rest_fault, flush_fault}
 use Rattle.kz_reports.proofs.texts.print_tree.Goals as goal
 

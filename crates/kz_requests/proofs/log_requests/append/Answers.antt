@@ -1,6 +1,6 @@
 use Rattle.std.proofs.Common.{rules, ◌≡◌, w64, to_z, of_z, true, Ok}
 use Rattle.std.specs.Prelude.{if◌then◌else◌}
-use Rattle.kz_spec_stores.specs.Log.{append, end_of}
+use Rattle.kz_spec_data.specs.Log.{append, end_of}
 use Rattle.kz_spec_machine.specs.Driver.{reaches}
 use Rattle.kz_requests.specs.Appends.{log_after}
 use Rattle.kz_requests.proofs.Answers.{views_after}

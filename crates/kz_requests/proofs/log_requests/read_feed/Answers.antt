@@ -1,5 +1,5 @@
 use Rattle.std.proofs.Common.{rules, ◌≡◌, subst, w64, to_z, of_z}
-use Rattle.kz_spec_stores.specs.Log.{feed_from}
+use Rattle.kz_spec_data.specs.Log.{feed_from}
 use Rattle.kz_log.specs.Requests.{IsFeed}
 use Rattle.kz_requests.proofs.log_requests.read_feed.Goals as goal
 

@@ -1,6 +1,6 @@
 use Rattle.std.proofs.Common.{◌≡◌, ℤ, Err, subst}
-use Rattle.kz_spec_stores.specs.Tree.{multi}
-use Rattle.kz_spec_stores.specs.Requests.{Multi, IsTaken, ChangesDisk, answer_by, answer_of_tree_fault}
+use Rattle.kz_spec_data.specs.Tree.{multi}
+use Rattle.kz_spec_data.specs.Requests.{Multi, IsTaken, ChangesDisk, answer_by, answer_of_tree_fault}
 use Rattle.kz_tree.specs.Wires.{arrival_of}
 use Rattle.kz_connection.specs.Connections.{Lost, OverConnection}
 use Rattle.kz_requests.proofs.Answers.{multi_made}

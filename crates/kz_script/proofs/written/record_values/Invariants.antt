@@ -1,6 +1,6 @@
 use Rattle.std.proofs.Common.{◌≡◌, map, take}
 use Rattle.serde_json.specs.View.{view}
-use Rattle.kz_spec_lines.specs.WrittenRecords.{record_data}
+use Rattle.kz_spec_data.specs.WrittenRecords.{record_data}
 use Rattle.kz_script.proofs.written.record_values.Given as goal
 
 abbrev pub invariant-loop-record : goal.invariant-loop-record

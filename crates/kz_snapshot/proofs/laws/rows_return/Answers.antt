@@ -1,4 +1,4 @@
-use Rattle.kz_laws_snapshot_records.proofs.Batches.{batches_return}
+use Rattle.kz_laws_znodes.proofs.Batches.{batches_return}
 use Rattle.kz_snapshot.proofs.laws.rows_return.Goals as goal
 
 pub returns : goal.returns

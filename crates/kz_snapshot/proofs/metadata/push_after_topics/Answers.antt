@@ -3,7 +3,7 @@ use Rattle.std.specs.Prelude.{option_map, option_to_list}
 use Rattle.std.specs.List.{flat_map}
 use Rattle.std.proofs.lemmas.Int.{to_z-of_z}
 use mir.Val.{SFits}
-use Rattle.kz_spec_snapshots.specs.Records.{in_epoch, members_of_topic, members_of_brokers, quotas_of_entry, scrams_of_entry, record_of_acl, producer_record, state_records, records_after_topics}
+use Rattle.kz_spec_data.specs.SnapshotRecords.{in_epoch, members_of_topic, members_of_brokers, quotas_of_entry, scrams_of_entry, record_of_acl, producer_record, state_records, records_after_topics}
 use Rattle.kz_snapshot.proofs.Applied.{more_added}
 use Rattle.kz_snapshot.proofs.metadata.push_after_topics.Goals as goal
 

@@ -1,6 +1,6 @@
 use Rattle.std.proofs.Common.{◌≡◌, ◌++◌, map}
 use Rattle.std.specs.List.{flat_map}
-use Rattle.kz_spec_snapshots.specs.Records.{in_epoch, members_of_brokers}
+use Rattle.kz_spec_data.specs.SnapshotRecords.{in_epoch, members_of_brokers}
 use Rattle.kz_snapshot.proofs.metadata.push_broker_configs.Given as goal
 
 abbrev pub invariant-loop-config : goal.invariant-loop-config

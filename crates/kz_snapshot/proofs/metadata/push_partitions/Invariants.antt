@@ -1,5 +1,5 @@
 use Rattle.std.proofs.Common.{◌≡◌, ◌++◌, map, take}
-use Rattle.kz_spec_snapshots.specs.Records.{partition_of_topic}
+use Rattle.kz_spec_data.specs.SnapshotRecords.{partition_of_topic}
 use Rattle.kz_snapshot.proofs.metadata.push_partitions.Given as goal
 
 abbrev pub invariant-loop-partition : goal.invariant-loop-partition

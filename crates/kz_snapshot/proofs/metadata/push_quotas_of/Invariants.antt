@@ -1,6 +1,6 @@
 use Rattle.std.proofs.Common.{◌≡◌, ◌++◌, map, take}
-use Rattle.kz_spec_znodes.specs.Translation.{quota_record}
-use Rattle.kz_spec_snapshots.specs.Records.{in_epoch}
+use Rattle.kz_spec_data.specs.Translation.{quota_record}
+use Rattle.kz_spec_data.specs.SnapshotRecords.{in_epoch}
 use Rattle.kz_snapshot.proofs.metadata.push_quotas_of.Given as goal
 
 abbrev pub invariant-loop-quota : goal.invariant-loop-quota

@@ -1,6 +1,6 @@
 use Rattle.std.proofs.Common.{◌≡◌, ◌++◌, map, take}
-use Rattle.kz_spec_znodes.specs.Translation.{scram_record}
-use Rattle.kz_spec_snapshots.specs.Records.{in_epoch}
+use Rattle.kz_spec_data.specs.Translation.{scram_record}
+use Rattle.kz_spec_data.specs.SnapshotRecords.{in_epoch}
 use Rattle.kz_snapshot.proofs.metadata.push_scrams_of.Given as goal
 
 abbrev pub invariant-loop-scram : goal.invariant-loop-scram

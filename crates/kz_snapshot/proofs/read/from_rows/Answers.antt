@@ -1,6 +1,6 @@
 use Rattle.std.proofs.Common.{◌∙◌, map, ap}
-use Rattle.kz_spec_stores.specs.Metadata.{empty_image}
-use Rattle.kz_spec_snapshots.specs.Records.{in_epoch, image_after}
+use Rattle.kz_spec_data.specs.Metadata.{empty_image}
+use Rattle.kz_spec_data.specs.SnapshotRecords.{in_epoch, image_after}
 use Rattle.kz_snapshot.proofs.Applied.{more_applied, records_of_batch}
 use Rattle.kz_snapshot.proofs.read.from_rows.Goals as goal
 

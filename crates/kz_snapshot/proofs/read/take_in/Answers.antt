@@ -1,7 +1,7 @@
 use Rattle.std.proofs.Common.{◌∙◌, ap, to_z, of_z, w32, rules}
 use Rattle.std.proofs.lemmas.Int.{to_z-of_z}
 use mir.Val.{SFits}
-use Rattle.kz_spec_stores.specs.Image.{all_applied}
+use Rattle.kz_spec_data.specs.Image.{all_applied}
 use Rattle.kz_snapshot.proofs.Applied.{applied_is}
 use Rattle.kz_snapshot.proofs.read.take_in.Goals as goal
 

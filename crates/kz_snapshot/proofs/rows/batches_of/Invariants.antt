@@ -1,6 +1,6 @@
 use Rattle.std.proofs.Common.{◌≡◌, ◌+◌, ◌++◌, pos, length}
 use Rattle.std.specs.Vec.Iter.{into_iter_items, into_iter_len}
-use Rattle.kz_spec_snapshots.specs.Batches.{batches_from}
+use Rattle.kz_spec_data.specs.SnapshotBatches.{batches_from}
 use Rattle.kz_snapshot.specs.Filling.{filled_or_none}
 use Rattle.kz_snapshot.proofs.rows.batches_of.Given as goal
 

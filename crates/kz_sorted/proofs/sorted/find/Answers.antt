@@ -1,6 +1,6 @@
 use Rattle.std.proofs.Common.{Some, sym, ap, ◌∙◌}
-use Rattle.kz_ordered.proofs.Order.{bytes_order}
-use Rattle.kz_ordered.proofs.Spot.{find_by_spot, find_by_gap}
+use Rattle.kz_types.proofs.Order.{bytes_order}
+use Rattle.kz_types.proofs.Spot.{find_by_spot, find_by_gap}
 use Rattle.kz_sorted.proofs.sorted.find.Goals as goal
 
 pub returns-in-Ok : goal.returns-in-Ok

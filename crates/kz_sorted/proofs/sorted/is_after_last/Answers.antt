@@ -1,7 +1,7 @@
 use Rattle.std.proofs.Common.{◌≡◌, ◌-◌, ◌+◌, ◌<◌, ◌≤◌, ℕ, Less, length, arith, sym, ap, subst, refl, ◌∙◌}
 use Rattle.std.specs.List.{AllWithin}
-use Rattle.kz_ordered.specs.Order.{bytes_cmp}
-use Rattle.kz_ordered.proofs.Order.{bytes_order}
+use Rattle.kz_types.specs.Order.{bytes_cmp}
+use Rattle.kz_types.proofs.Order.{bytes_order}
 use Rattle.kz_sorted.proofs.Halves.{under_more}
 use Rattle.kz_sorted.proofs.sorted.is_after_last.Goals as goal
 

@@ -1,6 +1,6 @@
 use Rattle.std.proofs.Common.{◌≡◌, ◌+◌, ◌-◌, ◌/◌, ◌<◌, Less, Equal, Greater, length, arith}
-use Rattle.kz_ordered.specs.Order.{bytes_cmp}
-use Rattle.kz_ordered.proofs.Order.{bytes_order}
+use Rattle.kz_types.specs.Order.{bytes_cmp}
+use Rattle.kz_types.proofs.Order.{bytes_order}
 use Rattle.kz_sorted.proofs.Halves.{under_more, over_more, holds_here}
 use Rattle.kz_sorted.proofs.sorted.spot_by_halves.Goals as goal
 

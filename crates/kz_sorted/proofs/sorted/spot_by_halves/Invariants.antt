@@ -1,6 +1,6 @@
 use Rattle.std.proofs.Common.{◌-◌, ◌≡◌, ◌≤◌, Less, length}
 use Rattle.std.specs.List.{AllWithin}
-use Rattle.kz_ordered.specs.Order.{bytes_cmp}
+use Rattle.kz_types.specs.Order.{bytes_cmp}
 use Rattle.kz_sorted.proofs.sorted.spot_by_halves.Given as goal
 
 abbrev pub invariant-loop-low : goal.invariant-loop-low

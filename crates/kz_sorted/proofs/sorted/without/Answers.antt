@@ -1,8 +1,8 @@
 use Rattle.std.proofs.Common.{List, Ok, Err, Result, ℕ, sym, ◌∙◌, subst}
-use Rattle.kz_ordered.specs.Order.{bytes_cmp}
-use Rattle.kz_ordered.specs.Spot.{IsSpot}
-use Rattle.kz_ordered.proofs.Order.{bytes_order}
-use Rattle.kz_ordered.proofs.Spot.{without_by_spot, without_by_gap}
+use Rattle.kz_types.specs.Order.{bytes_cmp}
+use Rattle.kz_types.specs.Spot.{IsSpot}
+use Rattle.kz_types.proofs.Order.{bytes_order}
+use Rattle.kz_types.proofs.Spot.{without_by_spot, without_by_gap}
 use Rattle.kz_sorted.proofs.sorted.without.Goals as goal
 
 pub returns-in-Ok : goal.returns-in-Ok

@@ -1,5 +1,5 @@
 use Rattle.std.proofs.Common.{◌≡◌, Ok, Err, MatchOption, subst}
-use Rattle.kz_spec_stores.specs.Tree.{multi}
+use Rattle.kz_spec_data.specs.Tree.{multi}
 use Rattle.kz_stages.proofs.become_controller.ask_claim.Goals as goal
 
 pub returns-in_ok-outcome_of_fault-in-Some-clause-said : goal.returns-in_ok-outcome_of_fault-in-Some-clause-said

@@ -1,7 +1,7 @@
 use Rattle.std.proofs.Common.{◌≡◌, ◌∷◌, length, refl, ap, ◌∙◌}
 use Rattle.kz_types.specs.Paths.{base_paths}
-use Rattle.kz_spec_values.specs.Control.{control_path, epoch_path, migration_path}
-use Rattle.kz_spec_stores.specs.Tree.{Tree, look}
+use Rattle.kz_spec_data.specs.Control.{control_path, epoch_path, migration_path}
+use Rattle.kz_spec_data.specs.Tree.{Tree, look}
 use Rattle.kz_stages.proofs.become_controller.look.Goals as goal
 
 as_many : (t : Tree) → length (look t (control_path ∷ epoch_path ∷ migration_path ∷ base_paths)) ≡ 8

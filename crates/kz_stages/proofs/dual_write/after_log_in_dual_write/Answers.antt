@@ -6,10 +6,10 @@ use Rattle.kz_types.specs.declared.machine.DriverState.TheVariants as state
 use Rattle.kz_types.specs.declared.machine.Reply.{Reply}
 use Rattle.kz_types.specs.declared.machine.Reply.TheVariants as reply
 use Rattle.kz_types.specs.declared.driver.Stage.TheVariants as stage
-use Rattle.kz_spec_stores.specs.Image.{Image}
-use Rattle.kz_spec_stores.specs.Log.{Log, View, read_view}
-use Rattle.kz_spec_znodes.specs.Difference.{diff}
-use Rattle.kz_spec_znodes.specs.Rendering.{render}
+use Rattle.kz_spec_data.specs.Image.{Image}
+use Rattle.kz_spec_data.specs.Log.{Log, View, read_view}
+use Rattle.kz_spec_data.specs.Difference.{diff}
+use Rattle.kz_spec_data.specs.Rendering.{render}
 use Rattle.kz_spec_machine.specs.Driver.{Driver, at_stage, target_of, driver_at_log_end, is_recorded_at, after_rest, resigned_driver}
 use Rattle.kz_stages.specs.Drivers.{HasEpoch}
 use Rattle.kz_stages.specs.Rows.{driver_of, stage_of}

@@ -1,5 +1,5 @@
 use Rattle.std.proofs.Common.{◌≡◌, ◌++◌, map, drop}
-use Rattle.kz_spec_stores.specs.Tree.{rendered_row}
+use Rattle.kz_spec_data.specs.Tree.{rendered_row}
 use Rattle.kz_stages.proofs.sync_kraft_to_zk.push_rendered.Given as goal
 
 abbrev pub invariant-loop-row : goal.invariant-loop-row

@@ -1,7 +1,7 @@
 use Rattle.std.proofs.Common.{◌≡◌, Some, sym, ap, ◌∙◌, subst}
 use Rattle.kz_types.specs.declared.driver.Stage.{Stage}
 use Rattle.kz_types.specs.declared.machine.Reply.TheVariants as reply
-use Rattle.kz_spec_znodes.specs.Difference.{after_chunk}
+use Rattle.kz_spec_data.specs.Difference.{after_chunk}
 use Rattle.kz_spec_machine.specs.Driver.{at_stage}
 use Rattle.kz_stages.specs.declared.row.Stage.{Stage as HeldStage}
 use Rattle.kz_stages.specs.declared.writing.WriteOutcome.{WriteOutcome}

@@ -1,7 +1,7 @@
 use Rattle.std.proofs.Common.{◌≡◌, Ok, Err, ℤ, Result, MatchOption, sym, ap, ◌∙◌, subst, to_z-of_z}
 use Rattle.std.proofs.lemmas.Result.{IfOk-from_err}
 use Rattle.kz_types.specs.declared.fault.TreeFault.{TreeFault}
-use Rattle.kz_spec_stores.specs.Tree.{Tree, multi}
+use Rattle.kz_spec_data.specs.Tree.{Tree, multi}
 use Rattle.kz_spec_machine.specs.Driver.{write_ops}
 use Rattle.kz_stages.specs.Writes.{write_outcome}
 use Rattle.kz_stages.proofs.writing.ask_multi.Goals as goal

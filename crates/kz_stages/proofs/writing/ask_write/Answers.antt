@@ -2,8 +2,8 @@ use Rattle.std.proofs.Common.{◌∙◌, ℤ, List, Err, ap, false, subst, to_z-
 use Rattle.std.specs.Prelude.{if◌then◌else◌}
 use Rattle.std.proofs.lemmas.Result.{IfOk-weaker, err_from_is_err_and}
 use Rattle.kz_types.specs.declared.tree.Op.{Op}
-use Rattle.kz_spec_stores.specs.Requests.{Multi, Either, IsTaken, ChangesDisk}
-use Rattle.kz_spec_stores.specs.Tree.{multi}
+use Rattle.kz_spec_data.specs.Requests.{Multi, Either, IsTaken, ChangesDisk}
+use Rattle.kz_spec_data.specs.Tree.{multi}
 use Rattle.kz_spec_machine.specs.Driver.{reaches, write_ops}
 use Rattle.kz_requests.specs.Fares.{IsAfterRequest, tree_after}
 use Rattle.kz_requests.specs.Disks.{answer_of_made, TreeDisk}

@@ -1,6 +1,6 @@
 use Rattle.std.proofs.Common.{true, false, rules, refl, ap, ◌∙◌, SFits, w64, to_z-of_z}
 use Rattle.kz_types.specs.declared.machine.Recorded.{Recorded}
-use Rattle.kz_spec_znodes.specs.Difference.{chunk}
+use Rattle.kz_spec_data.specs.Difference.{chunk}
 use Rattle.kz_stages.proofs.Writings.{taken_is}
 use Rattle.kz_stages.proofs.writing.outcome_of_taken.Goals as goal
 

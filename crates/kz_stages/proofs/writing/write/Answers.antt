@@ -4,8 +4,8 @@ use Rattle.kz_types.specs.declared.fault.TreeFault.TheVariants as tree_fault
 use Rattle.kz_types.specs.declared.machine.DriverState.TheVariants as state
 use Rattle.kz_types.specs.declared.machine.Reply.{Reply}
 use Rattle.kz_types.specs.declared.machine.Reply.TheVariants as reply
-use Rattle.kz_spec_stores.specs.Requests.{Multi, IsTaken, ChangesDisk}
-use Rattle.kz_spec_stores.specs.Tree.{multi}
+use Rattle.kz_spec_data.specs.Requests.{Multi, IsTaken, ChangesDisk}
+use Rattle.kz_spec_data.specs.Tree.{multi}
 use Rattle.kz_spec_machine.specs.Driver.{reaches, write_ops}
 use Rattle.kz_resync.specs.Remainders.{Remainder}
 use Rattle.kz_requests.specs.declared.fault.StepFault.{StepFault}

@@ -1,7 +1,7 @@
 use Rattle.std.proofs.Common.{[], sym, ap, ◌∙◌, append-nil}
 use Rattle.kz_types.specs.declared.outside.Status.TheVariants as status
-use Rattle.kz_spec_lines.specs.Lines.{with_front}
-use Rattle.kz_spec_runs.specs.Output.{end_of_run, outcome}
+use Rattle.kz_spec_data.specs.Lines.{with_front}
+use Rattle.kz_spec_machine.specs.Output.{end_of_run, outcome}
 use Rattle.kz_stream.specs.Machines.{plain_place}
 use Rattle.kz_stream.proofs.Outcomes.{begins_none}
 use Rattle.kz_stream.proofs.Runs.{each_ok, each_stop}

@@ -1,5 +1,5 @@
 use Rattle.std.proofs.Common.{[], subst}
-use Rattle.kz_spec_lines.specs.Lines.{with_front}
+use Rattle.kz_spec_data.specs.Lines.{with_front}
 use Rattle.kz_stream.specs.declared.ending.Next.{Next}
 use Rattle.kz_stream.specs.Disks.{NextDisks}
 use Rattle.kz_stream.specs.Machines.{plain_place}

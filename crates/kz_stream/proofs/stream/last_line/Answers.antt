@@ -1,14 +1,14 @@
 use Rattle.std.proofs.Common.{◌≡◌, ℕ, List, [], Contains, IfOk, sym, subst}
 use Rattle.std.proofs.lemmas.Result.{IfOk-weaker}
-use Rattle.kz_spec_lines.specs.Lines.{Item, with_front}
-use Rattle.kz_spec_runs.specs.Output.{outcome}
-use Rattle.kz_spec_runs.specs.Moments.{Moment, moment_after, moments}
+use Rattle.kz_spec_data.specs.Lines.{Item, with_front}
+use Rattle.kz_spec_machine.specs.Output.{outcome}
+use Rattle.kz_spec_machine.specs.Moments.{Moment, moment_after, moments}
 use Rattle.kz_stream.specs.declared.ending.Next.TheVariants as next_is
 use Rattle.kz_stream.specs.declared.ending.Printed.{Printed}
 use Rattle.kz_stream.specs.Machines.{plain_place}
 use Rattle.kz_stream.specs.Endings.{Begins}
 use Rattle.kz_stream.specs.Moments.{KeepsUp, text_of}
-use Rattle.kz_laws_cut.proofs.Cut.{last_item, no_item, some_bytes, no_bytes}
+use Rattle.kz_laws_values.proofs.CutLines.{last_item, no_item, some_bytes, no_bytes}
 use Rattle.kz_stream.proofs.Moments.{keeps_up_here, line_goes}
 use Rattle.kz_stream.proofs.Outcomes.{begins_line}
 use Rattle.kz_stream.proofs.stream.last_line.Goals as goal

@@ -1,6 +1,6 @@
 use Rattle.std.proofs.Common.{[], ◌∷◌, arith, sym, subst}
-use Rattle.kz_spec_values.specs.Fields.{groups_of}
-use Rattle.kz_spec_values.specs.Batches.{BatchFits}
+use Rattle.kz_spec_data.specs.Fields.{groups_of}
+use Rattle.kz_spec_data.specs.Batches.{BatchFits}
 use Rattle.kz_tests_bytes.proofs.batches.writes_and_sizes.Goals as goal
 
 two_fit : BatchFits ((1 ∷ 20 ∷ 0 ∷ 0 ∷ []) ∷ (1 ∷ 21 ∷ 0 ∷ 1 ∷ 0 ∷ []) ∷ [])

@@ -1,5 +1,5 @@
 use Rattle.std.proofs.Common.{◌≡◌, ℕ, ◌+◌, ◌/◌, ◌^◌, ◌<◌, List, ◌++◌, length, arith, sym, ap, ◌∙◌, subst}
-use Rattle.kz_spec_values.specs.Fields.{groups_of}
+use Rattle.kz_spec_data.specs.Fields.{groups_of}
 use Rattle.kz_tests_bytes.proofs.records.is_written_beginning.Goals as goal
 
 short_field : (name : List ℕ) → length name ≡ 12 → length (groups_of 9 (length name / 1 + 1) ++ name) < 2 ^ 32

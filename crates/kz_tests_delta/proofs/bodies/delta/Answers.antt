@@ -1,6 +1,6 @@
 use Rattle.std.proofs.Common.{pos, sym, subst}
-use Rattle.kz_spec_stores.specs.Metadata.{Image}
-use Rattle.kz_spec_delta.specs.Touched.{Lead}
+use Rattle.kz_spec_data.specs.Metadata.{Image}
+use Rattle.kz_spec_data.specs.Touched.{Lead}
 use Rattle.kz_view_delta.proofs.Covered.{applied_lead}
 use Rattle.kz_tests_delta.proofs.bodies.delta.Goals as goal
 

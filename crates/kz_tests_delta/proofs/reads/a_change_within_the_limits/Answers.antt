@@ -1,5 +1,5 @@
 use Rattle.std.proofs.Common.{sym, subst}
-use Rattle.kz_spec_stores.specs.Log.{View, IsViewOf}
+use Rattle.kz_spec_data.specs.Log.{View, IsViewOf}
 use Rattle.kz_tests_delta.proofs.reads.a_change_within_the_limits.Goals as goal
 
 pub read_on_and_count-requires-2 : goal.read_on_and_count-requires-2

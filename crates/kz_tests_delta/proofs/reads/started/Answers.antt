@@ -1,5 +1,5 @@
 use Rattle.std.proofs.Common.{sym, subst}
-use Rattle.kz_spec_stores.specs.Log.{View, IsViewOf}
+use Rattle.kz_spec_data.specs.Log.{View, IsViewOf}
 use Rattle.kz_log.proofs.Views.{new_is_view}
 use Rattle.kz_tests_delta.proofs.reads.started.Goals as goal
 

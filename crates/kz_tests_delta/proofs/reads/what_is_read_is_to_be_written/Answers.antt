@@ -1,5 +1,5 @@
 use Rattle.std.proofs.lemmas.Result.{IfOk-at_ok}
-use Rattle.kz_spec_stores.specs.Log.{IsViewOf}
+use Rattle.kz_spec_data.specs.Log.{IsViewOf}
 use Rattle.kz_tests_delta.proofs.reads.what_is_read_is_to_be_written.Goals as goal
 
 pub read_to_end-requires-2 : goal.read_to_end-requires-2

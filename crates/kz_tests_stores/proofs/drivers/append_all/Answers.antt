@@ -1,6 +1,6 @@
 use Rattle.std.proofs.Common.{pos, sym, subst}
 use Rattle.kz_log.specs.declared.memory.MemoryLog.{MemoryLog}
-use Rattle.kz_spec_stores.specs.Log.{IsViewOf}
+use Rattle.kz_spec_data.specs.Log.{IsViewOf}
 use Rattle.kz_tests_stores.proofs.drivers.append_all.Goals as goal
 
 pub returns : goal.returns

@@ -1,4 +1,4 @@
-use Rattle.kz_spec_stores.specs.Log.{View, IsViewOf}
+use Rattle.kz_spec_data.specs.Log.{View, IsViewOf}
 use Rattle.kz_tests_stores.proofs.drivers.tells.Given as goal
 
 abbrev pub invariant-loop : goal.invariant-loop

@@ -4,7 +4,7 @@ use Rattle.std.proofs.lemmas.List.Elements.{All-head, All-tail}
 use Rattle.std.proofs.lemmas.List.Sums.{sum_by-append}
 use Rattle.std.specs.List.{find, sum_by}
 use Rattle.kz_types.specs.declared.tree.Rendered.{Rendered}
-use Rattle.kz_spec_znodes.specs.Rendering.{excess_of, is_long}
+use Rattle.kz_spec_data.specs.Rendering.{excess_of, is_long}
 use Rattle.kz_tests_stores.proofs.limits.all_data_has_at_most_67108864_bytes.Goals as goal
 
 none_long : (rs : List Rendered) (s : Rendered) → All (λ r. length r.body ≡ 1048575) rs → length s.body ≤ 1048575 → find is_long (rs ++ s ∷ []) ≡ None

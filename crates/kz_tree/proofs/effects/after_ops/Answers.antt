@@ -1,7 +1,7 @@
 use Rattle.std.proofs.Common.{rules, ◌≡◌, Result, Ok, Some, None, option_map, List, [], sym, ap, ◌∙◌, subst, to_z-of_z}
 use Rattle.kz_types.specs.declared.tree.Row.{Row}
 use Rattle.kz_types.specs.declared.fault.TreeFault.{TreeFault}
-use Rattle.kz_spec_stores.specs.Tree.{op_refusal}
+use Rattle.kz_spec_data.specs.Tree.{op_refusal}
 use Rattle.kz_tree.specs.Refusals.{IsMultiFaultOf, meaning}
 use Rattle.kz_tree.proofs.Steps.{op_accepted, op_refused, all_accepted}
 use Rattle.kz_tree.proofs.effects.after_ops.Goals as goal

@@ -1,5 +1,5 @@
 use Rattle.std.proofs.Common.{◌≡◌, pos, ◌+ℤ◌, drop}
-use Rattle.kz_spec_files.specs.Loads.{rise_from}
+use Rattle.kz_spec_data.specs.Loads.{rise_from}
 use Rattle.kz_tree.proofs.load_rules.do_rise.Given as goal
 
 abbrev pub invariant-loop-session : goal.invariant-loop-session

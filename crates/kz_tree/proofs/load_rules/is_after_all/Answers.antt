@@ -1,6 +1,6 @@
 use Rattle.std.proofs.Common.{rules, ◌≡◌, ◌&&◌, true, false, Some, is_none, ap, sym, ◌∙◌}
 use Rattle.std.specs.List.{filter}
-use Rattle.kz_spec_stores.specs.Tree.{row_at, is_after, first_row}
+use Rattle.kz_spec_data.specs.Tree.{row_at, is_after, first_row}
 use Rattle.kz_tree.proofs.Loads.{is_after_all, none_both}
 use Rattle.kz_tree.proofs.load_rules.is_after_all.Goals as goal
 

@@ -1,6 +1,6 @@
 use Rattle.std.proofs.Common.{◌≡◌, ◌||◌, List, [], sym, ap, ◌∙◌, to_z-of_z}
 use Rattle.kz_types.specs.declared.tree.Row.{Row}
-use Rattle.kz_spec_stores.specs.Tree.{loses_child}
+use Rattle.kz_spec_data.specs.Tree.{loses_child}
 use Rattle.kz_tree_rows.proofs.LastSlash.{or_false}
 use Rattle.kz_tree.proofs.Owned.{among}
 use Rattle.kz_tree.proofs.sessions.parents_of_owned.Goals as goal

@@ -1,7 +1,7 @@
 use Rattle.std.proofs.Common.{◌≡◌, ◌||◌, Bor, List, ℕ}
 use Rattle.std.specs.List.{list_any}
 use Rattle.std.specs.Str.{bytes_eq}
-use Rattle.kz_spec_stores.specs.Tree.{loses_child}
+use Rattle.kz_spec_data.specs.Tree.{loses_child}
 use Rattle.kz_tree.proofs.sessions.parents_of_owned.Given as goal
 
 abbrev pub invariant-loop-row : goal.invariant-loop-row

@@ -1,9 +1,9 @@
 use Rattle.std.proofs.Common.{rules, ℤ, sym, Ok, Err, to_z-of_z}
 use Rattle.std.specs.Ordering.{int_cmp}
-use Rattle.kz_ordered.specs.Spot.{IsSpot}
-use Rattle.kz_ordered.proofs.Order.{int_order}
-use Rattle.kz_ordered.proofs.Lookup.{Rises-put}
-use Rattle.kz_ordered.proofs.Spot.{put_by_spot, put_by_gap, spot_from_binary_search}
+use Rattle.kz_types.specs.Spot.{IsSpot}
+use Rattle.kz_types.proofs.Order.{int_order}
+use Rattle.kz_types.proofs.Lookup.{Rises-put}
+use Rattle.kz_types.proofs.Spot.{put_by_spot, put_by_gap, spot_from_binary_search}
 use Rattle.kz_tree.proofs.sessions.put_session.Goals as goal
 
 pub returns-in-Ok-clause-ok : goal.returns-in-Ok-clause-ok

@@ -1,9 +1,9 @@
 use Rattle.std.proofs.Common.{rules, ℤ, sym, Ok, Err, to_z-of_z}
 use Rattle.std.specs.Ordering.{int_cmp}
-use Rattle.kz_ordered.specs.Spot.{IsSpot}
-use Rattle.kz_ordered.proofs.Order.{int_order}
-use Rattle.kz_ordered.proofs.Lookup.{Rises-without}
-use Rattle.kz_ordered.proofs.Spot.{without_by_spot, without_by_gap, spot_from_binary_search}
+use Rattle.kz_types.specs.Spot.{IsSpot}
+use Rattle.kz_types.proofs.Order.{int_order}
+use Rattle.kz_types.proofs.Lookup.{Rises-without}
+use Rattle.kz_types.proofs.Spot.{without_by_spot, without_by_gap, spot_from_binary_search}
 use Rattle.kz_tree.proofs.sessions.take_session.Goals as goal
 
 pub returns-in-Ok-clause-value : goal.returns-in-Ok-clause-value

@@ -1,9 +1,9 @@
 use Rattle.std.proofs.Common.{◌≡◌, ◌+◌, List, set, insert, take, drop, sym, ap, ◌∙◌, subst, arith}
 use Rattle.kz_types.specs.declared.tree.Row.{Row}
-use Rattle.kz_ordered.proofs.Order.{bytes_order}
-use Rattle.kz_blocks.specs.BlockLists.{items_of}
-use Rattle.kz_blocks.proofs.Changes.{read_rises, full_lengths, put_in_two, put_in_two_kept}
-use Rattle.kz_spec_stores.specs.Tree.{path_of_row}
+use Rattle.kz_types.proofs.Order.{bytes_order}
+use Rattle.kz_sorted.specs.BlockLists.{items_of}
+use Rattle.kz_sorted.proofs.Changes.{read_rises, full_lengths, put_in_two, put_in_two_kept}
+use Rattle.kz_spec_data.specs.Tree.{path_of_row}
 use Rattle.kz_tree_rows.specs.Numbered.{numbers_of, AreNumbered}
 use Rattle.kz_tree_rows.proofs.Numbering.{numbers_two}
 use Rattle.kz_tree_rows.proofs.changes.put_in_two.Goals as goal

@@ -1,10 +1,10 @@
 use Rattle.std.proofs.Common.{◌≡◌, List, [], get_or, set, option_map, sym, ap, ◌∙◌, subst}
 use Rattle.std.proofs.lemmas.List.{get_or_read}
 use Rattle.kz_types.specs.declared.tree.Row.{Row}
-use Rattle.kz_ordered.proofs.Order.{bytes_order}
-use Rattle.kz_blocks.proofs.BlockFor.{block_rises}
-use Rattle.kz_blocks.proofs.Changes.{read_rises}
-use Rattle.kz_spec_stores.specs.Tree.{path_of_row, row_at, put_row}
+use Rattle.kz_types.proofs.Order.{bytes_order}
+use Rattle.kz_sorted.proofs.BlockFor.{block_rises}
+use Rattle.kz_sorted.proofs.Changes.{read_rises}
+use Rattle.kz_spec_data.specs.Tree.{path_of_row, row_at, put_row}
 use Rattle.kz_tree_rows.specs.Numbered.{numbers_of, AreNumbered}
 use Rattle.kz_tree_rows.proofs.Numbering.{all_same, numbered_one, numbered_put, numbers_at}
 use Rattle.kz_tree_rows.proofs.changes.put_with_room.Goals as goal

@@ -1,9 +1,9 @@
 use Rattle.std.proofs.Common.{List, ap, sym, ◌∙◌, subst}
 use Rattle.kz_types.specs.declared.tree.Row.{Row}
-use Rattle.kz_ordered.proofs.Order.{bytes_order}
-use Rattle.kz_blocks.specs.BlockLists.{items_of}
-use Rattle.kz_blocks.proofs.Changes.{without_block, without_block_kept}
-use Rattle.kz_spec_stores.specs.Tree.{path_of_row}
+use Rattle.kz_types.proofs.Order.{bytes_order}
+use Rattle.kz_sorted.specs.BlockLists.{items_of}
+use Rattle.kz_sorted.proofs.Changes.{without_block, without_block_kept}
+use Rattle.kz_spec_data.specs.Tree.{path_of_row}
 use Rattle.kz_tree_rows.specs.Numbered.{AreNumbered}
 use Rattle.kz_tree_rows.proofs.Numbering.{numbers_without}
 use Rattle.kz_tree_rows.proofs.changes.take_block.Goals as goal

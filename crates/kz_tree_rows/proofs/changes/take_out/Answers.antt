@@ -1,11 +1,11 @@
 use Rattle.std.proofs.Common.{◌≡◌, ◌<◌, List, None, length, sym, ◌∙◌, subst, rules}
 use Rattle.kz_types.specs.declared.tree.Row.{Row}
-use Rattle.kz_ordered.specs.Order.{bytes_cmp}
-use Rattle.kz_ordered.proofs.Order.{bytes_order}
-use Rattle.kz_ordered.proofs.Append.{without_absent}
-use Rattle.kz_blocks.specs.BlockLists.{items_of, IsBlockFor}
-use Rattle.kz_blocks.proofs.Changes.{read_rises, read_found}
-use Rattle.kz_spec_stores.specs.Tree.{path_of_row, row_at}
+use Rattle.kz_types.specs.Order.{bytes_cmp}
+use Rattle.kz_types.proofs.Order.{bytes_order}
+use Rattle.kz_types.proofs.Append.{without_absent}
+use Rattle.kz_sorted.specs.BlockLists.{items_of, IsBlockFor}
+use Rattle.kz_sorted.proofs.Changes.{read_rises, read_found}
+use Rattle.kz_spec_data.specs.Tree.{path_of_row, row_at}
 use Rattle.kz_tree_rows.proofs.changes.take_out.Goals as goal
 
 pub find-requires : goal.find-requires

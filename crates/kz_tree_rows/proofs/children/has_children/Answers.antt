@@ -1,10 +1,10 @@
 use Rattle.std.proofs.Common.{◌≡◌, ◌≢◌, true, false, None, Some, is_some, [], ◌∷◌, ◌++◌, ap, sym, ◌∙◌, subst, rules}
 use Rattle.std.specs.List.{filter}
 use Rattle.std.specs.Ordering.{match_ordering}
-use Rattle.kz_ordered.specs.Order.{bytes_cmp}
-use Rattle.kz_ordered.proofs.Order.{bytes_order}
-use Rattle.kz_ordered.proofs.Maps.{Rises-filter}
-use Rattle.kz_spec_stores.specs.Tree.{path_of_row, row_at, is_after, has_children}
+use Rattle.kz_types.specs.Order.{bytes_cmp}
+use Rattle.kz_types.proofs.Order.{bytes_order}
+use Rattle.kz_types.proofs.Maps.{Rises-filter}
+use Rattle.kz_spec_data.specs.Tree.{path_of_row, row_at, is_after, has_children}
 use Rattle.kz_tree_rows.specs.Kept.{AreRows}
 use Rattle.kz_tree_rows.proofs.ChildPaths.{some_there, none_there, found_is_child, from_slash, none_from}
 use Rattle.kz_tree_rows.proofs.children.has_children.Goals as goal

@@ -1,5 +1,5 @@
 use Rattle.std.proofs.Common.{◌≡◌}
-use Rattle.kz_spec_stores.specs.Tree.{has_children}
+use Rattle.kz_spec_data.specs.Tree.{has_children}
 use Rattle.kz_tree_rows.specs.Kept.{AreRows}
 use Rattle.kz_tree_rows.proofs.children.has_children.Given as goal
 

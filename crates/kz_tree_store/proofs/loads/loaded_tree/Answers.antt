@@ -1,7 +1,7 @@
 use Rattle.std.proofs.Common.{ℤ, Err, take, subst, to_z, of_z, w64}
 use Rattle.std.proofs.lemmas.Int.{to_z-of_z}
-use Rattle.kz_spec_stores.specs.Tree.{Tree}
-use Rattle.kz_spec_files.specs.TreeFile.{stored_by_load, under_way}
+use Rattle.kz_spec_data.specs.Tree.{Tree}
+use Rattle.kz_spec_data.specs.TreeFile.{stored_by_load, under_way}
 use Rattle.kz_tree_store.specs.Taken.{Says, ended}
 use Rattle.kz_tree_store.proofs.Loading.{Has, has_more, rest_more, stops_here}
 use Rattle.kz_tree_store.proofs.loads.loaded_tree.Goals as goal

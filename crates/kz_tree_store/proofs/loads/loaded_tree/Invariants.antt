@@ -1,5 +1,5 @@
 use Rattle.std.proofs.Common.{◌≡◌, true, [], take, drop}
-use Rattle.kz_spec_files.specs.Loads.{is_header, are_loadable}
+use Rattle.kz_spec_data.specs.Loads.{is_header, are_loadable}
 use Rattle.kz_tree_store.proofs.loads.loaded_tree.Given as goal
 
 abbrev pub invariant-loop-row : goal.invariant-loop-row

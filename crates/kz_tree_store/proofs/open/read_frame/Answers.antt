@@ -1,5 +1,5 @@
 use Rattle.std.proofs.Common.{◌≡◌, refl, subst}
-use Rattle.kz_spec_files.specs.Frames.{journal_of}
+use Rattle.kz_spec_data.specs.Frames.{journal_of}
 use Rattle.kz_journal.specs.Held.{disk_of, unread}
 use Rattle.kz_tree_store.specs.Held.{stored}
 use Rattle.kz_tree_store.proofs.Reading.{damaged_at, frame_refused}

@@ -1,6 +1,6 @@
 use Rattle.std.proofs.Common.{◌≡◌, false, ℕ, List, Some}
 use Rattle.kz_disk.specs.Disks.{StaysTold}
-use Rattle.kz_spec_files.specs.Frames.{tree_letter}
+use Rattle.kz_spec_data.specs.Frames.{tree_letter}
 use Rattle.kz_journal.specs.Held.{disk_of, letter_of, is_down, disk_state, bytes_left, unread}
 use Rattle.kz_tree_store.specs.Held.{stored, ArePositive}
 use Rattle.kz_tree_store.specs.Opened.{HasRead}

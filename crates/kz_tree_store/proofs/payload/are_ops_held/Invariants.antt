@@ -1,5 +1,5 @@
 use Rattle.std.proofs.Common.{take}
-use Rattle.kz_spec_values.specs.Forms.{AllFit}
+use Rattle.kz_spec_data.specs.Forms.{AllFit}
 use Rattle.kz_tree_store.specs.Payloads.{IsOpHeld}
 use Rattle.kz_tree_store.proofs.payload.are_ops_held.Given as goal
 

@@ -1,5 +1,5 @@
 use Rattle.std.proofs.Common.{take}
-use Rattle.kz_spec_values.specs.Forms.{AllFit}
+use Rattle.kz_spec_data.specs.Forms.{AllFit}
 use Rattle.kz_tree_store.specs.Payloads.{IsRowHeld}
 use Rattle.kz_tree_store.proofs.payload.are_rows_held.Given as goal
 

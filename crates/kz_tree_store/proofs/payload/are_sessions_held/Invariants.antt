@@ -1,6 +1,6 @@
 use Rattle.std.proofs.Common.{take, w64}
 use Rattle.std.specs.Int.RustNames.{FitsSigned}
-use Rattle.kz_spec_values.specs.Forms.{AllFit}
+use Rattle.kz_spec_data.specs.Forms.{AllFit}
 use Rattle.kz_tree_store.proofs.payload.are_sessions_held.Given as goal
 
 abbrev pub invariant-loop-session : goal.invariant-loop-session

@@ -1,7 +1,7 @@
 use Rattle.std.proofs.Common.{subst, w64, rules}
 use Rattle.std.proofs.lemmas.Int.{to_z-of_z}
 use Rattle.std.specs.Int.RustNames.{FitsSigned}
-use Rattle.kz_spec_values.specs.Forms.{AllFit}
+use Rattle.kz_spec_data.specs.Forms.{AllFit}
 use Rattle.kz_tree_store.proofs.Fits.{load_end_fits, load_end_fits_as}
 use Rattle.kz_tree_store.proofs.txns.load_end_txn.Goals as goal
 

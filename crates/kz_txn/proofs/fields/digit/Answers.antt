@@ -1,5 +1,5 @@
 use Rattle.std.proofs.Common.{◌≡◌, ℕ, ◌+◌, ◌*◌, ◌≤◌, true, false, sym, ap, ◌∙◌, arith}
-use Rattle.kz_spec_files.specs.Transactions.{at_byte, digits_at, goes_on}
+use Rattle.kz_spec_data.specs.Transactions.{at_byte, digits_at, goes_on}
 use Rattle.kz_txn.proofs.Numbers.{room_for_byte, digits_none, digits_step, digits_fault}
 use Rattle.kz_txn.proofs.fields.digit.Goals as goal
 

@@ -1,7 +1,7 @@
 use Rattle.std.proofs.Common.{ℕ, List, Err, refl, ap, ◌∙◌}
 use Rattle.kz_types.specs.declared.record.ByteFault.{ByteFault}
-use Rattle.kz_spec_values.specs.Fields.{Reading}
-use Rattle.kz_spec_files.specs.Transactions.{at_byte, field_or_flaw}
+use Rattle.kz_spec_data.specs.Fields.{Reading}
+use Rattle.kz_spec_data.specs.Transactions.{at_byte, field_or_flaw}
 use Rattle.kz_txn.proofs.fields.part.Goals as goal
 
 pub returns-in-Err-Short-clause-read : goal.returns-in-Err-Short-clause-read

@@ -1,8 +1,8 @@
 use Rattle.std.proofs.Common.{ℕ, ◌+◌, ◌-◌, Bool, cond, length, Ok, Err, ap, ◌∙◌, subst}
 use Rattle.kz_types.specs.PathRule.{IsPathFault}
 use Rattle.kz_types.specs.declared.value_fault.PathFault.TheVariants.{BadName}
-use Rattle.kz_spec_values.specs.Fields.{◌>>=◌}
-use Rattle.kz_spec_files.specs.Transactions.{in_path, path_or_flaw}
+use Rattle.kz_spec_data.specs.Fields.{◌>>=◌}
+use Rattle.kz_spec_data.specs.Transactions.{in_path, path_or_flaw}
 use Rattle.kz_txn.proofs.fields.path.Goals as goal
 
 pub returns-in-Err-BadName : goal.returns-in-Err-BadName

@@ -1,5 +1,5 @@
 use Rattle.std.proofs.Common.{◌≡◌, ◌-◌, ◌*◌, ◌^◌, ◌≤◌}
-use Rattle.kz_spec_files.specs.Transactions.{digits_at}
+use Rattle.kz_spec_data.specs.Transactions.{digits_at}
 use Rattle.kz_txn.proofs.fields.within.Given as goal
 
 abbrev pub invariant-loop-i : goal.invariant-loop-i

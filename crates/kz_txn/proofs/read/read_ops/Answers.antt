@@ -1,6 +1,6 @@
 use Rattle.std.proofs.lemmas.Result.{err_from_is_err_and}
-use Rattle.kz_spec_values.specs.Forms.{items_at}
-use Rattle.kz_spec_files.specs.Transactions.{op}
+use Rattle.kz_spec_data.specs.Forms.{items_at}
+use Rattle.kz_spec_data.specs.Transactions.{op}
 use Rattle.kz_txn.proofs.Loops.{items_step, items_fault, items_done}
 use Rattle.kz_txn.proofs.read.read_ops.Goals as goal
 

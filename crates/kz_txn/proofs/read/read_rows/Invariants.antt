@@ -1,6 +1,6 @@
 use Rattle.std.proofs.Common.{◌≡◌, ◌-◌}
-use Rattle.kz_spec_values.specs.Forms.{items_at}
-use Rattle.kz_spec_files.specs.Transactions.{row}
+use Rattle.kz_spec_data.specs.Forms.{items_at}
+use Rattle.kz_spec_data.specs.Transactions.{row}
 use Rattle.kz_txn.proofs.Loops.{with_front}
 use Rattle.kz_txn.proofs.read.read_rows.Given as goal
 

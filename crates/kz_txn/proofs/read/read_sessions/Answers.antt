@@ -1,7 +1,7 @@
 use Rattle.std.proofs.Common.{◌≡◌, ◌++◌, ◌∷◌, [], ℤ, pos, ap, ◌∙◌, rules, SFits, to_z, of_z, to_z-of_z}
 use Rattle.std.specs.Int.{w64}
 use Rattle.std.proofs.lemmas.Result.{err_from_is_err_and}
-use Rattle.kz_spec_files.specs.Transactions.{sessions_at}
+use Rattle.kz_spec_data.specs.Transactions.{sessions_at}
 use Rattle.kz_txn.proofs.Loops.{sessions_step, sessions_fault, sessions_done}
 use Rattle.kz_txn.proofs.read.read_sessions.Goals as goal
 

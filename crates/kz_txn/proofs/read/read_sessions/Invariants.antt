@@ -1,5 +1,5 @@
 use Rattle.std.proofs.Common.{◌≡◌, ◌-◌}
-use Rattle.kz_spec_files.specs.Transactions.{sessions_at}
+use Rattle.kz_spec_data.specs.Transactions.{sessions_at}
 use Rattle.kz_txn.proofs.Loops.{with_front}
 use Rattle.kz_txn.proofs.read.read_sessions.Given as goal
 

@@ -1,7 +1,7 @@
 use Rattle.std.proofs.Common.{◌≡◌, ◌+◌, ◌++◌, ◌∷◌, [], length, take, ap, sym, ◌∙◌, arith}
 use Rattle.std.proofs.lemmas.List.{take_more, length-append}
-use Rattle.kz_spec_values.specs.Forms.{items_written}
-use Rattle.kz_spec_files.specs.Transactions.{row}
+use Rattle.kz_spec_data.specs.Forms.{items_written}
+use Rattle.kz_spec_data.specs.Transactions.{row}
 use Rattle.kz_txn.proofs.Appends.{items_written_push}
 use Rattle.kz_txn.proofs.size.all_rows_size.Goals as goal
 

@@ -1,6 +1,6 @@
 use Rattle.std.proofs.Common.{◌≡◌, ◌+◌, ◌*◌, ◌^◌, ◌≤◌, length, take}
-use Rattle.kz_spec_values.specs.Forms.{items_written}
-use Rattle.kz_spec_files.specs.Transactions.{row}
+use Rattle.kz_spec_data.specs.Forms.{items_written}
+use Rattle.kz_spec_data.specs.Transactions.{row}
 use Rattle.kz_txn.proofs.size.all_rows_size.Given as goal
 
 abbrev pub invariant-loop-item : goal.invariant-loop-item

@@ -1,8 +1,8 @@
 use Rattle.std.proofs.Common.{◌≡◌, ◌++◌, ◌<◌, List, ℕ, ℤ, pos, length, take, get_or, ap, sym, ◌∙◌, append_assoc, arith, rules, SFits, to_z-of_z}
 use Rattle.std.proofs.lemmas.List.{take_more}
 use Rattle.std.specs.Int.{w64, to_be_bytes, cast_unsigned, cast_signed}
-use Rattle.kz_spec_values.specs.Forms.{items_written}
-use Rattle.kz_spec_files.specs.Transactions.{session}
+use Rattle.kz_spec_data.specs.Forms.{items_written}
+use Rattle.kz_spec_data.specs.Transactions.{session}
 use Rattle.kz_txn.proofs.Appends.{items_written_push}
 use Rattle.kz_txn.proofs.write.push_sessions.Goals as goal
 

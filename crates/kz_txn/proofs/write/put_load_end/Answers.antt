@@ -1,6 +1,6 @@
 use Rattle.std.proofs.Common.{◌≡◌, ◌++◌, ◌∷◌, [], ℤ, ap, ◌∙◌, rules, SFits, to_z-of_z}
 use Rattle.std.specs.Int.{w64}
-use Rattle.kz_spec_files.specs.Transactions.{int, sessions}
+use Rattle.kz_spec_data.specs.Transactions.{int, sessions}
 use Rattle.kz_txn.proofs.Appends.{seq}
 use Rattle.kz_txn.proofs.write.put_load_end.Goals as goal
 

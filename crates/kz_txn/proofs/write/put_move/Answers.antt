@@ -1,6 +1,6 @@
 use Rattle.std.proofs.Common.{◌≡◌, ◌++◌, ◌∷◌, [], ℤ, ap, ◌∙◌, rules, SFits, to_z-of_z}
 use Rattle.std.specs.Int.{w64}
-use Rattle.kz_spec_files.specs.Transactions.{int, session}
+use Rattle.kz_spec_data.specs.Transactions.{int, session}
 use Rattle.kz_txn.proofs.Appends.{seq}
 use Rattle.kz_txn.proofs.write.put_move.Goals as goal
 

@@ -1,6 +1,6 @@
 use Rattle.std.proofs.Common.{◌≡◌, ◌++◌, ℤ, List, ℕ, ap, ◌∙◌, rules, SFits, to_z-of_z}
 use Rattle.std.specs.Int.{w32, w64}
-use Rattle.kz_spec_files.specs.Transactions.{byte_field, int, owner, path}
+use Rattle.kz_spec_data.specs.Transactions.{byte_field, int, owner, path}
 use Rattle.kz_txn.proofs.Appends.{seq}
 use Rattle.kz_txn.proofs.write.put_row.Goals as goal
 

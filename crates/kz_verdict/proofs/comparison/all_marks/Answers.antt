@@ -1,7 +1,7 @@
 use Rattle.std.proofs.Common.{rules, ◌≡◌, ◌-◌, ◌<◌, ◌∷◌, length, drop, get_or, ◌∙◌, ap, arith, w64, to_z, of_z}
 use Rattle.std.proofs.lemmas.Int.{to_z-of_z}
 use mir.Val.{SFits}
-use Rattle.kz_spec_stores.specs.Log.{batch_ends}
+use Rattle.kz_spec_data.specs.Log.{batch_ends}
 use Rattle.kz_verdict.specs.Agreement.{all_first}
 use Rattle.kz_verdict.proofs.Agreements.{ends_more}
 use Rattle.kz_verdict.proofs.comparison.all_marks.Goals as goal

@@ -1,5 +1,5 @@
 use Rattle.std.proofs.Common.{◌≡◌, ◌-◌, drop, length}
-use Rattle.kz_spec_stores.specs.Log.{batch_ends}
+use Rattle.kz_spec_data.specs.Log.{batch_ends}
 use Rattle.kz_verdict.specs.Agreement.{all_first}
 use Rattle.kz_verdict.proofs.comparison.all_marks.Given as goal
 

@@ -1,7 +1,7 @@
 use Rattle.std.proofs.Common.{◌≡◌, drop}
-use Rattle.kz_ordered.specs.Order.{bytes_cmp}
-use Rattle.kz_ordered.specs.Ordered.{all_put, Rises}
-use Rattle.kz_spec_stores.specs.Tree.{area, path_of_rendered}
+use Rattle.kz_types.specs.Order.{bytes_cmp}
+use Rattle.kz_types.specs.Ordered.{all_put, Rises}
+use Rattle.kz_spec_data.specs.Tree.{area, path_of_rendered}
 use Rattle.kz_verdict.proofs.comparison.all_znodes.Given as goal
 
 abbrev pub invariant-loop-znode : goal.invariant-loop-znode

@@ -1,11 +1,11 @@
 use Rattle.std.proofs.Common.{◌∙◌, sym, ap, w64, map}
 use Rattle.std.proofs.lemmas.Int.{to_z-of_z}
 use Rattle.kz_types.specs.declared.tree.Rendered.{Rendered}
-use Rattle.kz_ordered.specs.Order.{bytes_cmp}
-use Rattle.kz_ordered.specs.Ordered.{all_put}
-use Rattle.kz_spec_stores.specs.Tree.{area, path_of_rendered}
-use Rattle.kz_spec_stores.specs.Log.{image_at, batch_ends}
-use Rattle.kz_spec_znodes.specs.Rendering.{render}
+use Rattle.kz_types.specs.Order.{bytes_cmp}
+use Rattle.kz_types.specs.Ordered.{all_put}
+use Rattle.kz_spec_data.specs.Tree.{area, path_of_rendered}
+use Rattle.kz_spec_data.specs.Log.{image_at, batch_ends}
+use Rattle.kz_spec_data.specs.Rendering.{render}
 use Rattle.kz_verdict.specs.Agreement.{found_at, all_first}
 use Rattle.kz_verdict.proofs.Agreements.{found_is}
 use Rattle.kz_verdict.proofs.comparison.find_all.Goals as goal

@@ -1,7 +1,7 @@
 use Rattle.std.proofs.Common.{◌∙◌, ap, arith, w64, ◌≤ℤ◌}
 use Rattle.std.proofs.lemmas.Int.{ints, to_z-of_z}
-use Rattle.kz_spec_stores.specs.Log.{image_at}
-use Rattle.kz_spec_znodes.specs.Rendering.{render}
+use Rattle.kz_spec_data.specs.Log.{image_at}
+use Rattle.kz_spec_data.specs.Rendering.{render}
 use Rattle.kz_verdict.specs.Agreement.{marks_at_end}
 use Rattle.kz_verdict.proofs.Agreements.{next_end}
 use Rattle.kz_verdict.proofs.comparison.marks_with.Goals as goal

@@ -1,5 +1,5 @@
 use Rattle.std.proofs.Common.{◌≡◌, None, sym, subst, rules}
-use Rattle.kz_spec_delta.specs.Touched.{Leads}
+use Rattle.kz_spec_data.specs.Touched.{Leads}
 use Rattle.kz_delta.specs.Feeds.{feed_of}
 use Rattle.kz_view_delta.proofs.Covered.{reads_lead}
 use Rattle.kz_view_delta.proofs.keys.keys_between.Goals as goal

@@ -1,5 +1,5 @@
 use Rattle.std.proofs.Common.{inr, sym, subst}
-use Rattle.kz_spec_stores.specs.Log.{IsViewOf}
+use Rattle.kz_spec_data.specs.Log.{IsViewOf}
 use Rattle.kz_log.proofs.Views.{read_is_view}
 use Rattle.kz_view_delta.proofs.read.read_to_end.Goals as goal
 

@@ -5,17 +5,17 @@ use mir.Val.{SFits}
 use Rattle.kz_types.specs.declared.machine.Answer.{Answer}
 use Rattle.kz_types.specs.declared.machine.Event.TheVariants as event
 use Rattle.kz_types.specs.declared.record.MetaRecord.{MetaRecord}
-use Rattle.kz_spec_stores.specs.Image.{Image}
-use Rattle.kz_spec_stores.specs.Log.{Log, image_of}
+use Rattle.kz_spec_data.specs.Image.{Image}
+use Rattle.kz_spec_data.specs.Log.{Log, image_of}
 use Rattle.kz_spec_machine.specs.Failures.{is_failure}
 use Rattle.kz_spec_machine.specs.Machine.{World, leader_refusal, next, event_pairs}
 use Rattle.kz_world_parts.specs.declared.faults.EventFault.TheVariants as event_fault
-use Rattle.kz_world_parts.specs.Disks.{disks_in}
+use Rattle.kz_world_parts.specs.EventDisks.{disks_in}
 use Rattle.kz_world_parts.specs.Refusals.{records_refusal}
-use Rattle.kz_world_parts.specs.Stops.{append_pairs}
+use Rattle.kz_world_parts.specs.EventStops.{append_pairs}
 use Rattle.kz_world_parts.specs.Worlds.{world_of_parts, world_of, world_after_append}
 use Rattle.kz_world_parts.proofs.Outcomes.{told_by, change_refused, change_appends, change_pairs}
-use Rattle.kz_world_parts.proofs.Stops.{read_failure, still_failure, later_leaves}
+use Rattle.kz_world_parts.proofs.EventStops.{read_failure, still_failure, later_leaves}
 use Rattle.kz_world_parts.proofs.Views.{read_keeps}
 use Rattle.kz_world.proofs.change.change.Goals as goal
 

@@ -1,13 +1,13 @@
 use Rattle.std.proofs.Common.{Err, ap, ◌∙◌}
 use Rattle.kz_types.specs.declared.machine.Event.TheVariants as event
-use Rattle.kz_spec_stores.specs.Log.{Log}
-use Rattle.kz_spec_stores.specs.Requests.{Disk}
+use Rattle.kz_spec_data.specs.Log.{Log}
+use Rattle.kz_spec_data.specs.Requests.{Disk}
 use Rattle.kz_spec_machine.specs.Machine.{World, event_pairs}
-use Rattle.kz_driver.specs.Disks.{Disks, disks_of}
+use Rattle.kz_world_parts.specs.Disks.{Disks, disks_of}
 use Rattle.kz_world_parts.specs.declared.faults.EventFault.TheVariants as event_fault
-use Rattle.kz_world_parts.specs.Disks.{disks_in}
+use Rattle.kz_world_parts.specs.EventDisks.{disks_in}
 use Rattle.kz_world_parts.specs.Worlds.{world_of_parts, world_of}
-use Rattle.kz_world_parts.proofs.Stops.{read_failure, still_failure}
+use Rattle.kz_world_parts.proofs.EventStops.{read_failure, still_failure}
 use Rattle.kz_world_parts.proofs.Views.{read_keeps}
 use Rattle.kz_world.proofs.checks.compare.Goals as goal
 

@@ -2,9 +2,9 @@ use Rattle.std.proofs.Common.{Err, refl}
 use Rattle.kz_types.specs.declared.machine.Event.TheVariants as event
 use Rattle.kz_spec_machine.specs.Machine.{event_pairs}
 use Rattle.kz_world_parts.specs.declared.faults.EventFault.TheVariants as event_fault
-use Rattle.kz_world_parts.specs.Disks.{disks_in}
+use Rattle.kz_world_parts.specs.EventDisks.{disks_in}
 use Rattle.kz_world_parts.specs.Worlds.{world_of_parts, world_of}
-use Rattle.kz_world_parts.proofs.Stops.{still_failure}
+use Rattle.kz_world_parts.proofs.EventStops.{still_failure}
 use Rattle.kz_world.proofs.client.ask.Goals as goal
 
 pub returns-in-Err-clause-stop : goal.returns-in-Err-clause-stop

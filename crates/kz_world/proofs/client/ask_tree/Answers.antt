@@ -1,16 +1,16 @@
 use Rattle.std.proofs.Common.{Result, ℕ, ℤ, sym, ap, subst, refl, ◌∙◌}
 use Rattle.kz_types.specs.declared.machine.Answer.{Answer}
 use Rattle.kz_types.specs.declared.machine.Event.TheVariants as event
-use Rattle.kz_spec_stores.specs.Requests.{Multi, IsTaken, ChangesDisk, Between, answer_of_tree_fault}
-use Rattle.kz_spec_stores.specs.Tree.{Tree, multi}
+use Rattle.kz_spec_data.specs.Requests.{Multi, IsTaken, ChangesDisk, Between, answer_of_tree_fault}
+use Rattle.kz_spec_data.specs.Tree.{Tree, multi}
 use Rattle.kz_tree.specs.Requests.{IsRefusal}
 use Rattle.kz_spec_machine.specs.Machine.{World, event_pairs}
-use Rattle.kz_driver.specs.Disks.{disks_of}
+use Rattle.kz_world_parts.specs.Disks.{disks_of}
 use Rattle.kz_world_parts.specs.declared.faults.EventFault.{EventFault}
-use Rattle.kz_world_parts.specs.Stops.{EventLeaves}
+use Rattle.kz_world_parts.specs.EventStops.{EventLeaves}
 use Rattle.kz_world_parts.specs.Worlds.{world_of}
 use Rattle.kz_world_parts.proofs.Outcomes.{multi_pair}
-use Rattle.kz_world_parts.proofs.Stops.{tree_fault_leaves}
+use Rattle.kz_world_parts.proofs.EventStops.{tree_fault_leaves}
 use Rattle.kz_world.proofs.client.ask_tree.Goals as goal
 
 pub returns-in-Err-clause-stop : goal.returns-in-Err-clause-stop

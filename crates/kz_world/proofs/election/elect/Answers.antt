@@ -4,16 +4,16 @@ use Rattle.std.proofs.lemmas.Int.{to_z-of_z}
 use Rattle.kz_types.specs.declared.codes.TheConstants.{NO_MIGRATION, PRE_MIGRATION}
 use Rattle.kz_types.specs.declared.machine.Event.TheVariants as event
 use Rattle.kz_types.specs.declared.record.MetaRecord.TheVariants as meta
-use Rattle.kz_spec_stores.specs.Log.{Log, IsLog, begun_of, image_of}
-use Rattle.kz_spec_stores.specs.Image.{Image}
+use Rattle.kz_spec_data.specs.Log.{Log, IsLog, begun_of, image_of}
+use Rattle.kz_spec_data.specs.Image.{Image}
 use Rattle.kz_spec_machine.specs.Machine.{election_records, running_refusal, event_pairs}
-use Rattle.kz_driver.specs.Disks.{Disks, payloads_of}
+use Rattle.kz_world_parts.specs.Disks.{Disks, payloads_of}
 use Rattle.kz_world_parts.specs.declared.faults.EventFault.TheVariants as event_fault
-use Rattle.kz_world_parts.specs.Disks.{disks_in, ElectsController}
+use Rattle.kz_world_parts.specs.EventDisks.{disks_in, ElectsController}
 use Rattle.kz_world_parts.specs.Worlds.{world_of_parts, world_of, records_on_election}
 use Rattle.kz_log.proofs.Views.{open_is_begun}
 use Rattle.kz_world_parts.proofs.Outcomes.{unless_none}
-use Rattle.kz_world_parts.proofs.Stops.{read_failure, still_failure, event_later}
+use Rattle.kz_world_parts.proofs.EventStops.{read_failure, still_failure, event_later}
 use Rattle.kz_world_parts.proofs.Views.{read_keeps}
 use Rattle.kz_world.proofs.election.elect.Goals as goal
 

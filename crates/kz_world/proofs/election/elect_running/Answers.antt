@@ -6,20 +6,20 @@ use Rattle.kz_types.specs.declared.machine.Answer.{Answer}
 use Rattle.kz_types.specs.declared.record.MetaRecord.{MetaRecord}
 use Rattle.kz_types.specs.declared.machine.Answer.TheVariants as answer
 use Rattle.kz_types.specs.declared.machine.Event.TheVariants as event
-use Rattle.kz_spec_stores.specs.Log.{Log, elect}
-use Rattle.kz_spec_stores.specs.Requests.{Elect, Done, IsTaken, ChangesDisk, Between, answer_of_log_fault}
+use Rattle.kz_spec_data.specs.Log.{Log, elect}
+use Rattle.kz_spec_data.specs.Requests.{Elect, Done, IsTaken, ChangesDisk, Between, answer_of_log_fault}
 use Rattle.kz_log.specs.Requests.{IsRefusal}
 use Rattle.kz_log.specs.declared.store.Elected.{Elected}
 use Rattle.kz_spec_machine.specs.Driver.{Driver}
 use Rattle.kz_spec_machine.specs.Machine.{World, event_pairs}
-use Rattle.kz_driver.specs.Disks.{disks_of}
+use Rattle.kz_world_parts.specs.Disks.{disks_of}
 use Rattle.kz_world_parts.specs.declared.faults.EventFault.{EventFault}
 use Rattle.kz_world_parts.specs.Stores.{IsLogChange}
-use Rattle.kz_world_parts.specs.Stops.{EventLeaves}
+use Rattle.kz_world_parts.specs.EventStops.{EventLeaves}
 use Rattle.kz_world_parts.specs.Worlds.{world_of, elected_drivers, IsDone, IsKept}
 use Rattle.kz_log.proofs.Views.{elect_leaves_views}
 use Rattle.kz_world_parts.proofs.Outcomes.{elected_done, election_refused, election_pair}
-use Rattle.kz_world_parts.proofs.Stops.{log_fault_leaves}
+use Rattle.kz_world_parts.proofs.EventStops.{log_fault_leaves}
 use Rattle.kz_world_parts.proofs.Told.{changed, log_disk}
 use Rattle.kz_world_parts.proofs.Views.{kept_still, kept_elected}
 use Rattle.kz_world.proofs.election.elect_running.Goals as goal

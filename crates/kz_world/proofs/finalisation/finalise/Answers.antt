@@ -6,12 +6,12 @@ use Rattle.kz_types.specs.declared.machine.Event.TheVariants as event
 use Rattle.kz_spec_machine.specs.Failures.{is_failure}
 use Rattle.kz_spec_machine.specs.Machine.{World, leader_refusal, final_records, next, event_pairs}
 use Rattle.kz_world_parts.specs.declared.faults.EventFault.TheVariants as event_fault
-use Rattle.kz_world_parts.specs.Disks.{disks_in}
+use Rattle.kz_world_parts.specs.EventDisks.{disks_in}
 use Rattle.kz_world_parts.specs.Refusals.{end_refusal}
-use Rattle.kz_world_parts.specs.Stops.{append_pairs}
+use Rattle.kz_world_parts.specs.EventStops.{append_pairs}
 use Rattle.kz_world_parts.specs.Worlds.{world_of_parts, world_of, world_after_append}
 use Rattle.kz_world_parts.proofs.Outcomes.{told_by, unless_none, finalise_refused, finalise_appends, finalise_pairs}
-use Rattle.kz_world_parts.proofs.Stops.{read_failure, still_failure, later_leaves}
+use Rattle.kz_world_parts.proofs.EventStops.{read_failure, still_failure, later_leaves}
 use Rattle.kz_world_parts.proofs.Views.{read_keeps}
 use Rattle.kz_world.proofs.Unread.{either, unread}
 use Rattle.kz_world.proofs.finalisation.finalise.Goals as goal

@@ -6,10 +6,10 @@ use Rattle.kz_types.specs.declared.machine.Event.TheVariants as event
 use Rattle.kz_types.specs.declared.record.MetaRecord.{MetaRecord}
 use Rattle.kz_types.specs.declared.tree.Op.{Op}
 use Rattle.kz_spec_machine.specs.Machine.{event_pairs}
-use Rattle.kz_driver.specs.Disks.{payloads_of}
-use Rattle.kz_world_parts.specs.Disks.{disks_in, ResultDisks}
+use Rattle.kz_world_parts.specs.Disks.{payloads_of}
+use Rattle.kz_world_parts.specs.EventDisks.{disks_in, ResultDisks}
 use Rattle.kz_world_parts.specs.Worlds.{world_of_parts, world_of}
-use Rattle.kz_world_parts.proofs.Stops.{still_failure, event_later}
+use Rattle.kz_world_parts.proofs.EventStops.{still_failure, event_later}
 use Rattle.kz_world.proofs.machine.happen.Goals as goal
 
 pub returns-in_err-declare-in-Quorum-clause-stop : goal.returns-in_err-declare-in-Quorum-clause-stop

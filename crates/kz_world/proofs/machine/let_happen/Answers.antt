@@ -1,7 +1,7 @@
 use Rattle.std.proofs.Common.{◌∙◌, sym, subst}
 use Rattle.kz_types.specs.declared.machine.Event.{Event}
-use Rattle.kz_world_parts.specs.Disks.{disks_in}
-use Rattle.kz_world_parts.specs.Stops.{EventLeaves}
+use Rattle.kz_world_parts.specs.EventDisks.{disks_in}
+use Rattle.kz_world_parts.specs.EventStops.{EventLeaves}
 use Rattle.kz_world_parts.specs.Worlds.{world_of_parts, world_of}
 use Rattle.kz_world.proofs.Rollbacks.{rollback_is}
 use Rattle.kz_world.proofs.machine.let_happen.Goals as goal

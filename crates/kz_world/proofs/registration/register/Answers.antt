@@ -3,11 +3,11 @@ use Rattle.std.proofs.lemmas.Int.{to_z-of_z}
 use Rattle.kz_types.specs.declared.machine.Event.TheVariants as event
 use Rattle.kz_types.specs.declared.record.MetaRecord.{MetaRecord}
 use Rattle.kz_spec_machine.specs.Machine.{World, leader_refusal, registration, next, event_pairs}
-use Rattle.kz_world_parts.specs.Disks.{disks_in}
-use Rattle.kz_world_parts.specs.Stops.{append_pairs}
+use Rattle.kz_world_parts.specs.EventDisks.{disks_in}
+use Rattle.kz_world_parts.specs.EventStops.{append_pairs}
 use Rattle.kz_world_parts.specs.Worlds.{world_of_parts, world_of, world_after_append}
 use Rattle.kz_world_parts.proofs.Outcomes.{told_by, register_appends, register_pairs}
-use Rattle.kz_world_parts.proofs.Stops.{read_failure, later_leaves}
+use Rattle.kz_world_parts.proofs.EventStops.{read_failure, later_leaves}
 use Rattle.kz_world_parts.proofs.Views.{read_keeps}
 use Rattle.kz_world.proofs.registration.register.Goals as goal
 

@@ -4,18 +4,18 @@ use mir.Val.{SFits}
 use Rattle.kz_types.specs.declared.machine.Answer.{Answer}
 use Rattle.kz_types.specs.declared.machine.Answer.TheVariants as answer
 use Rattle.kz_types.specs.declared.machine.Event.TheVariants as event
-use Rattle.kz_spec_stores.specs.Log.{IsViewOf}
-use Rattle.kz_spec_stores.specs.Requests.{Reset}
+use Rattle.kz_spec_data.specs.Log.{IsViewOf}
+use Rattle.kz_spec_data.specs.Requests.{Reset}
 use Rattle.kz_spec_machine.specs.Driver.{Driver, least}
 use Rattle.kz_spec_machine.specs.Machine.{running_ids, exit_ops}
-use Rattle.kz_driver.specs.Disks.{disks_of}
+use Rattle.kz_world_parts.specs.Disks.{disks_of}
 use Rattle.kz_exit.specs.Disks.{LogDisk, TreeDisk}
 use Rattle.kz_exit.specs.Rollbacks.{IsTakenBack, IsLeft}
 use Rattle.kz_exit.specs.Stops.{RollbackLeaves}
 use Rattle.kz_log.proofs.Views.{new_is_view}
 use Rattle.kz_world_parts.specs.declared.faults.EventFault.{EventFault}
-use Rattle.kz_world_parts.specs.Disks.{disks_in}
-use Rattle.kz_world_parts.specs.Stops.{EventLeaves}
+use Rattle.kz_world_parts.specs.EventDisks.{disks_in}
+use Rattle.kz_world_parts.specs.EventStops.{EventLeaves}
 use Rattle.kz_world_parts.specs.Worlds.{world_of_parts, world_of, IsDone}
 use Rattle.kz_world.proofs.Rollbacks.{with_stores, running_refused, exit_done, exit_stop, kept_anew}
 use Rattle.kz_world.proofs.rollback.roll_back.Goals as goal

@@ -2,16 +2,16 @@ use Rattle.std.proofs.Common.{Result, ℕ, ℤ, sym, ap, subst, refl, ◌∙◌,
 use Rattle.std.proofs.lemmas.Int.{to_z-of_z}
 use Rattle.kz_types.specs.declared.machine.Answer.{Answer}
 use Rattle.kz_types.specs.declared.machine.Event.TheVariants as event
-use Rattle.kz_spec_stores.specs.Requests.{EndSession, IsTaken, ChangesDisk, Between}
-use Rattle.kz_spec_stores.specs.Tree.{Tree, end_session}
+use Rattle.kz_spec_data.specs.Requests.{EndSession, IsTaken, ChangesDisk, Between}
+use Rattle.kz_spec_data.specs.Tree.{Tree, end_session}
 use Rattle.kz_session.specs.Sessions.{answer_of_session_fault, IsRefusal}
 use Rattle.kz_spec_machine.specs.Machine.{World, event_pairs}
-use Rattle.kz_driver.specs.Disks.{disks_of}
+use Rattle.kz_world_parts.specs.Disks.{disks_of}
 use Rattle.kz_world_parts.specs.declared.faults.EventFault.{EventFault}
-use Rattle.kz_world_parts.specs.Stops.{EventLeaves}
+use Rattle.kz_world_parts.specs.EventStops.{EventLeaves}
 use Rattle.kz_world_parts.specs.Worlds.{world_of}
 use Rattle.kz_world_parts.proofs.Outcomes.{end_pair}
-use Rattle.kz_world_parts.proofs.Stops.{session_fault_leaves}
+use Rattle.kz_world_parts.proofs.EventStops.{session_fault_leaves}
 use Rattle.kz_world.proofs.sessions.expire.Goals as goal
 
 pub returns-in-Err-clause-stop : goal.returns-in-Err-clause-stop

@@ -4,13 +4,13 @@ use Rattle.std.proofs.lemmas.Option.{get_or_from_slice_get}
 use Rattle.kz_spec_machine.specs.Driver.{Shared, Driver}
 use Rattle.kz_spec_machine.specs.Machine.{running_ids, pair_of, step_pairs}
 use Rattle.kz_spec_machine.specs.Failures.{is_failed_step}
-use Rattle.kz_driver.specs.Disks.{Disks, disks_of, payloads_of}
-use Rattle.kz_driver.specs.Drivers.{shared_of}
-use Rattle.kz_turns.specs.Disks.{StepRequestDisks}
-use Rattle.kz_turns.specs.Pairs.{IsSoundPair}
-use Rattle.kz_turns.specs.Steps.{StepEnds}
-use Rattle.kz_turns.specs.Stops.{AreUp, LeavesOneOf}
-use Rattle.kz_world_parts.specs.Disks.{disks_in}
+use Rattle.kz_world_parts.specs.Disks.{Disks, disks_of, payloads_of}
+use Rattle.kz_world_parts.specs.Drivers.{shared_of}
+use Rattle.kz_world_parts.specs.TurnDisks.{StepRequestDisks}
+use Rattle.kz_world_parts.specs.Pairs.{IsSoundPair}
+use Rattle.kz_world_parts.specs.Steps.{StepEnds}
+use Rattle.kz_world_parts.specs.TurnStops.{AreUp, LeavesOneOf}
+use Rattle.kz_world_parts.specs.EventDisks.{disks_in}
 use Rattle.kz_world_parts.specs.Worlds.{world_of_parts, world_of}
 use Rattle.kz_world_parts.proofs.Listings.{get_here}
 use Rattle.kz_world.proofs.Runs.{step_told}

@@ -4,16 +4,16 @@ use Rattle.std.proofs.lemmas.Int.{to_z-of_z}
 use Rattle.kz_types.specs.declared.machine.Event.TheVariants as event
 use Rattle.kz_spec_machine.specs.Machine.{running_refusal, running_ids, driver_of, pair_of, step_pairs, event_pairs}
 use Rattle.kz_spec_machine.specs.Failures.{is_failed_step}
-use Rattle.kz_driver.specs.Disks.{payloads_of}
-use Rattle.kz_turns.specs.Disks.{StepRequestDisks}
-use Rattle.kz_turns.specs.Pairs.{IsSoundPair}
-use Rattle.kz_turns.specs.Stops.{AreUp, LeavesOneOf}
+use Rattle.kz_world_parts.specs.Disks.{payloads_of}
+use Rattle.kz_world_parts.specs.TurnDisks.{StepRequestDisks}
+use Rattle.kz_world_parts.specs.Pairs.{IsSoundPair}
+use Rattle.kz_world_parts.specs.TurnStops.{AreUp, LeavesOneOf}
 use Rattle.kz_world_parts.specs.declared.faults.EventFault.TheVariants as event_fault
-use Rattle.kz_world_parts.specs.Disks.{disks_in}
+use Rattle.kz_world_parts.specs.EventDisks.{disks_in}
 use Rattle.kz_world_parts.specs.Turns.{IsStepped}
 use Rattle.kz_world_parts.specs.Worlds.{world_of_parts, world_of}
 use Rattle.kz_world.proofs.Runs.{step_outcome, step_disks, step_stop, step_refused, step_of_none}
-use Rattle.kz_world_parts.proofs.Stops.{still_failure}
+use Rattle.kz_world_parts.proofs.EventStops.{still_failure}
 use Rattle.kz_world.proofs.single_steps.step_of.Goals as goal
 
 pub returns-in-Some-clause-ok : goal.returns-in-Some-clause-ok

@@ -1,17 +1,17 @@
 use Rattle.std.proofs.Common.{◌≡◌, ℕ, true, [], ◌∷◌, Result, refl, sym, ap, subst, ◌∙◌, w64, to_z, of_z}
 use Rattle.std.proofs.lemmas.Int.{to_z-of_z}
 use Rattle.kz_types.specs.declared.machine.Answer.{Answer}
-use Rattle.kz_spec_stores.specs.Log.{Log, IsViewOf, may_be_base, snapshot}
-use Rattle.kz_spec_stores.specs.Requests.{Snapshot, Done, IsTaken, ChangesDisk, Between, answer_of_log_fault}
+use Rattle.kz_spec_data.specs.Log.{Log, IsViewOf, may_be_base, snapshot}
+use Rattle.kz_spec_data.specs.Requests.{Snapshot, Done, IsTaken, ChangesDisk, Between, answer_of_log_fault}
 use Rattle.kz_spec_machine.specs.Machine.{World, pair_of, cut_world}
-use Rattle.kz_laws_snapshots.proofs.Allowed.{view_of_cut}
+use Rattle.kz_laws_machine.proofs.Allowed.{view_of_cut}
 use Rattle.kz_log.specs.Requests.{IsRefusal, made_by_snapshot}
-use Rattle.kz_driver.specs.Disks.{disks_of}
+use Rattle.kz_world_parts.specs.Disks.{disks_of}
 use Rattle.kz_world_parts.specs.declared.faults.EventFault.{EventFault}
 use Rattle.kz_world_parts.specs.Stores.{IsLogChange}
-use Rattle.kz_world_parts.specs.Stops.{FailureLeaves}
+use Rattle.kz_world_parts.specs.EventStops.{FailureLeaves}
 use Rattle.kz_world_parts.specs.Worlds.{world_of}
-use Rattle.kz_world_parts.proofs.Stops.{log_fault_leaves}
+use Rattle.kz_world_parts.proofs.EventStops.{log_fault_leaves}
 use Rattle.kz_world_parts.proofs.Told.{log_disk}
 use Rattle.kz_world_parts.proofs.Views.{kept_still}
 use Rattle.kz_world.proofs.Snapshots.{may_cut, cut_is, cut_fault, cut_pair}

@@ -1,13 +1,13 @@
 use Rattle.std.proofs.Common.{◌≡◌, true, [], ◌∷◌, Some, Err, sym, ap, ◌∙◌, rules}
 use Rattle.kz_types.specs.declared.machine.Event.TheVariants as event
-use Rattle.kz_spec_stores.specs.Tree.{migration_record}
-use Rattle.kz_spec_stores.specs.Log.{Log, is_migrated_log}
+use Rattle.kz_spec_data.specs.Tree.{migration_record}
+use Rattle.kz_spec_data.specs.Log.{Log, is_migrated_log}
 use Rattle.kz_spec_machine.specs.Machine.{World, pair_of, cut_world, event_pairs, snapshot_offset, snapshot_refusal}
-use Rattle.kz_driver.specs.Disks.{Disks, disks_of, payloads_of}
+use Rattle.kz_world_parts.specs.Disks.{Disks, disks_of, payloads_of}
 use Rattle.kz_world_parts.specs.declared.faults.EventFault.TheVariants as event_fault
-use Rattle.kz_world_parts.specs.Disks.{disks_in}
+use Rattle.kz_world_parts.specs.EventDisks.{disks_in}
 use Rattle.kz_world_parts.specs.Worlds.{world_of_parts, world_of}
-use Rattle.kz_world_parts.proofs.Stops.{read_failure, still_failure, later_leaves}
+use Rattle.kz_world_parts.proofs.EventStops.{read_failure, still_failure, later_leaves}
 use Rattle.kz_world_parts.proofs.Views.{read_keeps}
 use Rattle.kz_world.proofs.Snapshots.{offset_in, taken, cut_pairs}
 use Rattle.kz_world.proofs.Unread.{either, unread_cut}

@@ -2,12 +2,12 @@ use Rattle.std.proofs.Common.{◌≡◌, [], Some, Err, refl, sym, ap, subst, �
 use Rattle.std.specs.Prelude.{slice_get, IfOk}
 use Rattle.std.proofs.lemmas.Int.{to_z-of_z}
 use Rattle.kz_spec_machine.specs.Machine.{World}
-use Rattle.kz_turns.specs.Pairs.{IsSoundPair}
+use Rattle.kz_world_parts.specs.Pairs.{IsSoundPair}
 use Rattle.kz_world_parts.specs.declared.faults.EventFault.TheVariants as event_fault
-use Rattle.kz_world_parts.specs.Disks.{disks_in}
+use Rattle.kz_world_parts.specs.EventDisks.{disks_in}
 use Rattle.kz_world_parts.specs.Turns.{IsTurned}
 use Rattle.kz_world_parts.specs.Worlds.{world_of_parts, world_of}
-use Rattle.kz_world_parts.proofs.Stops.{still_failure, read_failure, turn_later, unmade_turn}
+use Rattle.kz_world_parts.proofs.EventStops.{still_failure, read_failure, turn_later, unmade_turn}
 use Rattle.kz_world_parts.proofs.Views.{read_keeps}
 use Rattle.kz_world.proofs.turns.prepared_turn.Goals as goal
 

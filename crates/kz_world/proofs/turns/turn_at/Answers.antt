@@ -4,26 +4,26 @@ use Rattle.std.proofs.lemmas.Int.{to_z-of_z}
 use Rattle.std.proofs.lemmas.Option.{get_or_from_slice_get}
 use Rattle.kz_types.specs.declared.machine.Reply.{Reply}
 use Rattle.kz_types.specs.declared.machine.Answer.TheVariants as answer
-use Rattle.kz_spec_stores.specs.Image.{Image}
-use Rattle.kz_spec_stores.specs.Log.{image_of}
+use Rattle.kz_spec_data.specs.Image.{Image}
+use Rattle.kz_spec_data.specs.Log.{image_of}
 use Rattle.kz_spec_machine.specs.Driver.{Shared, Driver}
 use Rattle.kz_spec_machine.specs.Machine.{World, running_ids, work}
 use Rattle.kz_spec_machine.specs.Failures.{is_failed_step}
-use Rattle.kz_driver.specs.Disks.{Disks, disks_of, payloads_of}
-use Rattle.kz_driver.specs.Drivers.{shared_of}
-use Rattle.kz_turns.specs.Disks.{TurnDisks}
-use Rattle.kz_turns.specs.Pairs.{IsSoundPair}
-use Rattle.kz_turns.specs.Steps.{TurnEnds}
-use Rattle.kz_turns.specs.Stops.{AreUp, LeavesOneOf, last_step_pairs}
-use Rattle.kz_work.specs.Starts.{TurnStart, most_from, start_of}
-use Rattle.kz_work.proofs.Starts.{most_is_work}
+use Rattle.kz_world_parts.specs.Disks.{Disks, disks_of, payloads_of}
+use Rattle.kz_world_parts.specs.Drivers.{shared_of}
+use Rattle.kz_world_parts.specs.TurnDisks.{TurnDisks}
+use Rattle.kz_world_parts.specs.Pairs.{IsSoundPair}
+use Rattle.kz_world_parts.specs.Steps.{TurnEnds}
+use Rattle.kz_world_parts.specs.TurnStops.{AreUp, LeavesOneOf, last_step_pairs}
+use Rattle.kz_world_parts.specs.Starts.{TurnStart, most_from, start_of}
+use Rattle.kz_world_parts.proofs.Starts.{most_is_work}
 use Rattle.kz_world_parts.specs.declared.faults.EventFault.TheVariants as event_fault
-use Rattle.kz_world_parts.specs.Disks.{disks_in}
+use Rattle.kz_world_parts.specs.EventDisks.{disks_in}
 use Rattle.kz_world_parts.specs.Turns.{IsTurned}
 use Rattle.kz_world_parts.specs.Worlds.{world_of_parts, world_of}
 use Rattle.kz_world_parts.proofs.Listings.{get_here}
 use Rattle.kz_world.proofs.Runs.{turn_told}
-use Rattle.kz_world_parts.proofs.Stops.{still_failure}
+use Rattle.kz_world_parts.proofs.EventStops.{still_failure}
 use Rattle.kz_world_parts.proofs.Views.{view_at, kept_turned}
 use Rattle.kz_world.proofs.turns.turn_at.Goals as goal
 

@@ -2,10 +2,10 @@ use Rattle.std.proofs.Common.{◌<◌, length, sym, ap, subst, ◌∙◌, arith,
 use Rattle.std.specs.Prelude.{slice_get, IfOk}
 use Rattle.std.proofs.lemmas.Int.{to_z-of_z}
 use Rattle.kz_spec_machine.specs.Machine.{running_refusal, driver_of}
-use Rattle.kz_driver.specs.Disks.{payloads_of}
-use Rattle.kz_turns.specs.Pairs.{IsSoundPair}
-use Rattle.kz_world_parts.specs.Disks.{disks_in, DriverTurnDisks}
-use Rattle.kz_world_parts.specs.Stops.{TurnLeaves}
+use Rattle.kz_world_parts.specs.Disks.{payloads_of}
+use Rattle.kz_world_parts.specs.Pairs.{IsSoundPair}
+use Rattle.kz_world_parts.specs.EventDisks.{disks_in, DriverTurnDisks}
+use Rattle.kz_world_parts.specs.EventStops.{TurnLeaves}
 use Rattle.kz_world_parts.specs.Turns.{IsTurned}
 use Rattle.kz_world_parts.specs.Worlds.{world_of_parts, world_of}
 use Rattle.kz_world.proofs.Runs.{turn_outcome, turn_disks, turn_stop, turn_refused, turn_of_none}

@@ -1,10 +1,10 @@
 use Rattle.std.proofs.Common.{◌≡◌, ap, ◌∙◌, Some}
 use Rattle.std.specs.Prelude.{slice_get}
 use Rattle.std.proofs.lemmas.Option.{get_or_from_slice_get}
-use Rattle.kz_spec_stores.specs.Tree.{Tree}
+use Rattle.kz_spec_data.specs.Tree.{Tree}
 use Rattle.kz_spec_machine.specs.Machine.{World}
-use Rattle.kz_driver.specs.Drivers.{shared_of}
-use Rattle.kz_work.specs.Starts.{start_of}
+use Rattle.kz_world_parts.specs.Drivers.{shared_of}
+use Rattle.kz_world_parts.specs.Starts.{start_of}
 use Rattle.kz_world_parts.specs.Worlds.{world_of}
 use Rattle.kz_world.proofs.turns.turn_start.Goals as goal
 

@@ -4,8 +4,8 @@ use Rattle.std.proofs.lemmas.Int.{to_z-of_z}
 use mir.Val.{SFits}
 use Rattle.kz_types.specs.declared.machine.Answer.{Answer}
 use Rattle.kz_types.specs.declared.machine.Answer.TheVariants as answer
-use Rattle.kz_spec_stores.specs.Log.{Log, append}
-use Rattle.kz_spec_stores.specs.Requests.{Append, Done, IsTaken, ChangesDisk, Between, answer_of_log_fault}
+use Rattle.kz_spec_data.specs.Log.{Log, append}
+use Rattle.kz_spec_data.specs.Requests.{Append, Done, IsTaken, ChangesDisk, Between, answer_of_log_fault}
 use Rattle.kz_log.specs.Requests.{IsRefusal}
 use Rattle.kz_spec_machine.specs.Machine.{World}
 use Rattle.kz_spec_machine.specs.Failures.{is_failure}
@@ -13,10 +13,10 @@ use Rattle.kz_driver.specs.Disks.{disks_of}
 use Rattle.kz_log.proofs.Views.{append_leaves_views}
 use Rattle.kz_world_parts.specs.declared.faults.EventFault.{EventFault}
 use Rattle.kz_world_parts.specs.Stores.{IsLogChange}
-use Rattle.kz_world_parts.specs.Stops.{FailureLeaves, append_pairs}
+use Rattle.kz_world_parts.specs.EventStops.{FailureLeaves, append_pairs}
 use Rattle.kz_world_parts.specs.Worlds.{world_of, world_after_append}
 use Rattle.kz_world_parts.proofs.Outcomes.{append_done, append_refused, append_pair}
-use Rattle.kz_world_parts.proofs.Stops.{log_fault_leaves}
+use Rattle.kz_world_parts.proofs.EventStops.{log_fault_leaves}
 use Rattle.kz_world_parts.proofs.Told.{changed, log_disk}
 use Rattle.kz_world_parts.proofs.Views.{kept_still}
 use Rattle.kz_world_parts.proofs.appending.append.Goals as goal

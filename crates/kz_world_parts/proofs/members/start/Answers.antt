@@ -1,6 +1,6 @@
 use Rattle.std.proofs.Common.{◌≡◌, sym, ap, subst, ◌∙◌, false, List, w32}
 use Rattle.std.proofs.lemmas.Int.{to_z-of_z}
-use Rattle.kz_spec_stores.specs.Log.{IsViewOf}
+use Rattle.kz_spec_data.specs.Log.{IsViewOf}
 use Rattle.kz_spec_machine.specs.Driver.{Driver, new_driver}
 use Rattle.kz_spec_machine.specs.Machine.{is_running, start_refusal}
 use Rattle.kz_world_parts.specs.Worlds.{world_of, IsKept}

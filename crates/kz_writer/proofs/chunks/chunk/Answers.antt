@@ -1,6 +1,6 @@
 use Rattle.std.proofs.Common.{take, ap, ◌∙◌}
 use Rattle.kz_types.specs.declared.limits.TheConstants.{MAX_CHUNK}
-use Rattle.kz_spec_znodes.specs.Difference.{chunk_length}
+use Rattle.kz_spec_data.specs.Difference.{chunk_length}
 use Rattle.kz_writer.proofs.ChunkLengths.{take_length}
 use Rattle.kz_writer.proofs.chunks.chunk.Goals as goal
 

@@ -1,8 +1,8 @@
 use Rattle.std.proofs.Common.{◌≡◌, map, sym, ap, ◌∙◌, subst}
 use Rattle.std.specs.Prelude.{IfOk}
-use Rattle.kz_ordered.specs.Order.{bytes_cmp}
-use Rattle.kz_ordered.specs.Covering.{at_keys}
-use Rattle.kz_spec_stores.specs.Tree.{path_of_rendered}
+use Rattle.kz_types.specs.Order.{bytes_cmp}
+use Rattle.kz_types.specs.Covering.{at_keys}
+use Rattle.kz_spec_data.specs.Tree.{path_of_rendered}
 use Rattle.kz_writer.specs.PathLists.{path_of_spanned}
 use Rattle.kz_writer.proofs.PathLists.{at_spanned_rises, delta_of_paths, count_of_spanned}
 use Rattle.kz_writer.proofs.delta.ops_at.Goals as goal

@@ -1,7 +1,7 @@
 use Rattle.std.proofs.Common.{◌≡◌, ◌≤◌, ◌+◌, ◌++◌, drop, map}
-use Rattle.kz_ordered.specs.Order.{bytes_cmp}
-use Rattle.kz_ordered.specs.Covering.{at_keys}
-use Rattle.kz_spec_stores.specs.Tree.{path_of_rendered}
+use Rattle.kz_types.specs.Order.{bytes_cmp}
+use Rattle.kz_types.specs.Covering.{at_keys}
+use Rattle.kz_spec_data.specs.Tree.{path_of_rendered}
 use Rattle.kz_writer.specs.PathLists.{path_of_spanned}
 use Rattle.kz_writer.proofs.delta.znodes_at.Given as goal
 

@@ -1,7 +1,7 @@
 use Rattle.std.proofs.Common.{subst}
 use Rattle.kz_spec_machine.specs.Driver.{Driver}
-use Rattle.kz_laws_fence.proofs.Drivers.{fenced_driver}
-use Rattle.kz_laws_fence.proofs.Replies.{fenced_reply}
+use Rattle.kz_laws_machine.proofs.FenceDrivers.{fenced_driver}
+use Rattle.kz_laws_machine.proofs.Replies.{fenced_reply}
 use Rattle.kz_stages.specs.Rows.{driver_of}
 use Rattle.kz_driver.specs.Steps.{shared_over, LeavesAll, IsFenced}
 use Rattle.kz_driver.proofs.Fences.{fenced}

@@ -1,5 +1,5 @@
 use Rattle.std.proofs.Common.{◌∙◌, ap, w32, to_z, of_z}
-use Rattle.kz_spec_stores.specs.Image.{image_with}
+use Rattle.kz_spec_data.specs.Image.{image_with}
 use Rattle.kz_image.proofs.Records.{applied_more}
 use Rattle.kz_image.proofs.image.Image.apply_all.Goals as goal
 

@@ -1,5 +1,5 @@
 use Rattle.std.proofs.Common.{◌≡◌, take}
-use Rattle.kz_spec_stores.specs.Image.{all_applied}
+use Rattle.kz_spec_data.specs.Image.{all_applied}
 use Rattle.kz_image.proofs.image.Image.apply_all.Given as goal
 
 abbrev pub invariant-loop-item : goal.invariant-loop-item

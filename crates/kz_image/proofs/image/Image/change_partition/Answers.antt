@@ -1,8 +1,8 @@
 use Rattle.std.proofs.Common.{◌≡◌, None, subst, sym, rules}
 use Rattle.kz_types.specs.declared.record.MetaRecord.TheVariants as meta
-use Rattle.kz_spec_stores.specs.ImageRules.{broken_rule}
-use Rattle.kz_laws_images.proofs.Unbroken.{change_unbroken}
-use Rattle.kz_laws_writable.proofs.HeldStays.{held}
+use Rattle.kz_spec_data.specs.ImageRules.{broken_rule}
+use Rattle.kz_laws_znodes.proofs.Unbroken.{change_unbroken}
+use Rattle.kz_laws_znodes.proofs.HeldStays.{held}
 use Rattle.kz_image.proofs.image.Image.change_partition.Goals as goal
 
 pub change_partition-requires-clause-fits : goal.change_partition-requires-clause-fits

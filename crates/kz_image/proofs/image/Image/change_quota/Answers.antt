@@ -1,8 +1,8 @@
 use Rattle.std.proofs.Common.{◌≡◌, None, subst, sym}
 use Rattle.kz_types.specs.declared.record.MetaRecord.TheVariants as meta
-use Rattle.kz_spec_stores.specs.ImageRules.{broken_rule}
-use Rattle.kz_laws_images.proofs.Unbroken.{quota_unbroken}
-use Rattle.kz_laws_writable.proofs.HeldStays.{held_at_zero}
+use Rattle.kz_spec_data.specs.ImageRules.{broken_rule}
+use Rattle.kz_laws_znodes.proofs.Unbroken.{quota_unbroken}
+use Rattle.kz_laws_znodes.proofs.HeldStays.{held_at_zero}
 use Rattle.kz_image.proofs.image.Image.change_quota.Goals as goal
 
 pub change-requires-clause-named : goal.change-requires-clause-named

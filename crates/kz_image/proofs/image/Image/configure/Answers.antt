@@ -1,7 +1,7 @@
 use Rattle.std.proofs.Common.{◌≡◌, false, rules}
 use Rattle.std.specs.Prelude.{pos}
 use Rattle.std.specs.Ordering.{int_eq}
-use Rattle.kz_laws_images.proofs.Kept.{member_named, resource_named}
+use Rattle.kz_laws_znodes.proofs.KeptImages.{member_named, resource_named}
 use Rattle.kz_image.proofs.image.Image.configure.Goals as goal
 
 pub configure_topic-requires : goal.configure_topic-requires

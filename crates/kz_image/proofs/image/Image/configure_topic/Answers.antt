@@ -1,4 +1,4 @@
-use Rattle.kz_laws_writable.proofs.HeldStays.{topic_configured_held}
+use Rattle.kz_laws_znodes.proofs.HeldStays.{topic_configured_held}
 use Rattle.kz_image.proofs.image.Image.configure_topic.Goals as goal
 
 pub invariant_of-self-2 : goal.invariant_of-self-2

@@ -1,5 +1,5 @@
 use Rattle.std.proofs.Common.{subst}
-use Rattle.kz_laws_writable.specs.Writable.{IsHeld}
+use Rattle.kz_laws_znodes.specs.Writable.{IsHeld}
 use Rattle.kz_image.proofs.image.Image.is_held.Goals as goal
 
 pub returns : goal.returns

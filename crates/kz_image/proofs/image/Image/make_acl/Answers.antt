@@ -1,7 +1,7 @@
 use Rattle.std.proofs.Common.{◌≡◌, None, subst, sym}
 use Rattle.kz_types.specs.declared.record.MetaRecord.TheVariants as meta
-use Rattle.kz_spec_stores.specs.ImageRules.{broken_rule}
-use Rattle.kz_laws_writable.proofs.HeldStays.{held_at_zero}
+use Rattle.kz_spec_data.specs.ImageRules.{broken_rule}
+use Rattle.kz_laws_znodes.proofs.HeldStays.{held_at_zero}
 use Rattle.kz_image.proofs.image.Image.make_acl.Goals as goal
 
 pub invariant_of-self-2 : goal.invariant_of-self-2

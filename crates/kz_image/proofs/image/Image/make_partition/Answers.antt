@@ -1,6 +1,6 @@
 use Rattle.std.proofs.Common.{rules}
 use Rattle.kz_types.specs.declared.record.MetaRecord.TheVariants as meta
-use Rattle.kz_laws_writable.proofs.HeldStays.{held}
+use Rattle.kz_laws_znodes.proofs.HeldStays.{held}
 use Rattle.kz_image.proofs.image.Image.make_partition.Goals as goal
 
 pub invariant_of-self-2 : goal.invariant_of-self-2

@@ -1,8 +1,8 @@
 use Rattle.std.proofs.Common.{◌≡◌, None, subst, sym}
 use Rattle.kz_types.specs.declared.record.MetaRecord.TheVariants as meta
-use Rattle.kz_spec_stores.specs.ImageRules.{broken_rule}
-use Rattle.kz_laws_writable.proofs.HeldStays.{held_at_zero}
-use Rattle.kz_laws_images.proofs.Topics.{no_topic}
+use Rattle.kz_spec_data.specs.ImageRules.{broken_rule}
+use Rattle.kz_laws_znodes.proofs.HeldStays.{held_at_zero}
+use Rattle.kz_laws_znodes.proofs.ImageTopics.{no_topic}
 use Rattle.kz_image.proofs.image.Image.make_topic.Goals as goal
 
 pub make-requires-clause-new_name : goal.make-requires-clause-new_name

@@ -1,6 +1,6 @@
 use Rattle.std.proofs.Common.{subst, sym}
-use Rattle.kz_spec_stores.specs.InOrder.{IsTopicInOrder}
-use Rattle.kz_laws_images.proofs.Entries.{HasIfFound, found_by_has}
+use Rattle.kz_spec_data.specs.InOrder.{IsTopicInOrder}
+use Rattle.kz_laws_znodes.proofs.Entries.{HasIfFound, found_by_has}
 use Rattle.kz_image.proofs.image.Image.partition.Goals as goal
 
 pub partition_at-requires : goal.partition_at-requires

@@ -1,4 +1,4 @@
-use Rattle.kz_laws_writable.proofs.HeldStays.{scram_removed_held}
+use Rattle.kz_laws_znodes.proofs.HeldStays.{scram_removed_held}
 use Rattle.kz_image.proofs.image.Image.remove_scram.Goals as goal
 
 pub invariant_of-self-2 : goal.invariant_of-self-2

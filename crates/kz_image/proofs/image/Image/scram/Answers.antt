@@ -1,8 +1,8 @@
 use Rattle.std.proofs.Common.{subst, sym}
-use Rattle.kz_ordered.specs.Order.{bytes_cmp}
-use Rattle.kz_spec_stores.specs.Metadata.{name_of_user}
-use Rattle.kz_spec_stores.specs.InOrder.{IsUserFilled}
-use Rattle.kz_laws_images.proofs.Entries.{HasIfFound, found_has}
+use Rattle.kz_types.specs.Order.{bytes_cmp}
+use Rattle.kz_spec_data.specs.Metadata.{name_of_user}
+use Rattle.kz_spec_data.specs.InOrder.{IsUserFilled}
+use Rattle.kz_laws_znodes.proofs.Entries.{HasIfFound, found_has}
 use Rattle.kz_image.proofs.image.Image.scram.Goals as goal
 
 pub scram_at-requires : goal.scram_at-requires

@@ -1,5 +1,5 @@
 use Rattle.kz_types.specs.declared.record.MetaRecord.TheVariants as meta
-use Rattle.kz_laws_writable.proofs.HeldStays.{held_at_zero}
+use Rattle.kz_laws_znodes.proofs.HeldStays.{held_at_zero}
 use Rattle.kz_image.proofs.image.Image.set_scram.Goals as goal
 
 pub invariant_of-self-2 : goal.invariant_of-self-2

@@ -1,7 +1,7 @@
 use Rattle.std.proofs.Common.{subst}
 use Rattle.std.specs.Prelude.{All}
-use Rattle.kz_spec_stores.specs.Metadata.{Image}
-use Rattle.kz_spec_stores.specs.Legal.{IsScramEntry}
+use Rattle.kz_spec_data.specs.Metadata.{Image}
+use Rattle.kz_spec_data.specs.Legal.{IsScramEntry}
 use Rattle.kz_image.proofs.image.Image.users.Goals as goal
 
 pub returns-clause-legal : goal.returns-clause-legal

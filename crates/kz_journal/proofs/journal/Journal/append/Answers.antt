@@ -1,5 +1,5 @@
 use Rattle.std.proofs.Common.{arith}
-use Rattle.kz_spec_files.specs.Frames.{journal_of, LeftByAppend}
+use Rattle.kz_spec_data.specs.Frames.{journal_of, LeftByAppend}
 use Rattle.kz_journal.specs.Journals.{IsReadTo, HasClosedGate}
 use Rattle.kz_journal.proofs.Crashes.{holds_now, left_at_end}
 use Rattle.kz_journal.proofs.Steps.{gate_is_end}

@@ -1,5 +1,5 @@
 use Rattle.std.proofs.Common.{◌≡◌, Some, Err, arith, sym, ap, subst, ◌∙◌}
-use Rattle.kz_spec_files.specs.Frames.{journal_of, LeftBySeal}
+use Rattle.kz_spec_data.specs.Frames.{journal_of, LeftBySeal}
 use Rattle.kz_journal.specs.declared.place.Place.{Place}
 use Rattle.kz_journal.specs.Journals.{IsReadTo, HasClosedGate, EndsSeal, IfNotSealed, file_at, with_seal}
 use Rattle.kz_journal.proofs.Crashes.{holds_now, left_at_end}

@@ -1,5 +1,5 @@
 use Rattle.std.proofs.Common.{◌≡◌, length}
-use Rattle.kz_spec_stores.specs.Log.{all_entries_applied}
+use Rattle.kz_spec_data.specs.Log.{all_entries_applied}
 use Rattle.kz_log.proofs.builder.Builder.apply_released.Given as goal
 
 abbrev pub invariant-loop-e : goal.invariant-loop-e

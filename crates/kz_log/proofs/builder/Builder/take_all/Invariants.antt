@@ -1,6 +1,6 @@
 use Rattle.std.proofs.Common.{◌≡◌, ◌++◌, length}
 use Rattle.std.specs.Vec.Iter.{into_iter_items, into_iter_len}
-use Rattle.kz_spec_stores.specs.Log.{entries, last_end, last_epoch}
+use Rattle.kz_spec_data.specs.Log.{entries, last_end, last_epoch}
 use Rattle.kz_log.specs.Building.{IsBuiltFrom}
 use Rattle.kz_log.proofs.builder.Builder.take_all.Given as goal
 

@@ -1,6 +1,6 @@
 use Rattle.std.proofs.Common.{◌≡◌, ◌++◌, ◌+ℤ◌, pos, length}
 use Rattle.std.specs.Vec.Iter.{into_iter_items, into_iter_len}
-use Rattle.kz_spec_stores.specs.Log.{entries_at_offsets}
+use Rattle.kz_spec_data.specs.Log.{entries_at_offsets}
 use Rattle.kz_log.specs.Building.{IsBuiltFrom}
 use Rattle.kz_log.proofs.builder.Builder.take_batch.Given as goal
 

@@ -1,7 +1,7 @@
 use Rattle.std.proofs.Common.{ap, w64, rules, arith}
 use Rattle.std.proofs.lemmas.Int.{ints, to_z-of_z}
 use mir.Val.{SFits}
-use Rattle.kz_spec_stores.specs.Log.{record_count}
+use Rattle.kz_spec_data.specs.Log.{record_count}
 use Rattle.kz_log.proofs.Batches.{end_high}
 use Rattle.kz_log.proofs.rows.LogRows.batch_ends.Goals as goal
 

@@ -1,8 +1,8 @@
 use Rattle.std.proofs.Common.{◌≡◌, ◌∙◌, ap, sym, filter, w64}
 use Rattle.std.proofs.lemmas.Int.{to_z-of_z}
 use Rattle.std.proofs.lemmas.Result.{IfOk-weaker}
-use Rattle.kz_spec_stores.specs.Log.{image_at, begins_after, snapshot}
-use Rattle.kz_laws_snapshots.proofs.Allowed.{empty_there}
+use Rattle.kz_spec_data.specs.Log.{image_at, begins_after, snapshot}
+use Rattle.kz_laws_machine.proofs.Allowed.{empty_there}
 use Rattle.kz_log.proofs.Snapshots.{based}
 use Rattle.kz_log.proofs.rows.LogRows.cut.Goals as goal
 

@@ -1,7 +1,7 @@
 use Rattle.std.proofs.Common.{◌≡◌, ◌∙◌, ◌+ℤ◌, ap, sym, pos, to_z, of_z, w64, rules, arith}
 use Rattle.std.proofs.lemmas.Int.{ints, to_z-of_z}
 use mir.Val.{SFits}
-use Rattle.kz_spec_stores.specs.Log.{end_of, record_count}
+use Rattle.kz_spec_data.specs.Log.{end_of, record_count}
 use Rattle.kz_log.proofs.Batches.{end_is, end_high}
 use Rattle.kz_log.proofs.rows.LogRows.end.Goals as goal
 

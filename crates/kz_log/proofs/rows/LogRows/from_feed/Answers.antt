@@ -1,5 +1,5 @@
 use Rattle.std.proofs.Common.{◌^◌, ◌<◌, subst, sym, ◌∙◌}
-use Rattle.kz_spec_stores.specs.Log.{record_count}
+use Rattle.kz_spec_data.specs.Log.{record_count}
 use Rattle.kz_log.specs.Rows.{log_of}
 use Rattle.kz_log.proofs.Batches.{count_fits}
 use Rattle.kz_log.proofs.rows.LogRows.from_feed.Goals as goal

@@ -2,7 +2,7 @@ use Rattle.std.proofs.Common.{◌≡◌, ◌∙◌, ap, sym, to_z, of_z, w64, fa
 use Rattle.std.proofs.lemmas.Int.{ints, to_z-of_z}
 use Rattle.std.proofs.lemmas.Result.{IfOk-weaker}
 use mir.Val.{SFits}
-use Rattle.kz_spec_stores.specs.Log.{Log, record_count, image_at}
+use Rattle.kz_spec_data.specs.Log.{Log, record_count, image_at}
 use Rattle.kz_log.specs.Reading.{entries_after, image_after}
 use Rattle.kz_log.proofs.Batches.{end_high, image_at_is}
 use Rattle.kz_log.proofs.rows.LogRows.image_at.Goals as goal

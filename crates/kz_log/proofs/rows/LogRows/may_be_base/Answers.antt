@@ -3,8 +3,8 @@ use Rattle.std.specs.List.{list_any}
 use Rattle.std.specs.Ordering.{int_eq}
 use Rattle.std.proofs.lemmas.Int.{ints, to_z-of_z}
 use mir.Val.{SFits}
-use Rattle.kz_spec_stores.specs.Log.{Log, record_count, batch_ends, entries}
-use Rattle.kz_spec_stores.specs.Settlement.{is_open}
+use Rattle.kz_spec_data.specs.Log.{Log, record_count, batch_ends, entries}
+use Rattle.kz_spec_data.specs.Settlement.{is_open}
 use Rattle.kz_log.specs.Reading.{entries_after, is_open_by}
 use Rattle.kz_log.proofs.Batches.{end_high}
 use Rattle.kz_log.proofs.OpenAt.{open_at_is, among_ends, end_where}

@@ -1,7 +1,7 @@
 use Rattle.std.proofs.Common.{◌≡◌, ◌-◌, sym, subst, suc, drop, filter, to_z, of_z, w64, rules, arith}
 use Rattle.std.proofs.lemmas.Int.{to_z-of_z}
 use mir.Val.{SFits}
-use Rattle.kz_spec_stores.specs.Log.{Log, begins_after}
+use Rattle.kz_spec_data.specs.Log.{Log, begins_after}
 use Rattle.kz_log.proofs.Batches.{is_at_most, none_later}
 use Rattle.kz_log.proofs.rows.LogRows.place_after.Goals as goal
 

@@ -1,5 +1,5 @@
 use Rattle.std.proofs.Common.{◌≡◌, ◌≤◌, drop, filter, length}
-use Rattle.kz_spec_stores.specs.Log.{begins_after}
+use Rattle.kz_spec_data.specs.Log.{begins_after}
 use Rattle.kz_log.proofs.rows.LogRows.place_after.Given as goal
 
 abbrev pub invariant-loop-place : goal.invariant-loop-place

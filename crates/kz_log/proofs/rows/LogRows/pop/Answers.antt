@@ -1,6 +1,6 @@
 use Rattle.std.proofs.Common.{◌∙◌, ap, sym, subst, w32, arith}
 use Rattle.std.proofs.lemmas.Int.{to_z-of_z}
-use Rattle.kz_spec_stores.specs.Log.{IsLog, record_count}
+use Rattle.kz_spec_data.specs.Log.{IsLog, record_count}
 use Rattle.kz_log.proofs.Batches.{record_count-push}
 use Rattle.kz_log.proofs.Pushing.{popped_is}
 use Rattle.kz_log.proofs.rows.LogRows.pop.Goals as goal

@@ -1,7 +1,7 @@
 use Rattle.std.proofs.Common.{◌∙◌, ap, sym, subst, rules, w32, arith}
 use Rattle.std.proofs.lemmas.Int.{ints, to_z-of_z}
 use mir.Val.{SFits}
-use Rattle.kz_spec_stores.specs.Log.{Log, IsLog, record_count, with_row}
+use Rattle.kz_spec_data.specs.Log.{Log, IsLog, record_count, with_row}
 use Rattle.kz_log.specs.Rows.{GoesOn}
 use Rattle.kz_log.proofs.Batches.{end_high, record_count-push}
 use Rattle.kz_log.proofs.Pushing.{is_log_on, pushed_is}

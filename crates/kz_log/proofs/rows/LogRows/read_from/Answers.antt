@@ -2,7 +2,7 @@ use Rattle.std.proofs.Common.{◌∙◌, ◌-◌, ap, drop, filter, length, w64,
 use Rattle.std.proofs.lemmas.Int.{to_z-of_z}
 use Rattle.std.proofs.lemmas.List.{take_all, length-drop}
 use mir.Val.{SFits}
-use Rattle.kz_spec_stores.specs.Log.{Log, begins_after, feed_from}
+use Rattle.kz_spec_data.specs.Log.{Log, begins_after, feed_from}
 use Rattle.kz_log.proofs.rows.LogRows.read_from.Goals as goal
 
 pub returns : goal.returns

@@ -2,9 +2,9 @@ use Rattle.std.proofs.Common.{◌∙◌, ◌-◌, ap, sym, subst, drop, filter, 
 use Rattle.std.proofs.lemmas.Int.{to_z-of_z}
 use Rattle.std.proofs.lemmas.List.{take_all, length-drop}
 use mir.Val.{SFits}
-use Rattle.kz_spec_stores.specs.Log.{Log, IsLog, begins_after, record_count}
+use Rattle.kz_spec_data.specs.Log.{Log, IsLog, begins_after, record_count}
 use Rattle.kz_log.proofs.Batches.{count_fits}
-use Rattle.kz_laws_snapshots.proofs.Allowed.{based_is_log}
+use Rattle.kz_laws_machine.proofs.Allowed.{based_is_log}
 use Rattle.kz_log.proofs.Snapshots.{based_is}
 use Rattle.kz_log.proofs.rows.LogRows.with_base.Goals as goal
 

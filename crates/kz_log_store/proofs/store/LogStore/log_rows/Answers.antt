@@ -1,5 +1,5 @@
 use Rattle.std.proofs.Common.{◌≡◌, w32, to_z, of_z, subst, sym, ◌∙◌, rules}
-use Rattle.kz_spec_stores.specs.Log.{IsLog}
+use Rattle.kz_spec_data.specs.Log.{IsLog}
 use Rattle.kz_log.proofs.Views.{log_is_read}
 use Rattle.kz_log_store.proofs.store.LogStore.log_rows.Goals as goal
 

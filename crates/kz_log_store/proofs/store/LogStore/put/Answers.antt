@@ -1,11 +1,11 @@
 use Rattle.std.specs.Prelude.{⊤}
 use Rattle.std.proofs.Common.{◌≡◌, ◌≤◌, false, length, Ok, Err, refl, sym, ap, ◌∙◌, subst}
 use Rattle.kz_types.specs.declared.limits.TheConstants.{MAX_FILE_BYTES}
-use Rattle.kz_spec_stores.specs.Requests.{Disk, ChangesDisk}
-use Rattle.kz_spec_stores.specs.Requests as answers
-use Rattle.kz_spec_files.specs.Frames.{journal_of, LeftByAppend}
+use Rattle.kz_spec_data.specs.Requests.{Disk, ChangesDisk}
+use Rattle.kz_spec_data.specs.Requests as answers
+use Rattle.kz_spec_data.specs.Frames.{journal_of, LeftByAppend}
 use Rattle.kz_journal.specs.Held.{disk_of, is_down, disk_state}
-use Rattle.kz_store_file.specs.Changes.{answer_of_change_fault, IfUnwritten, HasFrame}
+use Rattle.kz_journal.specs.Changes.{answer_of_change_fault, IfUnwritten, HasFrame}
 use Rattle.kz_log_store.proofs.Changing.{frame_fits, resized}
 use Rattle.kz_log_store.proofs.Frames.{same_after, left_by_change}
 use Rattle.kz_log_store.proofs.store.LogStore.put.Goals as goal

@@ -1,6 +1,6 @@
 use Rattle.std.proofs.Common.{Bool, refl, sym, subst}
 use Rattle.kz_journal.specs.Held.{disk_of, disk_state}
-use Rattle.kz_spec_stores.specs.Log.{Log}
+use Rattle.kz_spec_data.specs.Log.{Log}
 use Rattle.kz_log_store.specs.Stores.{IsUnopened, HasOpenCause}
 use Rattle.kz_log_store.proofs.Opening.{read_cause, read_refused}
 use Rattle.kz_log_store.proofs.Frames.{read_same}

@@ -1,9 +1,9 @@
 use Rattle.std.proofs.Common.{◌≡◌, false, Ok, Err, sym, ap, ◌∙◌, subst}
-use Rattle.kz_spec_stores.specs.Requests.{Disk}
-use Rattle.kz_spec_files.specs.Frames.{journal_of, LeftBySeal}
+use Rattle.kz_spec_data.specs.Requests.{Disk}
+use Rattle.kz_spec_data.specs.Frames.{journal_of, LeftBySeal}
 use Rattle.kz_journal.specs.Held.{disk_of, letter_of, is_down, disk_state}
-use Rattle.kz_store_file.specs.declared.fault.ChangeFault.TheVariants.{Full}
-use Rattle.kz_store_file.specs.Changes.{AnswersSeal, SealsFile, IfUnsealed}
+use Rattle.kz_journal.specs.declared.change_fault.ChangeFault.TheVariants.{Full}
+use Rattle.kz_journal.specs.Changes.{AnswersSeal, SealsFile, IfUnsealed}
 use Rattle.kz_log_store.proofs.Frames.{same_sealed, left_by_seal, seal_up, seal_done}
 use Rattle.kz_log_store.proofs.store.LogStore.seal.Goals as goal
 

@@ -1,6 +1,6 @@
 use Rattle.std.proofs.Common.{◌≡◌, None, Err, ap, rules, w32, w64}
 use Rattle.std.proofs.lemmas.Int.{to_z-of_z}
-use Rattle.kz_spec_stores.specs.Log.{append, full_log}
+use Rattle.kz_spec_data.specs.Log.{append, full_log}
 use Rattle.kz_log_store.specs.Stores.{left_of}
 use Rattle.kz_log_store.proofs.Changing.{append_made, stop_between}
 use Rattle.kz_log_store.proofs.store.LogStoreMetaLog.append.Goals as goal

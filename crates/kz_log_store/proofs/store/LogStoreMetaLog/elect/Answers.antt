@@ -2,7 +2,7 @@ use Rattle.std.proofs.Common.{◌≡◌, ◌<ℤ◌, ◌+ℤ◌, pos, None, Err,
 use Rattle.std.proofs.lemmas.Int.{ints, to_z-of_z}
 use mir.Val.{SFits}
 use Rattle.kz_types.specs.declared.limits.TheConstants.{MAX_EPOCH}
-use Rattle.kz_spec_stores.specs.Log.{elect, full_log}
+use Rattle.kz_spec_data.specs.Log.{elect, full_log}
 use Rattle.kz_log_store.specs.Stores.{left_of}
 use Rattle.kz_log_store.proofs.Changing.{elect_made, stop_between}
 use Rattle.kz_log_store.proofs.store.LogStoreMetaLog.elect.Goals as goal

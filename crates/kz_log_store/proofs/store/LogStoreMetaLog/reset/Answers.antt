@@ -1,8 +1,8 @@
 use Rattle.std.proofs.Common.{◌≡◌, Ok, Err, refl, sym, ap, ◌∙◌, subst, to_z, of_z, w32, rules, FitsSigned}
-use Rattle.kz_spec_stores.specs.Log.{reset}
-use Rattle.kz_spec_stores.specs.Requests.{Either}
+use Rattle.kz_spec_data.specs.Log.{reset}
+use Rattle.kz_spec_data.specs.Requests.{Either}
 use Rattle.kz_log.specs.Requests.{made_by_reset}
-use Rattle.kz_store_file.proofs.Stops.{between_from_either}
+use Rattle.kz_journal.proofs.Stops.{between_from_either}
 use Rattle.kz_log_store.specs.Stores.{left_of}
 use Rattle.kz_log_frames.proofs.Payloads.{reset_makes}
 use Rattle.kz_log_store.proofs.store.LogStoreMetaLog.reset.Goals as goal

@@ -1,11 +1,11 @@
 use Rattle.std.proofs.Common.{◌≤◌, Err, length, refl, ap, ◌∙◌, subst, w64}
 use Rattle.std.proofs.lemmas.Int.{to_z-of_z}
 use Rattle.kz_types.specs.declared.limits.TheConstants.{MAX_FILE_BYTES}
-use Rattle.kz_spec_stores.specs.Log.{snapshot}
-use Rattle.kz_spec_stores.specs.Requests.{Either}
+use Rattle.kz_spec_data.specs.Log.{snapshot}
+use Rattle.kz_spec_data.specs.Requests.{Either}
 use Rattle.kz_log.specs.Requests.{made_by_snapshot}
-use Rattle.kz_store_file.proofs.Stops.{between_from_either}
-use Rattle.kz_spec_files.specs.LogFile.{after_payload}
+use Rattle.kz_journal.proofs.Stops.{between_from_either}
+use Rattle.kz_spec_data.specs.LogFile.{after_payload}
 use Rattle.kz_log_store.specs.Stores.{left_of}
 use Rattle.kz_log_store.proofs.store.LogStoreMetaLog.snapshot.Goals as goal
 

@@ -1,7 +1,7 @@
-use Rattle.kz_world_parts.specs.Worlds.{plain_world}
-use Rattle.kz_world_parts.specs.Disks.{disks_in}
-use Rattle.kz_driver.specs.Disks.{payloads_of}
-use Rattle.kz_failures.proofs.Events.{answer_disks}
+use Rattle.kz_world.specs.Worlds.{plain_world}
+use Rattle.kz_world.specs.EventDisks.{disks_in}
+use Rattle.kz_world.specs.Disks.{payloads_of}
+use Rattle.kz_stream.proofs.Events.{answer_disks}
 use Rattle.kz_replay.proofs.machine.ReplayerMachine.event.Goals as goal
 
 pub returns-clause-disks : goal.returns-clause-disks

@@ -1,5 +1,5 @@
 use Rattle.std.proofs.Common.{ap, ◌∙◌}
-use Rattle.kz_spec_znodes.specs.Difference.{chunk}
+use Rattle.kz_spec_data.specs.Difference.{chunk}
 use Rattle.kz_resync.specs.Remainders.{Remainder}
 use Rattle.kz_resync.proofs.remaining.Remaining.next.Goals as goal
 

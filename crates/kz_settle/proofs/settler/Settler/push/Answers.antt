@@ -3,7 +3,7 @@ use Rattle.std.proofs.lemmas.Int.{to_z-of_z}
 use Rattle.std.specs.Ordering.{int_cmp}
 use mir.Val.{SFits}
 use Rattle.kz_types.specs.declared.log.Entry.{Entry}
-use Rattle.kz_ordered.specs.Ordered.{Rises}
+use Rattle.kz_types.specs.Ordered.{Rises}
 use Rattle.kz_settle.specs.Settling.{offset_of}
 use Rattle.kz_settle.specs.Stands.{IsStateAfter, entries_of_answer}
 use Rattle.kz_settle.specs.Steps.{answer_to_plain, after_plain}

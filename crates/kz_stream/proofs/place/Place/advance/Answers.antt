@@ -1,6 +1,6 @@
 use Rattle.std.proofs.Common.{[], ◌∷◌, refl, sym, ◌∙◌, subst}
-use Rattle.kz_spec_lines.specs.Lines.{line}
-use Rattle.kz_spec_runs.specs.Output.{Place}
+use Rattle.kz_spec_data.specs.Lines.{line}
+use Rattle.kz_spec_machine.specs.Output.{Place}
 use Rattle.kz_stream.specs.Disks.{OverSound}
 use Rattle.kz_stream.specs.Machines.{PlaceOver, plain_place}
 use Rattle.kz_stream.specs.Moments.{LineKeepsUp}

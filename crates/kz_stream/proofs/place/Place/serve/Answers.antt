@@ -1,11 +1,11 @@
 use Rattle.std.proofs.Common.{◌+◌, Option, sym, ap, subst}
 use Rattle.kz_spec_machine.specs.Sound.{Sound}
-use Rattle.kz_spec_runs.specs.Output.{Place}
+use Rattle.kz_spec_machine.specs.Output.{Place}
 use Rattle.kz_stream.specs.Machines.{PlaceOver, plain_place}
 use Rattle.kz_stream.specs.Lines.{effect_of_event, Prints}
 use Rattle.kz_stream.proofs.CutOff.{prints_event}
-use Rattle.kz_failures.specs.declared.failure.Failure.{Failure}
-use Rattle.kz_failures.specs.Disks.{AnswerDisks}
+use Rattle.kz_stream.specs.declared.failure.Failure.{Failure}
+use Rattle.kz_stream.specs.FailureDisks.{AnswerDisks}
 use Rattle.kz_stream.specs.Disks.{OverSound}
 use Rattle.kz_stream.specs.Moments.{EventKeepsUp}
 use Rattle.kz_stream.proofs.Moments.{event_keeps_up}

@@ -4,7 +4,7 @@ use Rattle.kz_stream.specs.declared.ending.Ending.TheVariants as ending
 use Rattle.kz_stream.specs.Machines.{StreamOver, plain_place}
 use Rattle.kz_stream.specs.Lines.{effect_of_line, Prints}
 use Rattle.kz_stream.specs.Pending.{lines_to_come, Takes, state_of}
-use Rattle.kz_spec_runs.specs.Moments.{Moment}
+use Rattle.kz_spec_machine.specs.Moments.{Moment}
 use Rattle.kz_stream.specs.Disks.{OverSound}
 use Rattle.kz_stream.specs.Moments.{KeepsUp, BytesKeepUp, LineKeepsUp}
 use Rattle.kz_stream.proofs.Cut.{state, pending_end_much, moments_end}

@@ -2,7 +2,7 @@ use Rattle.std.proofs.Common.{ℕ, ◌+◌, List, [], ◌∷◌, ◌++◌, take,
 use Rattle.std.proofs.KnownBytes.{Appends-nil, Appends-trans}
 use Rattle.std.proofs.lemmas.List.{take_more}
 use Rattle.kz_stream.specs.Endings.{Stops}
-use Rattle.kz_spec_runs.specs.Moments.{LeavesMoment}
+use Rattle.kz_spec_machine.specs.Moments.{LeavesMoment}
 use Rattle.kz_stream.specs.Pending.{outcome_to_come, moments_to_come, GoesSoundly, state_of}
 use Rattle.kz_stream.proofs.Quiet.{no_call, stays_up, both_on}
 use Rattle.kz_stream.proofs.Runs.{goes_nowhere_soundly, goes_soundly, stops_soundly, leaves_after, cut_at}

@@ -1,6 +1,6 @@
 use Rattle.std.proofs.Common.{◌≡◌, ℕ, ◌+◌, true, List, take}
 use Rattle.std.specs.Io.KnownBytes.{Appends}
-use Rattle.kz_failures.specs.Disks.{AreQuiet}
+use Rattle.kz_stream.specs.FailureDisks.{AreQuiet}
 use Rattle.kz_stream.specs.Pending.{GoesSoundly, state_of}
 use Rattle.kz_stream.specs.Disks.{OverSound}
 use Rattle.kz_stream.proofs.stream.Stream.feed.Given as goal

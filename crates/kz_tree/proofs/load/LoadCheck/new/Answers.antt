@@ -1,5 +1,5 @@
 use Rattle.std.proofs.Common.{◌≡◌, true, sym, ◌∙◌, to_z-of_z}
-use Rattle.kz_spec_files.specs.Loads.{is_header}
+use Rattle.kz_spec_data.specs.Loads.{is_header}
 use Rattle.kz_tree.proofs.Loads.{header_checked}
 use Rattle.kz_tree.proofs.load.LoadCheck.new.Goals as goal
 

@@ -1,6 +1,6 @@
 use Rattle.std.proofs.Common.{◌≡◌, None, ap, ◌∙◌}
-use Rattle.kz_spec_stores.specs.Tree.{Tree, put_row}
-use Rattle.kz_spec_files.specs.Loads.{row_refusal}
+use Rattle.kz_spec_data.specs.Tree.{Tree, put_row}
+use Rattle.kz_spec_data.specs.Loads.{row_refusal}
 use Rattle.kz_tree.proofs.Loads.{row_checked, taken_last, with_taken}
 use Rattle.kz_tree.proofs.load.LoadCheck.put.Goals as goal
 

@@ -1,5 +1,5 @@
 use Rattle.std.proofs.Common.{length, ap, ◌∙◌}
-use Rattle.kz_spec_stores.specs.Tree.{Tree, area}
+use Rattle.kz_spec_data.specs.Tree.{Tree, area}
 use Rattle.kz_tree.proofs.Areas.{area_count}
 use Rattle.kz_tree.proofs.tree.Tree.area_len.Goals as goal
 

@@ -3,8 +3,8 @@ use Rattle.std.specs.Prelude.{◌+ℤ◌, ◌<ℤ◌, ◌≤ℤ◌}
 use Rattle.std.proofs.lemmas.Int.{ints}
 use Rattle.kz_types.specs.declared.limits.TheConstants.{MAX_LONG}
 use Rattle.kz_types.specs.declared.move_fault.MoveFault.TheVariants as fault
-use Rattle.kz_spec_stores.specs.Tree.{Tree}
-use Rattle.kz_spec_stores.specs.Requests.{BeginSession}
+use Rattle.kz_spec_data.specs.Tree.{Tree}
+use Rattle.kz_spec_data.specs.Requests.{BeginSession}
 use Rattle.kz_tree.proofs.Moves.{begin_known, begin_full, begin_made, below}
 use Rattle.kz_tree.proofs.tree.Tree.prepare_begin.Goals as goal
 

@@ -3,8 +3,8 @@ use Rattle.std.specs.Prelude.{◌+ℤ◌, ◌<ℤ◌, ◌≤ℤ◌}
 use Rattle.std.proofs.lemmas.Int.{ints}
 use Rattle.kz_types.specs.declared.limits.TheConstants.{MAX_LONG}
 use Rattle.kz_types.specs.declared.move_fault.MoveFault.TheVariants as fault
-use Rattle.kz_spec_stores.specs.Tree.{Tree}
-use Rattle.kz_spec_stores.specs.Requests.{EndSession}
+use Rattle.kz_spec_data.specs.Tree.{Tree}
+use Rattle.kz_spec_data.specs.Requests.{EndSession}
 use Rattle.kz_tree.proofs.Moves.{end_unknown, end_full, end_made, below}
 use Rattle.kz_tree.proofs.tree.Tree.prepare_end.Goals as goal
 

@@ -1,5 +1,5 @@
 use Rattle.std.proofs.Common.{ap, ◌∙◌, length, min, ◌^◌, ◌-◌}
-use Rattle.kz_segments.specs.Joins.{all_joined}
+use Rattle.kz_tree_rows.specs.Joins.{all_joined}
 use Rattle.kz_tree_rows.proofs.Numbering.{rows_of_all}
 use Rattle.kz_tree_rows.proofs.numbered.NumberedRows.count.Goals as goal
 

@@ -2,13 +2,13 @@ use Rattle.std.proofs.Common.{◌+◌, ◌<◌, ◌++◌, Bool, Some, List, leng
 use Rattle.std.specs.List.{filter}
 use Rattle.std.proofs.lemmas.List.{take_rest}
 use Rattle.kz_types.specs.declared.tree.Row.{Row}
-use Rattle.kz_ordered.specs.Order.{bytes_cmp}
-use Rattle.kz_ordered.proofs.Order.{bytes_order}
-use Rattle.kz_ordered.specs.Ordered.{Rises}
-use Rattle.kz_blocks.specs.BlockLists.{items_of, IsBlockFor}
-use Rattle.kz_blocks.proofs.Changes.{read_rises}
-use Rattle.kz_blocks.proofs.AfterLemmas.{items_after-items_of}
-use Rattle.kz_spec_stores.specs.Tree.{path_of_row, is_after}
+use Rattle.kz_types.specs.Order.{bytes_cmp}
+use Rattle.kz_types.proofs.Order.{bytes_order}
+use Rattle.kz_types.specs.Ordered.{Rises}
+use Rattle.kz_sorted.specs.BlockLists.{items_of, IsBlockFor}
+use Rattle.kz_sorted.proofs.Changes.{read_rises}
+use Rattle.kz_sorted.proofs.AfterLemmas.{items_after-items_of}
+use Rattle.kz_spec_data.specs.Tree.{path_of_row, is_after}
 use Rattle.kz_tree_rows.proofs.numbered.NumberedRows.items_after.Goals as goal
 
 pub items_after-items-requires : goal.items_after-items-requires

@@ -1,6 +1,6 @@
 use Rattle.std.proofs.Common.{◌≡◌, ◌+◌, ◌^◌, ◌<◌, None, cond, length, ap, ◌∙◌, arith}
 use Rattle.kz_types.specs.Paths.{is_migrated}
-use Rattle.kz_spec_stores.specs.Tree.{row_at}
+use Rattle.kz_spec_data.specs.Tree.{row_at}
 use Rattle.kz_tree_rows.proofs.Counts.{part, counted_new}
 use Rattle.kz_tree_rows.proofs.rows.Rows.add.Goals as goal
 

@@ -1,5 +1,5 @@
 use Rattle.std.proofs.Common.{◌≡◌, ◌+◌, ◌-◌, length, ap, sym, ◌∙◌, arith}
-use Rattle.kz_spec_stores.specs.Tree.{count_beside}
+use Rattle.kz_spec_data.specs.Tree.{count_beside}
 use Rattle.kz_tree_rows.proofs.Counts.{migrated_within, beside_outside}
 use Rattle.kz_tree_rows.proofs.rows.Rows.count_beside.Goals as goal
 

@@ -1,6 +1,6 @@
 use Rattle.std.proofs.Common.{◌≡◌, ◌≢◌, ◌+◌, ◌-◌, None, cond, ap, sym, ◌∙◌, arith}
 use Rattle.kz_types.specs.Paths.{is_migrated}
-use Rattle.kz_spec_stores.specs.Tree.{row_at}
+use Rattle.kz_spec_data.specs.Tree.{row_at}
 use Rattle.kz_tree_rows.proofs.Counts.{counted_less, counted_without}
 use Rattle.kz_tree_rows.proofs.rows.Rows.remove.Goals as goal
 

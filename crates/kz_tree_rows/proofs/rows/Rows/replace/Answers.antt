@@ -1,6 +1,6 @@
 use Rattle.std.proofs.Common.{◌≢◌, None, List, ap, sym, ◌∙◌, subst}
 use Rattle.kz_types.specs.declared.tree.Row.{Row}
-use Rattle.kz_spec_stores.specs.Tree.{row_at}
+use Rattle.kz_spec_data.specs.Tree.{row_at}
 use Rattle.kz_tree_rows.specs.Kept.{AreCounted}
 use Rattle.kz_tree_rows.proofs.Counts.{at_either, counted_found}
 use Rattle.kz_tree_rows.proofs.rows.Rows.replace.Goals as goal

@@ -1,7 +1,7 @@
 use Rattle.std.proofs.Common.{◌≡◌, None, false, is_some, sym, rules}
-use Rattle.kz_ordered.proofs.Order.{bytes_order}
-use Rattle.kz_ordered.proofs.Append.{without_absent}
-use Rattle.kz_spec_stores.specs.Tree.{path_of_row, row_at}
+use Rattle.kz_types.proofs.Order.{bytes_order}
+use Rattle.kz_types.proofs.Append.{without_absent}
+use Rattle.kz_spec_data.specs.Tree.{path_of_row, row_at}
 use Rattle.kz_tree_rows.proofs.ChildPaths.{none_there}
 use Rattle.kz_tree_rows.proofs.rows.Rows.take_out.Goals as goal
 

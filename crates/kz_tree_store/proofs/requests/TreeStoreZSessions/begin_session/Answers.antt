@@ -1,6 +1,6 @@
 use Rattle.std.proofs.Common.{◌≡◌, ◌≤ℤ◌, pos, Ok, refl, sym, subst, to_z, of_z, w64}
 use Rattle.std.proofs.lemmas.Int.{to_z-of_z}
-use Rattle.kz_spec_stores.specs.Tree.{begin_session}
+use Rattle.kz_spec_data.specs.Tree.{begin_session}
 use Rattle.kz_tree_store.specs.Stores.{left_of}
 use Rattle.kz_tree_store.proofs.Positive.{begin_positive}
 use Rattle.kz_tree_store.proofs.Makes.{begin_change, between}

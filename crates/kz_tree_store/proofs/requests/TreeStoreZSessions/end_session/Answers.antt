@@ -1,6 +1,6 @@
 use Rattle.std.proofs.Common.{◌≡◌, Ok, refl, subst, to_z, of_z, w64}
 use Rattle.std.proofs.lemmas.Int.{to_z-of_z}
-use Rattle.kz_spec_stores.specs.Tree.{end_session}
+use Rattle.kz_spec_data.specs.Tree.{end_session}
 use Rattle.kz_tree_store.specs.Stores.{left_of}
 use Rattle.kz_tree_store.proofs.Positive.{end_positive}
 use Rattle.kz_tree_store.proofs.Makes.{end_change, between}

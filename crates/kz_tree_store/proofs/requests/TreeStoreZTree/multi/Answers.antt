@@ -1,5 +1,5 @@
 use Rattle.std.proofs.Common.{refl}
-use Rattle.kz_spec_stores.specs.Tree.{multi}
+use Rattle.kz_spec_data.specs.Tree.{multi}
 use Rattle.kz_tree_store.specs.Stores.{left_of}
 use Rattle.kz_tree_store.proofs.Positive.{multi_positive}
 use Rattle.kz_tree_store.proofs.Makes.{multi_change, between}

@@ -2,8 +2,8 @@ use Rattle.std.proofs.Common.{◌≡◌, true, false, Some, refl, sym, ap, ◌�
 use Rattle.std.proofs.lemmas.Int.{to_z-of_z}
 use Rattle.std.specs.Int.RustNames.{FitsSigned}
 use Rattle.kz_journal.specs.Held.{disk_of}
-use Rattle.kz_spec_stores.specs.Requests.{Disk}
-use Rattle.kz_spec_files.specs.Loads.{is_load}
+use Rattle.kz_spec_data.specs.Requests.{Disk}
+use Rattle.kz_spec_data.specs.Loads.{is_load}
 use Rattle.kz_tree_store.specs.Opened.{IsTreeFile}
 use Rattle.kz_tree_store.specs.Stores.{known}
 use Rattle.kz_tree_store.specs.LoadCalls.{rows_so_far}

@@ -1,6 +1,6 @@
 use Rattle.std.proofs.Common.{refl, sym, ap, ◌∙◌}
 use Rattle.kz_journal.specs.Held.{disk_of}
-use Rattle.kz_spec_stores.specs.Requests.{Disk}
+use Rattle.kz_spec_data.specs.Requests.{Disk}
 use Rattle.kz_tree_store.specs.Stores.{known}
 use Rattle.kz_tree_store.proofs.Makes.{rows_written, rows_left, none_is}
 use Rattle.kz_tree_store.proofs.store.TreeStore.load_rows.Goals as goal

@@ -1,7 +1,7 @@
 use Rattle.std.proofs.Common.{refl, sym, ap, ◌∙◌, subst}
 use Rattle.kz_journal.specs.Held.{disk_of}
-use Rattle.kz_spec_stores.specs.Tree.{Tree}
-use Rattle.kz_spec_stores.specs.Requests.{Disk}
+use Rattle.kz_spec_data.specs.Tree.{Tree}
+use Rattle.kz_spec_data.specs.Requests.{Disk}
 use Rattle.kz_tree_store.specs.Held.{ArePositive}
 use Rattle.kz_tree_store.specs.Opened.{IsTreeFile}
 use Rattle.kz_tree_store.specs.Stores.{known}

@@ -1,8 +1,8 @@
 use Rattle.std.proofs.Common.{Ok, Err, sym, ◌∙◌, subst}
-use Rattle.kz_spec_files.specs.Frames.{journal_of, LeftBySeal}
+use Rattle.kz_spec_data.specs.Frames.{journal_of, LeftBySeal}
 use Rattle.kz_journal.specs.Held.{disk_of, letter_of, disk_state}
-use Rattle.kz_store_file.specs.declared.fault.ChangeFault.TheVariants.{Full}
-use Rattle.kz_store_file.specs.Changes.{AnswersSeal}
+use Rattle.kz_journal.specs.declared.change_fault.ChangeFault.TheVariants.{Full}
+use Rattle.kz_journal.specs.Changes.{AnswersSeal}
 use Rattle.kz_tree_store.specs.Stores.{known}
 use Rattle.kz_tree_store.proofs.Frames.{same_sealed, left_by_seal, up_by_seal}
 use Rattle.kz_tree_store.proofs.store.TreeStore.seal.Goals as goal

@@ -2,9 +2,9 @@ use Rattle.std.proofs.Common.{◌≡◌, ◌⊎◌, true, false, subst}
 use Rattle.kz_spec_machine.specs.Failures.{is_failure, IsLeft}
 use Rattle.kz_spec_machine.specs.Machine.{next}
 use Rattle.kz_spec_machine.specs.Sound.{Sound}
-use Rattle.kz_driver.specs.Disks.{payloads_of}
-use Rattle.kz_turns.specs.Stops.{AreUp, LeavesOneOf, failure_pairs}
-use Rattle.kz_world_parts.specs.Disks.{disks_in, EventDisks}
+use Rattle.kz_world_parts.specs.Disks.{payloads_of}
+use Rattle.kz_world_parts.specs.TurnStops.{AreUp, LeavesOneOf, failure_pairs}
+use Rattle.kz_world_parts.specs.EventDisks.{disks_in, EventDisks}
 use Rattle.kz_world_parts.specs.Fences.{IsOfFenced, TellsFence}
 use Rattle.kz_world_parts.specs.Worlds.{world_of_parts, plain_world, world_of}
 use Rattle.kz_world.proofs.Events.{event_done, event_failed, event_disks, event_stop, sound_after, fenced_after}

@@ -1,5 +1,5 @@
 use Rattle.std.proofs.Common.{List, sym, ap, subst}
-use Rattle.kz_spec_stores.specs.Log.{IsViewOf}
+use Rattle.kz_spec_data.specs.Log.{IsViewOf}
 use Rattle.kz_spec_machine.specs.Driver.{Driver}
 use Rattle.kz_spec_machine.specs.Machine.{running_ids}
 use Rattle.kz_world_parts.specs.Worlds.{AreDistinct, AreViews}

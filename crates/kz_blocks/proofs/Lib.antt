@@ -1,4 +1,0 @@
-pub mod ItemsOf
-pub mod BlockFor
-pub mod Changes
-pub mod AfterLemmas

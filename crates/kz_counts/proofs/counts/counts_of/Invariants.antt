@@ -1,6 +1,0 @@
-use Rattle.std.proofs.Common.{◌≡◌, take}
-use Rattle.kz_counts.specs.Counting.{counts_of}
-use Rattle.kz_counts.proofs.counts.counts_of.Given as goal
-
-abbrev pub invariant-loop-znode : goal.invariant-loop-znode
-invariant-loop-znode l = l.counts ≡ counts_of (take l.znode-index l.znodes)

@@ -1,5 +1,0 @@
-pub mod Answers
-pub mod Stores
-pub mod Requests
-pub mod Rollbacks
-pub mod Events

@@ -1,5 +1,0 @@
-use Rattle.kz_laws_bodies.proofs.QuotaBodies.{quotas_are_read}
-use Rattle.kz_laws_bodies.proofs.quotas_are_read.Goals as goal
-
-pub returns : goal.returns
-returns c = quotas_are_read

@@ -1,5 +1,0 @@
-use Rattle.kz_laws_bodies.proofs.Topics.{topic_is_read}
-use Rattle.kz_laws_bodies.proofs.topic_is_read.Goals as goal
-
-pub returns : goal.returns
-returns c = topic_is_read

@@ -1,5 +1,0 @@
-use Rattle.kz_laws_delta.proofs.Alike.{delta_of_paths}
-use Rattle.kz_laws_delta.proofs.delta.delta_is_difference.Goals as goal
-
-pub returns : goal.returns
-returns c = λ old new oo wo on wn ks same paths rises within. delta_of_paths old new oo wo on wn ks same paths rises within

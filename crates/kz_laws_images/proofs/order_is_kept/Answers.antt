@@ -1,8 +1,0 @@
-use Rattle.kz_laws_images.proofs.Steps.{applied_keeps, all_applied_keeps}
-use Rattle.kz_laws_images.proofs.order_is_kept.Goals as goal
-
-pub returns-clause-applied : goal.returns-clause-applied
-returns-clause-applied c = applied_keeps
-
-pub returns-clause-all_applied : goal.returns-clause-all_applied
-returns-clause-all_applied c = all_applied_keeps

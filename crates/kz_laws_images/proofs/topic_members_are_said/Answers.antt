@@ -1,5 +1,0 @@
-use Rattle.kz_laws_images.proofs.TopicMembers.{topic_member_said}
-use Rattle.kz_laws_images.proofs.topic_members_are_said.Goals as goal
-
-pub returns : goal.returns
-returns c = topic_member_said

@@ -1,4 +1,0 @@
-pub mod Fields
-pub mod Forms
-pub mod Records
-pub mod Values

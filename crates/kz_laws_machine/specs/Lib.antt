@@ -1,0 +1,11 @@
+pub mod Fence
+pub mod Effects
+pub mod Others
+pub mod Limits
+pub mod TreeLaws
+pub mod LogLaws
+pub mod RefusalLaws
+pub mod Transactions
+pub mod Writes
+pub mod Snapshots
+pub mod Feeds

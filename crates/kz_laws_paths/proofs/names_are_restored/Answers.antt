@@ -1,8 +1,0 @@
-use Rattle.kz_laws_paths.proofs.Names.{name_is_read, part_is_written}
-use Rattle.kz_laws_paths.proofs.names_are_restored.Goals as goal
-
-pub returns-clause-read : goal.returns-clause-read
-returns-clause-read c = name_is_read
-
-pub returns-clause-written : goal.returns-clause-written
-returns-clause-written c = part_is_written

@@ -1,5 +1,0 @@
-use Rattle.kz_laws_paths.proofs.Keys.{path_holds}
-use Rattle.kz_laws_paths.proofs.path_holds_its_key.Goals as goal
-
-pub returns : goal.returns
-returns c = path_holds

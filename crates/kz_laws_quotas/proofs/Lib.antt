@@ -1,4 +1,0 @@
-pub mod QuotaNumerals
-pub mod QuotaScales
-pub mod QuotaTexts
-pub mod Grammar

@@ -1,5 +1,0 @@
-use Rattle.std.proofs.Common.{length}
-use Rattle.kz_laws_records.proofs.fits.+entities.Given as goal
-
-abbrev pub decreases-entities : goal.decreases-entities
-decreases-entities l = length l.items.now

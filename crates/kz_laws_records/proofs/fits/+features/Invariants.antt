@@ -1,5 +1,0 @@
-use Rattle.std.proofs.Common.{length}
-use Rattle.kz_laws_records.proofs.fits.+features.Given as goal
-
-abbrev pub decreases-features : goal.decreases-features
-decreases-features l = length l.items.now

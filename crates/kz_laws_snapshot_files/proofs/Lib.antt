@@ -1,5 +1,0 @@
-pub mod Pieces
-pub mod Following
-pub mod Reading
-pub mod Bases
-pub mod Whole

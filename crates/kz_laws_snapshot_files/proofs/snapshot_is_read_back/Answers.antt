@@ -1,8 +1,0 @@
-use Rattle.kz_laws_snapshot_files.proofs.Whole.{snapshot_read_back, batches_read_back}
-use Rattle.kz_laws_snapshot_files.proofs.snapshot_is_read_back.Goals as goal
-
-pub returns-clause-records : goal.returns-clause-records
-returns-clause-records c = snapshot_read_back
-
-pub returns-clause-batches : goal.returns-clause-batches
-returns-clause-batches c = batches_read_back

@@ -1,9 +1,0 @@
-pub mod Allowed
-pub mod Commits
-pub mod Cut
-pub mod Divided
-pub mod Drivers
-pub mod Images
-pub mod OpenRecords
-pub mod Settled
-pub mod Worlds

@@ -1,3 +1,0 @@
-pub mod TreeLaws
-pub mod LogLaws
-pub mod RefusalLaws

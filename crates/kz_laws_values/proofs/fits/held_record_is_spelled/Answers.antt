@@ -1,0 +1,8 @@
+use Rattle.kz_laws_values.proofs.WrittenForms.{written_is_spelled, written_is_read}
+use Rattle.kz_laws_values.proofs.fits.held_record_is_spelled.Goals as goal
+
+pub returns-clause-spelled : goal.returns-clause-spelled
+returns-clause-spelled c = written_is_spelled c.args.r.now c.record.ensures c.requires
+
+pub returns-clause-accepted : goal.returns-clause-accepted
+returns-clause-accepted c = written_is_read c.args.r.now c.record.ensures c.requires

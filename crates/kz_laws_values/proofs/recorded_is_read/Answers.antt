@@ -1,5 +1,0 @@
-use Rattle.kz_laws_values.proofs.Control.{recorded_is_read}
-use Rattle.kz_laws_values.proofs.recorded_is_read.Goals as goal
-
-pub returns : goal.returns
-returns c = recorded_is_read

@@ -1,7 +1,0 @@
-use Rattle.std.proofs.Common.{take}
-use Rattle.std.specs.List.{All}
-use Rattle.kz_laws_writable.specs.Writable.{IsEntityWritable}
-use Rattle.kz_laws_writable.proofs.held.entities.Given as goal
-
-abbrev pub invariant-loop-part : goal.invariant-loop-part
-invariant-loop-part l = All IsEntityWritable (take l.part-index l.parts)

@@ -1,7 +1,0 @@
-use Rattle.std.proofs.Common.{take}
-use Rattle.std.specs.List.{All}
-use Rattle.kz_laws_writable.specs.Writable.{FitsInt}
-use Rattle.kz_laws_writable.proofs.held.ints.Given as goal
-
-abbrev pub invariant-loop-item : goal.invariant-loop-item
-invariant-loop-item l = All FitsInt (take l.item-index l.numbers)

@@ -1,7 +1,0 @@
-use Rattle.std.proofs.Common.{◌≡◌, ◌+◌, take}
-use Rattle.kz_loading.specs.Kept.{IsKept}
-use Rattle.kz_loading.specs.Pending.{GoesOn}
-use Rattle.kz_loading.proofs.reader.Reader.feed.Given as goal
-
-abbrev pub invariant-loop-byte : goal.invariant-loop-byte
-invariant-loop-byte l = GoesOn l.fn.self l.self (take l.byte-index l.piece) × (l.self.taken ≡ l.fn.self.taken + l.byte-index) × IsKept l.self

@@ -1,5 +1,0 @@
-use Rattle.kz_loading.proofs.Steps.{from_start}
-use Rattle.kz_loading.proofs.reader.Reader.new.Goals as goal
-
-pub returns-clause-coming : goal.returns-clause-coming
-returns-clause-coming c = λ input. from_start c.new.result.items input c.new.ensures.items

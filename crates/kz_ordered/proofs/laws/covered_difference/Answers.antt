@@ -1,5 +1,0 @@
-use Rattle.kz_ordered.proofs.Covering.{covered_difference}
-use Rattle.kz_ordered.proofs.laws.covered_difference.Goals as goal
-
-pub returns : goal.returns
-returns g c = λ cmp key same o d. covered_difference o key same d

@@ -1,0 +1,17 @@
+use Rattle.std.proofs.Common.{ℕ, [], sym, subst}
+use Rattle.kz_types.specs.Order.{bytes_cmp}
+use Rattle.kz_types.proofs.Order.{bytes_order}
+use Rattle.kz_sorted.specs.BlockLists.{IsBlockFor}
+use Rattle.kz_sorted.proofs.BlockFor.{first_keys_rise, block_at_first_key, block_between_first_keys}
+use Rattle.kz_sorted.proofs.search.block_for.Goals as goal
+
+pub spot-requires : goal.spot-requires
+spot-requires g c = first_keys_rise bytes_order g.T.Keyed.key [] c.args.blocks.now c.requires
+
+pub returns-in-Ok-clause-block : goal.returns-in-Ok-clause-block
+returns-in-Ok-clause-block g c = block_at_first_key bytes_order g.T.Keyed.key [] c.args.key.now c.args.blocks.now c.in-Ok.place c.requires c.in-Ok.ensures
+
+pub returns-in-Err-clause-block : goal.returns-in-Err-clause-block
+returns-in-Err-clause-block g c =
+    subst (λ (i : ℕ). IsBlockFor bytes_cmp g.T.Keyed.key c.args.key.now c.args.blocks.now i) (sym c.saturating_sub.ensures)
+    (block_between_first_keys bytes_order g.T.Keyed.key [] c.args.key.now c.args.blocks.now c.in-Err.place c.requires c.in-Err.ensures)

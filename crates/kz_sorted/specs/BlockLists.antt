@@ -1,0 +1,34 @@
+-- A list that is kept as blocks: it is the items of all blocks, one block after another. `cmp` orders the keys, and `key` gives the key of an item.
+use Rattle.std.specs.Prelude.{ℕ, ◌+◌, ◌<◌, ◌≤◌, List, [], ◌∷◌, ◌++◌, ◌≡◌, length, set, take, drop, All}
+use Rattle.std.specs.declared.cmp.Ordering.{Ordering}
+use Rattle.kz_types.specs.Ordered.{Rises, RisesAbove, AllBelow}
+use Rattle.kz_sorted.specs.declared.limits.TheConstants.{MAX_BLOCK_ITEMS}
+
+-- the items of all blocks
+abbrev pub items_of : {A : Type 0} → List (List A) → List A
+items_of [] = []
+items_of (b ∷ bs) = b ++ items_of bs
+
+-- the key of a block's first item, and `none` for a block without items
+abbrev pub first_key : {A K : Type 0} → (A → K) → K → List A → K
+first_key key none [] = none
+first_key key none (x ∷ xs) = key x
+
+-- a block has at least one item, and at most `MAX_BLOCK_ITEMS`
+abbrev pub IsBlock : {A : Type 0} → List A → Type 0
+IsBlock b = (0 < length b) × (length b ≤ MAX_BLOCK_ITEMS)
+
+-- Each is a block, and the items of all of them rise by their keys.
+pub record AreBlocks {A K : Type 0} (cmp : K → K → Ordering) (key : A → K) (bs : List (List A)) : Type 0 where
+  pub rises : Rises cmp key (items_of bs)
+  pub each : All IsBlock bs
+
+-- The block at this place is the one for the key: the items of the blocks before it are below the key, and those of the blocks after it above.
+pub record IsBlockFor {A K : Type 0} (cmp : K → K → Ordering) (key : A → K) (k : K) (bs : List (List A)) (i : ℕ) : Type 0 where
+  pub below : AllBelow cmp key (items_of (take i bs)) k
+  pub above : RisesAbove cmp key k (items_of (drop (i + 1) bs))
+
+-- Of these blocks, at most the one at this place has changed.
+pub record IsOneChanged {A : Type 0} (i : ℕ) (old new : List (List A)) : Type 0 where
+  pub block : List A
+  pub made : new ≡ set old i block

@@ -1,0 +1,20 @@
+//! The block in which a key stands.
+ghost use Rattle.std.specs.Prelude.{◌<◌, length};
+ghost use Rattle.kz_types.specs.Order.{bytes_cmp};
+ghost use Rattle.kz_sorted.specs.BlockLists.{AreBlocks, IsBlockFor};
+
+use crate::block::Block;
+use crate::{Keyed, spot};
+
+/// The place of the block in which the item of this key stands or would stand. It compares the first keys of blocks by
+/// halves.
+pub fn block_for<T: Keyed>(blocks: &[Block<T>], key: &[u8]) -> usize
+    requires { AreBlocks bytes_cmp T.key blocks.now }
+    ensures block { IsBlockFor bytes_cmp T.key key.now blocks.now result }
+    ensures within { 0 < length blocks.now → result < length blocks.now }
+{
+    match spot(blocks, key) {
+        Ok(place) => place,
+        Err(place) => place.saturating_sub(1),
+    }
+}

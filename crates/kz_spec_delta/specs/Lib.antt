@@ -1,4 +1,0 @@
-pub mod Entities
-pub mod Spans
-pub mod Touched
-pub mod Lookups

@@ -1,4 +1,0 @@
-pub mod Dumps
-pub mod LoadLines
-pub mod Loading
-pub mod Generator

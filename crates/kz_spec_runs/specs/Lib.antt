@@ -1,6 +1,0 @@
-pub mod Output
-pub mod Moments
-pub mod Endings
-pub mod InStep
-pub mod Promises
-pub mod Openings

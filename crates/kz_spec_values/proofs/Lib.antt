@@ -1,2 +1,0 @@
-pub mod BodiesOnLiterals
-pub mod Ascii

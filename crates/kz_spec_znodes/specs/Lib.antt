@@ -1,4 +1,0 @@
-pub mod Rendering
-pub mod Translation
-pub mod Difference
-pub mod ZnodeExamples

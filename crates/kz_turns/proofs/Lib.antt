@@ -1,5 +1,0 @@
-pub mod Replies
-pub mod Requests
-pub mod Stops
-pub mod SingleStep
-pub mod Turns
