@@ -4,7 +4,7 @@ ghost use Rattle.kz_types.specs.Order.{bytes_cmp};
 ghost use Rattle.kz_types.specs.Ordered.{put as put_in, without as without_in, find as find_in, Rises};
 ghost use Rattle.kz_sorted.specs.BlockLists.{first_key, items_of};
 
-use crate::{Keyed, find, put, without};
+use crate::{Keyed, find_near, put_near, without};
 use kz_types::{Duplicate, NoMemory, Shared, copy_all};
 use std::alloc::Global;
 use std::marker::Model;
@@ -54,26 +54,31 @@ impl<T> Block<T> {
 
 impl<T: Keyed + Drop> Block<T> {
     /// The items with this one at its place, instead of the one with its key: further owners of each, for another block.
-    pub fn items_with(&self, alloc: Global, item: Shared<T>) -> Result<Vec<Shared<T>>, NoMemory>
+    pub fn items_with(
+        &self,
+        alloc: Global,
+        item: Shared<T>,
+        guess: usize,
+    ) -> Result<Vec<Shared<T>>, NoMemory>
         requires { Rises bytes_cmp T.key self.now }
         ensures { IfOk result (λ made. made.items ≡ put_in bytes_cmp T.key item self.now) }
     {
         let mut items = copy_all(alloc, self.items())?;
-        put(&mut items, item)?;
+        put_near(&mut items, item, guess)?;
         Ok(items)
     }
 
     /// Puts an item at its place, instead of the one with its key. A block that no other list holds is changed in place, and
-    /// another one is copied first. At `Err`, memory ran out, and the block is as it was.
-    pub fn put(&mut self, alloc: Global, item: Shared<T>) -> Result<(), NoMemory>
+    /// another one is copied first. A guess of the place is tried first. At `Err`, memory ran out, and the block is as it was.
+    pub fn put(&mut self, alloc: Global, item: Shared<T>, guess: usize) -> Result<(), NoMemory>
         requires { Rises bytes_cmp T.key self.old }
         ensures ok { OnOk result (self.new ≡ put_in bytes_cmp T.key item self.old) }
         ensures err { OnErr result (self.new ≡ self.old) }
     {
         if let Some(items) = Rc::get_mut(&mut self.items) {
-            return put(items, item);
+            return put_near(items, item, guess);
         }
-        let items = self.items_with(alloc, item)?;
+        let items = self.items_with(alloc, item, guess)?;
         self.items = Rc::new(alloc, items)?;
         Ok(())
     }
@@ -97,14 +102,14 @@ impl<T: Keyed + Drop> Block<T> {
 }
 
 impl<T: Keyed> Block<T> {
-    /// The item with this key, if there is one.
-    pub fn find(&self, key: &[u8]) -> Option<&T>
+    /// The item with this key, if there is one, and the place where the search ended. A guess of the place is tried first.
+    pub fn find(&self, key: &[u8], guess: usize) -> (Option<&T>, usize)
         requires { Rises bytes_cmp T.key self.now }
-        ensures { option_map (λ item. item.now) result ≡ find_in bytes_cmp T.key key.now self.now }
+        ensures { option_map (λ item. item.now) result.0 ≡ find_in bytes_cmp T.key key.now self.now }
     {
-        match find(self.items(), key) {
-            Some(item) => Some(item.get()),
-            None => None,
+        match find_near(self.items(), key, guess) {
+            (Some(item), at) => (Some(item.get()), at),
+            (None, at) => (None, at),
         }
     }
 }

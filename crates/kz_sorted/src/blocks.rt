@@ -4,11 +4,11 @@ ghost use Rattle.kz_types.specs.Order.{bytes_cmp};
 ghost use Rattle.kz_types.specs.Ordered.{find as find_in, put as put_in, without as without_in, Rises};
 ghost use Rattle.kz_sorted.specs.After.{items_after as after_in};
 
-use crate::Keyed;
 use crate::block::{Block, count_of_items};
 use crate::change::{put_item, remove_item};
 use crate::items::{Items, items_after};
 use crate::search::block_for;
+use crate::{Keyed, Near};
 use kz_types::{Duplicate, NoMemory, Shared, copy_all};
 use std::alloc::Global;
 use std::marker::Model;
@@ -25,6 +25,7 @@ use std::marker::Model;
 pub struct Blocks<T: Keyed> {
     alloc: Global,
     blocks: Vec<Block<T>>,
+    near: Near,
 }
 
 impl<T: Keyed> Model for Blocks<T> {
@@ -47,6 +48,7 @@ impl<T: Keyed> Blocks<T> {
         Blocks {
             alloc,
             blocks: Vec::new(alloc),
+            near: Near::new(),
         }
     }
 
@@ -66,15 +68,18 @@ impl<T: Keyed> Blocks<T> {
         count_of_items(&self.blocks)
     }
 
-    /// The item with this key, if there is one. The block is found by halves, and the item in it, too.
+    /// The item with this key, if there is one. Where the last look-up ended is tried first, and what comes after it. Else the
+    /// block is found by halves, and the item in it, too.
     pub fn find(&self, key: &[u8]) -> Option<&T>
         ensures { option_map (λ item. item.now) result ≡ find_in bytes_cmp T.key key.now self.now }
     {
         if self.blocks.is_empty() {
             return None;
         }
-        let place = block_for(&self.blocks, key);
-        self.blocks[place].find(key)
+        let place = block_for(&self.blocks, key, self.near.block());
+        let (found, at) = self.blocks[place].find(key, self.near.item());
+        self.near.set(place, at);
+        found
     }
 
     /// The item with the least key, if there is an item. It looks at one block.
@@ -111,7 +116,7 @@ impl<T: Keyed> Blocks<T> {
         if self.blocks.is_empty() {
             return self.items();
         }
-        let place = block_for(&self.blocks, key);
+        let place = block_for(&self.blocks, key, self.near.block());
         let items = items_after(self.blocks[place].items(), key);
         Items::new(items, &self.blocks[place + 1..])
     }
@@ -162,7 +167,7 @@ impl<T: Keyed + Drop> Blocks<T> {
         ensures err { OnErr result (self.new ≡ self.old) }
     {
         let item = Shared::new(self.alloc, item)?;
-        put_item(self.alloc, &mut self.blocks, item)
+        put_item(self.alloc, &mut self.blocks, &self.near, item)
     }
 
     /// Takes the item of this key out. Where there is none, the list stays as it is. It costs what `put` does, but no block
@@ -174,7 +179,7 @@ impl<T: Keyed + Drop> Blocks<T> {
         ensures ok { OnOk result (self.new ≡ without_in bytes_cmp T.key key.now self.old) }
         ensures err { OnErr result (self.new ≡ self.old) }
     {
-        remove_item(self.alloc, &mut self.blocks, key)
+        remove_item(self.alloc, &mut self.blocks, &self.near, key)
     }
 }
 
@@ -199,6 +204,7 @@ impl<T: Keyed + Drop> Duplicate for Blocks<T> {
         Ok(Blocks {
             alloc,
             blocks: copy_all(alloc, &self.blocks)?,
+            near: Near::new(),
         })
     }
 }

@@ -4,10 +4,10 @@ ghost use Rattle.kz_types.specs.Order.{bytes_cmp};
 ghost use Rattle.kz_types.specs.Ordered.{find as find_in, put as put_in, without as without_in};
 ghost use Rattle.kz_sorted.specs.BlockLists.{items_of, AreBlocks, IsBlockFor, IsOneChanged};
 
-use crate::Keyed;
 use crate::block::Block;
 use crate::limits::{HALF_BLOCK_ITEMS, MAX_BLOCK_ITEMS};
 use crate::search::block_for;
+use crate::{Keyed, Near};
 use kz_types::{NoMemory, Shared};
 use std::alloc::Global;
 
@@ -34,6 +34,7 @@ pub fn put_in_block<T: Keyed + Drop>(
     blocks: &mut Vec<Block<T>>,
     place: usize,
     item: Shared<T>,
+    guess: usize,
 ) -> Result<(), NoMemory>
     requires blocks { AreBlocks bytes_cmp T.key blocks.old.items }
     requires within { place < length blocks.old.items }
@@ -44,7 +45,7 @@ pub fn put_in_block<T: Keyed + Drop>(
     ensures kept { AreBlocks bytes_cmp T.key blocks.new.items }
     ensures one { IsOneChanged place blocks.old.items blocks.new.items }
 {
-    blocks[place].put(alloc, item)
+    blocks[place].put(alloc, item, guess)
 }
 
 // Puts an item into a full block. Two blocks of half its size come in its place, so that at `Err` nothing has to be undone.
@@ -53,6 +54,7 @@ fn put_in_full_block<T: Keyed + Drop>(
     blocks: &mut Vec<Block<T>>,
     place: usize,
     item: Shared<T>,
+    guess: usize,
 ) -> Result<(), NoMemory>
     requires blocks { AreBlocks bytes_cmp T.key blocks.old.items }
     requires within { place < length blocks.old.items }
@@ -62,7 +64,7 @@ fn put_in_full_block<T: Keyed + Drop>(
     ensures err { OnErr result (items_of blocks.new.items ≡ items_of blocks.old.items) }
     ensures kept { AreBlocks bytes_cmp T.key blocks.new.items }
 {
-    let mut items = blocks[place].items_with(alloc, item)?;
+    let mut items = blocks[place].items_with(alloc, item, guess)?;
     let rest = items.split_off(HALF_BLOCK_ITEMS)?;
     let second = Block::new(alloc, rest)?;
     let first = Block::new(alloc, items)?;
@@ -75,6 +77,7 @@ fn put_in_full_block<T: Keyed + Drop>(
 pub fn put_item<T: Keyed + Drop>(
     alloc: Global,
     blocks: &mut Vec<Block<T>>,
+    near: &Near,
     item: Shared<T>,
 ) -> Result<(), NoMemory>
     requires { AreBlocks bytes_cmp T.key blocks.old.items }
@@ -85,11 +88,11 @@ pub fn put_item<T: Keyed + Drop>(
     if blocks.is_empty() {
         return put_first(alloc, blocks, item);
     }
-    let place = block_for(blocks, item.key());
+    let place = block_for(blocks, item.key(), near.block());
     if blocks[place].items().len() < MAX_BLOCK_ITEMS {
-        return put_in_block(alloc, blocks, place, item);
+        return put_in_block(alloc, blocks, place, item, near.item());
     }
-    put_in_full_block(alloc, blocks, place, item)
+    put_in_full_block(alloc, blocks, place, item, near.item())
 }
 
 // Takes the one item of a block out, and the block with it.
@@ -128,6 +131,7 @@ pub fn remove_from_block<T: Keyed + Drop>(
 pub fn remove_item<T: Keyed + Drop>(
     alloc: Global,
     blocks: &mut Vec<Block<T>>,
+    near: &Near,
     key: &[u8],
 ) -> Result<(), NoMemory>
     requires { AreBlocks bytes_cmp T.key blocks.old.items }
@@ -138,8 +142,9 @@ pub fn remove_item<T: Keyed + Drop>(
     if blocks.is_empty() {
         return Ok(());
     }
-    let place = block_for(blocks, key);
-    if blocks[place].find(key).is_none() {
+    let place = block_for(blocks, key, near.block());
+    let (found, _) = blocks[place].find(key, near.item());
+    if found.is_none() {
         return Ok(());
     }
     if blocks[place].items().len() == 1 {

@@ -4,16 +4,16 @@ ghost use Rattle.kz_types.specs.Order.{bytes_cmp};
 ghost use Rattle.kz_sorted.specs.BlockLists.{AreBlocks, IsBlockFor};
 
 use crate::block::Block;
-use crate::{Keyed, spot};
+use crate::{Keyed, spot_near};
 
-/// The place of the block in which the item of this key stands or would stand. It compares the first keys of blocks by
-/// halves.
-pub fn block_for<T: Keyed>(blocks: &[Block<T>], key: &[u8]) -> usize
+/// The place of the block in which the item of this key stands or would stand. A guess of it is tried first. Then the first keys
+/// of blocks are compared by halves.
+pub fn block_for<T: Keyed>(blocks: &[Block<T>], key: &[u8], guess: usize) -> usize
     requires { AreBlocks bytes_cmp T.key blocks.now }
     ensures block { IsBlockFor bytes_cmp T.key key.now blocks.now result }
     ensures within { 0 < length blocks.now → result < length blocks.now }
 {
-    match spot(blocks, key) {
+    match spot_near(blocks, key, guess) {
         Ok(place) => place,
         Err(place) => place.saturating_sub(1),
     }

@@ -9,8 +9,8 @@ ghost use Rattle.kz_tree_rows.specs.Numbered.{numbers_of, AreNumbered};
 use crate::numbers::{numbers_of, numbers_with, segments_of};
 use crate::{Numbers, Segments};
 use kz_sorted::{
-    Block, HALF_BLOCK_ITEMS, Keyed, MAX_BLOCK_ITEMS, Shared, block_for, put_first, put_in_block,
-    remove_from_block,
+    Block, HALF_BLOCK_ITEMS, Keyed, MAX_BLOCK_ITEMS, Near, Shared, block_for, put_first,
+    put_in_block, remove_from_block,
 };
 use kz_types::{NoMemory, Row};
 use std::alloc::Global;
@@ -51,6 +51,7 @@ fn put_with_room(
     segments: &mut Segments,
     place: usize,
     row: Shared<Row>,
+    guess: usize,
 ) -> Result<(), NoMemory>
     requires numbered { AreNumbered blocks.old.items segments.old }
     requires within { place < length blocks.old.items }
@@ -60,9 +61,9 @@ fn put_with_room(
     ensures err { OnErr result (items_of blocks.new.items ≡ items_of blocks.old.items) }
     ensures kept { AreNumbered blocks.new.items segments.new }
 {
-    let replaced = blocks[place].find(row.key());
+    let (replaced, _) = blocks[place].find(row.key(), guess);
     let numbers = numbers_with(segments.at(place), replaced, row.get());
-    put_in_block(alloc, blocks, place, row)?;
+    put_in_block(alloc, blocks, place, row, guess)?;
     match numbers {
         Some(numbers) => segments.set(place, numbers),
         None => number_anew(blocks, segments, place),
@@ -104,6 +105,7 @@ fn put_in_two(
     segments: &mut Segments,
     place: usize,
     row: Shared<Row>,
+    guess: usize,
 ) -> Result<(), NoMemory>
     requires numbered { AreNumbered blocks.old.items segments.old }
     requires within { place < length blocks.old.items }
@@ -113,7 +115,7 @@ fn put_in_two(
     ensures err { OnErr result (items_of blocks.new.items ≡ items_of blocks.old.items) }
     ensures kept { AreNumbered blocks.new.items segments.new }
 {
-    let mut rows = blocks[place].items_with(alloc, row)?;
+    let mut rows = blocks[place].items_with(alloc, row, guess)?;
     let rest = rows.split_off(HALF_BLOCK_ITEMS)?;
     let changed = with_two(alloc, segments, place, numbers_of(&rows), numbers_of(&rest))?;
     let second = Block::new(alloc, rest)?;
@@ -129,6 +131,7 @@ pub fn put(
     alloc: Global,
     blocks: &mut Vec<Block<Row>>,
     segments: &mut Segments,
+    near: &Near,
     row: Shared<Row>,
 ) -> Result<(), NoMemory>
     requires { AreNumbered blocks.old.items segments.old }
@@ -139,11 +142,11 @@ pub fn put(
     if blocks.is_empty() {
         return put_first_row(alloc, blocks, segments, row);
     }
-    let place = block_for(blocks, row.key());
+    let place = block_for(blocks, row.key(), near.block());
     if blocks[place].items().len() < MAX_BLOCK_ITEMS {
-        return put_with_room(alloc, blocks, segments, place, row);
+        return put_with_room(alloc, blocks, segments, place, row, near.item());
     }
-    put_in_two(alloc, blocks, segments, place, row)
+    put_in_two(alloc, blocks, segments, place, row, near.item())
 }
 
 // Takes the one znode of a block out, and the block with it.
@@ -195,6 +198,7 @@ pub fn take_out(
     alloc: Global,
     blocks: &mut Vec<Block<Row>>,
     segments: &mut Segments,
+    near: &Near,
     path: &[u8],
 ) -> Result<(), NoMemory>
     requires { AreNumbered blocks.old.items segments.old }
@@ -205,8 +209,9 @@ pub fn take_out(
     if blocks.is_empty() {
         return Ok(());
     }
-    let place = block_for(blocks, path);
-    if blocks[place].find(path).is_none() {
+    let place = block_for(blocks, path, near.block());
+    let (found, _) = blocks[place].find(path, near.item());
+    if found.is_none() {
         return Ok(());
     }
     if blocks[place].items().len() == 1 {

@@ -7,7 +7,7 @@ ghost use Rattle.kz_tree_rows.specs.Kept.{AreRows};
 
 use crate::later::first_later;
 use crate::{Segments, changes};
-use kz_sorted::{Block, Items, Shared, block_for, items_after};
+use kz_sorted::{Block, Items, Near, Shared, block_for, items_after};
 use kz_types::{Duplicate, NoMemory, Row, copy_all};
 use std::alloc::Global;
 use std::marker::Model;
@@ -22,6 +22,7 @@ pub struct NumberedRows {
     alloc: Global,
     blocks: Vec<Block<Row>>,
     segments: Segments,
+    near: Near,
 }
 
 impl Model for NumberedRows {
@@ -46,6 +47,7 @@ impl NumberedRows {
             alloc,
             blocks: Vec::new(alloc),
             segments: Segments::new(alloc),
+            near: Near::new(),
         }
     }
 
@@ -56,15 +58,18 @@ impl NumberedRows {
         self.segments.whole().rows
     }
 
-    /// The znode at a path. The block is found by halves, and the znode in it, too.
+    /// The znode at a path. Where the last look-up ended is tried first, and what comes after it. Else the block is found by halves,
+    /// and the znode in it, too.
     pub fn find(&self, path: &[u8]) -> Option<&Row>
         ensures { option_map (λ row. row.now) result ≡ row_at path.now self.now }
     {
         if self.blocks.is_empty() {
             return None;
         }
-        let place = block_for(&self.blocks, path);
-        self.blocks[place].find(path)
+        let place = block_for(&self.blocks, path, self.near.block());
+        let (found, at) = self.blocks[place].find(path, self.near.item());
+        self.near.set(place, at);
+        found
     }
 
     /// All znodes, by rising path.
@@ -83,7 +88,7 @@ impl NumberedRows {
         if self.blocks.is_empty() {
             return self.items();
         }
-        let place = block_for(&self.blocks, path);
+        let place = block_for(&self.blocks, path, self.near.block());
         let items = items_after(self.blocks[place].items(), path);
         Items::new(items, &self.blocks[place + 1..])
     }
@@ -106,7 +111,13 @@ impl NumberedRows {
         ensures err { OnErr result (self.new ≡ self.old) }
     {
         let row = Shared::new(self.alloc, row)?;
-        changes::put(self.alloc, &mut self.blocks, &mut self.segments, row)
+        changes::put(
+            self.alloc,
+            &mut self.blocks,
+            &mut self.segments,
+            &self.near,
+            row,
+        )
     }
 
     /// Takes the znode of a path out, where there is one. At `Err`, memory ran out, and the znodes are as they were.
@@ -114,7 +125,13 @@ impl NumberedRows {
         ensures ok { OnOk result (self.new ≡ without_row path.now self.old) }
         ensures err { OnErr result (self.new ≡ self.old) }
     {
-        changes::take_out(self.alloc, &mut self.blocks, &mut self.segments, path)
+        changes::take_out(
+            self.alloc,
+            &mut self.blocks,
+            &mut self.segments,
+            &self.near,
+            path,
+        )
     }
 }
 
@@ -125,6 +142,7 @@ impl Duplicate for NumberedRows {
             alloc,
             blocks: copy_all(alloc, &self.blocks)?,
             segments: self.segments.copy(alloc)?,
+            near: Near::new(),
         })
     }
 }

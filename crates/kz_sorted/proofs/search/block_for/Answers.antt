@@ -5,8 +5,8 @@ use Rattle.kz_sorted.specs.BlockLists.{IsBlockFor}
 use Rattle.kz_sorted.proofs.BlockFor.{first_keys_rise, block_at_first_key, block_between_first_keys}
 use Rattle.kz_sorted.proofs.search.block_for.Goals as goal
 
-pub spot-requires : goal.spot-requires
-spot-requires g c = first_keys_rise bytes_order g.T.Keyed.key [] c.args.blocks.now c.requires
+pub spot_near-requires : goal.spot_near-requires
+spot_near-requires g c = first_keys_rise bytes_order g.T.Keyed.key [] c.args.blocks.now c.requires
 
 pub returns-in-Ok-clause-block : goal.returns-in-Ok-clause-block
 returns-in-Ok-clause-block g c = block_at_first_key bytes_order g.T.Keyed.key [] c.args.key.now c.args.blocks.now c.in-Ok.place c.requires c.in-Ok.ensures

@@ -9,8 +9,8 @@ use Rattle.kz_tree_rows.specs.Numbered.{numbers_of, AreNumbered}
 use Rattle.kz_tree_rows.proofs.Numbering.{all_same, numbered_one, numbered_put, numbers_at}
 use Rattle.kz_tree_rows.proofs.changes.put_with_room.Goals as goal
 
-pub find-replaced-requires : goal.find-replaced-requires
-find-replaced-requires c = read_rises bytes_order path_of_row c.args.blocks.now.items c.args.place c.index.result.now c.requires.numbered.blocks c.requires.within c.index.ensures
+pub find-requires : goal.find-requires
+find-requires c = read_rises bytes_order path_of_row c.args.blocks.now.items c.args.place c.index.result.now c.requires.numbered.blocks c.requires.within c.index.ensures
 
 pub returns-in_err-put_in_block-clause-kept : goal.returns-in_err-put_in_block-clause-kept
 returns-in_err-put_in_block-clause-kept c =
@@ -23,8 +23,8 @@ returns-in-Some-clause-kept c =
     let place = c.args.place in
     let there : c.index.result.now ≡ get_or bs place [] = get_or_read bs place c.index.result.now c.requires.within c.index.ensures [] in
     let at : c.at.result ≡ numbers_of (get_or bs place []) = c.at.ensures ∙ numbers_at bs c.args.segments.now place c.requires.numbered c.requires.within in
-    let found : option_map (λ r. r.now) c.find-replaced.result ≡ row_at c.get.result.now.path (get_or bs place []) =
-    c.find-replaced.ensures ∙ ap (λ path. row_at path c.index.result.now) (c.key.ensures ∙ sym (ap (λ (r : Row). r.path) c.get.ensures)) ∙ ap (row_at c.get.result.now.path) there in
+    let found : option_map (λ r. r.now) c.find.result.0 ≡ row_at c.get.result.now.path (get_or bs place []) =
+    c.find.ensures ∙ ap (λ path. row_at path c.index.result.now) (c.key.ensures ∙ sym (ap (λ (r : Row). r.path) c.get.ensures)) ∙ ap (row_at c.get.result.now.path) there in
     let number : c.in-Some.numbers ≡ numbers_of (put_row c.args.row (get_or bs place [])) =
     c.in-Some.ensures (get_or bs place []) (block_rises bytes_order path_of_row bs place [] c.requires.numbered.blocks.rises c.requires.within) at found ∙ ap (λ (r : Row). numbers_of (put_row r (get_or bs place []))) c.get.ensures in
     numbered_put c.args.row bs c.put_in_block.new.blocks.items c.args.segments.now c.set.new.self place c.in-Some.numbers c.requires.numbered c.requires.within c.requires.block c.put_in_block.ensures.one c.put_in_block.ensures.kept

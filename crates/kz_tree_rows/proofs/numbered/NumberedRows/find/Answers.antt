@@ -7,8 +7,8 @@ use Rattle.kz_sorted.proofs.Changes.{read_rises, read_found}
 use Rattle.kz_spec_data.specs.Tree.{path_of_row, row_at}
 use Rattle.kz_tree_rows.proofs.numbered.NumberedRows.find.Goals as goal
 
-pub find-requires : goal.find-requires
-find-requires c =
+pub find-at-requires : goal.find-at-requires
+find-at-requires c =
     let within : c.block_for-place.result < length c.self.inside.blocks.items = search rules in
     read_rises bytes_order path_of_row c.self.inside.blocks.items c.block_for-place.result c.index.result.now c.self.invariant.blocks within c.index.ensures
 
@@ -17,4 +17,4 @@ returns c =
     let bs = c.self.inside.blocks.items in
     let within : c.block_for-place.result < length bs = search rules in
     let for_path : IsBlockFor bytes_cmp path_of_row c.args.path.now bs c.block_for-place.result = subst (λ (xs : List (List Row)). IsBlockFor bytes_cmp path_of_row c.args.path.now xs c.block_for-place.result) c.deref.ensures.value c.block_for-place.ensures.block in
-    c.find.ensures ∙ sym (read_found bytes_order path_of_row c.args.path.now bs c.block_for-place.result c.index.result.now within c.index.ensures for_path) ∙ ap (row_at c.args.path.now) c.self.view_is
+    c.find-at.ensures ∙ sym (read_found bytes_order path_of_row c.args.path.now bs c.block_for-place.result c.index.result.now within c.index.ensures for_path) ∙ ap (row_at c.args.path.now) c.self.view_is

@@ -3,7 +3,7 @@ use Rattle.kz_types.specs.Order.{bytes_cmp}
 use Rattle.kz_types.specs.Spot.{IsSpot}
 use Rattle.kz_types.proofs.Order.{bytes_order}
 use Rattle.kz_types.proofs.Spot.{put_by_spot, put_by_gap}
-use Rattle.kz_sorted.proofs.sorted.put.Goals as goal
+use Rattle.kz_sorted.proofs.sorted.put_near.Goals as goal
 
 pub returns-in-Ok-clause-ok : goal.returns-in-Ok-clause-ok
 returns-in-Ok-clause-ok g c =

@@ -2,7 +2,7 @@ use Rattle.std.proofs.Common.{◌≡◌, ◌+◌, ◌-◌, ◌/◌, ◌<◌, Les
 use Rattle.kz_types.specs.Order.{bytes_cmp}
 use Rattle.kz_types.proofs.Order.{bytes_order}
 use Rattle.kz_sorted.proofs.Halves.{under_more, over_more, holds_here}
-use Rattle.kz_sorted.proofs.sorted.spot_by_halves.Goals as goal
+use Rattle.kz_sorted.proofs.sorted.spot_between.Goals as goal
 
 pub loop-low-preserved-in-Less : goal.loop-low-preserved-in-Less
 loop-low-preserved-in-Less g c =
@@ -11,7 +11,7 @@ loop-low-preserved-in-Less g c =
     let is : bytes_cmp (g.T.Keyed.key c.index-items-middle.result) c.args.key.now ≡ Less = cc in record {
       low_bound = omega arith;
       high_bound = c.loop-low.invariant.high_bound;
-      under = under_more bytes_order g.T.Keyed.key c.args.key.now c.args.items.now i c.index-items-middle.result c.requires within c.index-items-middle.is is;
+      under = under_more bytes_order g.T.Keyed.key c.args.key.now c.args.items.now i c.index-items-middle.result c.requires.rises within c.index-items-middle.is is;
       over = c.loop-low.invariant.over;
     }
 
@@ -30,5 +30,5 @@ loop-low-preserved g c =
       low_bound = omega arith;
       high_bound = omega arith;
       under = c.loop-low.invariant.under;
-      over = over_more bytes_order g.T.Keyed.key c.args.key.now c.args.items.now i c.index-items-middle.result c.requires within c.index-items-middle.is is;
+      over = over_more bytes_order g.T.Keyed.key c.args.key.now c.args.items.now i c.index-items-middle.result c.requires.rises within c.index-items-middle.is is;
     }

@@ -1,7 +1,7 @@
 use Rattle.std.proofs.Common.{◌-◌, ◌≡◌, ◌≤◌, Less, length}
 use Rattle.std.specs.List.{AllWithin}
 use Rattle.kz_types.specs.Order.{bytes_cmp}
-use Rattle.kz_sorted.proofs.sorted.spot_by_halves.Given as goal
+use Rattle.kz_sorted.proofs.sorted.spot_between.Given as goal
 
 abbrev pub invariant-loop-low : goal.invariant-loop-low
 invariant-loop-low g l = record {
