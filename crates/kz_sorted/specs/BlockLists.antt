@@ -1,5 +1,5 @@
 -- A list that is kept as blocks: it is the items of all blocks, one block after another. `cmp` orders the keys, and `key` gives the key of an item.
-use Rattle.std.specs.Prelude.{ℕ, ◌+◌, ◌<◌, ◌≤◌, List, [], ◌∷◌, ◌++◌, ◌≡◌, length, set, take, drop, All}
+use Rattle.std.specs.Prelude.{ℕ, Option, Some, None, ◌+◌, ◌<◌, ◌≤◌, List, [], ◌∷◌, ◌++◌, ◌≡◌, length, set, take, drop, All}
 use Rattle.std.specs.declared.cmp.Ordering.{Ordering}
 use Rattle.kz_types.specs.Ordered.{Rises, RisesAbove, AllBelow}
 use Rattle.kz_sorted.specs.declared.limits.TheConstants.{MAX_BLOCK_ITEMS}
@@ -8,6 +8,11 @@ use Rattle.kz_sorted.specs.declared.limits.TheConstants.{MAX_BLOCK_ITEMS}
 abbrev pub items_of : {A : Type 0} → List (List A) → List A
 items_of [] = []
 items_of (b ∷ bs) = b ++ items_of bs
+
+-- the blocks that are held, and none where nothing is held
+abbrev pub blocks_held : {A : Type 0} → Option (List (List A)) → List (List A)
+blocks_held None = []
+blocks_held (Some bs) = bs
 
 -- the key of a block's first item, and `none` for a block without items
 abbrev pub first_key : {A K : Type 0} → (A → K) → K → List A → K

@@ -4,27 +4,27 @@ ghost use Rattle.kz_types.specs.Order.{bytes_cmp};
 ghost use Rattle.kz_types.specs.Ordered.{find as find_in, put as put_in, without as without_in, Rises};
 ghost use Rattle.kz_sorted.specs.After.{items_after as after_in};
 
-use crate::block::{Block, count_of_items};
-use crate::change::{put_item, remove_item};
+use crate::block::count_of_items;
 use crate::items::{Items, items_after};
 use crate::search::block_for;
+use crate::shared_blocks::SharedBlocks;
 use crate::{Keyed, Near};
-use kz_types::{Duplicate, NoMemory, Shared, copy_all};
+use kz_types::{Duplicate, NoMemory, Shared};
 use std::alloc::Global;
 use std::marker::Model;
 
 /// A list of items by rising keys of bytes, no two with one key. Contracts see the list.
 ///
-/// It is kept as blocks of 1 to [`MAX_BLOCK_ITEMS`](crate::MAX_BLOCK_ITEMS) items. A copy of the list has the same blocks:
-/// it costs a pointer for each. A change copies at most the pointers to the items of one block, and only where another list
-/// has that block or the block is full. Blocks aren't merged when they shrink, and only one without items goes. So after
+/// It is kept as blocks of 1 to [`MAX_BLOCK_ITEMS`](crate::MAX_BLOCK_ITEMS) items. A copy of the list costs a pointer. The first
+/// change after a copy costs a pointer for each block. Beside that a change copies at most the pointers to the items of one block,
+/// and only where another list has that block or the block is full. Blocks aren't merged when they shrink, and only one without items goes. So after
 /// many items were taken out there may be more blocks than the items need, at worst one for each.
 ///
 /// The comments say what each call costs. No clause does, nor what lists share, nor when memory runs out.
 #[derive(Drop)]
 pub struct Blocks<T: Keyed> {
     alloc: Global,
-    blocks: Vec<Block<T>>,
+    blocks: SharedBlocks<T>,
     near: Near,
 }
 
@@ -35,9 +35,9 @@ impl<T: Keyed> Model for Blocks<T> {
 
     ghost Value = { List T };
 
-    ghost view = { λ b. items_of b.blocks.items };
+    ghost view = { λ b. items_of b.blocks };
 
-    ghost invariant = { λ b. AreBlocks bytes_cmp T.key b.blocks.items };
+    ghost invariant = { λ b. AreBlocks bytes_cmp T.key b.blocks };
 }
 
 impl<T: Keyed> Blocks<T> {
@@ -47,7 +47,7 @@ impl<T: Keyed> Blocks<T> {
     {
         Blocks {
             alloc,
-            blocks: Vec::new(alloc),
+            blocks: SharedBlocks::new(),
             near: Near::new(),
         }
     }
@@ -58,14 +58,14 @@ impl<T: Keyed> Blocks<T> {
     pub fn is_empty(&self) -> bool
         ensures { IsTrue result ↔ (self.now ≡ []) }
     {
-        self.blocks.is_empty()
+        self.blocks.as_slice().is_empty()
     }
 
     /// How many items there are, or the greatest `usize` where there are more. It looks at each block once.
     pub fn len(&self) -> usize
         ensures { result ≡ min (length self.now) usize.MAX }
     {
-        count_of_items(&self.blocks)
+        count_of_items(self.blocks.as_slice())
     }
 
     /// The item with this key, if there is one. Where the last look-up ended is tried first, and what comes after it. Else the
@@ -73,11 +73,12 @@ impl<T: Keyed> Blocks<T> {
     pub fn find(&self, key: &[u8]) -> Option<&T>
         ensures { option_map (λ item. item.now) result ≡ find_in bytes_cmp T.key key.now self.now }
     {
-        if self.blocks.is_empty() {
+        let blocks = self.blocks.as_slice();
+        if blocks.is_empty() {
             return None;
         }
-        let place = block_for(&self.blocks, key, self.near.block());
-        let (found, at) = self.blocks[place].find(key, self.near.item());
+        let place = block_for(blocks, key, self.near.block());
+        let (found, at) = blocks[place].find(key, self.near.item());
         self.near.set(place, at);
         found
     }
@@ -94,11 +95,12 @@ impl<T: Keyed> Blocks<T> {
     pub fn last(&self) -> Option<&T>
         ensures { option_map (λ item. item.now) result ≡ slice_get self.now (length self.now - 1) }
     {
-        if self.blocks.is_empty() {
+        let blocks = self.blocks.as_slice();
+        if blocks.is_empty() {
             return None;
         }
-        let place = self.blocks.len() - 1;
-        self.blocks[place].last()
+        let place = blocks.len() - 1;
+        blocks[place].last()
     }
 
     /// All items, in the order of their keys. Each step takes the same time, however many items there are.
@@ -106,19 +108,20 @@ impl<T: Keyed> Blocks<T> {
         ensures items { result ≡ self.now }
         ensures rises { Rises bytes_cmp T.key self.now }
     {
-        Items::new(&[], &self.blocks)
+        Items::new(&[], self.blocks.as_slice())
     }
 
     // The items whose keys are above this one, in the order of their keys.
     fn items_after_key(&self, key: &[u8]) -> Items<'_, T>
         ensures { result ≡ after_in bytes_cmp T.key (Some key.now) self.now }
     {
-        if self.blocks.is_empty() {
+        let blocks = self.blocks.as_slice();
+        if blocks.is_empty() {
             return self.items();
         }
-        let place = block_for(&self.blocks, key, self.near.block());
-        let items = items_after(self.blocks[place].items(), key);
-        Items::new(items, &self.blocks[place + 1..])
+        let place = block_for(blocks, key, self.near.block());
+        let items = items_after(blocks[place].items(), key);
+        Items::new(items, &blocks[place + 1..])
     }
 
     /// The items whose keys are above this one, or all items where no key is given, in the order of their keys. No item
@@ -167,7 +170,7 @@ impl<T: Keyed + Drop> Blocks<T> {
         ensures err { OnErr result (self.new ≡ self.old) }
     {
         let item = Shared::new(self.alloc, item)?;
-        put_item(self.alloc, &mut self.blocks, &self.near, item)
+        self.blocks.put(self.alloc, &self.near, item)
     }
 
     /// Takes the item of this key out. Where there is none, the list stays as it is. It costs what `put` does, but no block
@@ -179,7 +182,7 @@ impl<T: Keyed + Drop> Blocks<T> {
         ensures ok { OnOk result (self.new ≡ without_in bytes_cmp T.key key.now self.old) }
         ensures err { OnErr result (self.new ≡ self.old) }
     {
-        remove_item(self.alloc, &mut self.blocks, &self.near, key)
+        self.blocks.remove(self.alloc, &self.near, key)
     }
 }
 
@@ -198,12 +201,12 @@ impl<T: Keyed + Duplicate + Drop> Blocks<T> {
 }
 
 impl<T: Keyed + Drop> Duplicate for Blocks<T> {
-    /// A list with the same blocks: it costs a pointer for each. It keeps this allocator for its changes. A change of
-    /// either list leaves the other.
+    /// A list with the same blocks: it costs a pointer. It keeps this allocator for its changes. A change of either list
+    /// leaves the other.
     fn copy(&self, alloc: Global) -> Result<Self, NoMemory> {
         Ok(Blocks {
             alloc,
-            blocks: copy_all(alloc, &self.blocks)?,
+            blocks: self.blocks.copy(alloc)?,
             near: Near::new(),
         })
     }

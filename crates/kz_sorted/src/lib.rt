@@ -10,6 +10,7 @@ mod keyed;
 mod limits;
 mod near;
 mod search;
+mod shared_blocks;
 mod sorted;
 mod sorting;
 
