@@ -46,8 +46,8 @@ pub type Quotas = Sequence<QuotaRow>;
 pub type Brokers = Sequence<RegisterBrokerRecord>;
 
 /// The metadata of the cluster: topics, configurations of brokers, quotas, credentials, access control entries, the
-/// registered brokers, the next producer id, and the state of the migration. A copy has the same blocks of entries: it costs a
-/// pointer for each, and the registrations of the brokers.
+/// registered brokers, the next producer id, and the state of the migration. A copy costs a pointer for each list of entries, and
+/// the registrations of the brokers.
 pub struct Image {
     alloc: Global,
     topics: Topics,

@@ -8,6 +8,7 @@ ghost use Rattle.kz_spec_data.specs.ImageRules.{new_row, leaves_row};
 ghost use Rattle.kz_spec_data.specs.Image.{put_topic, new_topic, with_changed, put_partition, partition_changed, without_topic, topic_configured};
 ghost use Rattle.kz_spec_data.specs.InOrder.{AreTopicsInOrder};
 ghost use Rattle.kz_spec_data.specs.Legal.{AreApart};
+ghost use Rattle.kz_image.specs.Names.{topic_if};
 
 use crate::names::TopicName;
 use crate::topic::{with_member, with_partition, with_partition_changed};
@@ -21,7 +22,7 @@ use std::alloc::Global;
 use std::marker::Model;
 
 /// The topics, by rising name, as contracts see them, and their names, by rising id: a look-up by an id searches these, and
-/// then the topics by the name. A copy has the same blocks of topics: it costs a pointer for each.
+/// then the topics by the name. A copy costs two pointers. There may be names of topics that aren't there, where memory ran out.
 #[derive(Drop)]
 pub struct Topics {
     topics: Blocks<TopicEntry>,
@@ -89,13 +90,29 @@ impl Topics {
         self.topics.find(name.bytes())
     }
 
+    // The topic of a name, where it has this id.
+    fn named_if(&self, name: &Text, id: Id) -> Option<&TopicEntry>
+        ensures { option_map (λ t. t.now) result ≡ topic_if id (find_in bytes_cmp name_of_topic name.now self.now) }
+    {
+        match self.topics.find(name.bytes()) {
+            Some(topic) => {
+                if topic.id.bytes == id.bytes {
+                    Some(topic)
+                } else {
+                    None
+                }
+            }
+            None => None,
+        }
+    }
+
     /// The topic of an id.
     pub fn with_id(&self, id: Id) -> Option<&TopicEntry>
         requires { Rises bytes_cmp name_of_topic self.now }
         ensures { option_map (λ t. t.now) result ≡ find_by (λ t. same_id t.id id) self.now }
     {
         match self.names.find(&id.bytes) {
-            Some(named) => self.topics.find(named.name.bytes()),
+            Some(named) => self.named_if(&named.name, id),
             None => None,
         }
     }
@@ -111,10 +128,10 @@ impl Topics {
         ensures err { OnErr result (self.new ≡ self.old) }
     {
         let topic = topic_made(alloc, change)?;
-        let mut names = self.names.copy(alloc)?;
-        names.put(name_made(alloc, change)?)?;
+        let name = name_made(alloc, change)?;
+        // Where memory runs out after this, the name stays. No look-up finds a topic by it.
+        self.names.put(name)?;
         self.topics.put(topic)?;
-        self.names = names;
         Ok(())
     }
 
@@ -129,10 +146,9 @@ impl Topics {
             Some(topic) => topic.name.copy(alloc)?,
             None => return Ok(()),
         };
-        let mut names = self.names.copy(alloc)?;
-        names.without(&id.bytes)?;
         self.topics.without(name.bytes())?;
-        self.names = names;
+        // Where memory runs out here, the name stays. No look-up finds a topic by it.
+        let _done = self.names.without(&id.bytes);
         Ok(())
     }
 

@@ -100,7 +100,7 @@ fn load_tree<S: Source, D: Disk>(alloc: Global, input: &mut S, tree: D) -> (Stat
         Err(refused) => return refused,
     };
     let status = fill(alloc, input, &mut store);
-    (status, store.into_disk())
+    (status, store.into_disk_at_exit())
 }
 
 /// Makes both files, as `init`, and loads the tree of an input into them: its lines are a header and znodes, by rising path. The tree

@@ -16,6 +16,7 @@ use kz_log::{Elected, Feed, LogFault, LogRows, MetaLog};
 use kz_log_frames::{batch_bytes, cut_and_bytes, reset_bytes};
 use kz_types::{BatchRow, Limit, MAX_EPOCH, MetaRecord, NoMemory};
 use std::alloc::Global;
+use std::mem;
 
 // The batch of these records after a log's end, and the payload of its frame.
 fn prepare(
@@ -131,12 +132,11 @@ impl<D: Disk> LogStore<D> {
         self.fresh
     }
 
-    /// A copy of all of the log. It makes no call of the disk.
-    pub fn log_rows(&self) -> Result<LogRows, NoMemory>
-        ensures { IfOk result (λ rows. rows ≡ held_log self.now) }
+    /// Lends the log. It makes no call of the disk.
+    pub fn rows(&self) -> &LogRows
+        ensures { result.now ≡ held_log self.now }
     {
-        let feed = self.rows.read_from(self.alloc, -2)?;
-        Ok(LogRows::from_feed(self.rows.epoch(), feed))
+        &self.rows
     }
 
     /// Appends a seal where frames have no sum, and answers true: from it on frames have one. Where they have, it makes no call,
@@ -170,6 +170,16 @@ impl<D: Disk> LogStore<D> {
         ensures { result ≡ store_disk self }
     {
         let LogStore { journal, .. } = self;
+        journal.into_disk()
+    }
+
+    /// Gives the disk back at the end of a process. The memory of the log isn't given back piece by piece, which would take a tenth
+    /// of the time of a short command.
+    pub fn into_disk_at_exit(self) -> D
+        ensures { result ≡ store_disk self }
+    {
+        let LogStore { journal, rows, .. } = self;
+        mem::forget(rows);
         journal.into_disk()
     }
 

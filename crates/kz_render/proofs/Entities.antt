@@ -10,7 +10,9 @@ use Rattle.kz_types.proofs.Puts.{all_put-append, all_put_of_rising}
 use Rattle.kz_spec_data.specs.Metadata.{Image}
 use Rattle.kz_spec_data.specs.Tree.{path_of_rendered}
 use Rattle.kz_spec_data.specs.Rendering.{bare, topic_znodes, config_znode, quota_znodes, acl_znode, producer_znodes, entity_znodes, render}
+use Rattle.kz_render.specs.Apart.{topics_apart}
 use Rattle.kz_render.specs.Gathered.{PutAlike}
+use Rattle.kz_render.proofs.TopicsApart.{apart_alike}
 
 -- lists that are put alike still are with more after each
 put_alike_more : (xs ys more : List Rendered) → PutAlike xs ys → PutAlike (xs ++ more) (ys ++ more)
@@ -19,7 +21,7 @@ put_alike_more xs ys more same =
 
 -- all of them are added in three steps, of which the middle one adds what is put alike
 pub entities_alike : (i : Image) (old first second third : List Rendered)
-    → first ≡ old ++ (flat_map topic_znodes i.topics ++ (map config_znode i.broker_configs ++ quota_znodes i.quotas i.users))
+    → first ≡ old ++ (topics_apart i.topics ++ (map config_znode i.broker_configs ++ quota_znodes i.quotas i.users))
     → PutAlike second (first ++ map (acl_znode i.acls) i.acls) → third ≡ second ++ producer_znodes i.next_producer → PutAlike third (old ++ entity_znodes i)
 entities_alike i old first second third one two three =
     let topics = flat_map topic_znodes i.topics in
@@ -27,8 +29,10 @@ entities_alike i old first second third one two three =
     let quotas = quota_znodes i.quotas i.users in
     let acls = map (acl_znode i.acls) i.acls in
     let producer = producer_znodes i.next_producer in
-    ap (λ zs. all_put bytes_cmp path_of_rendered zs []) three ∙ put_alike_more second (first ++ acls) producer two
-    ∙ ap (λ zs. all_put bytes_cmp path_of_rendered zs []) (append_assoc first acls producer ∙ ap (λ zs. zs ++ (acls ++ producer)) one ∙ append_assoc old (topics ++ (configs ++ quotas)) (acls ++ producer)
+    let first_alike : PutAlike first (old ++ (topics ++ (configs ++ quotas))) = ap (λ zs. all_put bytes_cmp path_of_rendered zs []) one ∙ apart_alike old (configs ++ quotas) i.topics in
+    let second_alike : PutAlike second ((old ++ (topics ++ (configs ++ quotas))) ++ acls) = two ∙ put_alike_more first (old ++ (topics ++ (configs ++ quotas))) acls first_alike in
+    ap (λ zs. all_put bytes_cmp path_of_rendered zs []) three ∙ put_alike_more second ((old ++ (topics ++ (configs ++ quotas))) ++ acls) producer second_alike
+    ∙ ap (λ zs. all_put bytes_cmp path_of_rendered zs []) (append_assoc (old ++ (topics ++ (configs ++ quotas))) acls producer ∙ append_assoc old (topics ++ (configs ++ quotas)) (acls ++ producer)
     ∙ ap (λ zs. old ++ zs) (append_assoc topics (configs ++ quotas) (acls ++ producer) ∙ ap (λ zs. topics ++ zs) (append_assoc configs quotas (acls ++ producer))))
 
 -- with those of the roots in front, all of them are the rendering

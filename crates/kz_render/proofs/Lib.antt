@@ -9,3 +9,4 @@ pub mod Gathered
 pub mod TopicPaths
 pub mod Parents
 pub mod ResourceRows
+pub mod TopicsApart

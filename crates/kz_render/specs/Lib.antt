@@ -2,3 +2,4 @@ pub mod Limits
 pub mod Gathered
 pub mod Resources
 pub mod Places
+pub mod Apart

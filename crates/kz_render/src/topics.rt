@@ -5,7 +5,8 @@ ghost use Rattle.kz_types.specs.Paths.{is_topic_name, is_not_negative};
 ghost use Rattle.kz_types.specs.declared.bodies.Body.TheVariants as body;
 ghost use Rattle.kz_spec_data.specs.Bodies.{text_of_body};
 ghost use Rattle.kz_spec_data.specs.Legal.{IsPartition, IsTopic};
-ghost use Rattle.kz_spec_data.specs.Rendering.{bare, assignment_of, topic_znode, partitions_path, state_body, partition_znodes, topic_config_znodes, topic_znodes};
+ghost use Rattle.kz_spec_data.specs.Rendering.{bare, assignment_of, topic_znode, partitions_path, state_body, partition_znodes, topic_config_znodes};
+ghost use Rattle.kz_render.specs.Apart.{own_znodes, configs_of, topics_apart};
 
 use crate::push::{push_bare, push_znode};
 use crate::topic_paths::{number_path, partitions_path, state_path, topic_config_path, topic_path};
@@ -143,31 +144,58 @@ fn push_topic_config(
     push_znode(znodes, path, text.into_bytes())
 }
 
-// Adds the znodes of a topic, of its partitions and of its configuration.
+// Adds the znodes of a topic and of its partitions.
 fn push_topic(alloc: Global, znodes: &mut Vec<Rendered>, topic: &TopicEntry) -> Result<(), NoMemory>
     requires named { is_topic_name topic.now.name ≡ true }
     requires partitions { All IsPartition topic.now.partitions }
-    ensures { OnOk result (znodes.new.items ≡ znodes.old.items ++ topic_znodes topic.now) }
+    ensures { OnOk result (znodes.new.items ≡ znodes.old.items ++ own_znodes topic.now) }
 {
     let name = &topic.name;
     let path = partitions_path(alloc, name)?;
     let partitions = topic.partitions.as_slice();
     push_topic_znode(alloc, znodes, topic)?;
-    push_partitions(alloc, znodes, name, &path, partitions)?;
-    push_topic_config(alloc, znodes, name, topic.pairs.as_slice())
+    push_partitions(alloc, znodes, name, &path, partitions)
 }
 
-/// Adds the znodes of all topics.
+// Adds the znodes of all topics and of their partitions.
+fn push_all_topics(
+    alloc: Global,
+    znodes: &mut Vec<Rendered>,
+    topics: &Blocks<TopicEntry>,
+) -> Result<(), NoMemory>
+    requires { All IsTopic topics.now }
+    ensures { OnOk result (znodes.new.items ≡ znodes.old.items ++ flat_map own_znodes topics.now) }
+{
+    for topic in topics.items() {
+        push_topic(alloc, znodes, topic)?;
+    }
+    Ok(())
+}
+
+// Adds the znodes of the configurations of all topics.
+fn push_topic_configs(
+    alloc: Global,
+    znodes: &mut Vec<Rendered>,
+    topics: &Blocks<TopicEntry>,
+) -> Result<(), NoMemory>
+    requires { All IsTopic topics.now }
+    ensures { OnOk result (znodes.new.items ≡ znodes.old.items ++ flat_map configs_of topics.now) }
+{
+    for topic in topics.items() {
+        push_topic_config(alloc, znodes, &topic.name, topic.pairs.as_slice())?;
+    }
+    Ok(())
+}
+
+/// Adds the znodes of all topics, and after them those of their configurations, so that few znodes stand out of path order.
 pub fn push_topics(
     alloc: Global,
     znodes: &mut Vec<Rendered>,
     topics: &Blocks<TopicEntry>,
 ) -> Result<(), NoMemory>
     requires { All IsTopic topics.now }
-    ensures { OnOk result (znodes.new.items ≡ znodes.old.items ++ flat_map topic_znodes topics.now) }
+    ensures { OnOk result (znodes.new.items ≡ znodes.old.items ++ topics_apart topics.now) }
 {
-    for topic in topics.items() {
-        push_topic(alloc, znodes, topic)?;
-    }
-    Ok(())
+    push_all_topics(alloc, znodes, topics)?;
+    push_topic_configs(alloc, znodes, topics)
 }

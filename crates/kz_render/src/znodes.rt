@@ -1,10 +1,10 @@
 //! All znodes of the metadata.
 ghost use Rattle.std.specs.Prelude.{◌≡◌, ◌++◌, IfOk, OnOk, map};
-ghost use Rattle.std.specs.List.{flat_map};
 ghost use Rattle.kz_types.specs.Order.{bytes_cmp};
 ghost use Rattle.kz_types.specs.Ordered.{Rises};
 ghost use Rattle.kz_spec_data.specs.Tree.{path_of_rendered};
-ghost use Rattle.kz_spec_data.specs.Rendering.{topic_znodes, config_znode, quota_znodes, entity_znodes, render};
+ghost use Rattle.kz_spec_data.specs.Rendering.{config_znode, quota_znodes, entity_znodes, render};
+ghost use Rattle.kz_render.specs.Apart.{topics_apart};
 ghost use Rattle.kz_render.specs.Gathered.{PutAlike};
 
 use crate::acls::push_acls;
@@ -20,7 +20,7 @@ use std::alloc::Global;
 
 // Adds the znodes of topics, of brokers' configurations, of quotas and of users.
 fn push_named(alloc: Global, znodes: &mut Vec<Rendered>, image: &Image) -> Result<(), NoMemory>
-    ensures { OnOk result (znodes.new.items ≡ znodes.old.items ++ (flat_map topic_znodes image.now.topics ++ (map config_znode image.now.broker_configs ++ quota_znodes image.now.quotas image.now.users))) }
+    ensures { OnOk result (znodes.new.items ≡ znodes.old.items ++ (topics_apart image.now.topics ++ (map config_znode image.now.broker_configs ++ quota_znodes image.now.quotas image.now.users))) }
 {
     push_topics(alloc, znodes, image.topics())?;
     push_configs(alloc, znodes, image.broker_configs())?;

@@ -38,5 +38,5 @@ pub(crate) fn replay<S: Source, K: Sink, D: Disk, E: Disk>(
     let world = World::new(alloc, tree, log);
     let (status, machine) = pump(Stream::new(alloc, Replayer { world }), input, out);
     let (tree, log) = machine.world.into_parts();
-    (status, tree.into_disk(), log.into_disk())
+    (status, tree.into_disk_at_exit(), log.into_disk_at_exit())
 }

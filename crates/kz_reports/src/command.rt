@@ -44,10 +44,7 @@ fn told<K: Sink, D: Disk, E: Disk>(
     ensures printed { PrintEnds (report_of (defined_report report) (trees.held_tree tree.now) (logs.held_log log.now)) result (K.taken out.old) (K.taken out.new) }
     ensures sink { EndsAtSink result (K.faults out.old) (K.faults out.new) (K.last_failed out.old) (K.last_failed out.new) }
 {
-    let Ok(rows) = log.log_rows() else {
-        return Err(OutputFault::NoMemory);
-    };
-    print(alloc, report, tree.tree(), &rows, out)
+    print(alloc, report, tree.tree(), log.rows(), out)
 }
 
 /// Tells what stands in the files of a tree and of a log. It changes no frame of either.
@@ -74,5 +71,5 @@ pub fn tell<K: Sink, D: Disk, E: Disk>(
     };
     let ended = told(alloc, report, &tree, &log, out);
     let status = status_of(ended);
-    (status, tree.into_disk(), log.into_disk())
+    (status, tree.into_disk_at_exit(), log.into_disk_at_exit())
 }

@@ -6,8 +6,8 @@ ghost use Rattle.kz_spec_data.specs.Tree.{path_of_row, path_of_rendered, rendere
 ghost use Rattle.kz_spec_data.specs.Difference.{diff};
 ghost use Rattle.kz_writer.specs.Parts.{deletes, puts, delete_of, put_of};
 
-use crate::near::find_near;
 use crate::znode::Znode;
+use kz_sorted::find_near;
 use kz_types::{Duplicate, NoMemory, Op, Rendered, Row};
 use std::alloc::Global;
 

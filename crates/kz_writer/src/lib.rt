@@ -5,7 +5,6 @@ mod chunks;
 mod delta;
 mod diff;
 mod image_bodies;
-mod near;
 mod rendered;
 mod spanned;
 mod znode;

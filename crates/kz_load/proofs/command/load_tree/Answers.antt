@@ -18,7 +18,7 @@ returns-clause-loads g c =
     let input_now = outside g.S.Source.left g.S.Source.faults g.S.Source.last_failed c.fill-status.new.input in
     let tree = outside g.D.Disk.told g.D.Disk.faults g.D.Disk.last_failed c.args.tree in
     let tree_mid = outside g.D.Disk.told g.D.Disk.faults g.D.Disk.last_failed (store_disk c.in-Ok.store) in
-    subst (λ d. LoadsTree input input_now tree (outside g.D.Disk.told g.D.Disk.faults g.D.Disk.last_failed d) c.fill-status.result) (sym c.into_disk.ensures)
+    subst (λ d. LoadsTree input input_now tree (outside g.D.Disk.told g.D.Disk.faults g.D.Disk.last_failed d) c.fill-status.result) (sym c.into_disk_at_exit.ensures)
     (opened_loads c.in-Ok.store input input_now tree tree_mid (outside g.D.Disk.told g.D.Disk.faults g.D.Disk.last_failed (store_disk c.fill-status.new.store)) c.fill-status.result c.in-Ok.ensures.opened c.in-Ok.ensures.calm c.fill-status.ensures.fills)
 
 pub returns-in-Err-clause-left : goal.returns-in-Err-clause-left
@@ -30,5 +30,5 @@ returns-in-Err-clause-settled g c = λ is. absurd (subst IsUnopenedStatus is c.i
 
 pub returns-clause-left : goal.returns-clause-left
 returns-clause-left g c =
-    subst (λ d. LeavesNewOrLoaded (g.S.Source.left c.args.input.now) (g.D.Disk.told c.args.tree) (g.D.Disk.may_leave c.args.tree) (g.D.Disk.told d) (g.D.Disk.may_leave d)) (sym c.into_disk.ensures)
+    subst (λ d. LeavesNewOrLoaded (g.S.Source.left c.args.input.now) (g.D.Disk.told c.args.tree) (g.D.Disk.may_leave c.args.tree) (g.D.Disk.told d) (g.D.Disk.may_leave d)) (sym c.into_disk_at_exit.ensures)
     (opened_left (g.S.Source.left c.args.input.now) (g.D.Disk.told c.args.tree) (g.D.Disk.told (store_disk c.fill-status.new.store)) (g.D.Disk.may_leave c.args.tree) (g.D.Disk.may_leave (store_disk c.fill-status.new.store)) (held_tree c.in-Ok.store) c.in-Ok.ensures.opened.tree c.fill-status.ensures.left)

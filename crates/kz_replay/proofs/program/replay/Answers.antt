@@ -37,8 +37,8 @@ returns-clause-replays g c =
     let result = c.pump-status.result.0 in
     let world = plain_world (λ t. trees.held_tree t) (λ l. logs.held_log l) in
     let disks = disks_in (λ t. trees.store_state g.D.Disk.faults t) (λ l. logs.store_state g.E.Disk.faults l) in
-    let tree_is = c.into_disk.ensures ∙ ap (λ t. trees.store_disk t) c.into_parts-tree.ensures.tree in
-    let log_is = c.into_disk-2.ensures ∙ ap (λ l. logs.store_disk l) c.into_parts-tree.ensures.log in
+    let tree_is = c.into_disk_at_exit.ensures ∙ ap (λ t. trees.store_disk t) c.into_parts-tree.ensures.tree in
+    let log_is = c.into_disk_at_exit-2.ensures ∙ ap (λ l. logs.store_disk l) c.into_parts-tree.ensures.log in
     let is = c.in-Ok.ensures.opened in
     let made = c.pump-status.ensures in
     let script_is = g.S.Source.left c.args.input.now in
@@ -50,7 +50,7 @@ returns-clause-replays g c =
     let log_left = contents g.E.Disk.told g.E.Disk.may_leave g.E.Disk.syncs (logs.store_disk last.log) in
     opened (trees.held_tree first_tree) (logs.held_log first_log) (world last) (disks_of (trees.store_state g.D.Disk.faults first_tree) (logs.store_state g.E.Disk.faults first_log)) (disks last)
     input input_now out out_now
-    (tree_disk c.args.tree) (tree_disk c.into_disk.result) (log_disk c.args.log) (log_disk c.into_disk-2.result)
+    (tree_disk c.args.tree) (tree_disk c.into_disk_at_exit.result) (log_disk c.args.log) (log_disk c.into_disk_at_exit-2.result)
     (contents g.D.Disk.told g.D.Disk.may_leave g.D.Disk.syncs (trees.store_disk last.tree)) (contents g.E.Disk.told g.E.Disk.may_leave g.E.Disk.syncs (logs.store_disk last.log)) result
     (record {
       tree_stood = is.tree_opened.tree;
@@ -97,8 +97,8 @@ returns-clause-stop g c =
     let result = c.pump-status.result.0 in
     let world = plain_world (λ t. trees.held_tree t) (λ l. logs.held_log l) in
     let disks = disks_in (λ t. trees.store_state g.D.Disk.faults t) (λ l. logs.store_state g.E.Disk.faults l) in
-    let tree_is = c.into_disk.ensures ∙ ap (λ t. trees.store_disk t) c.into_parts-tree.ensures.tree in
-    let log_is = c.into_disk-2.ensures ∙ ap (λ l. logs.store_disk l) c.into_parts-tree.ensures.log in
+    let tree_is = c.into_disk_at_exit.ensures ∙ ap (λ t. trees.store_disk t) c.into_parts-tree.ensures.tree in
+    let log_is = c.into_disk_at_exit-2.ensures ∙ ap (λ l. logs.store_disk l) c.into_parts-tree.ensures.log in
     let is = c.in-Ok.ensures.opened in
     let script_is = g.S.Source.left c.args.input.now in
     let input = source c.args.input.now in
@@ -107,7 +107,7 @@ returns-clause-stop g c =
     let out_now = sink c.pump-status.new.out in
     let tree_left = tree_side (trees.store_disk last.tree) in
     let log_left = log_side (logs.store_disk last.log) in
-    subst (λ d. ReplayStops script_is out.bytes out_now.bytes (tree_side c.args.tree) (tree_side d) (log_side c.args.log) (log_side c.into_disk-2.result)) (sym tree_is)
+    subst (λ d. ReplayStops script_is out.bytes out_now.bytes (tree_side c.args.tree) (tree_side d) (log_side c.args.log) (log_side c.into_disk_at_exit-2.result)) (sym tree_is)
     (subst (λ d. ReplayStops script_is out.bytes out_now.bytes (tree_side c.args.tree) tree_left (log_side c.args.log) (log_side d)) (sym log_is)
     (opened_stops (trees.held_tree first_tree) (logs.held_log first_log) (world last) (disks_of (trees.store_state g.D.Disk.faults first_tree) (logs.store_state g.E.Disk.faults first_log)) input input_now out out_now
     (tree_side c.args.tree) tree_left (log_side c.args.log) log_left result
