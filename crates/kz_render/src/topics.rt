@@ -125,7 +125,7 @@ fn push_partitions(
     Ok(())
 }
 
-// Adds the znode of a topic's configuration, where it isn't empty.
+// Adds the znode of a configuration of a topic, where it isn't empty.
 #[tactic(auto, unfolding(kz_spec_data::specs::Bodies::text_of_body))]
 fn push_topic_config(
     alloc: Global,
@@ -172,6 +172,18 @@ fn push_all_topics(
     Ok(())
 }
 
+// Adds the znode of a topic's configuration, where it isn't empty.
+fn push_config_of(
+    alloc: Global,
+    znodes: &mut Vec<Rendered>,
+    topic: &TopicEntry,
+) -> Result<(), NoMemory>
+    requires { is_topic_name topic.now.name ≡ true }
+    ensures { OnOk result (znodes.new.items ≡ znodes.old.items ++ configs_of topic.now) }
+{
+    push_topic_config(alloc, znodes, &topic.name, topic.pairs.as_slice())
+}
+
 // Adds the znodes of the configurations of all topics.
 fn push_topic_configs(
     alloc: Global,
@@ -182,7 +194,7 @@ fn push_topic_configs(
     ensures { OnOk result (znodes.new.items ≡ znodes.old.items ++ flat_map configs_of topics.now) }
 {
     for topic in topics.items() {
-        push_topic_config(alloc, znodes, &topic.name, topic.pairs.as_slice())?;
+        push_config_of(alloc, znodes, topic)?;
     }
     Ok(())
 }
