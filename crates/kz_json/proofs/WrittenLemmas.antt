@@ -10,7 +10,7 @@ use Rattle.kz_types.specs.declared.id.Id.{Id}
 use Rattle.kz_types.specs.declared.row.AclRow.{AclRow}
 use Rattle.kz_types.specs.declared.bodies.AssignmentRow.{AssignmentRow}
 use Rattle.kz_types.specs.declared.bodies.Pair.{Pair}
-use Rattle.kz_spec_data.specs.Bodies.{with_texts, config_data, whole_data, brokers_data, with_list, with_some, replicas_members, adding_members, removing_members, topic_data, state_data, acl_data, acls_data, producer_data}
+use Rattle.kz_spec_data.specs.Bodies.{with_texts, config_data, whole_data, brokers_data, with_list, with_some, replicas_members, adding_members, removing_members, topic_data, acl_data, acls_data, producer_data}
 
 texts_no_float : (ms : Members) (pairs : List Pair) → members_have_float ms ≡ false → members_have_float (with_texts ms pairs) ≡ false
 texts_no_float ms [] none = none
@@ -57,15 +57,6 @@ topic_no_float id rows =
     (adding_no_float no_members rows refl)
     (neither (members_have_float (replicas_members no_members rows)) (members_have_float (removing_members no_members rows) || (false || (false || false))) (replicas_no_float no_members rows refl)
     (neither (members_have_float (removing_members no_members rows)) (false || (false || false)) (removing_no_float no_members rows refl) refl))
-
--- nor a state
-pub state_no_float : (leader leader_epoch controller_epoch : ℤ) (isr : List ℤ) (recovery : ℤ) → has_float (state_data leader leader_epoch controller_epoch isr recovery) ≡ false
-state_no_float a b c isr r =
-    neither (has_float (whole_data c)) (items_have_float (items_of (map whole_data isr)) || (has_float (whole_data a) || (has_float (whole_data b) || (has_float (whole_data r) || (false || false))))) (whole_no_float c)
-    (neither (items_have_float (items_of (map whole_data isr))) (has_float (whole_data a) || (has_float (whole_data b) || (has_float (whole_data r) || (false || false)))) (brokers_items isr)
-    (neither (has_float (whole_data a)) (has_float (whole_data b) || (has_float (whole_data r) || (false || false))) (whole_no_float a)
-    (neither (has_float (whole_data b)) (has_float (whole_data r) || (false || false)) (whole_no_float b)
-    (neither (has_float (whole_data r)) (false || false) (whole_no_float r) refl))))
 
 acl_items_no_float : (rows : List AclRow) → items_have_float (items_of (map acl_data rows)) ≡ false
 acl_items_no_float [] = refl

@@ -10,6 +10,7 @@ mod entries;
 mod others;
 mod quotas;
 mod reading;
+mod texts;
 mod topics;
 mod written;
 

@@ -7,6 +7,7 @@ ghost use Rattle.serde_json.specs.Data.{Data, object, array, member, no_members,
 ghost use Rattle.serde_json.specs.Written.{compact_text, has_float};
 ghost use Rattle.kz_spec_data.specs.Bodies.{with_texts, config_data, whole_data, brokers_data, with_some, replicas_members, adding_members, removing_members, operation_name, permission_name, acl_data, acls_data, topic_data, state_data, producer_data};
 
+use crate::texts::{push_brokers_of, push_whole_of};
 use crate::topics::number_text;
 use base64::engine::general_purpose::URL_SAFE_NO_PAD;
 use kz_types::{AclRow, AssignmentRow, Id, NoMemory, Pair};
@@ -143,33 +144,6 @@ fn topic_value(
     Ok(Value::Object(members))
 }
 
-/// The body of a partition's state.
-fn state_value(
-    alloc: Global,
-    leader: Value,
-    leader_epoch: Value,
-    controller_epoch: Value,
-    isr: Value,
-    recovery: Value,
-) -> Result<Value, NoMemory>
-    ensures { IfOk result (λ value. view value ≡ object
-        (member (codes "controller_epoch") (view controller_epoch)
-        (member (codes "isr") (view isr)
-        (member (codes "leader") (view leader)
-        (member (codes "leader_epoch") (view leader_epoch)
-        (member (codes "leader_recovery_state") (view recovery)
-        (member (codes "version") (whole_data (pos 1)) no_members))))))) }
-{
-    let mut members: Map<String, Value> = Map::new(alloc);
-    serde_json::put(&mut members, alloc, "controller_epoch", controller_epoch)?;
-    serde_json::put(&mut members, alloc, "isr", isr)?;
-    serde_json::put(&mut members, alloc, "leader", leader)?;
-    serde_json::put(&mut members, alloc, "leader_epoch", leader_epoch)?;
-    serde_json::put(&mut members, alloc, "leader_recovery_state", recovery)?;
-    serde_json::put(&mut members, alloc, "version", whole_value(1))?;
-    Ok(Value::Object(members))
-}
-
 /// The body of a block of producer ids.
 fn producer_value(alloc: Global, broker: Value, start: Value, end: Value) -> Result<Value, NoMemory>
     ensures { IfOk result (λ value. view value ≡ object
@@ -302,17 +276,17 @@ pub struct PartitionState<'a> {
 }
 
 /// The text of the body of a partition's state.
-#[tactic(auto, using(crate::proofs::WrittenLemmas::state_no_float))]
 pub fn state_text(alloc: Global, state: &PartitionState<'_>) -> Result<String, NoMemory>
     ensures { IfOk result (λ text. string_bytes text ≡ compact_text (state_data state.now.leader state.now.leader_epoch state.now.controller_epoch state.now.isr.now state.now.recovery)) }
 {
-    let leader = whole_value(state.leader as i64);
-    let leader_epoch = whole_value(state.leader_epoch as i64);
-    let controller_epoch = whole_value(state.controller_epoch as i64);
-    let isr = brokers_value(alloc, state.isr)?;
-    let recovery = whole_value(state.recovery as i64);
-    let value = state_value(alloc, leader, leader_epoch, controller_epoch, isr, recovery)?;
-    value_text(alloc, &value)
+    let mut text = String::with_capacity(alloc, 112 + 4 * state.isr.len())?;
+    push_whole_of(&mut text, "{\"controller_epoch\":", state.controller_epoch)?;
+    push_brokers_of(&mut text, ",\"isr\":", state.isr)?;
+    push_whole_of(&mut text, ",\"leader\":", state.leader)?;
+    push_whole_of(&mut text, ",\"leader_epoch\":", state.leader_epoch)?;
+    push_whole_of(&mut text, ",\"leader_recovery_state\":", state.recovery as i32)?;
+    text.push_str(",\"version\":1}")?;
+    Ok(text)
 }
 
 /// The text of the body of access control entries.
