@@ -1,19 +1,26 @@
 -- Lemmas on the text of a topic's body.
-use Rattle.std.proofs.Common.{◌≡◌, ℕ, suc, ◌+◌, ◌/◌, ◌%◌, ◌^◌, ◌<◌, ◌≤◌, Bool, true, false, ◌&&◌, cond, List, [], ◌∷◌, ◌++◌, append_assoc, append-nil, refl, sym, ap, ◌∙◌, arith, codes, FitsSigned, w32, Ordering, Less, Equal, Greater}
-use Rattle.std.specs.Prelude.{ℤ, pos, negsuc, nat_lt, ⊤}
+use Rattle.std.proofs.Common.{◌≡◌, ℕ, zero, suc, ◌+◌, ◌*◌, ◌/◌, ◌%◌, ◌==◌, inl, inr, ◌^◌, ◌<◌, ◌≤◌, Bool, true, false, ◌&&◌, cond, List, [], ◌∷◌, ◌++◌, append_assoc, append-nil, refl, sym, ap, ◌∙◌, arith, codes, length, get_or, drop, FitsSigned, w32, Ordering, Less, Equal, Greater}
+use Rattle.std.specs.Prelude.{ℤ, pos, negsuc, nat_lt, not, slice_index, ⊤}
 use Rattle.std.specs.Fmt.{signed_decimal, decimal, digits}
 use Rattle.std.specs.Ordering.{nat_cmp, int_eq, MatchOrdering}
 use Rattle.std.specs.Cmp.Lexicographic.{slice_cmp}
 use Rattle.std.proofs.lemmas.Cmp.{ranked}
+use Rattle.std.proofs.lemmas.List.{drop_more}
 use Rattle.std.proofs.lemmas.Fmt.{decimal_digit, decimal_by_steps}
-use Rattle.std.proofs.lemmas.Bool.{and_parts, ltb-true}
+use Rattle.std.proofs.lemmas.Bool.{and_parts, ltb-true, eqb-false, cases_eq}
 use Rattle.std.proofs.lemmas.Bool.Decides.{Decides-int_eq}
-use Rattle.json.specs.Print.{escape_byte, escape}
+use Rattle.base64.specs.Engines.{url_safe_no_pad}
+use Rattle.base64.specs.GeneralPurpose.{IsBytes, engine_symbols}
+use Rattle.base64.specs.Rfc4648.{encode_symbols}
+use Rattle.json.specs.Print.{escape_byte, escape, quoted}
 use Rattle.json.proofs.Printed.Strings.{escape_byte_plain}
-use Rattle.serde_json.specs.Data.{Data, Members, no_members, member, put}
+use Rattle.serde_json.specs.Data.{Data, object, string, Members, no_members, member, put}
+use Rattle.serde_json.specs.Written.{compact_text, comma_if, members_text}
+use Rattle.kz_types.specs.Ids.{id_text}
 use Rattle.kz_types.specs.declared.bodies.AssignmentRow.{AssignmentRow}
-use Rattle.kz_spec_data.specs.Bodies.{brokers_data, replicas_members}
+use Rattle.kz_spec_data.specs.Bodies.{whole_data, brokers_data, replicas_members}
 use Rattle.kz_json.specs.Texts.{are_digits, in_order}
+use Rattle.kz_json.proofs.TextLemmas.{added, thrice_added}
 
 -- ---- numbers need no escape
 
@@ -37,6 +44,102 @@ plain_decimal n h = decimal_by_steps (λ n ds. escape ds ≡ ds) plain_digit
 pub plain_signed : (z : ℤ) → FitsSigned w32 z → escape (signed_decimal z) ≡ signed_decimal z
 plain_signed (pos n) h = plain_decimal n (omega (arith, h.sfits))
 plain_signed (negsuc n) h = plain_joined (45 ∷ []) (decimal (suc n)) (plain_one 45 (λ e. omega arith) (λ e. omega arith) (omega arith)) (plain_decimal (suc n) (omega (arith, h.sfits)))
+
+-- a number's text is its digits
+whole_is : (z : ℤ) → compact_text (whole_data z) ≡ signed_decimal z
+whole_is (pos n) = refl
+whole_is (negsuc n) = refl
+
+-- the name of a partition's member, and its colon
+pub name_joined : (t t₁ t₂ t₃ t₄ : List ℕ) (later : Bool) (z : ℤ) → FitsSigned w32 z
+    → t₁ ≡ t ++ comma_if later → t₂ ≡ t₁ ++ 34 ∷ [] → t₃ ≡ t₂ ++ compact_text (whole_data z) → t₄ ≡ t₃ ++ codes "\":"
+    → t₄ ≡ t ++ (comma_if later ++ (quoted (signed_decimal z) ++ 58 ∷ []))
+name_joined t t₁ t₂ t₃ t₄ later z fits e₁ e₂ e₃ e₄ =
+    let plain : compact_text (whole_data z) ≡ escape (signed_decimal z) = whole_is z ∙ sym (plain_signed z fits) in
+    e₄
+    ∙ added t₂ t₃ (compact_text (whole_data z)) (codes "\":") e₃
+    ∙ added t₁ t₂ (34 ∷ []) (compact_text (whole_data z) ++ codes "\":") e₂
+    ∙ added t t₁ (comma_if later) (34 ∷ (compact_text (whole_data z) ++ codes "\":")) e₁
+    ∙ ap (λ d. t ++ (comma_if later ++ 34 ∷ d)) (ap (λ d. d ++ codes "\":") plain ∙ sym (append_assoc (escape (signed_decimal z)) (34 ∷ []) (58 ∷ [])))
+
+-- a member, and what is to come behind it
+member_added : (t t₁ t₂ : List ℕ) (later : Bool) (name : List ℕ) (d : Data) (ms : Members)
+    → t₁ ≡ t ++ (comma_if later ++ (quoted name ++ 58 ∷ [])) → t₂ ≡ t₁ ++ compact_text d
+    → t₂ ++ members_text true ms ≡ t ++ members_text later (member name d ms)
+member_added t t₁ t₂ later name d ms e₁ e₂ =
+    let rest = compact_text d ++ members_text true ms in
+    added t₁ t₂ (compact_text d) (members_text true ms) e₂
+    ∙ added t t₁ (comma_if later ++ (quoted name ++ 58 ∷ [])) rest e₁
+    ∙ ap (λ l. t ++ l) (append_assoc (comma_if later) (quoted name ++ 58 ∷ []) rest ∙ ap (λ l. comma_if later ++ l) (append_assoc (quoted name) (58 ∷ []) rest))
+
+-- the member of a partition in a loop over partitions
+pub row_added : (rows : List AssignmentRow) (row : AssignmentRow) (at : ℕ) (t t₁ t₂ whole : List ℕ) (later : Bool) → at < length rows → row ≡ get_or rows at row
+    → t₁ ≡ t ++ (comma_if later ++ (quoted (signed_decimal row.number) ++ 58 ∷ [])) → t₂ ≡ t₁ ++ compact_text (brokers_data row.replicas)
+    → t ++ members_text later (in_order (drop at rows)) ≡ whole → t₂ ++ members_text true (in_order (drop (at + 1) rows)) ≡ whole
+row_added rows row at t t₁ t₂ whole later less is e₁ e₂ so_far =
+    let step : drop at rows ≡ row ∷ drop (at + 1) rows = drop_more rows at row less ∙ ap (λ r. r ∷ drop (at + 1) rows) (sym is) in
+    member_added t t₁ t₂ later (signed_decimal row.number) (brokers_data row.replicas) (in_order (drop (at + 1) rows)) e₁ e₂
+    ∙ ap (λ rs. t ++ members_text later (in_order rs)) (sym step) ∙ so_far
+
+-- ---- ids need no escape
+
+abbrev symbols : List ℕ
+symbols = engine_symbols url_safe_no_pad
+
+abbrev is_plain : ℕ → Bool
+is_plain x = nat_lt 31 x && (not (x == 34) && not (x == 92))
+
+plain_at : (x : ℕ) → is_plain x ≡ true → escape_byte x ≡ x ∷ []
+plain_at x h =
+    let one = and_parts _ _ h in
+    let two = and_parts _ _ one.1 in
+    escape_byte_plain x (eqb-false x 34 (not_false (x == 34) two.0)) (eqb-false x 92 (not_false (x == 92) two.1)) (ltb-true 31 x one.0)
+  where
+    not_false : (b : Bool) → not b ≡ true → b ≡ false
+    not_false true e = sym e
+    not_false false e = refl
+
+abbrev are_plain : ℕ → Bool
+are_plain zero = true
+are_plain (suc n) = is_plain (slice_index symbols n) && are_plain n
+
+plain_below : (n : ℕ) → are_plain n ≡ true → (i : ℕ) → i < n → is_plain (slice_index symbols i) ≡ true
+plain_below zero e i h = absurd (omega arith)
+plain_below (suc n) e i h =
+    let parts = and_parts _ _ e in
+    elim (cases_eq i n) [ inl same ↦ rw same parts.0 | inr other ↦ plain_below n parts.1 i (omega arith) ]
+
+plain_symbol : (i : ℕ) → i < 64 → escape_byte (slice_index symbols i) ≡ slice_index symbols i ∷ []
+plain_symbol i h = plain_at (slice_index symbols i) (plain_below 64 refl i h)
+
+plain_then : (i : ℕ) (rest : List ℕ) → i < 64 → escape rest ≡ rest → escape (slice_index symbols i ∷ rest) ≡ slice_index symbols i ∷ rest
+plain_then i rest h plain = ap (λ l. l ++ escape rest) (plain_symbol i h) ∙ ap (λ l. slice_index symbols i ∷ l) plain
+
+plain_symbols : (m : List ℕ) → IsBytes m → escape (encode_symbols symbols m) ≡ encode_symbols symbols m
+unfolding encode_symbols
+plain_symbols [] h = refl
+plain_symbols (a ∷ []) h =
+    let a_fits : a < 256 = h 0 in
+    plain_then (a / 4) _ (omega arith) (plain_then (a % 4 * 16) [] (omega arith) refl)
+plain_symbols (a ∷ b ∷ []) h =
+    let a_fits : a < 256 = h 0 in
+    let b_fits : b < 256 = h 1 in
+    plain_then (a / 4) _ (omega arith) (plain_then (a % 4 * 16 + b / 16) _ (omega arith) (plain_then (b % 16 * 4) [] (omega arith) refl))
+plain_symbols (a ∷ b ∷ c ∷ rest) h =
+    let a_fits : a < 256 = h 0 in
+    let b_fits : b < 256 = h 1 in
+    let c_fits : c < 256 = h 2 in
+    plain_then (a / 4) _ (omega arith) (plain_then (a % 4 * 16 + b / 16) _ (omega arith) (plain_then (b % 16 * 4 + c / 64) _ (omega arith) (plain_then (c % 64) _ (omega arith)
+    (plain_symbols rest (λ i. h (suc (suc (suc i))))))))
+
+-- the member of an id
+pub id_joined : (t t₁ t₂ t₃ bytes : List ℕ) → IsBytes bytes → t₁ ≡ t ++ codes ",\"topic_id\":\"" → t₂ ≡ t₁ ++ id_text bytes → t₃ ≡ t₂ ++ codes "\""
+    → t₃ ≡ t ++ (codes ",\"topic_id\":" ++ compact_text (string (id_text bytes)))
+id_joined t t₁ t₂ t₃ bytes are_bytes e₁ e₂ e₃ =
+    let plain : escape (id_text bytes) ≡ id_text bytes =
+    ap escape (append-nil (encode_symbols symbols bytes)) ∙ plain_symbols bytes are_bytes ∙ sym (append-nil (encode_symbols symbols bytes)) in
+    thrice_added t t₁ t₂ t₃ (codes ",\"topic_id\":\"") (id_text bytes) (codes "\"") e₁ e₂ e₃
+    ∙ ap (λ l. t ++ (codes ",\"topic_id\":" ++ 34 ∷ (l ++ 34 ∷ []))) (sym plain)
 
 -- ---- members that are put one behind another
 
@@ -104,6 +207,9 @@ replicas_behind n ms (row ∷ rows) below h =
     ∙ ap (λ k. behind ms (member k d (in_order rows))) (sym name)
 
 -- the replicas of partitions whose numbers are their places stand as the partitions do
-pub replicas_in_order : (rows : List AssignmentRow) → are_digits 0 rows ≡ true → replicas_members no_members rows ≡ in_order rows
+replicas_in_order : (rows : List AssignmentRow) → are_digits 0 rows ≡ true → replicas_members no_members rows ≡ in_order rows
 unfolding AreBelow behind
 replicas_in_order rows h = replicas_behind 0 no_members rows tt h
+
+pub in_order_text : (rows : List AssignmentRow) → are_digits 0 rows ≡ true → compact_text (object (in_order rows)) ≡ compact_text (object (replicas_members no_members rows))
+in_order_text rows h = ap (λ ms. compact_text (object ms)) (sym (replicas_in_order rows h))

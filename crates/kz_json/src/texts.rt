@@ -5,8 +5,8 @@ ghost use Rattle.kz_spec_data.specs.Bodies.{whole_data, brokers_data};
 
 use kz_types::NoMemory;
 
-// Adds an ASCII character.
-fn push_sign(text: &mut String, sign: u8) -> Result<(), NoMemory>
+/// Adds an ASCII character.
+pub fn push_sign(text: &mut String, sign: u8) -> Result<(), NoMemory>
     requires { sign < 128 }
     ensures { OnOk result (string_bytes text.new ≡ string_bytes text.old ++ sign ∷ []) }
 {
@@ -36,13 +36,21 @@ pub fn push_whole(text: &mut String, number: i32) -> Result<(), NoMemory>
     push_decimal(text, number.unsigned_abs())
 }
 
+/// Adds a comma, where something stands before.
+pub fn push_comma(text: &mut String, later: bool) -> Result<(), NoMemory>
+    ensures { OnOk result (string_bytes text.new ≡ string_bytes text.old ++ comma_if later) }
+{
+    if later {
+        return push_sign(text, b',');
+    }
+    Ok(())
+}
+
 // Adds a broker of a list, behind a comma where another stands before it.
 fn push_item(text: &mut String, later: bool, id: i32) -> Result<(), NoMemory>
     ensures { OnOk result (string_bytes text.new ≡ string_bytes text.old ++ (comma_if later ++ compact_text (whole_data id))) }
 {
-    if later {
-        push_sign(text, b',')?;
-    }
+    push_comma(text, later)?;
     push_whole(text, id)
 }
 

@@ -1,12 +1,13 @@
 //! Bodies, written.
-ghost use Rattle.std.specs.Prelude.{◌≡◌, ◌∷◌, [], List, IfOk, IfErr, OnOk, codes, string_bytes, pos, map, false, ℤ};
+ghost use Rattle.std.specs.Prelude.{◌≡◌, ◌∷◌, ◌++◌, [], List, IfOk, IfErr, OnOk, codes, string_bytes, pos, map, false, ℤ};
 ghost use Rattle.std.specs.Fmt.{signed_decimal};
 ghost use Rattle.kz_types.specs.Ids.{id_text};
 ghost use Rattle.serde_json.specs.View.{view, members_view, items_of};
 ghost use Rattle.serde_json.specs.Data.{Data, object, array, member, no_members, string};
-ghost use Rattle.serde_json.specs.Written.{compact_text, has_float};
+ghost use Rattle.serde_json.specs.Written.{compact_text, has_float, members_have_float};
 ghost use Rattle.kz_spec_data.specs.Bodies.{with_texts, config_data, whole_data, brokers_data, with_some, replicas_members, adding_members, removing_members, operation_name, permission_name, acl_data, acls_data, topic_data, state_data, producer_data};
 
+use crate::partitions::{are_digits, push_rows};
 use crate::texts::{push_brokers_of, push_whole_of};
 use crate::topics::number_text;
 use base64::engine::general_purpose::URL_SAFE_NO_PAD;
@@ -61,8 +62,8 @@ fn brokers_value(alloc: Global, ids: &[i32]) -> Result<Value, NoMemory>
 }
 
 /// The replicas of partitions, by their numbers.
-fn replicas_value(alloc: Global, rows: &[AssignmentRow]) -> Result<Value, NoMemory>
-    ensures { IfOk result (λ value. view value ≡ object (replicas_members no_members rows.now)) }
+fn replicas_map(alloc: Global, rows: &[AssignmentRow]) -> Result<Map<String, Value>, NoMemory>
+    ensures { IfOk result (λ members. members_view members.entries ≡ replicas_members no_members rows.now) }
 {
     let mut members: Map<String, Value> = Map::new(alloc);
     for row in rows {
@@ -70,29 +71,29 @@ fn replicas_value(alloc: Global, rows: &[AssignmentRow]) -> Result<Value, NoMemo
         let value = brokers_value(alloc, row.replicas.as_slice())?;
         serde_json::put(&mut members, alloc, &name, value)?;
     }
-    Ok(Value::Object(members))
+    Ok(members)
 }
 
 /// The brokers that are added to partitions, by their numbers, but for those to which none is added.
-fn adding_value(alloc: Global, rows: &[AssignmentRow]) -> Result<Value, NoMemory>
-    ensures { IfOk result (λ value. view value ≡ object (adding_members no_members rows.now)) }
+fn adding_map(alloc: Global, rows: &[AssignmentRow]) -> Result<Map<String, Value>, NoMemory>
+    ensures { IfOk result (λ members. members_view members.entries ≡ adding_members no_members rows.now) }
 {
     let mut members: Map<String, Value> = Map::new(alloc);
     for row in rows {
         put_some(alloc, &mut members, row, row.adding.as_slice())?;
     }
-    Ok(Value::Object(members))
+    Ok(members)
 }
 
 /// The brokers that are removed from partitions, by their numbers, but for those from which none is removed.
-fn removing_value(alloc: Global, rows: &[AssignmentRow]) -> Result<Value, NoMemory>
-    ensures { IfOk result (λ value. view value ≡ object (removing_members no_members rows.now)) }
+fn removing_map(alloc: Global, rows: &[AssignmentRow]) -> Result<Map<String, Value>, NoMemory>
+    ensures { IfOk result (λ members. members_view members.entries ≡ removing_members no_members rows.now) }
 {
     let mut members: Map<String, Value> = Map::new(alloc);
     for row in rows {
         put_some(alloc, &mut members, row, row.removing.as_slice())?;
     }
-    Ok(Value::Object(members))
+    Ok(members)
 }
 
 /// Puts the list of a partition, unless it is empty.
@@ -118,30 +119,6 @@ fn text_value(alloc: Global, text: &str) -> Result<Value, NoMemory>
     ensures { IfOk result (λ value. view value ≡ string text.now) }
 {
     Ok(Value::String(String::from_str(alloc, text)?))
-}
-
-/// The body of a topic.
-fn topic_value(
-    alloc: Global,
-    id: Value,
-    adding: Value,
-    partitions: Value,
-    removing: Value,
-) -> Result<Value, NoMemory>
-    ensures { IfOk result (λ value. view value ≡ object
-        (member (codes "adding_replicas") (view adding)
-        (member (codes "partitions") (view partitions)
-        (member (codes "removing_replicas") (view removing)
-        (member (codes "topic_id") (view id)
-        (member (codes "version") (whole_data (pos 3)) no_members)))))) }
-{
-    let mut members: Map<String, Value> = Map::new(alloc);
-    serde_json::put(&mut members, alloc, "adding_replicas", adding)?;
-    serde_json::put(&mut members, alloc, "partitions", partitions)?;
-    serde_json::put(&mut members, alloc, "removing_replicas", removing)?;
-    serde_json::put(&mut members, alloc, "topic_id", id)?;
-    serde_json::put(&mut members, alloc, "version", whole_value(3))?;
-    Ok(Value::Object(members))
 }
 
 /// The body of a block of producer ids.
@@ -245,24 +222,83 @@ fn value_text(alloc: Global, value: &Value) -> Result<String, NoMemory>
     Ok(value.to_string(alloc)?)
 }
 
-/// The text of an id.
-fn id_value(alloc: Global, id: &Id) -> Result<Value, NoMemory>
-    ensures { IfOk result (λ value. view value ≡ string (id_text id.now.bytes)) }
+// Adds an object of these members.
+fn push_object(
+    alloc: Global,
+    text: &mut String,
+    members: Map<String, Value>,
+) -> Result<(), NoMemory>
+    requires { members_have_float (members_view members.entries) ≡ false }
+    ensures { OnOk result (string_bytes text.new ≡ string_bytes text.old ++ compact_text (object (members_view members.entries))) }
 {
-    Ok(Value::String(URL_SAFE_NO_PAD.encode(alloc, &id.bytes)?))
+    if members.is_empty() {
+        text.push_str("{}")?;
+        return Ok(());
+    }
+    let written = value_text(alloc, &Value::Object(members))?;
+    text.push_str(written.as_str())?;
+    Ok(())
+}
+
+// Adds the member of the brokers that are added to partitions.
+fn push_adding(alloc: Global, text: &mut String, rows: &[AssignmentRow]) -> Result<(), NoMemory>
+    ensures { OnOk result (string_bytes text.new ≡ string_bytes text.old ++ (codes "{\"adding_replicas\":" ++ compact_text (object (adding_members no_members rows.now)))) }
+{
+    let members = adding_map(alloc, rows)?;
+    text.push_str("{\"adding_replicas\":")?;
+    push_object(alloc, text, members)
+}
+
+// Adds an object of the partitions' replicas.
+#[tactic(auto, using(crate::proofs::TopicLemmas::in_order_text))]
+fn push_replicas(alloc: Global, text: &mut String, rows: &[AssignmentRow]) -> Result<(), NoMemory>
+    ensures { OnOk result (string_bytes text.new ≡ string_bytes text.old ++ compact_text (object (replicas_members no_members rows.now))) }
+{
+    if are_digits(rows) {
+        return push_rows(text, rows);
+    }
+    let members = replicas_map(alloc, rows)?;
+    push_object(alloc, text, members)
+}
+
+// Adds the member of the partitions' replicas.
+fn push_partitions(alloc: Global, text: &mut String, rows: &[AssignmentRow]) -> Result<(), NoMemory>
+    ensures { OnOk result (string_bytes text.new ≡ string_bytes text.old ++ (codes ",\"partitions\":" ++ compact_text (object (replicas_members no_members rows.now)))) }
+{
+    text.push_str(",\"partitions\":")?;
+    push_replicas(alloc, text, rows)
+}
+
+// Adds the member of the brokers that are removed from partitions.
+fn push_removing(alloc: Global, text: &mut String, rows: &[AssignmentRow]) -> Result<(), NoMemory>
+    ensures { OnOk result (string_bytes text.new ≡ string_bytes text.old ++ (codes ",\"removing_replicas\":" ++ compact_text (object (removing_members no_members rows.now)))) }
+{
+    let members = removing_map(alloc, rows)?;
+    text.push_str(",\"removing_replicas\":")?;
+    push_object(alloc, text, members)
+}
+
+// Adds the member of a topic's id, from its bytes.
+fn push_id(text: &mut String, bytes: &[u8; 16]) -> Result<(), NoMemory>
+    ensures { OnOk result (string_bytes text.new ≡ string_bytes text.old ++ (codes ",\"topic_id\":" ++ compact_text (string (id_text bytes.now)))) }
+{
+    text.push_str(",\"topic_id\":\"")?;
+    URL_SAFE_NO_PAD.encode_string(bytes, text)?;
+    text.push_str("\"")?;
+    Ok(())
 }
 
 /// The text of a topic's body.
-#[tactic(auto, using(crate::proofs::WrittenLemmas::topic_no_float))]
 pub fn topic_text(alloc: Global, id: &Id, rows: &[AssignmentRow]) -> Result<String, NoMemory>
     ensures { IfOk result (λ text. string_bytes text ≡ compact_text (topic_data id.now rows.now)) }
 {
-    let adding = adding_value(alloc, rows)?;
-    let partitions = replicas_value(alloc, rows)?;
-    let removing = removing_value(alloc, rows)?;
-    let id = id_value(alloc, id)?;
-    let value = topic_value(alloc, id, adding, partitions, removing)?;
-    value_text(alloc, &value)
+    let mut text = String::with_capacity(alloc, 112 + 12 * rows.len())?;
+    push_adding(alloc, &mut text, rows)?;
+    push_partitions(alloc, &mut text, rows)?;
+    push_removing(alloc, &mut text, rows)?;
+    push_id(&mut text, &id.bytes)?;
+    text.push_str(",\"version\":3}")?;
+    Ok(text)
 }
 
 /// The state of a partition, as its body has it.
