@@ -19,23 +19,15 @@ use Rattle.serde_json.specs.Written.{compact_text, comma_if, members_text}
 use Rattle.kz_types.specs.Ids.{id_text}
 use Rattle.kz_types.specs.declared.bodies.AssignmentRow.{AssignmentRow}
 use Rattle.kz_spec_data.specs.Bodies.{whole_data, brokers_data, replicas_members}
-use Rattle.kz_json.specs.Texts.{are_digits, in_order}
+use Rattle.kz_json.specs.Texts.{are_digits, in_order, is_plain}
 use Rattle.kz_json.proofs.TextLemmas.{added, thrice_added}
+use Rattle.kz_json.proofs.Members.{behind, behind_none, behind_both, member_added}
+use Rattle.kz_json.proofs.Plain.{plain_one, plain_joined, plain_at}
 
 -- ---- numbers need no escape
 
-escape_joined : (xs ys : List ℕ) → escape (xs ++ ys) ≡ escape xs ++ escape ys
-escape_joined [] ys = refl
-escape_joined (x ∷ xs) ys = ap (λ l. escape_byte x ++ l) (escape_joined xs ys) ∙ sym (append_assoc (escape_byte x) (escape xs) (escape ys))
-
-plain_one : (x : ℕ) → (x ≡ 34 → ⊥) → (x ≡ 92 → ⊥) → 32 ≤ x → escape (x ∷ []) ≡ x ∷ []
-plain_one x q b l = ap (λ e. e ++ []) (escape_byte_plain x q b l)
-
 plain_digit : (n : ℕ) → n < 10 → escape ((48 + n) ∷ []) ≡ (48 + n) ∷ []
 plain_digit n h = plain_one (48 + n) (λ e. omega arith) (λ e. omega arith) (omega arith)
-
-plain_joined : (xs ys : List ℕ) → escape xs ≡ xs → escape ys ≡ ys → escape (xs ++ ys) ≡ xs ++ ys
-plain_joined xs ys p q = escape_joined xs ys ∙ ap (λ l. l ++ escape ys) p ∙ ap (λ l. xs ++ l) q
 
 plain_decimal : (n : ℕ) → n < 2 ^ 64 → escape (decimal n) ≡ decimal n
 plain_decimal n h = decimal_by_steps (λ n ds. escape ds ≡ ds) plain_digit
@@ -62,16 +54,6 @@ name_joined t t₁ t₂ t₃ t₄ later z fits e₁ e₂ e₃ e₄ =
     ∙ added t t₁ (comma_if later) (34 ∷ (compact_text (whole_data z) ++ codes "\":")) e₁
     ∙ ap (λ d. t ++ (comma_if later ++ 34 ∷ d)) (ap (λ d. d ++ codes "\":") plain ∙ sym (append_assoc (escape (signed_decimal z)) (34 ∷ []) (58 ∷ [])))
 
--- a member, and what is to come behind it
-member_added : (t t₁ t₂ : List ℕ) (later : Bool) (name : List ℕ) (d : Data) (ms : Members)
-    → t₁ ≡ t ++ (comma_if later ++ (quoted name ++ 58 ∷ [])) → t₂ ≡ t₁ ++ compact_text d
-    → t₂ ++ members_text true ms ≡ t ++ members_text later (member name d ms)
-member_added t t₁ t₂ later name d ms e₁ e₂ =
-    let rest = compact_text d ++ members_text true ms in
-    added t₁ t₂ (compact_text d) (members_text true ms) e₂
-    ∙ added t t₁ (comma_if later ++ (quoted name ++ 58 ∷ [])) rest e₁
-    ∙ ap (λ l. t ++ l) (append_assoc (comma_if later) (quoted name ++ 58 ∷ []) rest ∙ ap (λ l. comma_if later ++ l) (append_assoc (quoted name) (58 ∷ []) rest))
-
 -- the member of a partition in a loop over partitions
 pub row_added : (rows : List AssignmentRow) (row : AssignmentRow) (at : ℕ) (t t₁ t₂ whole : List ℕ) (later : Bool) → at < length rows → row ≡ get_or rows at row
     → t₁ ≡ t ++ (comma_if later ++ (quoted (signed_decimal row.number) ++ 58 ∷ [])) → t₂ ≡ t₁ ++ compact_text (brokers_data row.replicas)
@@ -86,24 +68,11 @@ row_added rows row at t t₁ t₂ whole later less is e₁ e₂ so_far =
 abbrev symbols : List ℕ
 symbols = engine_symbols url_safe_no_pad
 
-abbrev is_plain : ℕ → Bool
-is_plain x = nat_lt 31 x && (not (x == 34) && not (x == 92))
+abbrev symbols_are_plain : ℕ → Bool
+symbols_are_plain zero = true
+symbols_are_plain (suc n) = is_plain (slice_index symbols n) && symbols_are_plain n
 
-plain_at : (x : ℕ) → is_plain x ≡ true → escape_byte x ≡ x ∷ []
-plain_at x h =
-    let one = and_parts _ _ h in
-    let two = and_parts _ _ one.1 in
-    escape_byte_plain x (eqb-false x 34 (not_false (x == 34) two.0)) (eqb-false x 92 (not_false (x == 92) two.1)) (ltb-true 31 x one.0)
-  where
-    not_false : (b : Bool) → not b ≡ true → b ≡ false
-    not_false true e = sym e
-    not_false false e = refl
-
-abbrev are_plain : ℕ → Bool
-are_plain zero = true
-are_plain (suc n) = is_plain (slice_index symbols n) && are_plain n
-
-plain_below : (n : ℕ) → are_plain n ≡ true → (i : ℕ) → i < n → is_plain (slice_index symbols i) ≡ true
+plain_below : (n : ℕ) → symbols_are_plain n ≡ true → (i : ℕ) → i < n → is_plain (slice_index symbols i) ≡ true
 plain_below zero e i h = absurd (omega arith)
 plain_below (suc n) e i h =
     let parts = and_parts _ _ e in
@@ -142,20 +111,6 @@ id_joined t t₁ t₂ t₃ bytes are_bytes e₁ e₂ e₃ =
     ∙ ap (λ l. t ++ (codes ",\"topic_id\":" ++ 34 ∷ (l ++ 34 ∷ []))) (sym plain)
 
 -- ---- members that are put one behind another
-
-behind : Members → Members → Members
-behind no_members ns = ns
-behind (member k d ms) ns = member k d (behind ms ns)
-
-behind_none : (ms : Members) → behind ms no_members ≡ ms
-unfolding behind
-behind_none no_members = refl
-behind_none (member k d ms) = ap (λ ns. member k d ns) (behind_none ms)
-
-behind_both : (ms ns os : Members) → behind (behind ms ns) os ≡ behind ms (behind ns os)
-unfolding behind
-behind_both no_members ns os = refl
-behind_both (member k d ms) ns os = ap (λ ns. member k d ns) (behind_both ms ns os)
 
 -- the names are digits below n
 AreBelow : ℕ → Members → Type 0

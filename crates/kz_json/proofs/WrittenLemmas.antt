@@ -9,15 +9,11 @@ use Rattle.std.specs.Fmt.{signed_decimal}
 use Rattle.kz_types.specs.declared.row.AclRow.{AclRow}
 use Rattle.kz_types.specs.declared.bodies.AssignmentRow.{AssignmentRow}
 use Rattle.kz_types.specs.declared.bodies.Pair.{Pair}
-use Rattle.kz_spec_data.specs.Bodies.{with_texts, config_data, whole_data, brokers_data, with_list, with_some, replicas_members, adding_members, removing_members, acl_data, acls_data, producer_data}
+use Rattle.kz_spec_data.specs.Bodies.{with_texts, whole_data, brokers_data, with_list, with_some, replicas_members, adding_members, removing_members, acl_data, acls_data, producer_data}
 
-texts_no_float : (ms : Members) (pairs : List Pair) → members_have_float ms ≡ false → members_have_float (with_texts ms pairs) ≡ false
+pub texts_no_float : (ms : Members) (pairs : List Pair) → members_have_float ms ≡ false → members_have_float (with_texts ms pairs) ≡ false
 texts_no_float ms [] none = none
 texts_no_float ms (pair ∷ pairs) none = texts_no_float (put pair.name (string pair.value) ms) pairs (put_no_float pair.name (string pair.value) ms refl none)
-
--- a configuration has none
-pub config_no_float : (pairs : List Pair) → has_float (config_data pairs) ≡ false
-config_no_float pairs = neither (members_have_float (with_texts no_members pairs)) false (texts_no_float no_members pairs refl) refl
 
 whole_no_float : (z : ℤ) → has_float (whole_data z) ≡ false
 whole_no_float (pos n) = refl

@@ -8,6 +8,7 @@ mod configs;
 mod credentials;
 mod entries;
 mod others;
+mod pairs;
 mod partitions;
 mod quotas;
 mod reading;

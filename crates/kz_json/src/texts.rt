@@ -1,9 +1,13 @@
 //! Pieces of JSON texts, added to a text.
-ghost use Rattle.std.specs.Prelude.{◌≡◌, ◌+◌, ◌++◌, ◌∷◌, [], ◌<◌, OnOk, string_bytes, decimal};
-ghost use Rattle.serde_json.specs.Written.{compact_text, comma_if};
+ghost use Rattle.std.specs.Prelude.{◌≡◌, ◌+◌, ◌++◌, ◌∷◌, [], ◌<◌, OnOk, IfOk, false, string_bytes, decimal};
+ghost use Rattle.serde_json.specs.Data.{string};
+ghost use Rattle.serde_json.specs.View.{view};
+ghost use Rattle.serde_json.specs.Written.{compact_text, comma_if, has_float};
 ghost use Rattle.kz_spec_data.specs.Bodies.{whole_data, brokers_data};
 
 use kz_types::NoMemory;
+use serde_json::Value;
+use std::alloc::Global;
 
 /// Adds an ASCII character.
 pub fn push_sign(text: &mut String, sign: u8) -> Result<(), NoMemory>
@@ -81,4 +85,19 @@ pub fn push_whole_of(text: &mut String, before: &str, number: i32) -> Result<(),
 {
     text.push_str(before)?;
     push_whole(text, number)
+}
+
+/// A text as a JSON value.
+pub fn text_value(alloc: Global, text: &str) -> Result<Value, NoMemory>
+    ensures { IfOk result (λ value. view value ≡ string text.now) }
+{
+    Ok(Value::String(String::from_str(alloc, text)?))
+}
+
+/// The text of a value without floats.
+pub fn value_text(alloc: Global, value: &Value) -> Result<String, NoMemory>
+    requires { has_float (view value.now) ≡ false }
+    ensures { IfOk result (λ text. string_bytes text ≡ compact_text (view value.now)) }
+{
+    Ok(value.to_string(alloc)?)
 }

@@ -7,40 +7,48 @@ ghost use Rattle.serde_json.specs.Data.{Data, object, array, member, no_members,
 ghost use Rattle.serde_json.specs.Written.{compact_text, has_float, members_have_float};
 ghost use Rattle.kz_spec_data.specs.Bodies.{with_texts, config_data, whole_data, brokers_data, with_some, replicas_members, adding_members, removing_members, operation_name, permission_name, acl_data, acls_data, topic_data, state_data, producer_data};
 
+use crate::pairs::{names_rise, push_pairs};
 use crate::partitions::{are_digits, push_rows};
-use crate::texts::{push_brokers_of, push_whole_of};
+use crate::texts::{push_brokers_of, push_whole_of, text_value, value_text};
 use crate::topics::number_text;
 use base64::engine::general_purpose::URL_SAFE_NO_PAD;
 use kz_types::{AclRow, AssignmentRow, Id, NoMemory, Pair};
 use serde_json::{Map, Value, json};
 use std::alloc::Global;
 
-/// An object of the names and values of a configuration, in byte order.
-fn texts_value(alloc: Global, pairs: &[Pair]) -> Result<Value, NoMemory>
-    ensures { IfOk result (λ value. view value ≡ object (with_texts no_members pairs.now)) }
+/// The names and values of a configuration, in byte order.
+fn texts_map(alloc: Global, pairs: &[Pair]) -> Result<Map<String, Value>, NoMemory>
+    ensures { IfOk result (λ members. members_view members.entries ≡ with_texts no_members pairs.now) }
 {
     let mut members: Map<String, Value> = Map::new(alloc);
     for pair in pairs {
         let value = Value::String(String::from_str(alloc, pair.value.as_str())?);
         serde_json::put(&mut members, alloc, pair.name.as_str(), value)?;
     }
-    Ok(Value::Object(members))
+    Ok(members)
 }
 
-/// A body of version 1 that has this configuration.
-fn config_value(alloc: Global, config: Value) -> Result<Value, NoMemory>
-    ensures { IfOk result (λ value. view value ≡ object (member (codes "config") (view config) (member (codes "version") (whole_data (pos 1)) no_members))) }
+// Adds an object of the names and values of a configuration.
+#[tactic(auto, using(crate::proofs::ConfigLemmas::texts_in_order_text))]
+fn push_texts(alloc: Global, text: &mut String, pairs: &[Pair]) -> Result<(), NoMemory>
+    ensures { OnOk result (string_bytes text.new ≡ string_bytes text.old ++ compact_text (object (with_texts no_members pairs.now))) }
 {
-    Ok(json!(in alloc; {"version": 1, "config": config})?)
+    if names_rise(pairs) {
+        return push_pairs(alloc, text, pairs);
+    }
+    let members = texts_map(alloc, pairs)?;
+    push_object(alloc, text, members)
 }
 
 /// The text of a configuration's body.
 pub fn config_text(alloc: Global, pairs: &[Pair]) -> Result<String, NoMemory>
     ensures { IfOk result (λ text. string_bytes text ≡ compact_text (config_data pairs.now)) }
 {
-    let config = texts_value(alloc, pairs)?;
-    let body = config_value(alloc, config)?;
-    Ok(body.to_string(alloc)?)
+    let mut text = String::with_capacity(alloc, 32 + 32 * pairs.len())?;
+    text.push_str("{\"config\":")?;
+    push_texts(alloc, &mut text, pairs)?;
+    text.push_str(",\"version\":1}")?;
+    Ok(text)
 }
 
 /// The JSON value of a whole number.
@@ -112,13 +120,6 @@ fn put_some(
     let value = brokers_value(alloc, ids)?;
     serde_json::put(members, alloc, &name, value)?;
     Ok(())
-}
-
-/// A text as a JSON value.
-fn text_value(alloc: Global, text: &str) -> Result<Value, NoMemory>
-    ensures { IfOk result (λ value. view value ≡ string text.now) }
-{
-    Ok(Value::String(String::from_str(alloc, text)?))
 }
 
 /// The body of a block of producer ids.
@@ -212,14 +213,6 @@ fn rows_value(alloc: Global, rows: &[AclRow]) -> Result<Value, NoMemory>
         values.push(row_value(alloc, row)?)?;
     }
     Ok(Value::Array(values))
-}
-
-/// The text of a value without floats.
-fn value_text(alloc: Global, value: &Value) -> Result<String, NoMemory>
-    requires { has_float (view value.now) ≡ false }
-    ensures { IfOk result (λ text. string_bytes text ≡ compact_text (view value.now)) }
-{
-    Ok(value.to_string(alloc)?)
 }
 
 // Adds an object of these members.
