@@ -1,5 +1,5 @@
 -- Lemmas on the text of a configuration's body.
-use Rattle.std.proofs.Common.{◌≡◌, ℕ, ◌+◌, ◌<◌, Bool, true, false, List, [], ◌∷◌, ◌++◌, length, get_or, drop, append_assoc, refl, sym, ap, ◌∙◌, codes, Ordering, Less, Equal, Greater, true≢false}
+use Rattle.std.proofs.Common.{◌≡◌, ℕ, ◌+◌, ◌<◌, Bool, true, List, [], ◌∷◌, ◌++◌, length, get_or, drop, refl, sym, ap, ◌∙◌, codes, Ordering, Less, Equal, Greater, true≢false}
 use Rattle.std.specs.Prelude.{⊤}
 use Rattle.std.specs.Ordering.{nat_cmp, is_lt, ordering_reverse}
 use Rattle.std.specs.Cmp.Lexicographic.{slice_cmp}
@@ -52,7 +52,7 @@ texts_behind name ms (pair ∷ pairs) below h =
     let one = member pair.name (string pair.value) no_members in
     ap (λ ns. with_texts ns pairs) (put_above pair.name (string pair.value) ms (below pair.name less))
     ∙ texts_behind pair.name (behind ms one) pairs
-      (λ y more. under_behind y pair.name (string pair.value) ms (below y (nat_list_cmp_total.trans name pair.name y less more)) (over pair.name y more)) parts.1
+    (λ y more. under_behind y pair.name (string pair.value) ms (below y (nat_list_cmp_total.trans name pair.name y less more)) (over pair.name y more)) parts.1
     ∙ behind_both ms one (texts_in_order pairs)
 
 -- pairs whose names rise stand in their order

@@ -1,19 +1,18 @@
 -- Lemmas on the text of a topic's body.
-use Rattle.std.proofs.Common.{◌≡◌, ℕ, zero, suc, ◌+◌, ◌*◌, ◌/◌, ◌%◌, ◌==◌, inl, inr, ◌^◌, ◌<◌, ◌≤◌, Bool, true, false, ◌&&◌, cond, List, [], ◌∷◌, ◌++◌, append_assoc, append-nil, refl, sym, ap, ◌∙◌, arith, codes, length, get_or, drop, FitsSigned, w32, Ordering, Less, Equal, Greater}
-use Rattle.std.specs.Prelude.{ℤ, pos, negsuc, nat_lt, not, slice_index, ⊤}
-use Rattle.std.specs.Fmt.{signed_decimal, decimal, digits}
-use Rattle.std.specs.Ordering.{nat_cmp, int_eq, MatchOrdering}
+use Rattle.std.proofs.Common.{◌≡◌, ℕ, zero, suc, ◌+◌, ◌*◌, ◌/◌, ◌%◌, inl, inr, ◌^◌, ◌<◌, Bool, true, ◌&&◌, List, [], ◌∷◌, ◌++◌, append_assoc, append-nil, refl, sym, ap, ◌∙◌, arith, codes, length, get_or, drop, FitsSigned, w32, Ordering, Less, Equal, Greater}
+use Rattle.std.specs.Prelude.{ℤ, pos, negsuc, slice_index, ⊤}
+use Rattle.std.specs.Fmt.{signed_decimal, decimal}
+use Rattle.std.specs.Ordering.{nat_cmp, MatchOrdering}
 use Rattle.std.specs.Cmp.Lexicographic.{slice_cmp}
 use Rattle.std.proofs.lemmas.Cmp.{ranked}
 use Rattle.std.proofs.lemmas.List.{drop_more}
 use Rattle.std.proofs.lemmas.Fmt.{decimal_digit, decimal_by_steps}
-use Rattle.std.proofs.lemmas.Bool.{and_parts, ltb-true, eqb-false, cases_eq}
+use Rattle.std.proofs.lemmas.Bool.{and_parts, ltb-true, cases_eq}
 use Rattle.std.proofs.lemmas.Bool.Decides.{Decides-int_eq}
 use Rattle.base64.specs.Engines.{url_safe_no_pad}
 use Rattle.base64.specs.GeneralPurpose.{IsBytes, engine_symbols}
 use Rattle.base64.specs.Rfc4648.{encode_symbols}
 use Rattle.json.specs.Print.{escape_byte, escape, quoted}
-use Rattle.json.proofs.Printed.Strings.{escape_byte_plain}
 use Rattle.serde_json.specs.Data.{Data, object, string, Members, no_members, member, put}
 use Rattle.serde_json.specs.Written.{compact_text, comma_if, members_text}
 use Rattle.kz_types.specs.Ids.{id_text}

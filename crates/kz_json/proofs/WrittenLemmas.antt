@@ -1,6 +1,6 @@
 -- Lemmas on what is written.
-use Rattle.std.proofs.Common.{◌≡◌, ℕ, Bool, true, false, ◌||◌, List, [], ◌∷◌, refl}
-use Rattle.serde_json.specs.Data.{Data, string, Members, no_members, put}
+use Rattle.std.proofs.Common.{◌≡◌, false, ◌||◌, List, [], ◌∷◌, refl}
+use Rattle.serde_json.specs.Data.{string, Members, put}
 use Rattle.serde_json.specs.View.{items_of}
 use Rattle.serde_json.specs.Written.{has_float, members_have_float, items_have_float}
 use Rattle.std.specs.Prelude.{ℤ, pos, negsuc, map}

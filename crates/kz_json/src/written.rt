@@ -313,7 +313,11 @@ pub fn state_text(alloc: Global, state: &PartitionState<'_>) -> Result<String, N
     push_brokers_of(&mut text, ",\"isr\":", state.isr)?;
     push_whole_of(&mut text, ",\"leader\":", state.leader)?;
     push_whole_of(&mut text, ",\"leader_epoch\":", state.leader_epoch)?;
-    push_whole_of(&mut text, ",\"leader_recovery_state\":", state.recovery as i32)?;
+    push_whole_of(
+        &mut text,
+        ",\"leader_recovery_state\":",
+        state.recovery as i32,
+    )?;
     text.push_str(",\"version\":1}")?;
     Ok(text)
 }

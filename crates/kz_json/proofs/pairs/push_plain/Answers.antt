@@ -1,4 +1,4 @@
-use Rattle.std.proofs.Common.{◌++◌, ◌∷◌, [], ◌∙◌, ap, sym, codes, string_bytes}
+use Rattle.std.proofs.Common.{◌++◌, ◌∷◌, [], ◌∙◌, ap, sym, string_bytes}
 use Rattle.kz_json.proofs.Plain.{plain_text}
 use Rattle.kz_json.proofs.TextLemmas.{thrice_added}
 use Rattle.kz_json.proofs.pairs.push_plain.Goals as goal
