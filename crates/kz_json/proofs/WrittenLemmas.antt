@@ -1,24 +1,19 @@
 -- Lemmas on what is written.
-use Rattle.std.proofs.Common.{◌≡◌, ℕ, Bool, true, false, ◌||◌, List, [], ◌∷◌, refl}
-use Rattle.serde_json.specs.Data.{Data, string, Members, no_members, put}
+use Rattle.std.proofs.Common.{◌≡◌, false, ◌||◌, List, [], ◌∷◌, refl}
+use Rattle.serde_json.specs.Data.{string, Members, put}
 use Rattle.serde_json.specs.View.{items_of}
 use Rattle.serde_json.specs.Written.{has_float, members_have_float, items_have_float}
 use Rattle.std.specs.Prelude.{ℤ, pos, negsuc, map}
 use Rattle.kz_body_parts.proofs.Floats.{neither, put_no_float}
 use Rattle.std.specs.Fmt.{signed_decimal}
-use Rattle.kz_types.specs.declared.id.Id.{Id}
 use Rattle.kz_types.specs.declared.row.AclRow.{AclRow}
 use Rattle.kz_types.specs.declared.bodies.AssignmentRow.{AssignmentRow}
 use Rattle.kz_types.specs.declared.bodies.Pair.{Pair}
-use Rattle.kz_spec_data.specs.Bodies.{with_texts, config_data, whole_data, brokers_data, with_list, with_some, replicas_members, adding_members, removing_members, topic_data, state_data, acl_data, acls_data, producer_data}
+use Rattle.kz_spec_data.specs.Bodies.{with_texts, whole_data, brokers_data, with_list, with_some, replicas_members, adding_members, removing_members, acl_data, acls_data, producer_data}
 
-texts_no_float : (ms : Members) (pairs : List Pair) → members_have_float ms ≡ false → members_have_float (with_texts ms pairs) ≡ false
+pub texts_no_float : (ms : Members) (pairs : List Pair) → members_have_float ms ≡ false → members_have_float (with_texts ms pairs) ≡ false
 texts_no_float ms [] none = none
 texts_no_float ms (pair ∷ pairs) none = texts_no_float (put pair.name (string pair.value) ms) pairs (put_no_float pair.name (string pair.value) ms refl none)
-
--- a configuration has none
-pub config_no_float : (pairs : List Pair) → has_float (config_data pairs) ≡ false
-config_no_float pairs = neither (members_have_float (with_texts no_members pairs)) false (texts_no_float no_members pairs refl) refl
 
 whole_no_float : (z : ℤ) → has_float (whole_data z) ≡ false
 whole_no_float (pos n) = refl
@@ -38,34 +33,17 @@ some_no_float : (row : AssignmentRow) (ids : List ℤ) (ms : Members) → member
 some_no_float row [] ms none = none
 some_no_float row (id ∷ ids) ms none = list_no_float row (id ∷ ids) ms none
 
-replicas_no_float : (ms : Members) (rows : List AssignmentRow) → members_have_float ms ≡ false → members_have_float (replicas_members ms rows) ≡ false
+pub replicas_no_float : (ms : Members) (rows : List AssignmentRow) → members_have_float ms ≡ false → members_have_float (replicas_members ms rows) ≡ false
 replicas_no_float ms [] none = none
 replicas_no_float ms (row ∷ rows) none = replicas_no_float (with_list row row.replicas ms) rows (list_no_float row row.replicas ms none)
 
-adding_no_float : (ms : Members) (rows : List AssignmentRow) → members_have_float ms ≡ false → members_have_float (adding_members ms rows) ≡ false
+pub adding_no_float : (ms : Members) (rows : List AssignmentRow) → members_have_float ms ≡ false → members_have_float (adding_members ms rows) ≡ false
 adding_no_float ms [] none = none
 adding_no_float ms (row ∷ rows) none = adding_no_float (with_some row row.adding ms) rows (some_no_float row row.adding ms none)
 
-removing_no_float : (ms : Members) (rows : List AssignmentRow) → members_have_float ms ≡ false → members_have_float (removing_members ms rows) ≡ false
+pub removing_no_float : (ms : Members) (rows : List AssignmentRow) → members_have_float ms ≡ false → members_have_float (removing_members ms rows) ≡ false
 removing_no_float ms [] none = none
 removing_no_float ms (row ∷ rows) none = removing_no_float (with_some row row.removing ms) rows (some_no_float row row.removing ms none)
-
--- nor has a topic
-pub topic_no_float : (id : Id) (rows : List AssignmentRow) → has_float (topic_data id rows) ≡ false
-topic_no_float id rows =
-    neither (members_have_float (adding_members no_members rows)) (members_have_float (replicas_members no_members rows) || (members_have_float (removing_members no_members rows) || (false || (false || false))))
-    (adding_no_float no_members rows refl)
-    (neither (members_have_float (replicas_members no_members rows)) (members_have_float (removing_members no_members rows) || (false || (false || false))) (replicas_no_float no_members rows refl)
-    (neither (members_have_float (removing_members no_members rows)) (false || (false || false)) (removing_no_float no_members rows refl) refl))
-
--- nor a state
-pub state_no_float : (leader leader_epoch controller_epoch : ℤ) (isr : List ℤ) (recovery : ℤ) → has_float (state_data leader leader_epoch controller_epoch isr recovery) ≡ false
-state_no_float a b c isr r =
-    neither (has_float (whole_data c)) (items_have_float (items_of (map whole_data isr)) || (has_float (whole_data a) || (has_float (whole_data b) || (has_float (whole_data r) || (false || false))))) (whole_no_float c)
-    (neither (items_have_float (items_of (map whole_data isr))) (has_float (whole_data a) || (has_float (whole_data b) || (has_float (whole_data r) || (false || false)))) (brokers_items isr)
-    (neither (has_float (whole_data a)) (has_float (whole_data b) || (has_float (whole_data r) || (false || false))) (whole_no_float a)
-    (neither (has_float (whole_data b)) (has_float (whole_data r) || (false || false)) (whole_no_float b)
-    (neither (has_float (whole_data r)) (false || false) (whole_no_float r) refl))))
 
 acl_items_no_float : (rows : List AclRow) → items_have_float (items_of (map acl_data rows)) ≡ false
 acl_items_no_float [] = refl

@@ -8,8 +8,11 @@ mod configs;
 mod credentials;
 mod entries;
 mod others;
+mod pairs;
+mod partitions;
 mod quotas;
 mod reading;
+mod texts;
 mod topics;
 mod written;
 

@@ -1,44 +1,54 @@
 //! Bodies, written.
-ghost use Rattle.std.specs.Prelude.{◌≡◌, ◌∷◌, [], List, IfOk, IfErr, OnOk, codes, string_bytes, pos, map, false, ℤ};
+ghost use Rattle.std.specs.Prelude.{◌≡◌, ◌∷◌, ◌++◌, [], List, IfOk, IfErr, OnOk, codes, string_bytes, pos, map, false, ℤ};
 ghost use Rattle.std.specs.Fmt.{signed_decimal};
 ghost use Rattle.kz_types.specs.Ids.{id_text};
 ghost use Rattle.serde_json.specs.View.{view, members_view, items_of};
 ghost use Rattle.serde_json.specs.Data.{Data, object, array, member, no_members, string};
-ghost use Rattle.serde_json.specs.Written.{compact_text, has_float};
+ghost use Rattle.serde_json.specs.Written.{compact_text, has_float, members_have_float};
 ghost use Rattle.kz_spec_data.specs.Bodies.{with_texts, config_data, whole_data, brokers_data, with_some, replicas_members, adding_members, removing_members, operation_name, permission_name, acl_data, acls_data, topic_data, state_data, producer_data};
 
+use crate::pairs::{names_rise, push_pairs};
+use crate::partitions::{are_digits, push_rows};
+use crate::texts::{push_brokers_of, push_whole_of, text_value, value_text};
 use crate::topics::number_text;
 use base64::engine::general_purpose::URL_SAFE_NO_PAD;
 use kz_types::{AclRow, AssignmentRow, Id, NoMemory, Pair};
 use serde_json::{Map, Value, json};
 use std::alloc::Global;
 
-/// An object of the names and values of a configuration, in byte order.
-fn texts_value(alloc: Global, pairs: &[Pair]) -> Result<Value, NoMemory>
-    ensures { IfOk result (λ value. view value ≡ object (with_texts no_members pairs.now)) }
+/// The names and values of a configuration, in byte order.
+fn texts_map(alloc: Global, pairs: &[Pair]) -> Result<Map<String, Value>, NoMemory>
+    ensures { IfOk result (λ members. members_view members.entries ≡ with_texts no_members pairs.now) }
 {
     let mut members: Map<String, Value> = Map::new(alloc);
     for pair in pairs {
         let value = Value::String(String::from_str(alloc, pair.value.as_str())?);
         serde_json::put(&mut members, alloc, pair.name.as_str(), value)?;
     }
-    Ok(Value::Object(members))
+    Ok(members)
 }
 
-/// A body of version 1 that has this configuration.
-fn config_value(alloc: Global, config: Value) -> Result<Value, NoMemory>
-    ensures { IfOk result (λ value. view value ≡ object (member (codes "config") (view config) (member (codes "version") (whole_data (pos 1)) no_members))) }
+// Adds an object of the names and values of a configuration.
+#[tactic(auto, using(crate::proofs::ConfigLemmas::texts_in_order_text))]
+fn push_texts(alloc: Global, text: &mut String, pairs: &[Pair]) -> Result<(), NoMemory>
+    ensures { OnOk result (string_bytes text.new ≡ string_bytes text.old ++ compact_text (object (with_texts no_members pairs.now))) }
 {
-    Ok(json!(in alloc; {"version": 1, "config": config})?)
+    if names_rise(pairs) {
+        return push_pairs(alloc, text, pairs);
+    }
+    let members = texts_map(alloc, pairs)?;
+    push_object(alloc, text, members)
 }
 
 /// The text of a configuration's body.
 pub fn config_text(alloc: Global, pairs: &[Pair]) -> Result<String, NoMemory>
     ensures { IfOk result (λ text. string_bytes text ≡ compact_text (config_data pairs.now)) }
 {
-    let config = texts_value(alloc, pairs)?;
-    let body = config_value(alloc, config)?;
-    Ok(body.to_string(alloc)?)
+    let mut text = String::with_capacity(alloc, 32 + 32 * pairs.len())?;
+    text.push_str("{\"config\":")?;
+    push_texts(alloc, &mut text, pairs)?;
+    text.push_str(",\"version\":1}")?;
+    Ok(text)
 }
 
 /// The JSON value of a whole number.
@@ -60,8 +70,8 @@ fn brokers_value(alloc: Global, ids: &[i32]) -> Result<Value, NoMemory>
 }
 
 /// The replicas of partitions, by their numbers.
-fn replicas_value(alloc: Global, rows: &[AssignmentRow]) -> Result<Value, NoMemory>
-    ensures { IfOk result (λ value. view value ≡ object (replicas_members no_members rows.now)) }
+fn replicas_map(alloc: Global, rows: &[AssignmentRow]) -> Result<Map<String, Value>, NoMemory>
+    ensures { IfOk result (λ members. members_view members.entries ≡ replicas_members no_members rows.now) }
 {
     let mut members: Map<String, Value> = Map::new(alloc);
     for row in rows {
@@ -69,29 +79,29 @@ fn replicas_value(alloc: Global, rows: &[AssignmentRow]) -> Result<Value, NoMemo
         let value = brokers_value(alloc, row.replicas.as_slice())?;
         serde_json::put(&mut members, alloc, &name, value)?;
     }
-    Ok(Value::Object(members))
+    Ok(members)
 }
 
 /// The brokers that are added to partitions, by their numbers, but for those to which none is added.
-fn adding_value(alloc: Global, rows: &[AssignmentRow]) -> Result<Value, NoMemory>
-    ensures { IfOk result (λ value. view value ≡ object (adding_members no_members rows.now)) }
+fn adding_map(alloc: Global, rows: &[AssignmentRow]) -> Result<Map<String, Value>, NoMemory>
+    ensures { IfOk result (λ members. members_view members.entries ≡ adding_members no_members rows.now) }
 {
     let mut members: Map<String, Value> = Map::new(alloc);
     for row in rows {
         put_some(alloc, &mut members, row, row.adding.as_slice())?;
     }
-    Ok(Value::Object(members))
+    Ok(members)
 }
 
 /// The brokers that are removed from partitions, by their numbers, but for those from which none is removed.
-fn removing_value(alloc: Global, rows: &[AssignmentRow]) -> Result<Value, NoMemory>
-    ensures { IfOk result (λ value. view value ≡ object (removing_members no_members rows.now)) }
+fn removing_map(alloc: Global, rows: &[AssignmentRow]) -> Result<Map<String, Value>, NoMemory>
+    ensures { IfOk result (λ members. members_view members.entries ≡ removing_members no_members rows.now) }
 {
     let mut members: Map<String, Value> = Map::new(alloc);
     for row in rows {
         put_some(alloc, &mut members, row, row.removing.as_slice())?;
     }
-    Ok(Value::Object(members))
+    Ok(members)
 }
 
 /// Puts the list of a partition, unless it is empty.
@@ -110,64 +120,6 @@ fn put_some(
     let value = brokers_value(alloc, ids)?;
     serde_json::put(members, alloc, &name, value)?;
     Ok(())
-}
-
-/// A text as a JSON value.
-fn text_value(alloc: Global, text: &str) -> Result<Value, NoMemory>
-    ensures { IfOk result (λ value. view value ≡ string text.now) }
-{
-    Ok(Value::String(String::from_str(alloc, text)?))
-}
-
-/// The body of a topic.
-fn topic_value(
-    alloc: Global,
-    id: Value,
-    adding: Value,
-    partitions: Value,
-    removing: Value,
-) -> Result<Value, NoMemory>
-    ensures { IfOk result (λ value. view value ≡ object
-        (member (codes "adding_replicas") (view adding)
-        (member (codes "partitions") (view partitions)
-        (member (codes "removing_replicas") (view removing)
-        (member (codes "topic_id") (view id)
-        (member (codes "version") (whole_data (pos 3)) no_members)))))) }
-{
-    let mut members: Map<String, Value> = Map::new(alloc);
-    serde_json::put(&mut members, alloc, "adding_replicas", adding)?;
-    serde_json::put(&mut members, alloc, "partitions", partitions)?;
-    serde_json::put(&mut members, alloc, "removing_replicas", removing)?;
-    serde_json::put(&mut members, alloc, "topic_id", id)?;
-    serde_json::put(&mut members, alloc, "version", whole_value(3))?;
-    Ok(Value::Object(members))
-}
-
-/// The body of a partition's state.
-fn state_value(
-    alloc: Global,
-    leader: Value,
-    leader_epoch: Value,
-    controller_epoch: Value,
-    isr: Value,
-    recovery: Value,
-) -> Result<Value, NoMemory>
-    ensures { IfOk result (λ value. view value ≡ object
-        (member (codes "controller_epoch") (view controller_epoch)
-        (member (codes "isr") (view isr)
-        (member (codes "leader") (view leader)
-        (member (codes "leader_epoch") (view leader_epoch)
-        (member (codes "leader_recovery_state") (view recovery)
-        (member (codes "version") (whole_data (pos 1)) no_members))))))) }
-{
-    let mut members: Map<String, Value> = Map::new(alloc);
-    serde_json::put(&mut members, alloc, "controller_epoch", controller_epoch)?;
-    serde_json::put(&mut members, alloc, "isr", isr)?;
-    serde_json::put(&mut members, alloc, "leader", leader)?;
-    serde_json::put(&mut members, alloc, "leader_epoch", leader_epoch)?;
-    serde_json::put(&mut members, alloc, "leader_recovery_state", recovery)?;
-    serde_json::put(&mut members, alloc, "version", whole_value(1))?;
-    Ok(Value::Object(members))
 }
 
 /// The body of a block of producer ids.
@@ -263,32 +215,83 @@ fn rows_value(alloc: Global, rows: &[AclRow]) -> Result<Value, NoMemory>
     Ok(Value::Array(values))
 }
 
-/// The text of a value without floats.
-fn value_text(alloc: Global, value: &Value) -> Result<String, NoMemory>
-    requires { has_float (view value.now) ≡ false }
-    ensures { IfOk result (λ text. string_bytes text ≡ compact_text (view value.now)) }
+// Adds an object of these members.
+fn push_object(
+    alloc: Global,
+    text: &mut String,
+    members: Map<String, Value>,
+) -> Result<(), NoMemory>
+    requires { members_have_float (members_view members.entries) ≡ false }
+    ensures { OnOk result (string_bytes text.new ≡ string_bytes text.old ++ compact_text (object (members_view members.entries))) }
 {
-    Ok(value.to_string(alloc)?)
+    if members.is_empty() {
+        text.push_str("{}")?;
+        return Ok(());
+    }
+    let written = value_text(alloc, &Value::Object(members))?;
+    text.push_str(written.as_str())?;
+    Ok(())
 }
 
-/// The text of an id.
-fn id_value(alloc: Global, id: &Id) -> Result<Value, NoMemory>
-    ensures { IfOk result (λ value. view value ≡ string (id_text id.now.bytes)) }
+// Adds the member of the brokers that are added to partitions.
+fn push_adding(alloc: Global, text: &mut String, rows: &[AssignmentRow]) -> Result<(), NoMemory>
+    ensures { OnOk result (string_bytes text.new ≡ string_bytes text.old ++ (codes "{\"adding_replicas\":" ++ compact_text (object (adding_members no_members rows.now)))) }
 {
-    Ok(Value::String(URL_SAFE_NO_PAD.encode(alloc, &id.bytes)?))
+    let members = adding_map(alloc, rows)?;
+    text.push_str("{\"adding_replicas\":")?;
+    push_object(alloc, text, members)
+}
+
+// Adds an object of the partitions' replicas.
+#[tactic(auto, using(crate::proofs::TopicLemmas::in_order_text))]
+fn push_replicas(alloc: Global, text: &mut String, rows: &[AssignmentRow]) -> Result<(), NoMemory>
+    ensures { OnOk result (string_bytes text.new ≡ string_bytes text.old ++ compact_text (object (replicas_members no_members rows.now))) }
+{
+    if are_digits(rows) {
+        return push_rows(text, rows);
+    }
+    let members = replicas_map(alloc, rows)?;
+    push_object(alloc, text, members)
+}
+
+// Adds the member of the partitions' replicas.
+fn push_partitions(alloc: Global, text: &mut String, rows: &[AssignmentRow]) -> Result<(), NoMemory>
+    ensures { OnOk result (string_bytes text.new ≡ string_bytes text.old ++ (codes ",\"partitions\":" ++ compact_text (object (replicas_members no_members rows.now)))) }
+{
+    text.push_str(",\"partitions\":")?;
+    push_replicas(alloc, text, rows)
+}
+
+// Adds the member of the brokers that are removed from partitions.
+fn push_removing(alloc: Global, text: &mut String, rows: &[AssignmentRow]) -> Result<(), NoMemory>
+    ensures { OnOk result (string_bytes text.new ≡ string_bytes text.old ++ (codes ",\"removing_replicas\":" ++ compact_text (object (removing_members no_members rows.now)))) }
+{
+    let members = removing_map(alloc, rows)?;
+    text.push_str(",\"removing_replicas\":")?;
+    push_object(alloc, text, members)
+}
+
+// Adds the member of a topic's id, from its bytes.
+fn push_id(text: &mut String, bytes: &[u8; 16]) -> Result<(), NoMemory>
+    ensures { OnOk result (string_bytes text.new ≡ string_bytes text.old ++ (codes ",\"topic_id\":" ++ compact_text (string (id_text bytes.now)))) }
+{
+    text.push_str(",\"topic_id\":\"")?;
+    URL_SAFE_NO_PAD.encode_string(bytes, text)?;
+    text.push_str("\"")?;
+    Ok(())
 }
 
 /// The text of a topic's body.
-#[tactic(auto, using(crate::proofs::WrittenLemmas::topic_no_float))]
 pub fn topic_text(alloc: Global, id: &Id, rows: &[AssignmentRow]) -> Result<String, NoMemory>
     ensures { IfOk result (λ text. string_bytes text ≡ compact_text (topic_data id.now rows.now)) }
 {
-    let adding = adding_value(alloc, rows)?;
-    let partitions = replicas_value(alloc, rows)?;
-    let removing = removing_value(alloc, rows)?;
-    let id = id_value(alloc, id)?;
-    let value = topic_value(alloc, id, adding, partitions, removing)?;
-    value_text(alloc, &value)
+    let mut text = String::with_capacity(alloc, 112 + 12 * rows.len())?;
+    push_adding(alloc, &mut text, rows)?;
+    push_partitions(alloc, &mut text, rows)?;
+    push_removing(alloc, &mut text, rows)?;
+    push_id(&mut text, &id.bytes)?;
+    text.push_str(",\"version\":3}")?;
+    Ok(text)
 }
 
 /// The state of a partition, as its body has it.
@@ -302,17 +305,21 @@ pub struct PartitionState<'a> {
 }
 
 /// The text of the body of a partition's state.
-#[tactic(auto, using(crate::proofs::WrittenLemmas::state_no_float))]
 pub fn state_text(alloc: Global, state: &PartitionState<'_>) -> Result<String, NoMemory>
     ensures { IfOk result (λ text. string_bytes text ≡ compact_text (state_data state.now.leader state.now.leader_epoch state.now.controller_epoch state.now.isr.now state.now.recovery)) }
 {
-    let leader = whole_value(state.leader as i64);
-    let leader_epoch = whole_value(state.leader_epoch as i64);
-    let controller_epoch = whole_value(state.controller_epoch as i64);
-    let isr = brokers_value(alloc, state.isr)?;
-    let recovery = whole_value(state.recovery as i64);
-    let value = state_value(alloc, leader, leader_epoch, controller_epoch, isr, recovery)?;
-    value_text(alloc, &value)
+    let mut text = String::with_capacity(alloc, 112 + 4 * state.isr.len())?;
+    push_whole_of(&mut text, "{\"controller_epoch\":", state.controller_epoch)?;
+    push_brokers_of(&mut text, ",\"isr\":", state.isr)?;
+    push_whole_of(&mut text, ",\"leader\":", state.leader)?;
+    push_whole_of(&mut text, ",\"leader_epoch\":", state.leader_epoch)?;
+    push_whole_of(
+        &mut text,
+        ",\"leader_recovery_state\":",
+        state.recovery as i32,
+    )?;
+    text.push_str(",\"version\":1}")?;
+    Ok(text)
 }
 
 /// The text of the body of access control entries.
