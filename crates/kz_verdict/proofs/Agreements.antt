@@ -1,46 +1,87 @@
 -- What is found at the batch ends, path by path.
-use Rattle.std.proofs.Common.{◌≡◌, ℕ, suc, ◌+◌, ◌-◌, ◌<◌, Bool, true, false, not, ◌&&◌, ◌||◌, cond, ℤ, ◌≤ℤ◌, int_le, int_lt, List, [], ◌∷◌, length, map, drop, get_or, add-one, drop-cons, Option, Some, None, is_none, option_map, filter, refl, sym, ap, ◌∙◌, arith}
+use Rattle.std.proofs.Common.{◌≡◌, ℕ, suc, ◌+◌, ◌-◌, ◌<◌, Bool, true, false, not, ◌&&◌, ◌||◌, cond, ℤ, ◌≤ℤ◌, int_le, int_lt, List, [], ◌∷◌, ◌++◌, length, map, take, drop, set, get_or, add-one, drop-cons, Option, Some, None, is_none, option_map, filter, refl, sym, ap, ◌∙◌, subst, arith}
 use Rattle.std.proofs.lemmas.Bool.{false≢true}
+use Rattle.std.proofs.lemmas.Grind.{common_steps}
 use Rattle.std.proofs.lemmas.Int.{ints}
+use Rattle.std.proofs.lemmas.List.Edits.{map_over_more}
 use Rattle.std.specs.List.{find, list_any, filter_map, cons_option}
 use Rattle.kz_types.specs.declared.tree.Rendered.{Rendered}
 use Rattle.kz_types.specs.declared.machine.AheadPath.{AheadPath}
 use Rattle.kz_types.specs.declared.machine.Verdict.{Verdict}
 use Rattle.kz_types.specs.declared.machine.Verdict.TheVariants.{Ahead, Disagrees}
-use Rattle.kz_spec_data.specs.Tree.{Tree, area}
+use Rattle.kz_types.specs.Order.{bytes_cmp}
+use Rattle.kz_types.specs.Ordered.{all_put}
+use Rattle.kz_spec_data.specs.Tree.{Tree, area, path_of_rendered}
 use Rattle.kz_spec_data.specs.Log.{Log, batch_ends, image_at}
 use Rattle.kz_spec_data.specs.Rendering.{render}
 use Rattle.kz_spec_machine.specs.Verdicts.{agrees_at, disagrees, ahead_path, paths_at, unless_disagrees, closed_or_ahead, verdict_at}
 use Rattle.kz_verdict.specs.declared.comparison.Found.{Found}
-use Rattle.kz_verdict.specs.Agreement.{agrees_in, first_among, all_first, marks_at_end, all_found, found_at, is_disagreeing, ahead_of, found_verdict, found_closed_or_ahead, unless_one_disagrees}
+use Rattle.kz_verdict.specs.Agreement.{agrees_in, first_among, found_among, marked_by, marked_here, found_at, is_disagreeing, ahead_of, found_verdict, found_closed_or_ahead, unless_one_disagrees}
 
 -- ---- one batch end more
 
 reached : (x y : ℤ) → y ≤ℤ x → int_le y x ≡ true
 reached x y h = grind (arith, ints)
 
-from_offset : (there : List Rendered) (l : Log) (offset end : ℤ) (ends : List ℤ) (zs : List Rendered) → int_le offset end ≡ true
-    → marks_at_end end there (render (image_at l end)) zs (all_first there l offset ends zs) ≡ all_first there l offset (end ∷ ends) zs
-from_offset there l offset end ends [] h = refl
-from_offset there l offset end ends (z ∷ zs) h =
-    rw h (ap (λ ms. cond (agrees_in there (render (image_at l end)) z.path) (Some end) (first_among there l offset ends z.path) ∷ ms) (from_offset there l offset end ends zs h))
+at_itself : (x : ℤ) → int_le x x ≡ true
+at_itself x = grind (arith, ints)
 
-pub next_end : (l : Log) (offset end : ℤ) (ends : List ℤ) (there rendering zs : List Rendered) (marks : List (Option ℤ)) → offset ≤ℤ end → rendering ≡ render (image_at l end) → marks ≡ all_first there l offset ends zs
-    → marks_at_end end there rendering zs marks ≡ all_first there l offset (end ∷ ends) zs
-next_end l offset end ends there rendering zs marks h r m =
-    ap (λ x. marks_at_end end there x zs marks) r ∙ ap (marks_at_end end there (render (image_at l end)) zs) m ∙ from_offset there l offset end ends zs (reached end offset h)
+abbrev found : List ℕ → Bool → Option ℤ → Found
+found path here first = record { path = path; here = here; first = first }
 
--- ---- what is found at all znodes
+mark_first : (b : Bool) (path : List ℕ) (here : Bool) (end : ℤ) (later : Option ℤ) → cond b (found path here (Some end)) (found path here later) ≡ found path here (cond b (Some end) later)
+mark_first true path here end later = refl
+mark_first false path here end later = refl
 
-found_along : (t : Tree) (l : Log) (offset : ℤ) (zs : List Rendered)
-    → all_found (area t) (render (image_at l offset)) zs (all_first (area t) l offset (batch_ends l) zs) ≡ map (found_at t l offset) (map (λ (z : Rendered). z.path) zs)
-found_along t l offset [] = refl
-found_along t l offset (z ∷ zs) = ap (λ fs. found_at t l offset z.path ∷ fs) (found_along t l offset zs)
+all_marked : (m : Found → Found) (f g : List ℕ → Found) (ps : List (List ℕ)) → ((p : List ℕ) → m (f p) ≡ g p) → map m (map f ps) ≡ map g ps
+all_marked m f g [] same = refl
+all_marked m f g (p ∷ ps) same = ap (λ x. x ∷ map m (map f ps)) (same p) ∙ ap (λ xs. g p ∷ xs) (all_marked m f g ps same)
 
-pub found_is : (t : Tree) (l : Log) (offset : ℤ) (area_now rendering zs : List Rendered) (marks : List (Option ℤ)) → area_now ≡ area t → rendering ≡ render (image_at l offset) → marks ≡ all_first (area t) l offset (batch_ends l) zs
-    → all_found area_now rendering zs marks ≡ map (found_at t l offset) (map (λ (z : Rendered). z.path) zs)
-found_is t l offset area_now rendering zs marks a r m =
-    ap (λ x. all_found x rendering zs marks) a ∙ ap (λ x. all_found (area t) x zs marks) r ∙ ap (all_found (area t) (render (image_at l offset)) zs) m ∙ found_along t l offset zs
+one_here : (there : List Rendered) (l : Log) (offset : ℤ) (ends : List ℤ) (p : List ℕ) → int_le offset offset ≡ true → marked_here offset (found_among there l offset ends p) ≡ found_among there l offset (offset ∷ ends) p
+one_here there l offset ends p h =
+    rw h (mark_first (agrees_in there (render (image_at l offset)) p) p (agrees_in there (render (image_at l offset)) p) offset (first_among there l offset ends p))
+
+-- at the offset itself it is known where the two agree
+pub end_here : (there : List Rendered) (l : Log) (offset end : ℤ) (ends : List ℤ) (ps : List (List ℕ)) (fs : List Found) → end ≡ offset → fs ≡ map (found_among there l offset ends) ps
+    → map (marked_here end) fs ≡ map (found_among there l offset (end ∷ ends)) ps
+end_here there l offset end ends ps fs e is =
+    ap (map (marked_here end)) is
+    ∙ subst (λ x. map (marked_here x) (map (found_among there l offset ends) ps) ≡ map (found_among there l offset (x ∷ ends)) ps) (sym e)
+    (all_marked (marked_here offset) (found_among there l offset ends) (found_among there l offset (offset ∷ ends)) ps (λ p. one_here there l offset ends p (at_itself offset)))
+
+one_later : (there : List Rendered) (l : Log) (offset end : ℤ) (ends : List ℤ) (p : List ℕ) → int_le offset end ≡ true
+    → marked_by end there (render (image_at l end)) (found_among there l offset ends p) ≡ found_among there l offset (end ∷ ends) p
+one_later there l offset end ends p h =
+    rw h (mark_first (agrees_in there (render (image_at l end)) p) p (agrees_in there (render (image_at l offset)) p) end (first_among there l offset ends p))
+
+pub end_later : (there rendering : List Rendered) (l : Log) (offset end : ℤ) (ends : List ℤ) (ps : List (List ℕ)) (fs : List Found) → offset ≤ℤ end → rendering ≡ render (image_at l end) → fs ≡ map (found_among there l offset ends) ps
+    → map (marked_by end there rendering) fs ≡ map (found_among there l offset (end ∷ ends)) ps
+end_later there rendering l offset end ends ps fs h r is =
+    ap (λ x. map (marked_by end there x) fs) r ∙ ap (map (marked_by end there (render (image_at l end)))) is
+    ∙ all_marked (marked_by end there (render (image_at l end))) (found_among there l offset ends) (found_among there l offset (end ∷ ends)) ps (λ p. one_later there l offset end ends p (reached end offset h))
+
+-- ---- a mark at each place
+
+length-set : (fs : List Found) (i : ℕ) (f : Found) → length (set fs i f) ≡ length fs
+length-set fs i f = grind (arith, common_steps)
+
+pub marked_more : (m : Found → Found) (xs ys : List Found) (i : ℕ) (x y : Found) → i < length xs → (ys ≡ map m (take i xs) ++ drop i xs) × (length ys ≡ length xs) → x ≡ get_or ys i x → y ≡ m x
+    → (set ys i y ≡ map m (take (i + 1) xs) ++ drop (i + 1) xs) × (length (set ys i y) ≡ length xs)
+marked_more m xs ys i x y h before is e = (ap (set ys i) e ∙ map_over_more m xs ys i x h before.0 is, length-set ys i y ∙ before.1)
+
+-- ---- what is found at all paths
+
+pub found_along : (t : Tree) (l : Log) (o offset : ℤ) (there here : List Rendered) (before after : List Found) → o ≡ offset → there ≡ area t → here ≡ area t
+    → before ≡ map (found_among there l o []) (map path_of_rendered (all_put bytes_cmp path_of_rendered (render (image_at l o)) there))
+    → ((paths : List (List ℕ)) → before ≡ map (found_among here l o []) paths → after ≡ map (found_among here l o (batch_ends l)) paths)
+    → after ≡ map (found_at t l offset) (paths_at t l offset)
+found_along t l o offset there here before after oe te he start all =
+    let begun : before ≡ map (found_among here l o []) (paths_at t l offset) =
+    start ∙ ap (λ h. map (found_among h l o []) (map path_of_rendered (all_put bytes_cmp path_of_rendered (render (image_at l o)) h))) te
+    ∙ ap (λ h. map (found_among h l o []) (paths_at t l o)) (sym he)
+    ∙ ap (λ x. map (found_among here l o []) (paths_at t l x)) oe in
+    all (paths_at t l offset) begun ∙ ap (λ h. map (found_among h l o (batch_ends l)) (paths_at t l offset)) he
+    ∙ ap (λ x. map (found_among (area t) l x (batch_ends l)) (paths_at t l offset)) oe
 
 -- ---- from what is found to the verdict
 
@@ -120,7 +161,7 @@ verdict_found t l offset is_closed =
 
 -- ---- batch ends from the last on
 
-cut_at : {A : Type 0} (xs : List A) (i : ℕ) (x : A) → i < length xs → x ≡ get_or xs i x → drop i xs ≡ x ∷ drop (i + 1) xs
+pub cut_at : {A : Type 0} (xs : List A) (i : ℕ) (x : A) → i < length xs → x ≡ get_or xs i x → drop i xs ≡ x ∷ drop (i + 1) xs
 cut_at xs i x h is = rw (add-one, drop-cons xs i x h) (ap (λ y. y ∷ drop (suc i) xs) (sym is))
 
 pub ends_more : (es : List ℤ) (done : ℕ) (end : ℤ) → done < length es → end ≡ get_or es (length es - 1 - done) end → end ∷ drop (length es - done) es ≡ drop (length es - (done + 1)) es

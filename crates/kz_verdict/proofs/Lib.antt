@@ -1,2 +1,2 @@
 pub mod Agreements
-pub mod OrderedZnodes
+pub mod NextPaths

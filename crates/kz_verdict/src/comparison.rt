@@ -1,23 +1,24 @@
 //! How the tree and the log agree.
-ghost use Rattle.std.specs.Prelude.{◌≡◌, ◌∷◌, List, ℤ, length, map, IfOk, OnOk, option_map, is_none, if◌then◌else◌};
+ghost use Rattle.std.specs.Prelude.{◌≡◌, ◌∷◌, [], List, ℕ, ℤ, map, IfOk, OnOk, option_map, unwrap_or, is_none};
 ghost use Rattle.std.specs.List.{find as find_by, filter_map};
-ghost use Rattle.kz_types.specs.declared.tree.Rendered.{Rendered as RenderedValue};
 ghost use Rattle.kz_types.specs.Order.{bytes_cmp};
-ghost use Rattle.kz_types.specs.Ordered.{all_put, put as put_in, Rises};
-ghost use Rattle.kz_spec_data.specs.Tree.{area as area_of, migration_record, unclosed_path, path_of_rendered};
-ghost use Rattle.kz_spec_data.specs.Log.{image_at, batch_ends};
+ghost use Rattle.kz_types.specs.Ordered.{all_put, Rises};
+ghost use Rattle.kz_spec_data.specs.Tree.{migration_record, unclosed_path, path_of_rendered};
+ghost use Rattle.kz_spec_data.specs.Log.{image_at, image_of, batch_ends};
 ghost use Rattle.kz_spec_data.specs.Rendering.{body_at, render};
 ghost use Rattle.kz_spec_machine.specs.Verdicts.{paths_at, verdict, verdict_at, verdict_of};
-ghost use Rattle.kz_verdict.specs.Agreement.{agrees_in, all_first, marks_at_end, all_found, found_at, is_disagreeing, ahead_of, found_verdict};
+ghost use Rattle.kz_verdict.specs.Agreement.{agrees_in, paths_from, unmarked, found_among, marked_by, marked_here, found_at, is_disagreeing, ahead_of, found_verdict};
 
+use kz_image::Image;
 use kz_log::LogRows;
 use kz_render::render;
-use kz_sorted::{find, put};
+use kz_sorted::find_near;
 use kz_tree::Tree;
 use kz_types::{
     AheadPath, Duplicate, MIGRATION, NoMemory, Recorded, Rendered, Sequence, Verdict, ZPath,
 };
 use std::alloc::Global;
+use std::cmp::Ordering;
 
 /// What is found at a path of the tree or of what should stand there.
 #[derive(Drop)]
@@ -30,24 +31,47 @@ pub struct Found {
     pub first: Option<i64>,
 }
 
-// The body at a path.
-fn body_at<'a>(znodes: &'a [Rendered], path: &[u8]) -> Option<&'a [u8]>
-    requires { Rises bytes_cmp path_of_rendered znodes.now }
-    ensures { option_map (λ body. body.now) result ≡ body_at path.now znodes.entry.now }
-{
-    match find(znodes, path) {
-        Some(znode) => Some(znode.body.as_slice()),
-        None => None,
+/// Places in two lists of znodes: the migrated area and a rendering.
+#[derive(Clone, Copy)]
+pub struct Places {
+    /// The place in the migrated area.
+    pub area: usize,
+    /// The place in the rendering.
+    pub rendering: usize,
+}
+
+impl Places {
+    // A place in the migrated area and one in the rendering.
+    fn new(area: usize, rendering: usize) -> Self
+        ensures { result ≡ record { area = area; rendering = rendering } }
+    {
+        Places { area, rendering }
     }
 }
 
-// Whether two lists of znodes agree at a path, absence included.
-fn agrees(area: &[Rendered], rendering: &[Rendered], path: &[u8]) -> bool
+// The body at a path, which is looked for near a place first, and the place for the next path.
+fn body_near<'a>(znodes: &'a [Rendered], path: &[u8], place: usize) -> (Option<&'a [u8]>, usize)
+    requires { Rises bytes_cmp path_of_rendered znodes.now }
+    ensures { option_map (λ body. body.now) result.0 ≡ body_at path.now znodes.entry.now }
+{
+    match find_near(znodes, path, place) {
+        (Some(znode), at) => (Some(znode.body.as_slice()), at.saturating_add(1)),
+        (None, at) => (None, at),
+    }
+}
+
+// Whether two lists of znodes agree at a path, absence included. The path is looked for near these places first, which are then
+// those for the next path.
+fn agrees(area: &[Rendered], rendering: &[Rendered], path: &[u8], places: &mut Places) -> bool
     requires area { Rises bytes_cmp path_of_rendered area.now }
     requires rendering { Rises bytes_cmp path_of_rendered rendering.now }
     ensures { result ≡ agrees_in area.now rendering.now path.now }
 {
-    match (body_at(area, path), body_at(rendering, path)) {
+    let (left, next) = body_near(area, path, places.area);
+    places.area = next;
+    let (right, next) = body_near(rendering, path, places.rendering);
+    places.rendering = next;
+    match (left, right) {
         (None, None) => true,
         (Some(left), Some(right)) => left == right,
         (None, Some(_)) => false,
@@ -55,155 +79,203 @@ fn agrees(area: &[Rendered], rendering: &[Rendered], path: &[u8]) -> bool
     }
 }
 
-// The znodes of the metadata at an offset.
-fn rendering_at(alloc: Global, log: &LogRows, offset: i64) -> Result<Vec<Rendered>, NoMemory>
+// The znodes of the metadata at an offset. The metadata at the log's end isn't made again.
+fn rendering_at(
+    alloc: Global,
+    log: &LogRows,
+    last: &Image,
+    offset: i64,
+) -> Result<Vec<Rendered>, NoMemory>
+    requires { last.now ≡ image_of log.now }
     ensures znodes { IfOk result (λ znodes. znodes.items ≡ render (image_at log.now offset)) }
     ensures rising { IfOk result (λ znodes. Rises bytes_cmp path_of_rendered znodes.items) }
 {
+    if offset == log.end() {
+        return render(alloc, last);
+    }
     let image = log.image_at(alloc, offset)?;
     render(alloc, &image)
 }
 
-// Puts a znode at its place, instead of the one with its path.
-#[tactic(auto, using(crate::proofs::OrderedZnodes::rises_put_znode))]
-fn put_znode(alloc: Global, znodes: &mut Vec<Rendered>, znode: &Rendered) -> Result<(), NoMemory>
-    requires { Rises bytes_cmp path_of_rendered znodes.old.items }
-    ensures put { OnOk result (znodes.new.items ≡ put_in bytes_cmp path_of_rendered znode.now znodes.old.items) }
-    ensures rises { OnOk result (Rises bytes_cmp path_of_rendered znodes.new.items) }
+// The next path of two lists from these places on, and the places after it.
+fn next_path<'a>(
+    area: &'a [Rendered],
+    rendering: &'a [Rendered],
+    at: Places,
+) -> Option<(&'a ZPath, Places)>
+    requires { Rises bytes_cmp path_of_rendered rendering.now }
+    ensures { unwrap_or (option_map (λ next. next.0.now ∷ paths_from area.entry.now rendering.entry.now next.1) result) [] ≡ paths_from area.entry.now rendering.entry.now at }
 {
-    put(znodes, znode.copy(alloc)?)
-}
-
-// The znodes of the migrated area, with these put in their places.
-fn all_znodes(alloc: Global, tree: &Tree, rendering: &[Rendered]) -> Result<Vec<Rendered>, NoMemory>
-    ensures { IfOk result (λ znodes. znodes.items ≡ all_put bytes_cmp path_of_rendered rendering.now (area_of tree.now)) }
-{
-    let mut znodes = tree.area()?;
-    for znode in rendering {
-        put_znode(alloc, &mut znodes, znode)?;
+    let (i, j) = (at.area, at.rendering);
+    if area.len() <= i {
+        if rendering.len() <= j {
+            return None;
+        }
+        return Some((&rendering[j].path, Places::new(i, j + 1)));
     }
-    Ok(znodes)
-}
-
-// Nothing is found yet at these znodes.
-fn no_marks(alloc: Global, znodes: &[Rendered]) -> Result<Vec<Option<i64>>, NoMemory>
-    ensures { IfOk result (λ marks. marks.items ≡ map (λ (_ : RenderedValue). None) znodes.now) }
-{
-    let mut marks = Vec::new(alloc);
-    for _znode in znodes {
-        marks.push(None)?;
+    if rendering.len() <= j {
+        return Some((&area[i].path, Places::new(i + 1, j)));
     }
-    Ok(marks)
-}
-
-// The mark of a znode, with one batch end more, at which it agrees or not.
-fn mark(agrees: bool, end: i64, later: Option<i64>) -> Option<i64>
-    ensures { result ≡ (if agrees then Some end else later) }
-{
-    if agrees { Some(end) } else { later }
-}
-
-// The marks of these znodes, with one batch end more, at which the area is compared with this rendering.
-fn marked(
-    alloc: Global,
-    end: i64,
-    area: &[Rendered],
-    rendering: &[Rendered],
-    znodes: &[Rendered],
-    marks: &[Option<i64>],
-) -> Result<Vec<Option<i64>>, NoMemory>
-    requires area { Rises bytes_cmp path_of_rendered area.now }
-    requires rendering { Rises bytes_cmp path_of_rendered rendering.now }
-    requires as_many { length marks.now ≡ length znodes.now }
-    ensures marks { IfOk result (λ made. made.items ≡ marks_at_end end area.now rendering.now znodes.now marks.now) }
-    ensures as_many { IfOk result (λ made. length made.items ≡ length znodes.now) }
-{
-    let mut made = Vec::new(alloc);
-    for i in 0..znodes.len() {
-        let agrees = agrees(area, rendering, znodes[i].path.bytes());
-        made.push(mark(agrees, end, marks[i]))?;
+    let (left, right) = (&area[i].path, &rendering[j].path);
+    match left.bytes().cmp(right.bytes()) {
+        Ordering::Less => Some((left, Places::new(i + 1, j))),
+        Ordering::Equal => Some((left, Places::new(i + 1, j + 1))),
+        Ordering::Greater => Some((right, Places::new(i, j + 1))),
     }
-    Ok(made)
 }
 
-// The marks of these znodes, with one batch end more.
-fn marks_with(
-    alloc: Global,
-    log: &LogRows,
-    offset: i64,
-    end: i64,
-    area: &[Rendered],
-    znodes: &[Rendered],
-    marks: Vec<Option<i64>>,
-) -> Result<Vec<Option<i64>>, NoMemory>
-    requires rising { Rises bytes_cmp path_of_rendered area.now }
-    requires as_many { length marks.items ≡ length znodes.now }
-    ensures marks { (ends : List ℤ) → marks.items ≡ all_first area.now log.now offset ends znodes.now → IfOk result (λ made. made.items ≡ all_first area.now log.now offset (end ∷ ends) znodes.now) }
-    ensures as_many { IfOk result (λ made. length made.items ≡ length znodes.now) }
-{
-    if end < offset {
-        return Ok(marks);
-    }
-    let rendering = rendering_at(alloc, log, end)?;
-    let made = marked(alloc, end, area, &rendering, znodes, &marks)?;
-    Ok(made)
-}
-
-// For each of these znodes the first batch end, from an offset on, at which the area is as rendered there.
-fn all_marks(
-    alloc: Global,
-    log: &LogRows,
-    offset: i64,
-    area: &[Rendered],
-    znodes: &[Rendered],
-) -> Result<Vec<Option<i64>>, NoMemory>
-    requires { Rises bytes_cmp path_of_rendered area.now }
-    ensures { IfOk result (λ marks. marks.items ≡ all_first area.now log.now offset (batch_ends log.now) znodes.now) }
-{
-    let ends = log.batch_ends(alloc)?;
-    let count = ends.len();
-    let mut marks = no_marks(alloc, znodes)?;
-    for done in 0..count {
-        let end = ends[count - 1 - done];
-        marks = marks_with(alloc, log, offset, end, area, znodes, marks)?;
-    }
-    Ok(marks)
-}
-
-// What is found at each of these znodes.
+// What is found at every path of two lists, in path order, before any batch end is looked at.
 fn all_found(
     alloc: Global,
     area: &[Rendered],
     rendering: &[Rendered],
-    znodes: &[Rendered],
-    marks: &[Option<i64>],
 ) -> Result<Vec<Found>, NoMemory>
     requires area { Rises bytes_cmp path_of_rendered area.now }
     requires rendering { Rises bytes_cmp path_of_rendered rendering.now }
-    requires as_many { length marks.now ≡ length znodes.now }
-    ensures { IfOk result (λ found. found.items ≡ all_found area.now rendering.now znodes.now marks.now) }
+    ensures { IfOk result (λ found. found.items ≡ map (unmarked area.now rendering.now) (map path_of_rendered (all_put bytes_cmp path_of_rendered rendering.now area.now))) }
 {
     let mut found = Vec::new(alloc);
-    for i in 0..znodes.len() {
-        let here = agrees(area, rendering, znodes[i].path.bytes());
+    let mut at = Places::new(0, 0);
+    let mut places = Places::new(0, 0);
+    while let Some((path, next)) = next_path(area, rendering, at) {
+        let here = agrees(area, rendering, path.bytes(), &mut places);
         found.push(Found {
-            path: znodes[i].path.copy(alloc)?,
+            path: path.copy(alloc)?,
             here,
-            first: marks[i],
+            first: None,
         })?;
+        at = next;
     }
     Ok(found)
 }
 
+// What is found at every path of the area and of the rendering at an offset, before any batch end is looked at.
+fn found_there(
+    alloc: Global,
+    log: &LogRows,
+    last: &Image,
+    offset: i64,
+    area: &[Rendered],
+) -> Result<Vec<Found>, NoMemory>
+    requires rises { Rises bytes_cmp path_of_rendered area.now }
+    requires last { last.now ≡ image_of log.now }
+    ensures { IfOk result (λ found. found.items ≡ map (found_among area.now log.now offset []) (map path_of_rendered (all_put bytes_cmp path_of_rendered (render (image_at log.now offset)) area.now))) }
+{
+    let rendering = rendering_at(alloc, log, last, offset)?;
+    let found = all_found(alloc, area, &rendering)?;
+    Ok(found)
+}
+
+// Marks what is found at a path with one batch end more, where the area is there as in this rendering.
+fn mark_one(
+    one: &mut Found,
+    end: i64,
+    area: &[Rendered],
+    rendering: &[Rendered],
+    places: &mut Places,
+)
+    requires area { Rises bytes_cmp path_of_rendered area.now }
+    requires rendering { Rises bytes_cmp path_of_rendered rendering.now }
+    ensures { one.new ≡ marked_by end area.now rendering.now one.old }
+{
+    if agrees(area, rendering, one.path.bytes(), places) {
+        one.first = Some(end);
+    }
+}
+
+// Marks what is found at each path with one batch end more, where the area is there as in this rendering.
+fn mark_each(end: i64, area: &[Rendered], rendering: &[Rendered], found: &mut Vec<Found>)
+    requires area { Rises bytes_cmp path_of_rendered area.now }
+    requires rendering { Rises bytes_cmp path_of_rendered rendering.now }
+    ensures { found.new.items ≡ map (marked_by end area.now rendering.now) found.old.items }
+{
+    let mut places = Places::new(0, 0);
+    for at in 0..found.len() {
+        mark_one(&mut found[at], end, area, rendering, &mut places);
+    }
+}
+
+// Marks what is found at a path with the recorded offset, where the area is there as rendered at that offset.
+fn mark_one_here(one: &mut Found, offset: i64)
+    ensures { one.new ≡ marked_here offset one.old }
+{
+    if one.here {
+        one.first = Some(offset);
+    }
+}
+
+// Marks what is found at each path with the recorded offset, where the area is there as rendered at that offset.
+fn mark_each_here(offset: i64, found: &mut Vec<Found>)
+    ensures { found.new.items ≡ map (marked_here offset) found.old.items }
+{
+    for at in 0..found.len() {
+        mark_one_here(&mut found[at], offset);
+    }
+}
+
+// Marks what is found at each path with one batch end more, where the area is there as rendered at that end. An end before the
+// offset marks nothing.
+fn mark_end(
+    alloc: Global,
+    log: &LogRows,
+    last: &Image,
+    offset: i64,
+    end: i64,
+    area: &[Rendered],
+    found: &mut Vec<Found>,
+) -> Result<(), NoMemory>
+    requires rises { Rises bytes_cmp path_of_rendered area.now }
+    requires last { last.now ≡ image_of log.now }
+    ensures { (ends : List ℤ) (paths : List (List ℕ)) → found.old.items ≡ map (found_among area.now log.now offset ends) paths → OnOk result (found.new.items ≡ map (found_among area.now log.now offset (end ∷ ends)) paths) }
+{
+    if end < offset {
+        return Ok(());
+    }
+    if end == offset {
+        mark_each_here(end, found);
+        return Ok(());
+    }
+    let rendering = rendering_at(alloc, log, last, end)?;
+    mark_each(end, area, &rendering, found);
+    Ok(())
+}
+
+// Marks what is found at each path with the first batch end, from an offset on, at which the area is as rendered there.
+fn mark_all(
+    alloc: Global,
+    log: &LogRows,
+    last: &Image,
+    offset: i64,
+    area: &[Rendered],
+    found: &mut Vec<Found>,
+) -> Result<(), NoMemory>
+    requires rises { Rises bytes_cmp path_of_rendered area.now }
+    requires last { last.now ≡ image_of log.now }
+    ensures { (paths : List (List ℕ)) → found.old.items ≡ map (found_among area.now log.now offset []) paths → OnOk result (found.new.items ≡ map (found_among area.now log.now offset (batch_ends log.now)) paths) }
+{
+    let ends = log.batch_ends(alloc)?;
+    let count = ends.len();
+    for done in 0..count {
+        let end = ends[count - 1 - done];
+        mark_end(alloc, log, last, offset, end, area, found)?;
+    }
+    Ok(())
+}
+
 // What is found at every path of the area and of the rendering at an offset.
-fn find_all(alloc: Global, tree: &Tree, log: &LogRows, offset: i64) -> Result<Vec<Found>, NoMemory>
+fn find_all(
+    alloc: Global,
+    tree: &Tree,
+    log: &LogRows,
+    last: &Image,
+    offset: i64,
+) -> Result<Vec<Found>, NoMemory>
+    requires { last.now ≡ image_of log.now }
     ensures { IfOk result (λ found. found.items ≡ map (found_at tree.now log.now offset) (paths_at tree.now log.now offset)) }
 {
     let area = tree.area()?;
-    let rendering = rendering_at(alloc, log, offset)?;
-    let znodes = all_znodes(alloc, tree, &rendering)?;
-    let marks = all_marks(alloc, log, offset, &area, &znodes)?;
-    let found = all_found(alloc, &area, &rendering, &znodes, &marks)?;
+    let mut found = found_there(alloc, log, last, offset, &area)?;
+    mark_all(alloc, log, last, offset, &area, &mut found)?;
     Ok(found)
 }
 
@@ -265,20 +337,30 @@ fn verdict_of_found(
 
 // How the tree and the log agree, where an offset is recorded.
 #[tactic(auto, using(crate::proofs::Agreements::verdict_found))]
-fn verdict_at(alloc: Global, tree: &Tree, log: &LogRows, offset: i64) -> Result<Verdict, NoMemory>
+fn verdict_at(
+    alloc: Global,
+    tree: &Tree,
+    log: &LogRows,
+    last: &Image,
+    offset: i64,
+) -> Result<Verdict, NoMemory>
+    requires { last.now ≡ image_of log.now }
     ensures { IfOk result (λ verdict. verdict ≡ verdict_at tree.now log.now offset (is_none (unclosed_path tree.now))) }
 {
     let is_closed = tree.unclosed()?.is_none();
-    let found = find_all(alloc, tree, log, offset)?;
+    let found = find_all(alloc, tree, log, last, offset)?;
     verdict_of_found(alloc, offset, is_closed, &found)
 }
 
 // How the tree and a migrated log agree.
-fn verdict_of(alloc: Global, tree: &Tree, log: &LogRows) -> Result<Verdict, NoMemory>
+fn verdict_of(alloc: Global, tree: &Tree, log: &LogRows, last: &Image) -> Result<Verdict, NoMemory>
+    requires { last.now ≡ image_of log.now }
     ensures { IfOk result (λ verdict. verdict ≡ verdict_of tree.now log.now (migration_record tree.now)) }
 {
     match tree.recorded()? {
-        Some(Recorded { offset, .. }) if offset >= 0 => verdict_at(alloc, tree, log, offset),
+        Some(Recorded { offset, .. }) if offset >= 0 => {
+            verdict_at(alloc, tree, log, last, offset)
+        }
         _ => Ok(Verdict::Unrecorded),
     }
 }
@@ -289,8 +371,9 @@ fn verdict_of(alloc: Global, tree: &Tree, log: &LogRows) -> Result<Verdict, NoMe
 pub fn verdict(alloc: Global, tree: &Tree, log: &LogRows) -> Result<Verdict, NoMemory>
     ensures { IfOk result (λ told. told ≡ verdict tree.now log.now) }
 {
-    if log.image_at(alloc, log.end())?.state() < MIGRATION {
+    let last = log.image_at(alloc, log.end())?;
+    if last.state() < MIGRATION {
         return Ok(Verdict::Unmigrated);
     }
-    verdict_of(alloc, tree, log)
+    verdict_of(alloc, tree, log, &last)
 }
