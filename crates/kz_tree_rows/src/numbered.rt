@@ -1,10 +1,12 @@
 //! Znodes by rising path, with the numbers of each block.
-ghost use Rattle.std.specs.Prelude.{◌≡◌, [], Some, length, min, option_map, IfOk, OnOk, OnErr};
-ghost use Rattle.std.specs.List.{filter};
+ghost use Rattle.std.specs.Prelude.{◌≡◌, ◌-◌, [], Some, length, min, slice_get, option_map, IfOk, OnOk, OnErr};
+ghost use Rattle.std.specs.List.{filter, list_all};
 ghost use Rattle.kz_types.specs.Paths.{is_migrated};
+ghost use Rattle.kz_spec_data.specs.Loads.{is_before};
 ghost use Rattle.kz_spec_data.specs.Tree.{row_at, put_row, without_row, is_after, is_later, first_row};
 ghost use Rattle.kz_tree_rows.specs.Kept.{AreRows};
 
+use crate::children::is_before;
 use crate::later::first_later;
 use crate::{Segments, changes};
 use kz_sorted::{Block, Items, Near, Shared, block_for, items_after};
@@ -70,6 +72,28 @@ impl NumberedRows {
         let (found, at) = self.blocks[place].find(path, self.near.item());
         self.near.set(place, at);
         found
+    }
+
+    /// The last znode, if there is one. It looks at one block.
+    pub fn last(&self) -> Option<&Row>
+        ensures last { option_map (λ row. row.now) result ≡ slice_get self.now (length self.now - 1) }
+        ensures rise { AreRows self.now }
+    {
+        if self.blocks.is_empty() {
+            return None;
+        }
+        let place = self.blocks.len() - 1;
+        self.blocks[place].last()
+    }
+
+    /// Whether the path of each znode comes before this one. It compares that of the last znode alone.
+    pub fn are_before(&self, path: &[u8]) -> bool
+        ensures { result ≡ list_all (is_before path.now) self.now }
+    {
+        match self.last() {
+            Some(row) => is_before(row.path.bytes(), path),
+            None => true,
+        }
     }
 
     /// All znodes, by rising path.

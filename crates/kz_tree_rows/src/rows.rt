@@ -1,7 +1,8 @@
 //! Znodes by rising path.
 ghost use Rattle.std.specs.Prelude.{◌≡◌, ◌≢◌, [], None, length, option_map, Some, IfOk, OnOk, OnErr, if◌then◌else◌};
-ghost use Rattle.std.specs.List.{filter, count_by};
+ghost use Rattle.std.specs.List.{filter, count_by, list_all};
 ghost use Rattle.kz_types.specs.Paths.{is_migrated};
+ghost use Rattle.kz_spec_data.specs.Loads.{is_before};
 ghost use Rattle.kz_spec_data.specs.Tree.{row_at, put_row, without_row, with_child_change, is_after, is_later, first_row, count_beside};
 ghost use Rattle.kz_tree_rows.specs.Kept.{AreRows};
 
@@ -89,6 +90,13 @@ impl Rows {
         ensures { option_map (λ row. row.now) result ≡ row_at path.now self.now }
     {
         self.list.find(path)
+    }
+
+    /// Whether the path of each znode comes before this one. It compares that of the last znode alone.
+    pub fn are_before(&self, path: &[u8]) -> bool
+        ensures { result ≡ list_all (is_before path.now) self.now }
+    {
+        self.list.are_before(path)
     }
 
     /// All znodes, by rising path.
