@@ -1,14 +1,23 @@
 -- The last znode, and one that comes after it.
-use Rattle.std.proofs.Common.{◌≡◌, ℕ, suc, ◌-◌, ◌<◌, Bool, true, false, ◌&&◌, List, [], ◌∷◌, Some, None, Ordering, Less, Equal, Greater, length, slice_get, refl, sym, ap, ◌∙◌, arith}
+use Rattle.std.proofs.Common.{◌≡◌, ℕ, suc, ◌+◌, ◌-◌, ◌<◌, ◌≤◌, Bool, true, false, ◌&&◌, List, [], ◌∷◌, ◌++◌, Some, None, Ordering, Less, Equal, Greater, All, length, slice_get, get_or, take, drop, map, refl, sym, ap, ◌∙◌, subst, arith, append_assoc}
 use Rattle.std.specs.List.{list_all}
 use Rattle.std.specs.Ordering.{match_ordering}
+use Rattle.std.proofs.lemmas.List.{drop_all, map-append}
+use Rattle.std.proofs.lemmas.List.Elements.{All-nil, All-cons, All-head, All-tail, All-append}
 use Rattle.kz_types.specs.declared.tree.Row.{Row}
 use Rattle.kz_types.specs.Order.{bytes_cmp}
 use Rattle.kz_types.proofs.Order.{bytes_order}
 use Rattle.kz_types.proofs.Lookup.{rest_rises}
-use Rattle.kz_spec_data.specs.Tree.{path_of_row}
+use Rattle.kz_types.specs.Ordered.{RisesAbove, Rises, AllBelow}
+use Rattle.kz_types.proofs.Append.{find_all_below, put_last, Rises-push}
+use Rattle.kz_sorted.specs.BlockLists.{items_of, IsBlock, AreBlocks, IsBlockFor}
+use Rattle.kz_sorted.proofs.ItemsOf.{items_of_split}
+use Rattle.kz_sorted.proofs.BlockFor.{find-items_of}
+use Rattle.kz_spec_data.specs.Tree.{path_of_row, row_at, put_row}
 use Rattle.kz_spec_data.specs.Loads.{is_before}
+use Rattle.kz_tree_rows.specs.declared.joined_numbers.Numbers.{Numbers}
 use Rattle.kz_tree_rows.specs.Kept.{AreRows}
+use Rattle.kz_tree_rows.specs.Numbered.{numbers_of, AreNumbered}
 
 and_true : (a : Bool) → (a && true) ≡ a
 and_true true = refl
@@ -21,6 +30,10 @@ and_false false = refl
 and_first : (a b : Bool) → (a && b) ≡ true → a ≡ true
 and_first true b h = refl
 and_first false b h = absurd (cc)
+
+and_second : (a b : Bool) → (a && b) ≡ true → b ≡ true
+and_second true b h = h
+and_second false b h = absurd (cc)
 
 less_of : (o : Ordering) → match_ordering o true false false ≡ true → o ≡ Less
 less_of Less h = refl
@@ -58,3 +71,50 @@ before_none path (x ∷ y ∷ rs) e =
     some_last (x ∷ y ∷ rs) some e =
         let shorter : length (x ∷ y ∷ rs) - 1 ≡ suc (length (y ∷ rs) - 1) = omega arith in
         some_last (y ∷ rs) (omega arith) (rw shorter at e)
+
+-- ---- a znode after all others
+
+pub all_below : (path : List ℕ) (rows : List Row) → list_all (is_before path) rows ≡ true → AllBelow bytes_cmp path_of_row rows path
+all_below path [] h = All-nil (λ (r : Row). bytes_cmp r.path path ≡ Less)
+all_below path (x ∷ xs) h =
+    All-cons (λ (r : Row). bytes_cmp r.path path ≡ Less) x xs (less_of (bytes_cmp x.path path) (and_first (is_before path x) (list_all (is_before path) xs) h))
+    (all_below path xs (and_second (is_before path x) (list_all (is_before path) xs) h))
+
+-- none of them has its path
+pub none_has : (path : List ℕ) (rows : List Row) → list_all (is_before path) rows ≡ true → row_at path rows ≡ None
+none_has path rows h = find_all_below bytes_order path_of_row path rows (all_below path rows h)
+
+All-left : {A : Type 0} (P : A → Type 0) (xs ys : List A) → All P (xs ++ ys) → All P xs
+All-left P [] ys h = All-nil P
+All-left P (x ∷ xs) ys h = All-cons P x xs (All-head P x (xs ++ ys) h) (All-left P xs ys (All-tail P x (xs ++ ys) h))
+
+-- the last block is the one for its path
+pub last_is_for : (path : List ℕ) (bs : List (List Row)) (i : ℕ) → i + 1 ≡ length bs → AllBelow bytes_cmp path_of_row (items_of bs) path → IsBlockFor bytes_cmp path_of_row path bs i
+last_is_for path bs i last below =
+    let P : Row → Type 0 = λ r. bytes_cmp r.path path ≡ Less in
+    let rest : List (List Row) = drop (i + 1) bs in
+    let none : rest ≡ [] = drop_all (i + 1) bs (omega (arith, last)) in record {
+      below = All-left P (items_of (take i bs)) (get_or bs i [] ++ items_of rest) (subst (All P) (items_of_split bs i [] (omega (arith, last))) below);
+      above = subst (λ (cs : List (List Row)). RisesAbove bytes_cmp path_of_row path (items_of cs)) (sym none) tt;
+    }
+
+-- the block for its path doesn't have it
+pub absent_there : (path : List ℕ) (bs : List (List Row)) (i : ℕ) → i < length bs → IsBlockFor bytes_cmp path_of_row path bs i → AllBelow bytes_cmp path_of_row (items_of bs) path → row_at path (get_or bs i []) ≡ None
+absent_there path bs i within for_path below = sym (find-items_of bytes_order path_of_row path bs i [] within for_path) ∙ find_all_below bytes_order path_of_row path (items_of bs) below
+
+-- in a block of its own
+block_more : (r : Row) (bs : List (List Row)) → items_of (bs ++ (r ∷ []) ∷ []) ≡ items_of bs ++ r ∷ []
+block_more r [] = refl
+block_more r (b ∷ bs) = ap (λ zs. b ++ zs) (block_more r bs) ∙ sym (append_assoc b (items_of bs) (r ∷ []))
+
+pub put_in_own : (r : Row) (bs : List (List Row)) → AllBelow bytes_cmp path_of_row (items_of bs) r.path → items_of (bs ++ (r ∷ []) ∷ []) ≡ put_row r (items_of bs)
+put_in_own r bs below = block_more r bs ∙ sym (put_last bytes_order path_of_row r (items_of bs) below)
+
+pub own_numbered : (r : Row) (bs : List (List Row)) (ns made : List Numbers) → AreNumbered bs ns → AllBelow bytes_cmp path_of_row (items_of bs) r.path → made ≡ ns ++ numbers_of (r ∷ []) ∷ [] → AreNumbered (bs ++ (r ∷ []) ∷ []) made
+own_numbered r bs ns made h below is = record {
+  blocks = record {
+    rises = subst (Rises bytes_cmp path_of_row) (sym (block_more r bs)) (Rises-push bytes_order path_of_row (items_of bs) r h.blocks.rises below);
+    each = All-append IsBlock bs ((r ∷ []) ∷ []) h.blocks.each (All-cons IsBlock (r ∷ []) [] (omega arith, omega arith) (All-nil IsBlock));
+  };
+  numbers = is ∙ ap (λ l. l ++ numbers_of (r ∷ []) ∷ []) h.numbers ∙ sym (map-append numbers_of bs ((r ∷ []) ∷ []));
+}

@@ -1,5 +1,5 @@
 //! Znodes by rising path, with the numbers of each block.
-ghost use Rattle.std.specs.Prelude.{◌≡◌, ◌-◌, [], Some, length, min, slice_get, option_map, IfOk, OnOk, OnErr};
+ghost use Rattle.std.specs.Prelude.{◌≡◌, ◌-◌, [], true, Some, length, min, slice_get, option_map, IfOk, OnOk, OnErr};
 ghost use Rattle.std.specs.List.{filter, list_all};
 ghost use Rattle.kz_types.specs.Paths.{is_migrated};
 ghost use Rattle.kz_spec_data.specs.Loads.{is_before};
@@ -142,6 +142,16 @@ impl NumberedRows {
             &self.near,
             row,
         )
+    }
+
+    /// Puts a znode after all others. It searches for no place. At `Err`, memory ran out, and the znodes are as they were.
+    pub fn append(&mut self, row: Row) -> Result<(), NoMemory>
+        requires { list_all (is_before row.path) self.old ≡ true }
+        ensures ok { OnOk result (self.new ≡ put_row row self.old) }
+        ensures err { OnErr result (self.new ≡ self.old) }
+    {
+        let row = Shared::new(self.alloc, row)?;
+        changes::append(self.alloc, &mut self.blocks, &mut self.segments, row)
     }
 
     /// Takes the znode of a path out, where there is one. At `Err`, memory ran out, and the znodes are as they were.

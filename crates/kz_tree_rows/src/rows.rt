@@ -1,5 +1,5 @@
 //! Znodes by rising path.
-ghost use Rattle.std.specs.Prelude.{◌≡◌, ◌≢◌, [], None, length, option_map, Some, IfOk, OnOk, OnErr, if◌then◌else◌};
+ghost use Rattle.std.specs.Prelude.{◌≡◌, ◌≢◌, [], true, None, length, option_map, Some, IfOk, OnOk, OnErr, if◌then◌else◌};
 ghost use Rattle.std.specs.List.{filter, count_by, list_all};
 ghost use Rattle.kz_types.specs.Paths.{is_migrated};
 ghost use Rattle.kz_spec_data.specs.Loads.{is_before};
@@ -175,6 +175,21 @@ impl Rows {
             return self.replace(row);
         }
         self.add(row)
+    }
+
+    /// Puts a znode after all others. It searches for no place. At `Err` the znodes are as they were.
+    pub fn append(&mut self, row: Row) -> Result<(), NoMemory>
+        requires { list_all (is_before row.path) self.old ≡ true }
+        ensures ok { OnOk result (self.new ≡ put_row row self.old) }
+        ensures err { OnErr result (self.new ≡ self.old) }
+    {
+        if self.list.count() == usize::MAX {
+            return Err(NoMemory);
+        }
+        let migrated = self.migrated + migrated_part(row.path.bytes());
+        self.list.append(row)?;
+        self.migrated = migrated;
+        Ok(())
     }
 
     /// The znode at a path, where there is one, got or lost a child. At `Err` the znodes are as they were.
