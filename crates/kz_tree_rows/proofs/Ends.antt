@@ -1,13 +1,13 @@
 -- The last znode, and one that comes after it.
-use Rattle.std.proofs.Common.{◌≡◌, ℕ, suc, ◌+◌, ◌-◌, ◌<◌, ◌≤◌, Bool, true, false, ◌&&◌, List, [], ◌∷◌, ◌++◌, Some, None, Ordering, Less, Equal, Greater, All, length, slice_get, get_or, take, drop, map, refl, sym, ap, ◌∙◌, subst, arith, append_assoc}
+use Rattle.std.proofs.Common.{◌≡◌, ℕ, suc, ◌+◌, ◌-◌, ◌<◌, ◌≤◌, Bool, true, false, ◌&&◌, List, [], ◌∷◌, ◌++◌, Option, Some, None, IfSome, Ordering, Less, Equal, Greater, All, Contains, length, slice_get, get_or, take, drop, map, refl, sym, ap, ◌∙◌, subst, arith, append_assoc}
 use Rattle.std.specs.List.{list_all}
 use Rattle.std.specs.Ordering.{match_ordering}
-use Rattle.std.proofs.lemmas.List.{drop_all, map-append}
-use Rattle.std.proofs.lemmas.List.Elements.{All-nil, All-cons, All-head, All-tail, All-append}
+use Rattle.std.proofs.lemmas.List.{drop_all, map-append, get_or-drop, length-drop}
+use Rattle.std.proofs.lemmas.List.Elements.{All-nil, All-cons, All-head, All-tail, All-append, Contains-append_left, Contains-append_right}
 use Rattle.kz_types.specs.declared.tree.Row.{Row}
 use Rattle.kz_types.specs.Order.{bytes_cmp}
 use Rattle.kz_types.proofs.Order.{bytes_order}
-use Rattle.kz_types.proofs.Lookup.{rest_rises}
+use Rattle.kz_types.proofs.Lookup.{rest_rises, found_at, key_of_found, found_is_contained, contained_is_found}
 use Rattle.kz_types.specs.Ordered.{RisesAbove, Rises, AllBelow}
 use Rattle.kz_types.proofs.Append.{find_all_below, put_last, Rises-push}
 use Rattle.kz_sorted.specs.BlockLists.{items_of, IsBlock, AreBlocks, IsBlockFor}
@@ -118,3 +118,25 @@ own_numbered r bs ns made h below is = record {
   };
   numbers = is ∙ ap (λ l. l ++ numbers_of (r ∷ []) ∷ []) h.numbers ∙ sym (map-append numbers_of bs ((r ∷ []) ∷ []));
 }
+
+-- ---- one of the last znodes
+
+pub found_late : (path : List ℕ) (rows : List Row) (n i : ℕ) (r : Row) → AreRows rows → i < length (drop n rows) → r ≡ get_or (drop n rows) i r → r.path ≡ path → row_at path rows ≡ Some r
+found_late path rows n i r rises within is at =
+    let place : n + i < length rows = omega (arith, length-drop n rows, within) in
+    let there : r ≡ get_or rows (n + i) r = is ∙ get_or-drop n rows i r in
+    ap (λ p. row_at p rows) (sym at ∙ ap path_of_row there) ∙ found_at bytes_order path_of_row rows (n + i) r rises place ∙ ap Some (sym there)
+
+pub some_further : {X : Type 0} (o : Option X) (P Q : X → Type 0) → ((x : X) → P x → Q x) → IfSome o P → IfSome o Q
+some_further None P Q f h = h
+some_further (Some x) P Q f h = f x h
+
+-- what is found in a block is found among all
+pub found_in_block : (path : List ℕ) (bs : List (List Row)) (i : ℕ) (r : Row) → AreBlocks bytes_cmp path_of_row bs → i < length bs → row_at path (get_or bs i []) ≡ Some r → row_at path (items_of bs) ≡ Some r
+found_in_block path bs i r h within found =
+    let b : List Row = get_or bs i [] in
+    let rest : List Row = items_of (drop (i + 1) bs) in
+    let inside : Contains (items_of bs) r =
+        subst (λ (xs : List Row). Contains xs r) (sym (items_of_split bs i [] within))
+        (Contains-append_right (items_of (take i bs)) (b ++ rest) r (Contains-append_left b rest r (found_is_contained bytes_order path_of_row path b r found))) in
+    ap (λ p. row_at p (items_of bs)) (sym (key_of_found bytes_order path_of_row path b r found)) ∙ contained_is_found bytes_order path_of_row (items_of bs) r h.rises inside

@@ -1,5 +1,5 @@
 //! Znodes by rising path, with the numbers of each block.
-ghost use Rattle.std.specs.Prelude.{◌≡◌, ◌-◌, [], true, Some, length, min, slice_get, option_map, IfOk, OnOk, OnErr};
+ghost use Rattle.std.specs.Prelude.{◌≡◌, ◌-◌, [], true, Some, length, min, slice_get, option_map, IfOk, IfSome, OnOk, OnErr};
 ghost use Rattle.std.specs.List.{filter, list_all};
 ghost use Rattle.kz_types.specs.Paths.{is_migrated};
 ghost use Rattle.kz_spec_data.specs.Loads.{is_before};
@@ -40,6 +40,24 @@ impl Model for NumberedRows {
     ghost invariant = { λ n. AreNumbered n.blocks.items n.segments };
 }
 
+// So many of the last znodes are looked at before a search.
+const LAST_ROWS: usize = 8;
+
+// The znode at a path, if it is one of the last of these.
+fn find_among_last<'a>(rows: &'a [Shared<Row>], path: &[u8]) -> Option<&'a Row>
+    requires { AreRows rows.now }
+    ensures { IfSome result (λ row. row_at path.now rows.entry.now ≡ Some row.now) }
+{
+    let from = rows.len().saturating_sub(LAST_ROWS);
+    for row in &rows[from..] {
+        let row = row.get();
+        if row.path.bytes() == path {
+            return Some(row);
+        }
+    }
+    None
+}
+
 impl NumberedRows {
     /// No znode. It takes no memory.
     pub fn new(alloc: Global) -> NumberedRows
@@ -72,6 +90,27 @@ impl NumberedRows {
         let (found, at) = self.blocks[place].find(path, self.near.item());
         self.near.set(place, at);
         found
+    }
+
+    // The znode at a path, if it is one of the last of all.
+    fn find_at_end(&self, path: &[u8]) -> Option<&Row>
+        ensures { IfSome result (λ row. row_at path.now self.now ≡ Some row.now) }
+    {
+        if self.blocks.is_empty() {
+            return None;
+        }
+        let place = self.blocks.len() - 1;
+        find_among_last(self.blocks[place].items(), path)
+    }
+
+    /// The znode at a path, as `find` tells it. A few of the last znodes are looked at first.
+    pub fn find_near_end(&self, path: &[u8]) -> Option<&Row>
+        ensures { option_map (λ row. row.now) result ≡ row_at path.now self.now }
+    {
+        if let Some(row) = self.find_at_end(path) {
+            return Some(row);
+        }
+        self.find(path)
     }
 
     /// The last znode, if there is one. It looks at one block.

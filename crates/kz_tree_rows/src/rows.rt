@@ -92,6 +92,13 @@ impl Rows {
         self.list.find(path)
     }
 
+    /// The znode at a path, as `find` tells it. A few of the last znodes are looked at first.
+    pub fn find_near_end(&self, path: &[u8]) -> Option<&Row>
+        ensures { option_map (λ row. row.now) result ≡ row_at path.now self.now }
+    {
+        self.list.find_near_end(path)
+    }
+
     /// Whether the path of each znode comes before this one. It compares that of the last znode alone.
     pub fn are_before(&self, path: &[u8]) -> bool
         ensures { result ≡ list_all (is_before path.now) self.now }
@@ -142,15 +149,6 @@ impl Rows {
         self.list.first_later(zxid)
     }
 
-    // Puts a znode in the place of the one with its path.
-    fn replace(&mut self, row: Row) -> Result<(), NoMemory>
-        requires { row_at row.path self.old ≢ None }
-        ensures ok { OnOk result (self.new ≡ put_row row self.old) }
-        ensures err { OnErr result (self.new ≡ self.old) }
-    {
-        self.list.put(row)
-    }
-
     // Puts a znode whose path no other has. Where a `usize` can't count one more, it answers out of memory.
     fn add(&mut self, row: Row) -> Result<(), NoMemory>
         requires { row_at row.path self.old ≡ None }
@@ -177,6 +175,15 @@ impl Rows {
         self.add(row)
     }
 
+    /// Puts a znode in the place of the one with its path, which is there. At `Err` the znodes are as they were.
+    pub fn replace(&mut self, row: Row) -> Result<(), NoMemory>
+        requires { row_at row.path self.old ≢ None }
+        ensures ok { OnOk result (self.new ≡ put_row row self.old) }
+        ensures err { OnErr result (self.new ≡ self.old) }
+    {
+        self.list.put(row)
+    }
+
     /// Puts a znode after all others. It searches for no place. At `Err` the znodes are as they were.
     pub fn append(&mut self, row: Row) -> Result<(), NoMemory>
         requires { list_all (is_before row.path) self.old ≡ true }
@@ -201,7 +208,7 @@ impl Rows {
             return Ok(());
         };
         let row = touched_row(alloc, row, zxid)?;
-        self.put(row)
+        self.replace(row)
     }
 
     // Takes the znode of a path out, which is there.
