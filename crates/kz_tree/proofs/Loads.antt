@@ -95,7 +95,7 @@ unfolding is_loadable
 comes_last zxid ss rows r true e h = refl
 comes_last zxid ss rows r false e h = rw e at h
 
-after_others : (zxid : ℤ) (ss : List ℤ) (rows : List Row) (r : Row) → row_refusal zxid ss rows r ≡ None → list_all (is_before r.path) rows ≡ true
+pub after_others : (zxid : ℤ) (ss : List ℤ) (rows : List Row) (r : Row) → row_refusal zxid ss rows r ≡ None → list_all (is_before r.path) rows ≡ true
 after_others zxid ss rows r h = comes_last zxid ss rows r (list_all (is_before r.path) rows) refl (keeps (is_loadable zxid ss rows r) _ h)
 
 pub taken_last : (zxid : ℤ) (ss : List ℤ) (rows next : List Row) (r : Row) → row_refusal zxid ss rows r ≡ None → next ≡ put_row r rows → next ≡ rows ++ r ∷ []

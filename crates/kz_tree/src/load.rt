@@ -71,7 +71,7 @@ impl LoadCheck {
         ensures same { OnErr result (self.new ≡ self.old) }
         ensures err { IfErr result (λ fault. fault ≡ LoadFault.NoMemory) }
     {
-        let Ok(()) = self.rows.put(row) else {
+        let Ok(()) = self.rows.append(row) else {
             return Err(LoadFault::NoMemory);
         };
         Ok(())

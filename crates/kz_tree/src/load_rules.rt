@@ -37,12 +37,12 @@ pub fn is_header(zxid: i64, sessions: &[i64]) -> bool
     0 <= zxid && zxid <= MAX_LONG && do_rise(sessions)
 }
 
-// Whether the parent of a path is there and ends with no session. It is looked for once.
+// Whether the parent of a path is there and ends with no session. It is looked for once. In a load it mostly stands near the end.
 fn has_lasting_parent(path: &[u8], rows: &Rows) -> bool
     ensures { result ≡ (has_parent path.now rows.now && not (is_ephemeral (row_at (parent_of path.now) rows.now))) }
 {
     let parent = parent_of(path);
-    match rows.find(parent) {
+    match rows.find_near_end(parent) {
         Some(row) => row.owner.is_none(),
         None => is_root(parent),
     }
