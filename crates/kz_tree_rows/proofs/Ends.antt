@@ -1,5 +1,5 @@
 -- The last znode, and one that comes after it.
-use Rattle.std.proofs.Common.{◌≡◌, ℕ, suc, ◌+◌, ◌-◌, ◌<◌, ◌≤◌, Bool, true, false, ◌&&◌, List, [], ◌∷◌, ◌++◌, Option, Some, None, IfSome, Ordering, Less, Equal, Greater, All, Contains, length, slice_get, get_or, take, drop, map, refl, sym, ap, ◌∙◌, subst, arith, append_assoc}
+use Rattle.std.proofs.Common.{◌≡◌, ℕ, suc, ◌+◌, ◌-◌, ◌<◌, Bool, true, false, ◌&&◌, List, [], ◌∷◌, ◌++◌, Option, Some, None, IfSome, Ordering, Less, Equal, Greater, All, Contains, length, slice_get, get_or, take, drop, refl, sym, ap, ◌∙◌, subst, arith, append_assoc}
 use Rattle.std.specs.List.{list_all}
 use Rattle.std.specs.Ordering.{match_ordering}
 use Rattle.std.proofs.lemmas.List.{drop_all, map-append, get_or-drop, length-drop}
@@ -137,6 +137,6 @@ found_in_block path bs i r h within found =
     let b : List Row = get_or bs i [] in
     let rest : List Row = items_of (drop (i + 1) bs) in
     let inside : Contains (items_of bs) r =
-        subst (λ (xs : List Row). Contains xs r) (sym (items_of_split bs i [] within))
-        (Contains-append_right (items_of (take i bs)) (b ++ rest) r (Contains-append_left b rest r (found_is_contained bytes_order path_of_row path b r found))) in
+    subst (λ (xs : List Row). Contains xs r) (sym (items_of_split bs i [] within))
+    (Contains-append_right (items_of (take i bs)) (b ++ rest) r (Contains-append_left b rest r (found_is_contained bytes_order path_of_row path b r found))) in
     ap (λ p. row_at p (items_of bs)) (sym (key_of_found bytes_order path_of_row path b r found)) ∙ contained_is_found bytes_order path_of_row (items_of bs) r h.rises inside

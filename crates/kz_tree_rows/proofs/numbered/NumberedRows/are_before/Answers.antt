@@ -1,4 +1,4 @@
-use Rattle.std.proofs.Common.{◌≡◌, ◌-◌, Some, None, option_map, length, slice_get, sym, ap, ◌∙◌}
+use Rattle.std.proofs.Common.{◌≡◌, ◌-◌, Some, option_map, length, slice_get, sym, ap, ◌∙◌}
 use Rattle.kz_spec_data.specs.Loads.{is_before}
 use Rattle.kz_tree_rows.proofs.Ends.{before_by_last, before_none}
 use Rattle.kz_tree_rows.proofs.numbered.NumberedRows.are_before.Goals as goal

@@ -1,6 +1,5 @@
-use Rattle.std.proofs.Common.{◌≡◌, ◌-◌, ◌<◌, List, [], length, get_or, sym, ap, ◌∙◌, subst, arith, rules}
+use Rattle.std.proofs.Common.{◌≡◌, ◌-◌, ◌<◌, [], length, get_or, sym, ap, ◌∙◌, subst, arith, rules}
 use Rattle.std.proofs.lemmas.List.{get_or_read}
-use Rattle.kz_types.specs.declared.tree.Row.{Row}
 use Rattle.kz_types.proofs.Order.{bytes_order}
 use Rattle.kz_sorted.proofs.Changes.{read_rises}
 use Rattle.kz_spec_data.specs.Tree.{path_of_row, row_at}
