@@ -3,7 +3,7 @@ use Rattle.std.proofs.Common.{◌≡◌, ℕ, ℤ, pos, Bool, true, false, cond,
 use Rattle.std.proofs.lemmas.List.{append-nil}
 use Rattle.std.specs.Prelude.{◌+ℤ◌, ◌<ℤ◌, ◌≤ℤ◌, int_le}
 use Rattle.std.specs.Cmp.{int_cmp_is}
-use Rattle.std.specs.List.{filter, list_all}
+use Rattle.std.specs.List.{list_all}
 use Rattle.std.specs.Ordering.{match_ordering}
 use Rattle.std.proofs.lemmas.Int.{ints}
 use Rattle.kz_types.specs.declared.tree.Row.{Row}
@@ -12,9 +12,9 @@ use Rattle.kz_types.specs.declared.kind.Kind.TheVariants.{Entity, Scaffold, Stra
 use Rattle.kz_types.specs.Paths.{is_migrated, is_among, roots, is_scaffold_of_parts, parts, key_of, kind_of}
 use Rattle.kz_types.specs.Order.{bytes_cmp}
 use Rattle.kz_types.specs.Ordered.{RisesAbove}
-use Rattle.kz_types.proofs.Order.{below, equal, above, place, cmp_equal, cmp_greater, bytes_order}
+use Rattle.kz_types.proofs.Order.{cmp_greater, bytes_order}
 use Rattle.kz_types.proofs.Lookup.{Rises-put}
-use Rattle.kz_spec_data.specs.Tree.{Tree, path_of_row, row_at, put_row, is_after, first_row}
+use Rattle.kz_spec_data.specs.Tree.{Tree, path_of_row, put_row}
 use Rattle.kz_spec_data.specs.Loads.{LoadRefusal, broken, rise_from, is_header, is_before, is_reserved, is_loadable, row_refusal, are_loadable, is_load}
 use Rattle.kz_tree.specs.Kept.{AreSessions}
 use Rattle.kz_tree.specs.Loads.{IsChecked, with_row}

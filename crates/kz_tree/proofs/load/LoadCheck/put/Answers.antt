@@ -1,5 +1,5 @@
-use Rattle.std.proofs.Common.{◌≡◌, None, ap, sym, ◌∙◌}
-use Rattle.kz_spec_data.specs.Tree.{Tree, put_row}
+use Rattle.std.proofs.Common.{◌≡◌, None, ap, ◌∙◌}
+use Rattle.kz_spec_data.specs.Tree.{Tree}
 use Rattle.kz_spec_data.specs.Loads.{row_refusal}
 use Rattle.kz_tree.proofs.Loads.{after_others, row_checked, taken_last, with_taken}
 use Rattle.kz_tree.proofs.load.LoadCheck.put.Goals as goal
