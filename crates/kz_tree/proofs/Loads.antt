@@ -1,18 +1,21 @@
 -- A load: its header, and znode after znode.
-use Rattle.std.proofs.Common.{◌≡◌, ℕ, ℤ, pos, Bool, true, false, cond, not, ◌&&◌, List, [], ◌∷◌, ◌++◌, Option, Some, None, is_none, Ordering, Less, Equal, Greater, int_cmp, refl, sym, ap, ◌∙◌, append_assoc, arith}
+use Rattle.std.proofs.Common.{◌≡◌, ℕ, ℤ, pos, Bool, true, false, cond, not, ◌&&◌, ◌||◌, List, [], ◌∷◌, ◌++◌, Option, Some, None, is_some, is_none, Ordering, Less, Equal, Greater, int_cmp, refl, sym, ap, ◌∙◌, append_assoc, arith}
 use Rattle.std.proofs.lemmas.List.{append-nil}
 use Rattle.std.specs.Prelude.{◌+ℤ◌, ◌<ℤ◌, ◌≤ℤ◌, int_le}
 use Rattle.std.specs.Cmp.{int_cmp_is}
-use Rattle.std.specs.List.{filter, list_all}
+use Rattle.std.specs.List.{list_all}
 use Rattle.std.specs.Ordering.{match_ordering}
 use Rattle.std.proofs.lemmas.Int.{ints}
 use Rattle.kz_types.specs.declared.tree.Row.{Row}
+use Rattle.kz_types.specs.declared.kind.Kind.{Kind}
+use Rattle.kz_types.specs.declared.kind.Kind.TheVariants.{Entity, Scaffold, Stray}
+use Rattle.kz_types.specs.Paths.{is_migrated, is_among, roots, is_scaffold_of_parts, parts, key_of, kind_of}
 use Rattle.kz_types.specs.Order.{bytes_cmp}
 use Rattle.kz_types.specs.Ordered.{RisesAbove}
-use Rattle.kz_types.proofs.Order.{below, equal, above, place, cmp_equal, cmp_greater, bytes_order}
+use Rattle.kz_types.proofs.Order.{cmp_greater, bytes_order}
 use Rattle.kz_types.proofs.Lookup.{Rises-put}
-use Rattle.kz_spec_data.specs.Tree.{Tree, path_of_row, row_at, put_row, is_after, first_row}
-use Rattle.kz_spec_data.specs.Loads.{LoadRefusal, broken, rise_from, is_header, is_before, is_loadable, row_refusal, are_loadable, is_load}
+use Rattle.kz_spec_data.specs.Tree.{Tree, path_of_row, put_row}
+use Rattle.kz_spec_data.specs.Loads.{LoadRefusal, broken, rise_from, is_header, is_before, is_reserved, is_loadable, row_refusal, are_loadable, is_load}
 use Rattle.kz_tree.specs.Kept.{AreSessions}
 use Rattle.kz_tree.specs.Loads.{IsChecked, with_row}
 
@@ -54,19 +57,20 @@ header_checked zxid ss h =
       };
     }
 
+-- ---- the kind of a path
+
+-- a path of the migrated area has a kind of that area
+pub not_reserved : (path : List ℕ) → is_migrated path ≡ true → is_reserved (kind_of path) ≡ false
+unfolding kind_of
+not_reserved path migrated = by_kind (is_some (key_of path)) (is_among roots path || is_scaffold_of_parts (parts path)) (is_migrated path) _ migrated
+  where
+    by_kind : (a b c : Bool) (other : Kind) → c ≡ true → is_reserved (cond a Entity (cond b Scaffold (cond c Stray other))) ≡ false
+    by_kind true b c other e = refl
+    by_kind false true c other e = refl
+    by_kind false false true other e = refl
+    by_kind false false false other e = absurd (cc)
+
 -- ---- a path after all others
-
--- no znode has the path, and none comes after it
-pub is_after_all : (path : List ℕ) (rows : List Row) → (is_none (row_at path rows) && is_none (first_row (filter (is_after (Some path)) rows))) ≡ list_all (is_before path) rows
-is_after_all path [] = refl
-is_after_all path (r ∷ rs) = elim (place bytes_order path r.path) [
-  | below h ↦ rw (cmp_greater bytes_order r.path path h, h) (and_false (is_none (row_at path rs)))
-  | equal e ↦ rw (cmp_equal bytes_order path r.path e, cmp_equal bytes_order r.path path (sym e)) refl
-  | above h ↦ rw (cmp_greater bytes_order path r.path h, h) (is_after_all path rs)
-]
-
-pub none_both : (a b found : Bool) → a ≡ true → found ≡ b → found ≡ (a && b)
-none_both a b found e h = rw e h
 
 less_of : (o : Ordering) → match_ordering o true false false ≡ true → o ≡ Less
 less_of Less h = refl
@@ -91,7 +95,7 @@ unfolding is_loadable
 comes_last zxid ss rows r true e h = refl
 comes_last zxid ss rows r false e h = rw e at h
 
-after_others : (zxid : ℤ) (ss : List ℤ) (rows : List Row) (r : Row) → row_refusal zxid ss rows r ≡ None → list_all (is_before r.path) rows ≡ true
+pub after_others : (zxid : ℤ) (ss : List ℤ) (rows : List Row) (r : Row) → row_refusal zxid ss rows r ≡ None → list_all (is_before r.path) rows ≡ true
 after_others zxid ss rows r h = comes_last zxid ss rows r (list_all (is_before r.path) rows) refl (keeps (is_loadable zxid ss rows r) _ h)
 
 pub taken_last : (zxid : ℤ) (ss : List ℤ) (rows next : List Row) (r : Row) → row_refusal zxid ss rows r ≡ None → next ≡ put_row r rows → next ≡ rows ++ r ∷ []

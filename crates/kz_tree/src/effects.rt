@@ -68,7 +68,7 @@ fn apply(
                 return Ok(());
             };
             let row = set_row(alloc, row, body, zxid)?;
-            rows.put(row)
+            rows.replace(row)
         }
         Op::Delete { path, .. } => {
             rows.touch(alloc, parent_of(path.bytes()), zxid)?;

@@ -65,16 +65,13 @@ impl LoadCheck {
     }
 
     // Puts a znode after all others, which keeps the rules and limits there.
-    fn put(&mut self, row: &Row) -> Result<(), LoadFault>
-        requires { row_refusal self.old.zxid self.old.sessions self.old.rows row.now ≡ None }
-        ensures ok { OnOk result (self.new ≡ with_row row.now self.old) }
+    fn put(&mut self, row: Row) -> Result<(), LoadFault>
+        requires { row_refusal self.old.zxid self.old.sessions self.old.rows row ≡ None }
+        ensures ok { OnOk result (self.new ≡ with_row row self.old) }
         ensures same { OnErr result (self.new ≡ self.old) }
         ensures err { IfErr result (λ fault. fault ≡ LoadFault.NoMemory) }
     {
-        let Ok(row) = row.copy(self.alloc) else {
-            return Err(LoadFault::NoMemory);
-        };
-        let Ok(()) = self.rows.put(row) else {
+        let Ok(()) = self.rows.append(row) else {
             return Err(LoadFault::NoMemory);
         };
         Ok(())
@@ -90,6 +87,20 @@ impl LoadCheck {
         ensures same { OnErr result (self.new ≡ self.old) }
     {
         admit(self.alloc, self.zxid, &self.sessions, &self.rows, row)?;
+        let Ok(row) = row.copy(self.alloc) else {
+            return Err(LoadFault::NoMemory);
+        };
+        self.put(row)
+    }
+
+    /// The same of a znode that is moved in, and so isn't copied. At `Err` it is gone.
+    pub fn take_owned(&mut self, row: Row) -> Result<(), LoadFault>
+        ensures ok { OnOk result (row_refusal self.old.zxid self.old.sessions self.old.rows row ≡ None) }
+        ensures taken { OnOk result (self.new ≡ with_row row self.old) }
+        ensures err { IfErr result (IsRowFaultOf (row_refusal self.old.zxid self.old.sessions self.old.rows row)) }
+        ensures same { OnErr result (self.new ≡ self.old) }
+    {
+        admit(self.alloc, self.zxid, &self.sessions, &self.rows, &row)?;
         self.put(row)
     }
 

@@ -37,19 +37,12 @@ pub fn is_header(zxid: i64, sessions: &[i64]) -> bool
     0 <= zxid && zxid <= MAX_LONG && do_rise(sessions)
 }
 
-// Whether a path comes after the paths of all znodes.
-fn is_after_all(path: &ZPath, rows: &Rows) -> bool
-    ensures { result ≡ list_all (is_before path.now) rows.now }
-{
-    rows.find(path.bytes()).is_none() && rows.next_after(Some(path)).is_none()
-}
-
-// Whether the parent of a path is there and ends with no session. It is looked for once.
+// Whether the parent of a path is there and ends with no session. It is looked for once. In a load it mostly stands near the end.
 fn has_lasting_parent(path: &[u8], rows: &Rows) -> bool
     ensures { result ≡ (has_parent path.now rows.now && not (is_ephemeral (row_at (parent_of path.now) rows.now))) }
 {
     let parent = parent_of(path);
-    match rows.find(parent) {
+    match rows.find_near_end(parent) {
         Some(row) => row.owner.is_none(),
         None => is_root(parent),
     }
@@ -59,7 +52,7 @@ fn has_lasting_parent(path: &[u8], rows: &Rows) -> bool
 fn is_next(path: &ZPath, rows: &Rows) -> bool
     ensures { result ≡ (list_all (is_before path.now) rows.now && has_parent path.now rows.now && not (is_ephemeral (row_at (parent_of path.now) rows.now))) }
 {
-    is_after_all(path, rows) && has_lasting_parent(path.bytes(), rows)
+    rows.are_before(path.bytes()) && has_lasting_parent(path.bytes(), rows)
 }
 
 // Whether a znode was made at 1 or later, and was set and got or lost children no earlier.
@@ -83,10 +76,13 @@ fn is_version(version: i32) -> bool
     0 <= version && version <= MAX_VERSION
 }
 
-// Whether a path is below a control znode.
+// Whether a path is below a control znode. One of the migrated area isn't, whatever its parts are.
 fn is_reserved(path: &ZPath) -> bool
     ensures { result ≡ is_reserved (kind_of path.now) }
 {
+    if is_migrated(path.bytes()) {
+        return false;
+    }
     match kind(path) {
         Kind::Reserved => true,
         Kind::Entity => false,

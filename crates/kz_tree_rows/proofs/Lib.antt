@@ -3,6 +3,7 @@ pub mod LevelLemmas
 pub mod BrokerPaths
 pub mod ChildPaths
 pub mod Counts
+pub mod Ends
 pub mod LastSlash
 pub mod LaterLemmas
 pub mod Looks

@@ -1,13 +1,14 @@
 //! Changes of blocks of znodes and of their numbers.
 ghost use Rattle.std.specs.Prelude.{◌≡◌, ◌≢◌, ◌<◌, [], None, ◌+◌, length, slice_index_or, set, insert, remove, IfOk, OnOk, OnErr};
 ghost use Rattle.kz_types.specs.Order.{bytes_cmp};
+ghost use Rattle.kz_types.specs.Ordered.{AllBelow};
 ghost use Rattle.kz_sorted.specs.BlockLists.{items_of, AreBlocks, IsBlockFor};
 ghost use Rattle.kz_sorted.specs.declared.limits.TheConstants.{MAX_BLOCK_ITEMS};
 ghost use Rattle.kz_spec_data.specs.Tree.{path_of_row, row_at, put_row, without_row};
 ghost use Rattle.kz_tree_rows.specs.Numbered.{numbers_of, AreNumbered};
 
-use crate::numbers::{numbers_of, numbers_with, segments_of};
-use crate::{Numbers, Segments};
+use crate::numbers::{numbers_of, numbers_of_row, numbers_with, segments_of};
+use crate::{Numbers, Segments, join};
 use kz_sorted::{
     Block, HALF_BLOCK_ITEMS, Keyed, MAX_BLOCK_ITEMS, Near, Shared, block_for, put_first,
     put_in_block, remove_from_block,
@@ -147,6 +148,77 @@ pub fn put(
         return put_with_room(alloc, blocks, segments, place, row, near.item());
     }
     put_in_two(alloc, blocks, segments, place, row, near.item())
+}
+
+// Puts a znode after all others, into the last block, which has room for one more. It looks at no other znode but the last.
+fn append_to_block(
+    alloc: Global,
+    blocks: &mut Vec<Block<Row>>,
+    segments: &mut Segments,
+    place: usize,
+    row: Shared<Row>,
+) -> Result<(), NoMemory>
+    requires numbered { AreNumbered blocks.old.items segments.old }
+    requires within { place < length blocks.old.items }
+    requires block { IsBlockFor bytes_cmp path_of_row row.path blocks.old.items place }
+    requires room { length (slice_index_or blocks.old.items place []) < MAX_BLOCK_ITEMS }
+    requires last { AllBelow bytes_cmp path_of_row (items_of blocks.old.items) row.path }
+    ensures ok { OnOk result (items_of blocks.new.items ≡ put_row row (items_of blocks.old.items)) }
+    ensures err { OnErr result (items_of blocks.new.items ≡ items_of blocks.old.items) }
+    ensures kept { AreNumbered blocks.new.items segments.new }
+{
+    let numbers = join(segments.at(place), numbers_of_row(row.get()));
+    let guess = blocks[place].items().len().saturating_sub(1);
+    put_in_block(alloc, blocks, place, row, guess)?;
+    segments.set(place, numbers);
+    Ok(())
+}
+
+// Puts a znode after all others, into a block of its own. The other blocks keep their numbers.
+fn append_block(
+    alloc: Global,
+    blocks: &mut Vec<Block<Row>>,
+    segments: &mut Segments,
+    row: Shared<Row>,
+) -> Result<(), NoMemory>
+    requires numbered { AreNumbered blocks.old.items segments.old }
+    requires last { AllBelow bytes_cmp path_of_row (items_of blocks.old.items) row.path }
+    ensures ok { OnOk result (items_of blocks.new.items ≡ put_row row (items_of blocks.old.items)) }
+    ensures err { OnErr result (items_of blocks.new.items ≡ items_of blocks.old.items) }
+    ensures kept { AreNumbered blocks.new.items segments.new }
+{
+    let mut rows = Vec::new(alloc);
+    rows.push(row)?;
+    let mut numbers = segments.numbers(alloc)?;
+    numbers.push(numbers_of(&rows))?;
+    let changed = Segments::of(alloc, numbers)?;
+    let block = Block::new(alloc, rows)?;
+    blocks.push(block)?;
+    *segments = changed;
+    Ok(())
+}
+
+/// Puts a znode after all others. It searches for no place. At `Err`, memory ran out, and the znodes are as they were.
+pub fn append(
+    alloc: Global,
+    blocks: &mut Vec<Block<Row>>,
+    segments: &mut Segments,
+    row: Shared<Row>,
+) -> Result<(), NoMemory>
+    requires numbered { AreNumbered blocks.old.items segments.old }
+    requires last { AllBelow bytes_cmp path_of_row (items_of blocks.old.items) row.path }
+    ensures ok { OnOk result (items_of blocks.new.items ≡ put_row row (items_of blocks.old.items)) }
+    ensures err { OnErr result (items_of blocks.new.items ≡ items_of blocks.old.items) }
+    ensures kept { AreNumbered blocks.new.items segments.new }
+{
+    if blocks.is_empty() {
+        return append_block(alloc, blocks, segments, row);
+    }
+    let place = blocks.len() - 1;
+    if blocks[place].items().len() < MAX_BLOCK_ITEMS {
+        return append_to_block(alloc, blocks, segments, place, row);
+    }
+    append_block(alloc, blocks, segments, row)
 }
 
 // Takes the one znode of a block out, and the block with it.

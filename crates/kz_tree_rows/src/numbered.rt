@@ -1,10 +1,12 @@
 //! Znodes by rising path, with the numbers of each block.
-ghost use Rattle.std.specs.Prelude.{◌≡◌, [], Some, length, min, option_map, IfOk, OnOk, OnErr};
-ghost use Rattle.std.specs.List.{filter};
+ghost use Rattle.std.specs.Prelude.{◌≡◌, ◌-◌, [], true, Some, length, min, slice_get, option_map, IfOk, IfSome, OnOk, OnErr};
+ghost use Rattle.std.specs.List.{filter, list_all};
 ghost use Rattle.kz_types.specs.Paths.{is_migrated};
+ghost use Rattle.kz_spec_data.specs.Loads.{is_before};
 ghost use Rattle.kz_spec_data.specs.Tree.{row_at, put_row, without_row, is_after, is_later, first_row};
 ghost use Rattle.kz_tree_rows.specs.Kept.{AreRows};
 
+use crate::children::is_before;
 use crate::later::first_later;
 use crate::{Segments, changes};
 use kz_sorted::{Block, Items, Near, Shared, block_for, items_after};
@@ -36,6 +38,24 @@ impl Model for NumberedRows {
     ghost view = { λ n. items_of n.blocks.items };
 
     ghost invariant = { λ n. AreNumbered n.blocks.items n.segments };
+}
+
+// So many of the last znodes are looked at before a search.
+const LAST_ROWS: usize = 8;
+
+// The znode at a path, if it is one of the last of these.
+fn find_among_last<'a>(rows: &'a [Shared<Row>], path: &[u8]) -> Option<&'a Row>
+    requires { AreRows rows.now }
+    ensures { IfSome result (λ row. row_at path.now rows.entry.now ≡ Some row.now) }
+{
+    let from = rows.len().saturating_sub(LAST_ROWS);
+    for row in &rows[from..] {
+        let row = row.get();
+        if row.path.bytes() == path {
+            return Some(row);
+        }
+    }
+    None
 }
 
 impl NumberedRows {
@@ -70,6 +90,49 @@ impl NumberedRows {
         let (found, at) = self.blocks[place].find(path, self.near.item());
         self.near.set(place, at);
         found
+    }
+
+    // The znode at a path, if it is one of the last of all.
+    fn find_at_end(&self, path: &[u8]) -> Option<&Row>
+        ensures { IfSome result (λ row. row_at path.now self.now ≡ Some row.now) }
+    {
+        if self.blocks.is_empty() {
+            return None;
+        }
+        let place = self.blocks.len() - 1;
+        find_among_last(self.blocks[place].items(), path)
+    }
+
+    /// The znode at a path, as `find` tells it. A few of the last znodes are looked at first.
+    pub fn find_near_end(&self, path: &[u8]) -> Option<&Row>
+        ensures { option_map (λ row. row.now) result ≡ row_at path.now self.now }
+    {
+        if let Some(row) = self.find_at_end(path) {
+            return Some(row);
+        }
+        self.find(path)
+    }
+
+    /// The last znode, if there is one. It looks at one block.
+    pub fn last(&self) -> Option<&Row>
+        ensures last { option_map (λ row. row.now) result ≡ slice_get self.now (length self.now - 1) }
+        ensures rise { AreRows self.now }
+    {
+        if self.blocks.is_empty() {
+            return None;
+        }
+        let place = self.blocks.len() - 1;
+        self.blocks[place].last()
+    }
+
+    /// Whether the path of each znode comes before this one. It compares that of the last znode alone.
+    pub fn are_before(&self, path: &[u8]) -> bool
+        ensures { result ≡ list_all (is_before path.now) self.now }
+    {
+        match self.last() {
+            Some(row) => is_before(row.path.bytes(), path),
+            None => true,
+        }
     }
 
     /// All znodes, by rising path.
@@ -118,6 +181,16 @@ impl NumberedRows {
             &self.near,
             row,
         )
+    }
+
+    /// Puts a znode after all others. It searches for no place. At `Err`, memory ran out, and the znodes are as they were.
+    pub fn append(&mut self, row: Row) -> Result<(), NoMemory>
+        requires { list_all (is_before row.path) self.old ≡ true }
+        ensures ok { OnOk result (self.new ≡ put_row row self.old) }
+        ensures err { OnErr result (self.new ≡ self.old) }
+    {
+        let row = Shared::new(self.alloc, row)?;
+        changes::append(self.alloc, &mut self.blocks, &mut self.segments, row)
     }
 
     /// Takes the znode of a path out, where there is one. At `Err`, memory ran out, and the znodes are as they were.

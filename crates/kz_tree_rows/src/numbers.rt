@@ -22,8 +22,8 @@ fn latest_of(row: &Row) -> Option<i64>
     }
 }
 
-// The numbers of one znode.
-fn numbers_of_row(row: &Row) -> Numbers
+/// The numbers of one znode.
+pub fn numbers_of_row(row: &Row) -> Numbers
     ensures { result ≡ numbers_of_row row.now }
 {
     Numbers {

@@ -1,7 +1,8 @@
 //! Znodes by rising path.
-ghost use Rattle.std.specs.Prelude.{◌≡◌, ◌≢◌, [], None, length, option_map, Some, IfOk, OnOk, OnErr, if◌then◌else◌};
-ghost use Rattle.std.specs.List.{filter, count_by};
+ghost use Rattle.std.specs.Prelude.{◌≡◌, ◌≢◌, [], true, None, length, option_map, Some, IfOk, OnOk, OnErr, if◌then◌else◌};
+ghost use Rattle.std.specs.List.{filter, count_by, list_all};
 ghost use Rattle.kz_types.specs.Paths.{is_migrated};
+ghost use Rattle.kz_spec_data.specs.Loads.{is_before};
 ghost use Rattle.kz_spec_data.specs.Tree.{row_at, put_row, without_row, with_child_change, is_after, is_later, first_row, count_beside};
 ghost use Rattle.kz_tree_rows.specs.Kept.{AreRows};
 
@@ -91,6 +92,20 @@ impl Rows {
         self.list.find(path)
     }
 
+    /// The znode at a path, as `find` tells it. A few of the last znodes are looked at first.
+    pub fn find_near_end(&self, path: &[u8]) -> Option<&Row>
+        ensures { option_map (λ row. row.now) result ≡ row_at path.now self.now }
+    {
+        self.list.find_near_end(path)
+    }
+
+    /// Whether the path of each znode comes before this one. It compares that of the last znode alone.
+    pub fn are_before(&self, path: &[u8]) -> bool
+        ensures { result ≡ list_all (is_before path.now) self.now }
+    {
+        self.list.are_before(path)
+    }
+
     /// All znodes, by rising path.
     pub fn items(&self) -> Items<'_, Row>
         ensures items { result ≡ self.now }
@@ -134,15 +149,6 @@ impl Rows {
         self.list.first_later(zxid)
     }
 
-    // Puts a znode in the place of the one with its path.
-    fn replace(&mut self, row: Row) -> Result<(), NoMemory>
-        requires { row_at row.path self.old ≢ None }
-        ensures ok { OnOk result (self.new ≡ put_row row self.old) }
-        ensures err { OnErr result (self.new ≡ self.old) }
-    {
-        self.list.put(row)
-    }
-
     // Puts a znode whose path no other has. Where a `usize` can't count one more, it answers out of memory.
     fn add(&mut self, row: Row) -> Result<(), NoMemory>
         requires { row_at row.path self.old ≡ None }
@@ -169,6 +175,30 @@ impl Rows {
         self.add(row)
     }
 
+    /// Puts a znode in the place of the one with its path, which is there. At `Err` the znodes are as they were.
+    pub fn replace(&mut self, row: Row) -> Result<(), NoMemory>
+        requires { row_at row.path self.old ≢ None }
+        ensures ok { OnOk result (self.new ≡ put_row row self.old) }
+        ensures err { OnErr result (self.new ≡ self.old) }
+    {
+        self.list.put(row)
+    }
+
+    /// Puts a znode after all others. It searches for no place. At `Err` the znodes are as they were.
+    pub fn append(&mut self, row: Row) -> Result<(), NoMemory>
+        requires { list_all (is_before row.path) self.old ≡ true }
+        ensures ok { OnOk result (self.new ≡ put_row row self.old) }
+        ensures err { OnErr result (self.new ≡ self.old) }
+    {
+        if self.list.count() == usize::MAX {
+            return Err(NoMemory);
+        }
+        let migrated = self.migrated + migrated_part(row.path.bytes());
+        self.list.append(row)?;
+        self.migrated = migrated;
+        Ok(())
+    }
+
     /// The znode at a path, where there is one, got or lost a child. At `Err` the znodes are as they were.
     pub fn touch(&mut self, alloc: Global, path: &[u8], zxid: i64) -> Result<(), NoMemory>
         ensures ok { OnOk result (self.new ≡ with_child_change zxid (row_at path.now self.old) self.old) }
@@ -178,7 +208,7 @@ impl Rows {
             return Ok(());
         };
         let row = touched_row(alloc, row, zxid)?;
-        self.put(row)
+        self.replace(row)
     }
 
     // Takes the znode of a path out, which is there.
