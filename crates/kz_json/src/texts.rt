@@ -50,7 +50,7 @@ pub fn push_comma(text: &mut String, later: bool) -> Result<(), NoMemory>
     Ok(())
 }
 
-// Adds a broker of a list, behind a comma where another stands before it.
+// Adds a broker of a list, after a comma where another stands before it.
 fn push_item(text: &mut String, later: bool, id: i32) -> Result<(), NoMemory>
     ensures { OnOk result (string_bytes text.new ≡ string_bytes text.old ++ (comma_if later ++ compact_text (whole_data id))) }
 {
@@ -71,7 +71,7 @@ pub fn push_brokers(text: &mut String, ids: &[i32]) -> Result<(), NoMemory>
     push_sign(text, b']')
 }
 
-/// Adds a list of brokers, behind the text of its member's name.
+/// Adds a list of brokers, after the text of its member's name.
 pub fn push_brokers_of(text: &mut String, before: &str, ids: &[i32]) -> Result<(), NoMemory>
     ensures { OnOk result (string_bytes text.new ≡ string_bytes text.old ++ (before.now ++ compact_text (brokers_data ids.now))) }
 {
@@ -79,7 +79,7 @@ pub fn push_brokers_of(text: &mut String, before: &str, ids: &[i32]) -> Result<(
     push_brokers(text, ids)
 }
 
-/// Adds a whole number, behind the text of its member's name.
+/// Adds a whole number, after the text of its member's name.
 pub fn push_whole_of(text: &mut String, before: &str, number: i32) -> Result<(), NoMemory>
     ensures { OnOk result (string_bytes text.new ≡ string_bytes text.old ++ (before.now ++ compact_text (whole_data number))) }
 {
