@@ -87,7 +87,7 @@ fn is_below(name: &[u8], other: &[u8]) -> bool
     name.cmp(other).is_lt()
 }
 
-/// Whether the names rise in byte order. The empty name does not.
+/// Whether the names rise in byte order and none is empty.
 pub fn names_rise(pairs: &[Pair]) -> bool
     ensures { result ≡ rise_above [] pairs.now }
 {
