@@ -1,6 +1,5 @@
 -- The znodes of a load, one after another.
-use Rattle.std.proofs.Common.{◌≡◌, ℕ, ◌+◌, ◌<◌, ℤ, Bool, true, false, cond, List, [], ◌∷◌, ◌++◌, length, take, drop, get_or, Option, Some, None, Err, refl, sym, ap, ◌∙◌, subst}
-use Rattle.std.proofs.lemmas.List.{take_more, drop_more}
+use Rattle.std.proofs.Common.{◌≡◌, ℤ, Bool, true, false, cond, List, [], ◌∷◌, ◌++◌, Option, Some, None, Err, refl, sym, ap, ◌∙◌, subst}
 use Rattle.std.specs.Prelude.{is_none, ◌&&◌}
 use Rattle.kz_types.specs.declared.tree.Row.{Row}
 use Rattle.kz_spec_data.specs.Tree.{Tree}
@@ -42,12 +41,6 @@ row_stops NoMemory zxid sessions before r rs rows h same = tt
 
 -- ---- one znode more
 
-rows_more : (rows : List Row) (i : ℕ) (r : Row) → i < length rows → r ≡ get_or rows i r → take (i + 1) rows ≡ take i rows ++ r ∷ []
-rows_more rows i r lt is = take_more rows i r lt ∙ ap (λ y. take i rows ++ y ∷ []) (sym is)
-
-rest_is : (rows : List Row) (i : ℕ) (r : Row) → i < length rows → r ≡ get_or rows i r → drop i rows ≡ r ∷ drop (i + 1) rows
-rest_is rows i r lt is = drop_more rows i r lt ∙ ap (λ y. y ∷ drop (i + 1) rows) (sym is)
-
 -- a tree has these parts
 pub record Has (zxid : ℤ) (sessions : List ℤ) (rows : List Row) (t : Tree) : Type 0 where
   pub zxid_is : t.zxid ≡ zxid
@@ -58,24 +51,19 @@ pub refusal_here : (zxid : ℤ) (sessions : List ℤ) (before : List Row) (t : T
 refusal_here zxid sessions before t r h =
     ap (λ z. row_refusal z t.sessions t.rows r) h.zxid_is ∙ ap (λ ss. row_refusal zxid ss t.rows r) h.sessions_are ∙ ap (λ rs. row_refusal zxid sessions rs r) h.rows_are
 
-pub has_more : (zxid : ℤ) (sessions : List ℤ) (rows : List Row) (i : ℕ) (t new : Tree) (r : Row) → Has zxid sessions (take i rows) t → i < length rows → r ≡ get_or rows i r → new ≡ with_row r t → Has zxid sessions (take (i + 1) rows) new
-has_more zxid sessions rows i t new r h lt is made = record {
+pub has_more : (zxid : ℤ) (sessions : List ℤ) (before : List Row) (t new : Tree) (r : Row) → Has zxid sessions before t → new ≡ with_row r t → Has zxid sessions (before ++ r ∷ []) new
+has_more zxid sessions before t new r h made = record {
   zxid_is = ap (λ (x : Tree). x.zxid) made ∙ h.zxid_is;
   sessions_are = ap (λ (x : Tree). x.sessions) made ∙ h.sessions_are;
-  rows_are = ap (λ (x : Tree). x.rows) made ∙ ap (λ b. b ++ r ∷ []) h.rows_are ∙ sym (rows_more rows i r lt is);
+  rows_are = ap (λ (x : Tree). x.rows) made ∙ ap (λ b. b ++ r ∷ []) h.rows_are;
 }
 
-pub rest_more : (zxid : ℤ) (sessions : List ℤ) (rows : List Row) (i : ℕ) (t : Tree) (r : Row) → Has zxid sessions (take i rows) t → i < length rows → r ≡ get_or rows i r → row_refusal t.zxid t.sessions t.rows r ≡ None
-    → are_loadable zxid sessions (take i rows) (drop i rows) ≡ are_loadable zxid sessions [] rows → are_loadable zxid sessions (take (i + 1) rows) (drop (i + 1) rows) ≡ are_loadable zxid sessions [] rows
-rest_more zxid sessions rows i t r h lt is none same =
-    ap (λ b. are_loadable zxid sessions b (drop (i + 1) rows)) (rows_more rows i r lt is)
-    ∙ load_more zxid sessions (take i rows) r (drop (i + 1) rows) (sym (refusal_here zxid sessions (take i rows) t r h) ∙ none)
-    ∙ sym (ap (are_loadable zxid sessions (take i rows)) (rest_is rows i r lt is))
-    ∙ same
+pub rest_more : (zxid : ℤ) (sessions : List ℤ) (before left rest rows : List Row) (t : Tree) (r : Row) → Has zxid sessions before t → left ≡ r ∷ rest → row_refusal t.zxid t.sessions t.rows r ≡ None
+    → are_loadable zxid sessions before left ≡ are_loadable zxid sessions [] rows → are_loadable zxid sessions (before ++ r ∷ []) rest ≡ are_loadable zxid sessions [] rows
+rest_more zxid sessions before left rest rows t r h is none same = load_more zxid sessions before r rest (sym (refusal_here zxid sessions before t r h) ∙ none) ∙ sym (ap (are_loadable zxid sessions before) is) ∙ same
 
-pub stops_here : (f : LoadFault) (zxid : ℤ) (sessions : List ℤ) (rows : List Row) (i : ℕ) (t : Tree) (r : Row) → Has zxid sessions (take i rows) t → i < length rows → r ≡ get_or rows i r → IsRowFaultOf (row_refusal t.zxid t.sessions t.rows r) f
-    → are_loadable zxid sessions (take i rows) (drop i rows) ≡ are_loadable zxid sessions [] rows → (told : FrameFault) → told ≡ frame_fault_of f → Says {X = Tree} ended (Err told) (stored_by_load zxid sessions (under_way rows))
-stops_here f zxid sessions rows i t r h lt is refused same told told_is =
+pub stops_here : (f : LoadFault) (zxid : ℤ) (sessions : List ℤ) (before left rest rows : List Row) (t : Tree) (r : Row) → Has zxid sessions before t → left ≡ r ∷ rest → IsRowFaultOf (row_refusal t.zxid t.sessions t.rows r) f
+    → are_loadable zxid sessions before left ≡ are_loadable zxid sessions [] rows → (told : FrameFault) → told ≡ frame_fault_of f → Says {X = Tree} ended (Err told) (stored_by_load zxid sessions (under_way rows))
+stops_here f zxid sessions before left rest rows t r h is refused same told told_is =
     subst (λ (e : FrameFault). Says {X = Tree} ended (Err e) (stored_by_load zxid sessions (under_way rows))) (sym told_is)
-    (row_stops f zxid sessions (take i rows) r (drop (i + 1) rows) rows (subst (λ (o : Option LoadRefusal). IsRowFaultOf o f) (refusal_here zxid sessions (take i rows) t r h) refused)
-    (sym (ap (are_loadable zxid sessions (take i rows)) (rest_is rows i r lt is)) ∙ same))
+    (row_stops f zxid sessions before r rest rows (subst (λ (o : Option LoadRefusal). IsRowFaultOf o f) (refusal_here zxid sessions before t r h) refused) (sym (ap (are_loadable zxid sessions before) is) ∙ same))

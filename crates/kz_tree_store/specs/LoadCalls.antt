@@ -5,7 +5,8 @@ use Rattle.kz_types.specs.declared.fault.TreeFault.{TreeFault}
 use Rattle.kz_types.specs.declared.fault.TreeFault.TheVariants as tree_fault
 use Rattle.kz_spec_data.specs.Tree.{Tree}
 use Rattle.kz_spec_data.specs.Requests.{Disk, StoreAnswer, Done, Refused, NoMemory, Failed, Down, Full, ChangesDisk, Only, Either}
-use Rattle.kz_spec_data.specs.declared.files.Txn.TheVariants.{LoadRows, LoadEnd}
+use Rattle.kz_spec_data.specs.declared.files.Txn.{Txn}
+use Rattle.kz_spec_data.specs.declared.files.Txn.TheVariants.{Multi, LoadRows, LoadEnd, Begin, End}
 use Rattle.kz_spec_data.specs.Transactions.{txn_written}
 use Rattle.kz_spec_data.specs.Loads.{is_load}
 use Rattle.kz_tree_store.specs.declared.last.LoadLast.{LoadLast}
@@ -17,6 +18,14 @@ use Rattle.kz_tree_store.specs.Opened.{Known}
 abbrev pub rows_so_far : Option (List Row) → List Row
 rows_so_far None = []
 rows_so_far (Some rows) = rows
+
+-- the znodes that a transaction loads
+abbrev pub rows_of_txn : Txn → List Row
+rows_of_txn (Multi zxid ops) = []
+rows_of_txn (LoadRows first rows) = rows
+rows_of_txn (LoadEnd zxid sessions) = []
+rows_of_txn (Begin zxid session) = []
+rows_of_txn (End zxid session) = []
 
 -- Znodes keep the rules and limits of a load: with these last zxid and sessions, or, as long as they aren't known, with some.
 abbrev pub KeepRules : Option LoadLast → List Row → Type 0

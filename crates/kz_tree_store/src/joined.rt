@@ -1,10 +1,11 @@
 //! Values of a load.
-ghost use Rattle.std.specs.Prelude.{◌≡◌, ◌++◌, IfOk};
-ghost use Rattle.kz_tree_store.specs.LoadCalls.{load_fault_of, rows_so_far};
+ghost use Rattle.std.specs.Prelude.{◌≡◌, ◌≤◌, ◌+◌, ◌++◌, length, vec_len, vec_capacity, IfOk};
+ghost use Rattle.kz_tree_store.specs.LoadCalls.{load_fault_of, rows_so_far, rows_of_txn};
 
 use kz_journal::ChangeFault;
+use kz_spec_data::Txn;
 use kz_tree::TreeFault;
-use kz_types::{NoMemory, Row, Sequence, copy_all};
+use kz_types::{NoMemory, Row, Sequence};
 use std::alloc::Global;
 
 /// The fault of a call of a load whose frame wasn't written.
@@ -18,23 +19,37 @@ pub(crate) fn load_fault(fault: ChangeFault) -> TreeFault
     }
 }
 
-/// The znodes of a load so far, and copies of further ones.
-pub(crate) fn joined(
+/// The znodes of a load so far, with room for so many more.
+pub(crate) fn with_room(
     alloc: Global,
     before: Option<Sequence<Row>>,
-    rows: &[Row],
-) -> Result<Sequence<Row>, NoMemory>
-    ensures { IfOk result (λ all. all ≡ rows_so_far before ++ rows.now) }
+    count: usize,
+) -> Result<Vec<Row>, NoMemory>
+    ensures rows { IfOk result (λ made. made.items ≡ rows_so_far before) }
+    ensures room { IfOk result (λ made. vec_len made + count ≤ vec_capacity made) }
 {
-    let mut further = copy_all(alloc, rows)?;
-    match before {
-        None => Ok(Sequence::from_vec(further)),
-        Some(before) => {
-            let mut all = before.into_vec();
-            match all.append(&mut further) {
-                Ok(()) => Ok(Sequence::from_vec(all)),
-                Err(_) => Err(NoMemory),
-            }
-        }
+    let mut rows = match before {
+        None => Vec::new(alloc),
+        Some(before) => before.into_vec(),
+    };
+    rows.reserve(count)?;
+    Ok(rows)
+}
+
+/// Znodes, and after them those of a transaction that loads some. There is room for them, so that this takes no memory.
+pub(crate) fn joined(mut before: Vec<Row>, txn: Txn) -> Sequence<Row>
+    requires { vec_len before + length (rows_of_txn txn) ≤ vec_capacity before }
+    ensures { result ≡ before.items ++ rows_of_txn txn }
+{
+    let mut further = match txn {
+        Txn::LoadRows { rows, .. } => rows.into_vec(),
+        Txn::Multi { .. } => return Sequence::from_vec(before),
+        Txn::LoadEnd { .. } => return Sequence::from_vec(before),
+        Txn::Begin { .. } => return Sequence::from_vec(before),
+        Txn::End { .. } => return Sequence::from_vec(before),
+    };
+    match before.append(&mut further) {
+        Ok(()) => Sequence::from_vec(before),
+        Err(_) => unreachable!(),
     }
 }

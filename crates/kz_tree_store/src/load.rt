@@ -1,7 +1,7 @@
 //! Loading a tree onto a disk.
 use crate::change::write_change;
 use crate::fault::FrameFault;
-use crate::joined::{joined, load_fault};
+use crate::joined::{joined, load_fault, with_room};
 use crate::last::LoadLast;
 use crate::loads::loaded_tree;
 use crate::store::TreeStore;
@@ -38,12 +38,12 @@ impl<D: Disk> TreeStore<D> {
         let Ok(txn) = load_rows_txn(self.alloc, first, rows) else {
             return Err(ChangeFault::NoMemory);
         };
-        let Ok(all) = joined(self.alloc, before, rows) else {
+        let Ok(before) = with_room(self.alloc, before, rows.len()) else {
             return Err(ChangeFault::NoMemory);
         };
         match write_change(self.alloc, &mut self.journal, &txn) {
             Ok(()) => {
-                self.loaded = Some(all);
+                self.loaded = Some(joined(before, txn));
                 Ok(())
             }
             Err(ChangeFault::Failed) => {
@@ -75,7 +75,7 @@ impl<D: Disk> TreeStore<D> {
             self.alloc,
             last.zxid,
             last.sessions.as_slice(),
-            rows.as_slice(),
+            rows.into_vec(),
         ) {
             Ok(tree) => tree,
             Err(FrameFault::Damaged) => unreachable!(),

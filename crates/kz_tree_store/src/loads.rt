@@ -19,21 +19,21 @@ fn frame_fault(fault: LoadFault) -> FrameFault
     }
 }
 
-/// The tree that has these znodes, where they keep the rules and limits of a load.
+/// The tree that has these znodes, where they keep the rules and limits of a load. They are moved into it.
 pub(crate) fn loaded_tree(
     alloc: Global,
     zxid: i64,
     sessions: &[i64],
-    rows: &[Row],
+    rows: Vec<Row>,
 ) -> Result<Tree, FrameFault>
-    ensures { Says ended result (stored_by_load zxid sessions.now (under_way rows.now)) }
+    ensures { Says ended result (stored_by_load zxid sessions.now (under_way rows.items)) }
 {
     let mut check = match LoadCheck::new(alloc, zxid, sessions) {
         Ok(check) => check,
         Err(fault) => return Err(frame_fault(fault)),
     };
     for row in rows {
-        match check.take(row) {
+        match check.take_owned(row) {
             Ok(()) => {}
             Err(fault) => return Err(frame_fault(fault)),
         }

@@ -120,7 +120,7 @@ fn tree_after(alloc: Global, load: Loading, zxid: i64, sessions: &[i64]) -> Resu
 {
     match load {
         Loading::Fresh => Err(FrameFault::Damaged),
-        Loading::UnderWay(rows) => match loaded_tree(alloc, zxid, sessions, &rows) {
+        Loading::UnderWay(rows) => match loaded_tree(alloc, zxid, sessions, rows) {
             Ok(tree) => Ok(Held {
                 tree,
                 load: Loading::Over,
