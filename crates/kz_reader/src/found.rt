@@ -8,7 +8,7 @@ ghost use Rattle.kz_spec_data.specs.Tree.{path_of_row, row_at};
 ghost use Rattle.kz_spec_data.specs.Translation.{row_of};
 
 use crate::numbers::number_text;
-use kz_sorted::find;
+use kz_sorted::{find, find_near};
 use kz_types::{NoMemory, Row};
 use std::alloc::Global;
 
@@ -57,16 +57,18 @@ pub fn topic_row<'a>(
     Ok(row_at(rows, &path))
 }
 
-/// The znode of a partition's state.
+/// The znode of a partition's state, if there is one, and its place, or that of the last znode below it. A guess of the place is
+/// tried first.
 pub fn state_row<'a>(
     alloc: Global,
     rows: &'a [Row],
     topic: &str,
     number: i32,
-) -> Result<Option<&'a Row>, NoMemory>
+    guess: usize,
+) -> Result<(Option<&'a Row>, usize), NoMemory>
     requires { Rises bytes_cmp path_of_row rows.now }
-    ensures { IfOk result (λ found. option_map (λ row. row.now) found ≡ row_of (Partition topic.now number) rows.entry.now) }
+    ensures { IfOk result (λ found. option_map (λ row. row.now) found.0 ≡ row_of (Partition topic.now number) rows.entry.now) }
 {
     let path = state_path(alloc, topic, number)?;
-    Ok(row_at(rows, &path))
+    Ok(find_near(rows, path.as_bytes(), guess))
 }

@@ -16,6 +16,13 @@ use kz_types::{
 };
 use std::alloc::Global;
 
+/// How far the state of a topic's first partition mostly stands after the topic: the parents of states and the partition
+/// come between.
+const FIRST_STATE: usize = 3;
+
+/// How far the state of the next partition mostly stands after a state: the partition comes between.
+const NEXT_STATE: usize = 2;
+
 // The first replica.
 fn first_replica(replicas: &[i32]) -> i32
     ensures { result ≡ first_replica replicas.now }
@@ -101,24 +108,28 @@ fn partition_by(
     }
 }
 
+// The record of a partition. The state is sought at a guess of its place first, which then becomes that of the next state.
 fn partition_record(
     alloc: Global,
     rows: &[Row],
     name: &Text,
     id: Id,
     assigned: &AssignmentRow,
+    guess: &mut usize,
 ) -> Result<MetaRecord, NoMemory>
     requires { Rises bytes_cmp path_of_row rows.now }
     ensures { IfOk result (λ made. made ≡ partition_record rows.now name.now id assigned.now) }
 {
-    let state = state_row(alloc, rows, name.as_str(), assigned.number)?;
+    let (state, place) = state_row(alloc, rows, name.as_str(), assigned.number, *guess)?;
+    *guess = place.saturating_add(NEXT_STATE);
     Ok(MetaRecord::Partition(partition_by(alloc, id, assigned, state)?))
 }
 
-// A topic, and then its partitions by rising number.
+// A topic, whose znode stands at this place, and then its partitions by rising number.
 fn topic_records(
     alloc: Global,
     rows: &[Row],
+    place: usize,
     name: &Text,
     id: Id,
     partitions: &[AssignmentRow],
@@ -126,13 +137,14 @@ fn topic_records(
     requires { Rises bytes_cmp path_of_row rows.now }
     ensures { IfOk result (λ records. records ≡ topic_records rows.now name.now id partitions.now) }
 {
+    let mut guess = place.saturating_add(FIRST_STATE);
     let mut records = Sequence::new(alloc);
     records.push(MetaRecord::Topic(TopicRecord {
         name: name.copy(alloc)?,
         topic_id: id,
     }))?;
     for assigned in partitions {
-        records.push(partition_record(alloc, rows, name, id, assigned)?)?;
+        records.push(partition_record(alloc, rows, name, id, assigned, &mut guess)?)?;
     }
     Ok(records)
 }
@@ -154,7 +166,8 @@ pub fn records_of_topic(
             if seen.is_taken(rows, id) {
                 return Ok(Err(ReadWhy::SameId));
             }
-            Ok(Ok(topic_records(alloc, rows, name, id, partitions.as_slice())?))
+            let partitions = partitions.as_slice();
+            Ok(Ok(topic_records(alloc, rows, seen.done, name, id, partitions)?))
         }
         Ok(_) => Ok(Ok(Sequence::new(alloc))),
         Err(fault) => Ok(Err(ReadWhy::Body(fault))),
