@@ -105,7 +105,7 @@ few_of_key rows earlier key.Producer bytes more h = none_is_few _ _ (read_kept k
 if_so : {A : Type 0} (b : Bool) (x y : A) → b ≡ true → cond b x y ≡ x
 if_so b x y e = rw e refl
 
-with_a_key : (path : List ℕ) (k : EntityKey) → key_of path ≡ Some k → kind_of path ≡ kind.Entity
+pub with_a_key : (path : List ℕ) (k : EntityKey) → key_of path ≡ Some k → kind_of path ≡ kind.Entity
 unfolding kind_of
 with_a_key path k e = if_so _ _ _ (ap (λ o. is_some o) e)
 

@@ -5,3 +5,4 @@ pub mod NextRow
 pub mod BodyKinds
 pub mod Keeping
 pub mod Numbered
+pub mod ReadAhead

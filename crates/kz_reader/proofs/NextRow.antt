@@ -28,3 +28,8 @@ with_records rows done row before more h e made whole =
     sym (taken_over before more row.path (records_after rows (take (done + 1) rows) (drop (done + 1) rows)))
     ∙ ap (λ r. after_records before (records_then row.path r (records_after rows (take (done + 1) rows) (drop (done + 1) rows)))) made
     ∙ ap (λ t. after_records before t) (sym (first_of_rest rows done row h e)) ∙ whole
+
+-- before the first znode is read
+pub nothing_before : (t : Translated) → after_records [] t ≡ t
+nothing_before (Ok rs) = refl
+nothing_before (Err e) = refl

@@ -6,7 +6,8 @@ use Rattle.kz_spec_data.specs.Translation.{Translated, records_after, all_record
 use Rattle.kz_reader.specs.declared.fault.ReadFault.{ReadFault}
 use Rattle.kz_reader.specs.declared.fault.ReadFault.TheVariants.{Untranslatable, NoMemory}
 use Rattle.kz_reader.specs.declared.reading.Reading.{Reading}
-use Rattle.kz_reader.specs.Seen.{HasSeen, IsOfIfAny}
+use Rattle.kz_reader.specs.Seen.{HasSeen}
+use Rattle.kz_reader.specs.Known.{IsKnown}
 
 -- the path and the reason of the translation, or out of memory
 abbrev pub IsReadFault : Translated → ReadFault → Type 0
@@ -22,5 +23,5 @@ after_records done (Err e) = Err e
 pub record IsReading (rows : List Row) (r : Reading) : Type 0 where
   pub seen : HasSeen rows r.seen
   pub few : r.seen.entries ≤ length r.records.items
-  pub last : IsOfIfAny rows r.last
+  pub known : IsKnown rows r.known
   pub records : after_records r.records.items (records_after rows (take r.seen.done rows) (drop r.seen.done rows)) ≡ all_records rows

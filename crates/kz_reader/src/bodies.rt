@@ -2,11 +2,19 @@
 ghost use Rattle.std.specs.Prelude.{◌≡◌, IfOk};
 ghost use Rattle.kz_spec_data.specs.Bodies.{read_body};
 ghost use Rattle.kz_spec_data.specs.Translation.{body_of_row};
+ghost use Rattle.kz_reader.specs.Seen.{IsReadOfIfAny};
 
 use kz_json::read_body;
 use kz_path::key_of;
 use kz_types::{Body, BodyFault, EntityKey, NoMemory, Row};
 use std::alloc::Global;
+
+/// The entity of a znode, and what its body says, or why it can't be read.
+#[derive(Drop)]
+pub struct EntityRead {
+    pub key: EntityKey,
+    pub read: Result<Body, BodyFault>,
+}
 
 /// What the body of an entity's znode says, or why it can't be read.
 pub fn body_of(
@@ -32,6 +40,19 @@ pub fn body_of_row(alloc: Global, row: &Row) -> Result<Option<Body>, NoMemory>
             Ok(body) => Ok(Some(body)),
             Err(_) => Ok(None),
         },
+        None => Ok(None),
+    }
+}
+
+/// The entity of a znode, and what its body says, where it is an entity's.
+pub fn read_of_row(alloc: Global, row: &Row) -> Result<Option<EntityRead>, NoMemory>
+    ensures { IfOk result (IsReadOfIfAny row.now) }
+{
+    match key_of(alloc, &row.path)? {
+        Some(key) => {
+            let read = body_of(alloc, &key, row.body.as_slice())?;
+            Ok(Some(EntityRead { key, read }))
+        }
         None => Ok(None),
     }
 }

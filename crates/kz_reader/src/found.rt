@@ -4,11 +4,12 @@ ghost use Rattle.kz_types.specs.Paths.{path_of};
 ghost use Rattle.kz_types.specs.declared.key.EntityKey.TheVariants.{Topic, Partition};
 ghost use Rattle.kz_types.specs.Order.{bytes_cmp};
 ghost use Rattle.kz_types.specs.Ordered.{Rises};
+ghost use Rattle.kz_types.specs.Spot.{IsSpot};
 ghost use Rattle.kz_spec_data.specs.Tree.{path_of_row, row_at};
 ghost use Rattle.kz_spec_data.specs.Translation.{row_of};
 
 use crate::numbers::number_text;
-use kz_sorted::find;
+use kz_sorted::{find, spot_near};
 use kz_types::{NoMemory, Row};
 use std::alloc::Global;
 
@@ -57,16 +58,18 @@ pub fn topic_row<'a>(
     Ok(row_at(rows, &path))
 }
 
-/// The znode of a partition's state.
-pub fn state_row<'a>(
+/// The place of the znode of a partition's state, or, where there is none, that of the first znode with a greater path.
+/// A guess of the place is tried first.
+pub fn state_spot(
     alloc: Global,
-    rows: &'a [Row],
+    rows: &[Row],
     topic: &str,
     number: i32,
-) -> Result<Option<&'a Row>, NoMemory>
+    guess: usize,
+) -> Result<Result<usize, usize>, NoMemory>
     requires { Rises bytes_cmp path_of_row rows.now }
-    ensures { IfOk result (λ found. option_map (λ row. row.now) found ≡ row_of (Partition topic.now number) rows.entry.now) }
+    ensures { IfOk result (IsSpot bytes_cmp path_of_row (path_of (Partition topic.now number)) rows.now) }
 {
     let path = state_path(alloc, topic, number)?;
-    Ok(row_at(rows, &path))
+    Ok(spot_near(rows, path.as_bytes(), guess))
 }

@@ -8,6 +8,7 @@ mod configs;
 mod fault;
 mod found;
 mod ids;
+mod known;
 mod numbers;
 mod producer;
 mod quotas;

@@ -8,8 +8,8 @@ ghost use Rattle.kz_spec_data.specs.Translation.{body_of_row, row_records, all_r
 ghost use Rattle.kz_reader.specs.Seen.{note_of};
 ghost use Rattle.kz_reader.specs.Faults.{IsReadFault, IsReading};
 
-use crate::assignments::Assignments;
 use crate::fault::ReadFault;
+use crate::known::Known;
 use crate::rows::{RowRead, read_row};
 use crate::seen::{Note, Seen};
 use kz_types::{Duplicate, MetaRecord, NoMemory, ReadWhy, Row, Sequence, ZPath};
@@ -20,8 +20,8 @@ use std::alloc::Global;
 pub struct Reading {
     pub records: Vec<MetaRecord>,
     pub seen: Seen,
-    /// The assignments that were looked up last.
-    pub last: Option<Assignments>,
+    /// What is kept for the znodes that come later.
+    pub known: Known,
 }
 
 // The znode of this path can't be translated.
@@ -43,7 +43,7 @@ impl Reading {
         Reading {
             records: Vec::new(alloc),
             seen: Seen::new(alloc),
-            last: None,
+            known: Known::new(alloc),
         }
     }
 
@@ -79,7 +79,7 @@ impl Reading {
         ensures err { IfErr result (IsReadFault (all_records rows.now)) }
     {
         let row = &rows[self.seen.done];
-        match read_row(alloc, rows, &self.seen, &mut self.last, row) {
+        match read_row(alloc, rows, &self.seen, &mut self.known, row) {
             Ok(
                 RowRead {
                     note,

@@ -1,22 +1,23 @@
 //! The records of one znode.
-ghost use Rattle.std.specs.Prelude.{◌≡◌, ◌<◌, ◌^◌, None, IfOk, OnOk, take};
+ghost use Rattle.std.specs.Prelude.{◌≡◌, ◌<◌, ◌^◌, None, IfOk, OnOk, length, take, slice_index_or, option_and_then};
 ghost use Rattle.std.specs.Result.{result_ok};
 ghost use Rattle.kz_types.specs.Order.{bytes_cmp};
 ghost use Rattle.kz_types.specs.Ordered.{Rises};
-ghost use Rattle.kz_spec_data.specs.Bodies.{read_body};
 ghost use Rattle.kz_spec_data.specs.Tree.{path_of_row};
-ghost use Rattle.kz_spec_data.specs.Translation.{body_of_row, records_of, row_records};
-ghost use Rattle.kz_reader.specs.Seen.{IsOfIfAny, note_of, HasSeen, records_without_key};
+ghost use Rattle.kz_spec_data.specs.Translation.{row_of, body_of_row, records_of, row_records};
+ghost use Rattle.kz_reader.specs.Seen.{note_of, HasSeen, records_without_key};
+ghost use Rattle.kz_reader.specs.Known.{IsKnown};
 
 use crate::acls::records_of_acls;
-use crate::assignments::{Assignments, records_of_partition};
-use crate::bodies::body_of;
+use crate::assignments::records_of_partition;
+use crate::bodies::EntityRead;
 use crate::configs::{records_if_there, records_of_broker};
+use crate::known::{Known, read_at};
 use crate::producer::records_of_producer;
 use crate::quotas::records_of_quotas;
 use crate::seen::{Note, Seen, note_of};
 use crate::topics::records_of_topic;
-use kz_path::{key_of, kind};
+use kz_path::kind;
 use kz_types::{Body, BodyFault, EntityKey, Kind, MetaRecord, NoMemory, ReadWhy, Row, Sequence};
 use std::alloc::Global;
 
@@ -34,21 +35,22 @@ fn records_of(
     alloc: Global,
     rows: &[Row],
     seen: &Seen,
-    last: &mut Option<Assignments>,
+    known: &mut Known,
     key: &EntityKey,
     read: Result<Body, BodyFault>,
 ) -> Result<Result<Sequence<MetaRecord>, ReadWhy>, NoMemory>
     requires rising { Rises bytes_cmp path_of_row rows.now }
     requires seen { HasSeen rows.now seen.now }
     requires few { seen.now.entries < 2 ^ 63 }
-    requires last { IsOfIfAny rows.now last.old }
+    requires known { IsKnown rows.now known.old }
+    requires own { option_and_then body_of_row (row_of key.now rows.now) ≡ result_ok read }
     ensures records { IfOk result (λ records. records ≡ records_of rows.now (take seen.now.done rows.now) key.now read) }
-    ensures last { OnOk result (IsOfIfAny rows.now last.new) }
+    ensures known { OnOk result (IsKnown rows.now known.new) }
 {
     match key {
-        EntityKey::Topic { name } => records_of_topic(alloc, rows, seen, name, read),
+        EntityKey::Topic { name } => records_of_topic(alloc, rows, seen, known, name, read),
         EntityKey::Partition { topic, number } => {
-            records_of_partition(alloc, rows, last, topic, *number, read)
+            records_of_partition(alloc, rows, &mut known.last, topic, *number, read)
         }
         EntityKey::TopicConfig { name } => records_if_there(alloc, rows, name, read),
         EntityKey::BrokerConfig { broker } => records_of_broker(alloc, *broker, read),
@@ -58,26 +60,26 @@ fn records_of(
     }
 }
 
-// What the znode of an entity gives.
-fn read_entity(
+// What the znode of an entity gives, whose body says this.
+fn give_entity(
     alloc: Global,
     rows: &[Row],
     seen: &Seen,
-    last: &mut Option<Assignments>,
+    known: &mut Known,
     key: &EntityKey,
-    bytes: &[u8],
+    read: Result<Body, BodyFault>,
 ) -> Result<RowRead, NoMemory>
     requires rising { Rises bytes_cmp path_of_row rows.now }
     requires seen { HasSeen rows.now seen.now }
     requires few { seen.now.entries < 2 ^ 63 }
-    requires last { IsOfIfAny rows.now last.old }
-    ensures records { IfOk result (λ made. made.records ≡ records_of rows.now (take seen.now.done rows.now) key.now (read_body key.now bytes.now)) }
-    ensures note { IfOk result (λ made. made.note ≡ note_of (result_ok (read_body key.now bytes.now))) }
-    ensures last { OnOk result (IsOfIfAny rows.now last.new) }
+    requires known { IsKnown rows.now known.old }
+    requires own { option_and_then body_of_row (row_of key.now rows.now) ≡ result_ok read }
+    ensures records { IfOk result (λ made. made.records ≡ records_of rows.now (take seen.now.done rows.now) key.now read) }
+    ensures note { IfOk result (λ made. made.note ≡ note_of (result_ok read)) }
+    ensures known { OnOk result (IsKnown rows.now known.new) }
 {
-    let read = body_of(alloc, key, bytes)?;
     let note = note_of(&read);
-    let records = records_of(alloc, rows, seen, last, key, read)?;
+    let records = records_of(alloc, rows, seen, known, key, read)?;
     Ok(RowRead { note, records })
 }
 
@@ -99,25 +101,27 @@ fn read_other(alloc: Global, kind: Kind) -> RowRead
     }
 }
 
-/// What a znode gives, after those that were read.
+/// What the next znode gives, after those that were read.
 #[tactic(auto, unfolding(kz_types::specs::Paths::kind_of))]
 pub fn read_row(
     alloc: Global,
     rows: &[Row],
     seen: &Seen,
-    last: &mut Option<Assignments>,
+    known: &mut Known,
     row: &Row,
 ) -> Result<RowRead, NoMemory>
+    requires within { seen.now.done < length rows.now }
+    requires row { row.now ≡ slice_index_or rows.now seen.now.done row.now }
     requires rising { Rises bytes_cmp path_of_row rows.now }
     requires seen { HasSeen rows.now seen.now }
     requires few { seen.now.entries < 2 ^ 63 }
-    requires last { IsOfIfAny rows.now last.old }
+    requires known { IsKnown rows.now known.old }
     ensures records { IfOk result (λ made. made.records ≡ row_records rows.now (take seen.now.done rows.now) row.now) }
     ensures note { IfOk result (λ made. made.note ≡ note_of (body_of_row row.now)) }
-    ensures last { OnOk result (IsOfIfAny rows.now last.new) }
+    ensures known { OnOk result (IsKnown rows.now known.new) }
 {
-    match key_of(alloc, &row.path)? {
-        Some(key) => read_entity(alloc, rows, seen, last, &key, row.body.as_slice()),
+    match read_at(alloc, rows, &mut known.states, seen.done, row)? {
+        Some(EntityRead { key, read }) => give_entity(alloc, rows, seen, known, &key, read),
         None => Ok(read_other(alloc, kind(&row.path))),
     }
 }

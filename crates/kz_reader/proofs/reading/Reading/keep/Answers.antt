@@ -13,5 +13,5 @@ add-requires-clause-few c =
 pub returns-clause-reading : goal.returns-clause-reading
 returns-clause-reading c =
     let items = c.in_ok-append.ensures.items ∙ ap (λ (more : List MetaRecord). c.args.self.now.records.items ++ more) c.into_vec-more.ensures in
-    one_more_read c.args.rows.now c.args.self.now (record { records = c.append.new.self; seen = c.add.new.self; last = c.args.self.now.last }) c.args.row.now c.args.note c.args.more c.requires.within c.requires.row c.requires.reading c.requires.note
+    one_more_read c.args.rows.now c.args.self.now (record { records = c.append.new.self; seen = c.add.new.self; known = c.args.self.now.known }) c.args.row.now c.args.note c.args.more c.requires.within c.requires.row c.requires.reading c.requires.note
     c.requires.more items c.in_ok-add.ensures.done c.in_ok-add.ensures.entries c.in_ok-add.ensures.seen refl
