@@ -1,14 +1,14 @@
 -- How a file is opened as a tree, or why it isn't.
-use Rattle.std.proofs.Common.{◌≡◌, ◌+◌, ◌≤◌, ℕ, false, List, length, Option, Some, None, is_some, Err, refl, sym, ap, ◌∙◌, subst, arith}
+use Rattle.std.proofs.Common.{◌≡◌, ◌+◌, ◌≤◌, ℕ, Bool, false, List, length, Option, Some, None, Result, is_some, Ok, Err, refl, sym, ap, ◌∙◌, subst, arith}
 use Rattle.kz_spec_data.specs.Frames.{tree_letter}
-use Rattle.kz_spec_data.specs.TreeFile.{after_frames, stored_in, tree_of_stored}
+use Rattle.kz_spec_data.specs.TreeFile.{Stored, after_frames, stored_in, tree_of_stored}
 use Rattle.kz_journal.specs.declared.fault.JournalFault.{JournalFault}
 use Rattle.kz_journal.specs.declared.fault.JournalFault.TheVariants.{DiskFault, Damaged, Full, NoMemory, Down}
 use Rattle.kz_journal.specs.Openings.{no_journal, IsRefused}
 use Rattle.kz_tree_store.specs.Opened.{Known, known_in, IsTreeFile, open_fault_of, SaysTheSame, GrowsByOne, Reads}
 use Rattle.kz_tree_store.specs.declared.fault.TreeOpenFault.{TreeOpenFault}
 use Rattle.kz_tree_store.specs.declared.fault.TreeOpenFault.TheVariants as open_fault
-use Rattle.kz_tree_store.specs.Stores.{IsUnopened}
+use Rattle.kz_tree_store.specs.Stores.{IsUnopened, is_fresh_file}
 
 no_tree : stored_in no_journal ≡ Err 0
 unfolding after_frames
@@ -52,3 +52,14 @@ still k (Some was) now told same file is =
     let s = same was refl in
     let here : s.0.0 ≡ file = same_bytes now file s.0.0 is s.0.1 in
     subst (λ f. IsTreeFile f k) here (ap (λ j. known_in (is_some k.loaded) (stored_in j)) s.0.2 ∙ s.1)
+
+-- ---- a file that was read
+
+abbrev fresh_in : Result Known ℕ → Bool
+fresh_in (Ok k) = k.fresh
+fresh_in (Err at) = false
+
+-- whether no frame but those of znodes that are loaded stands in a file, of which this is known
+pub fresh_known : (begun : Bool) (r : Result Stored ℕ) (k : Known) → known_in begun r ≡ Ok k → is_fresh_file r ≡ k.fresh
+fresh_known begun (Ok s) k e = ap fresh_in e
+fresh_known begun (Err at) k e = ap fresh_in e

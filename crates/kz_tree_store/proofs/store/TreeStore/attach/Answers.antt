@@ -1,8 +1,10 @@
-use Rattle.std.proofs.Common.{sym, ◌∙◌, subst}
+use Rattle.std.proofs.Common.{false, is_some, refl, sym, ap, ◌∙◌, subst}
+use Rattle.kz_spec_data.specs.Frames.{tree_letter, journal_of}
+use Rattle.kz_spec_data.specs.TreeFile.{stored_in}
 use Rattle.kz_journal.specs.Held.{disk_of}
-use Rattle.kz_tree_store.specs.Opened.{read_known}
+use Rattle.kz_tree_store.specs.Opened.{read_known, tree_known}
 use Rattle.kz_tree_store.specs.Stores.{IsUnopened}
-use Rattle.kz_tree_store.proofs.Opening.{unopened, unread, still}
+use Rattle.kz_tree_store.proofs.Opening.{unopened, unread, still, fresh_known}
 use Rattle.kz_tree_store.proofs.store.TreeStore.attach.Goals as goal
 
 pub returns-in-Err-clause-refused : goal.returns-in-Err-clause-refused
@@ -31,4 +33,19 @@ invariant_of-result g c =
       same = λ up file here.
           still (read_known c.in-Ok-read_frames.tree c.in-Ok-read_frames.fresh) (told (disk_of c.in-Ok.journal)) (told (disk_of c.read_frames.new.journal)) c.read_frames.ensures.told
           (λ f t. read.answer f t (opened.all f (sym opened.same ∙ t))) file here;
+    }
+
+pub returns-in-Ok-read_frames-clause-opened : goal.returns-in-Ok-read_frames-clause-opened
+returns-in-Ok-read_frames-clause-opened g c =
+    let opened = c.in-Ok.ensures.opened in
+    let read = c.in-Ok-read_frames.ensures in
+    let known = read_known c.in-Ok-read_frames.tree c.in-Ok-read_frames.fresh in
+    record {
+      up = refl;
+      unloaded = refl;
+      told = c.read_frames.ensures.told ∙ ap is_some opened.same;
+      same = λ file here. (read.answer file (opened.same ∙ here) (opened.all file here)).0;
+      grown = λ file new here told. read.grown file new (opened.same ∙ here) told;
+      tree = λ file here. tree_known false (stored_in (journal_of tree_letter file)) known (read.answer file (opened.same ∙ here) (opened.all file here)).1;
+      fresh_is = λ file here. fresh_known false (stored_in (journal_of tree_letter file)) known (read.answer file (opened.same ∙ here) (opened.all file here)).1;
     }

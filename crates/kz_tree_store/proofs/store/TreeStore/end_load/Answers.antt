@@ -23,7 +23,7 @@ invariant_of-self-in-Ok-write_change g c =
     let fits : FitsSigned w64 last.zxid = search rules in
     let held : c.in-Some.rows ≡ rows = cc (c.in-Some.is, c.take.ensures.value, under_way.1) in
     let tree = c.in-Ok-loaded_tree.tree in
-    let tree_is = loaded_is last.zxid (to_z w64 (of_z w64 last.zxid)) last.sessions c.as_slice.result.now rows c.as_slice-2.result.now tree (to_z-of_z w64 last.zxid fits) c.as_slice.ensures (c.as_slice-2.ensures ∙ held) keeps c.in-Ok-loaded_tree.ensures in
+    let tree_is = loaded_is last.zxid (to_z w64 (of_z w64 last.zxid)) last.sessions c.as_slice.result.now rows c.into_vec.result.items tree (to_z-of_z w64 last.zxid fits) c.as_slice.ensures (c.into_vec.ensures ∙ held) keeps c.in-Ok-loaded_tree.ensures in
     record {
       positive = load_positive last.zxid last.sessions rows tree keeps tree_is;
       letter = c.write_change.ensures.kept.0;

@@ -11,7 +11,7 @@ use Rattle.kz_tree_store.proofs.store.TreeStore.load_rows.Goals as goal
 pub joined-requires : goal.joined-requires
 joined-requires g c =
     let rows : length (rows_of_txn c.in-Ok.txn) ≡ length c.args.rows.now = ap (λ (t : Txn). length (rows_of_txn t)) c.in-Ok.ensures.txn in
-    omega (arith, c.in-Ok-with_room.ensures.room, c.len.ensures, rows)
+    omega (arith, c.in-Ok-with_room.ensures.room, rows)
 
 pub invariant_of-self-in-Ok-write_change : goal.invariant_of-self-in-Ok-write_change
 invariant_of-self-in-Ok-write_change g c =
