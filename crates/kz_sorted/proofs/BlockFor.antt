@@ -9,7 +9,7 @@ use Rattle.kz_types.specs.Ordered.{find, put, without, Rises, RisesAbove, AllBel
 use Rattle.kz_types.specs.Spot.{IsSpot}
 use Rattle.kz_types.proofs.Lookup.{find_at_bound, rises_above_smaller}
 use Rattle.kz_types.proofs.Append.{find-append, find-append_right, put-append, put_first, without-append, without_absent, below_split, above_split, Rises_left, Rises_right}
-use Rattle.kz_sorted.specs.BlockLists.{items_of, first_key, IsBlock, AreBlocks, IsBlockFor}
+use Rattle.kz_sorted.specs.BlockLists.{items_of, first_key, IsPart, AreParts, IsBlockFor}
 use Rattle.kz_sorted.proofs.ItemsOf.{items_of_split}
 
 or_none : {A : Type 0} (r : Option A) → option_or r None ≡ r
@@ -65,18 +65,18 @@ module _ {A K : Type 0} {cmp : K → K → Ordering} (o : TotalOrder cmp) (key :
       ap (without cmp key k) (items_of_split bs i d within) ∙ without-append o key k (items_of (take i bs)) (get_or bs i d ++ back) for_key.below
       ∙ ap (λ zs. items_of (take i bs) ++ zs) (without-append_left k (get_or bs i d) back for_key.above)
 
-  -- ---- the first keys of the blocks
+  -- ---- the first keys of parts
 
   module _ (none : K) where
-    first_keys_above : (k : K) (bs : List (List A)) → RisesAbove cmp key k (items_of bs) → All IsBlock bs → RisesAbove cmp (first_key key none) k bs
+    first_keys_above : (k : K) (bs : List (List A)) → RisesAbove cmp key k (items_of bs) → All IsPart bs → RisesAbove cmp (first_key key none) k bs
     first_keys_above k [] h all = tt
-    first_keys_above k ([] ∷ bs) h all = absurd (let size = All-head IsBlock [] bs all in omega arith)
-    first_keys_above k ((x ∷ xs) ∷ bs) h all = (h.0, first_keys_above (key x) bs (RisesAbove_right (key x) xs (items_of bs) h.1) (All-tail IsBlock (x ∷ xs) bs all))
+    first_keys_above k ([] ∷ bs) h all = absurd (let size = All-head IsPart [] bs all in omega arith)
+    first_keys_above k ((x ∷ xs) ∷ bs) h all = (h.0, first_keys_above (key x) bs (RisesAbove_right (key x) xs (items_of bs) h.1) (All-tail IsPart (x ∷ xs) bs all))
 
-    pub first_keys_rise : (bs : List (List A)) → AreBlocks cmp key bs → Rises cmp (first_key key none) bs
-    first_keys_rise [] blocks = tt
-    first_keys_rise ([] ∷ bs) blocks = absurd (let size = All-head IsBlock [] bs blocks.each in omega arith)
-    first_keys_rise ((x ∷ xs) ∷ bs) blocks = first_keys_above (key x) bs (RisesAbove_right (key x) xs (items_of bs) blocks.rises) (All-tail IsBlock (x ∷ xs) bs blocks.each)
+    pub first_keys_rise : (bs : List (List A)) → AreParts cmp key bs → Rises cmp (first_key key none) bs
+    first_keys_rise [] parts = tt
+    first_keys_rise ([] ∷ bs) parts = absurd (let size = All-head IsPart [] bs parts.each in omega arith)
+    first_keys_rise ((x ∷ xs) ∷ bs) parts = first_keys_above (key x) bs (RisesAbove_right (key x) xs (items_of bs) parts.rises) (All-tail IsPart (x ∷ xs) bs parts.each)
 
     below_first : (front b back : List A) → 0 < length b → Rises cmp key (front ++ (b ++ back)) → AllBelow cmp key front (first_key key none b)
     below_first front [] back size h = absurd (omega arith)
@@ -90,36 +90,36 @@ module _ {A K : Type 0} {cmp : K → K → Ordering} (o : TotalOrder cmp) (key :
     above_from_first k [] back size h lt = absurd (omega arith)
     above_from_first k (x ∷ xs) back size h lt = (lt, h)
 
-    above_at : (k : K) (bs : List (List A)) (i : ℕ) → Rises cmp key (items_of bs) → All IsBlock bs → AllWithin (λ b. cmp k (first_key key none b) ≡ Less) bs i (length bs) → RisesAbove cmp key k (items_of (drop i bs))
+    above_at : (k : K) (bs : List (List A)) (i : ℕ) → Rises cmp key (items_of bs) → All IsPart bs → AllWithin (λ b. cmp k (first_key key none b) ≡ Less) bs i (length bs) → RisesAbove cmp key k (items_of (drop i bs))
     above_at k [] zero h all above = tt
     above_at k [] (suc i) h all above = tt
-    above_at k (b ∷ bs) zero h all above = above_from_first k b (items_of bs) (All-head IsBlock b bs all).0 h (above 0 b (omega arith) (omega arith))
-    above_at k (b ∷ bs) (suc i) h all above = above_at k bs i (Rises_right o key b (items_of bs) h) (All-tail IsBlock b bs all) (λ j d from to. above (suc j) d (omega arith) (omega arith))
+    above_at k (b ∷ bs) zero h all above = above_from_first k b (items_of bs) (All-head IsPart b bs all) h (above 0 b (omega arith) (omega arith))
+    above_at k (b ∷ bs) (suc i) h all above = above_at k bs i (Rises_right o key b (items_of bs) h) (All-tail IsPart b bs all) (λ j d from to. above (suc j) d (omega arith) (omega arith))
 
-    pub block_at_first_key : (k : K) (bs : List (List A)) (i : ℕ) → AreBlocks cmp key bs → IsSpot cmp (first_key key none) k bs (Ok i) → IsBlockFor cmp key k bs i
-    block_at_first_key k bs i blocks spot =
+    pub block_at_first_key : (k : K) (bs : List (List A)) (i : ℕ) → AreParts cmp key bs → IsSpot cmp (first_key key none) k bs (Ok i) → IsBlockFor cmp key k bs i
+    block_at_first_key k bs i parts spot =
         let b : List A = get_or bs i [] in
-        let size : 0 < length b = (All-get_or IsBlock bs i [] spot.0 blocks.each).0 in
-        let split : Rises cmp key (items_of (take i bs) ++ (b ++ items_of (drop (i + 1) bs))) = subst (Rises cmp key) (items_of_split bs i [] spot.0) blocks.rises in
+        let size : 0 < length b = All-get_or IsPart bs i [] spot.0 parts.each in
+        let split : Rises cmp key (items_of (take i bs) ++ (b ++ items_of (drop (i + 1) bs))) = subst (Rises cmp key) (items_of_split bs i [] spot.0) parts.rises in
         record {
           below = subst (AllBelow cmp key (items_of (take i bs))) (spot.1 []) (below_first (items_of (take i bs)) b (items_of (drop (i + 1) bs)) size split);
           above = subst (λ q. RisesAbove cmp key q (items_of (drop (i + 1) bs))) (spot.1 []) (above_first (items_of (take i bs)) b (items_of (drop (i + 1) bs)) size split);
         }
 
-    pub block_between_first_keys : (k : K) (bs : List (List A)) (i : ℕ) → AreBlocks cmp key bs → IsSpot cmp (first_key key none) k bs (Err i) → IsBlockFor cmp key k bs (i - 1)
-    block_between_first_keys k bs zero blocks spot = record {
+    pub block_between_first_keys : (k : K) (bs : List (List A)) (i : ℕ) → AreParts cmp key bs → IsSpot cmp (first_key key none) k bs (Err i) → IsBlockFor cmp key k bs (i - 1)
+    block_between_first_keys k bs zero parts spot = record {
       below = All-nil (λ x. cmp (key x) k ≡ Less);
-      above = above_at k bs 1 blocks.rises blocks.each (λ j d from to. spot.2 j d (omega arith) to);
+      above = above_at k bs 1 parts.rises parts.each (λ j d from to. spot.2 j d (omega arith) to);
     }
-    block_between_first_keys k bs (suc i) blocks spot =
+    block_between_first_keys k bs (suc i) parts spot =
         let e : suc i - 1 ≡ i = omega arith in
         let b : List A = get_or bs i [] in
         let within : i < length bs = omega (arith, spot.0) in
-        let size : 0 < length b = (All-get_or IsBlock bs i [] within blocks.each).0 in
-        let split : Rises cmp key (items_of (take i bs) ++ (b ++ items_of (drop (i + 1) bs))) = subst (Rises cmp key) (items_of_split bs i [] within) blocks.rises in
+        let size : 0 < length b = All-get_or IsPart bs i [] within parts.each in
+        let split : Rises cmp key (items_of (take i bs) ++ (b ++ items_of (drop (i + 1) bs))) = subst (Rises cmp key) (items_of_split bs i [] within) parts.rises in
         let less : cmp (first_key key none b) k ≡ Less = spot.1 i [] (omega arith) (omega arith) in
         let below : AllBelow cmp key (items_of (take i bs)) (first_key key none b) = below_first (items_of (take i bs)) b (items_of (drop (i + 1) bs)) size split in
         rw e (record {
           below = λ j d before. o.chain (key (get_or (items_of (take i bs)) j d)) (first_key key none b) k (below j d before) less;
-          above = rw add-one (above_at k bs (suc i) blocks.rises blocks.each spot.2);
+          above = rw add-one (above_at k bs (suc i) parts.rises parts.each spot.2);
         })

@@ -1,8 +1,12 @@
 -- The items of all blocks, and what a change of one block makes of them.
-use Rattle.std.proofs.Common.{◌≡◌, ℕ, suc, ◌+◌, ◌-◌, ◌<◌, List, [], ◌∷◌, ◌++◌, length, get_or, set, take, drop, insert, remove, All, refl, sym, ap, ◌∙◌, arith, append_assoc, add-one, length-append, subst, slice_get}
+use Rattle.std.proofs.Common.{◌≡◌, ℕ, suc, ◌+◌, ◌-◌, ◌<◌, List, [], ◌∷◌, ◌++◌, length, get_or, set, take, drop, insert, remove, All, Ordering, refl, sym, ap, ◌∙◌, arith, append_assoc, add-one, length-append, subst, slice_get}
 use Rattle.std.proofs.lemmas.List.{take-append-drop, append-nil, take_all, take_more, drop_more, set_split, set_at, length-take-le}
-use Rattle.std.proofs.lemmas.List.Elements.{All-head, All-append, All-cons, All-take, All-drop, All-get_or}
-use Rattle.kz_sorted.specs.BlockLists.{items_of, IsBlock}
+use Rattle.std.proofs.lemmas.List.Elements.{All-head, All-append, All-cons, All-take, All-drop, All-get_or, All-weaker}
+use Rattle.kz_sorted.specs.BlockLists.{items_of, IsBlock, IsPart, AreBlocks, AreParts}
+
+-- blocks are parts
+pub are_parts : {A K : Type 0} {cmp : K → K → Ordering} {key : A → K} (bs : List (List A)) → AreBlocks cmp key bs → AreParts cmp key bs
+are_parts bs blocks = record { rises = blocks.rises; each = All-weaker IsBlock IsPart (λ b block. block.0) bs blocks.each }
 
 module _ {A : Type 0} where
   pub items_of-append : (xs ys : List (List A)) → items_of (xs ++ ys) ≡ items_of xs ++ items_of ys
@@ -41,9 +45,9 @@ module _ {A : Type 0} where
   All-remove P bs i all = All-append P (take i bs) (drop (suc i) bs) (All-take P i bs all) (All-drop P (suc i) bs all)
 
   -- where there is no item, there is no block
-  pub items_of_nil : (bs : List (List A)) → All IsBlock bs → items_of bs ≡ [] → bs ≡ []
+  pub items_of_nil : (bs : List (List A)) → All IsPart bs → items_of bs ≡ [] → bs ≡ []
   items_of_nil [] all e = refl
-  items_of_nil ([] ∷ bs) all e = absurd (let size = All-head IsBlock [] bs all in omega arith)
+  items_of_nil ([] ∷ bs) all e = absurd (let size = All-head IsPart [] bs all in omega arith)
   items_of_nil ((x ∷ xs) ∷ bs) all e = absurd (let lengths = ap length e in omega arith)
 
   -- the items up to a place, and those of the block there
@@ -64,10 +68,13 @@ module _ {A : Type 0} where
   last_of_second : (xs ys : List A) → 0 < length ys → slice_get (xs ++ ys) (length (xs ++ ys) - 1) ≡ slice_get ys (length ys - 1)
   last_of_second xs ys some = ap (slice_get (xs ++ ys)) (let e : length (xs ++ ys) - 1 ≡ length xs + (length ys - 1) = omega (arith, length-append xs ys, some) in e) ∙ slice_get-append xs ys (length ys - 1)
 
+  -- the items before the last block, and those of it
+  pub items_of_last : (bs : List (List A)) (i : ℕ) (b : List A) → i + 1 ≡ length bs → b ≡ get_or bs i b → items_of bs ≡ items_of (take i bs) ++ b
+  items_of_last bs i b last is = ap items_of (sym (take_all (i + 1) bs (omega (arith, last)))) ∙ items_of_more bs i b (omega (arith, last)) is
+
   -- the last item of all is that of the last block
-  pub last_of_blocks : (bs : List (List A)) (i : ℕ) (b : List A) → All IsBlock bs → i + 1 ≡ length bs → b ≡ get_or bs i b → slice_get (items_of bs) (length (items_of bs) - 1) ≡ slice_get b (length b - 1)
+  pub last_of_blocks : (bs : List (List A)) (i : ℕ) (b : List A) → All IsPart bs → i + 1 ≡ length bs → b ≡ get_or bs i b → slice_get (items_of bs) (length (items_of bs) - 1) ≡ slice_get b (length b - 1)
   last_of_blocks bs i b all last is =
       let within : i < length bs = omega (arith, last) in
-      let block : IsBlock b = subst IsBlock (sym is) (All-get_or IsBlock bs i b within all) in
-      let whole : items_of bs ≡ items_of (take i bs) ++ b = ap items_of (sym (take_all (i + 1) bs (omega (arith, last)))) ∙ items_of_more bs i b within is in
-      ap (λ zs. slice_get zs (length zs - 1)) whole ∙ last_of_second (items_of (take i bs)) b block.0
+      let some : IsPart b = subst IsPart (sym is) (All-get_or IsPart bs i b within all) in
+      ap (λ zs. slice_get zs (length zs - 1)) (items_of_last bs i b last is) ∙ last_of_second (items_of (take i bs)) b some

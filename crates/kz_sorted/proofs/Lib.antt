@@ -3,4 +3,5 @@ pub mod Ties
 pub mod ItemsOf
 pub mod BlockFor
 pub mod Changes
+pub mod Parts
 pub mod AfterLemmas

@@ -1,7 +1,7 @@
 //! Changes of one block among the others.
 ghost use Rattle.std.specs.Prelude.{◌≡◌, ◌≢◌, ◌<◌, [], None, length, slice_index_or, OnOk, OnErr};
 ghost use Rattle.kz_types.specs.Order.{bytes_cmp};
-ghost use Rattle.kz_types.specs.Ordered.{find as find_in, put as put_in, without as without_in};
+ghost use Rattle.kz_types.specs.Ordered.{find as find_in, put as put_in, without as without_in, AllBelow};
 ghost use Rattle.kz_sorted.specs.BlockLists.{items_of, AreBlocks, IsBlockFor, IsOneChanged};
 
 use crate::block::Block;
@@ -10,6 +10,24 @@ use crate::search::block_for;
 use crate::{Keyed, Near};
 use kz_types::{NoMemory, Shared};
 use std::alloc::Global;
+
+// Puts an item that comes after all others: it begins a block. At `Err`, memory ran out, and the list is as it was.
+fn append_block<T: Keyed + Drop>(
+    alloc: Global,
+    blocks: &mut Vec<Block<T>>,
+    item: Shared<T>,
+) -> Result<(), NoMemory>
+    requires blocks { AreBlocks bytes_cmp T.key blocks.old.items }
+    requires after { AllBelow bytes_cmp T.key (items_of blocks.old.items) (T.key item) }
+    ensures ok { OnOk result (items_of blocks.new.items ≡ put_in bytes_cmp T.key item (items_of blocks.old.items)) }
+    ensures err { OnErr result (items_of blocks.new.items ≡ items_of blocks.old.items) }
+    ensures kept { AreBlocks bytes_cmp T.key blocks.new.items }
+{
+    let mut items = Vec::new(alloc);
+    items.push(item)?;
+    blocks.push(Block::new(alloc, items)?)?;
+    Ok(())
+}
 
 /// Puts the first item of all. At `Err`, memory ran out, and the list is as it was.
 pub fn put_first<T: Keyed + Drop>(
@@ -22,10 +40,7 @@ pub fn put_first<T: Keyed + Drop>(
     ensures err { OnErr result (items_of blocks.new.items ≡ items_of blocks.old.items) }
     ensures kept { AreBlocks bytes_cmp T.key blocks.new.items }
 {
-    let mut items = Vec::new(alloc);
-    items.push(item)?;
-    blocks.push(Block::new(alloc, items)?)?;
-    Ok(())
+    append_block(alloc, blocks, item)
 }
 
 /// Puts an item into a block that has room for one more. No other block changes. At `Err`, memory ran out, and the list is as it was.
@@ -48,7 +63,27 @@ pub fn put_in_block<T: Keyed + Drop>(
     blocks[place].put(alloc, item, guess)
 }
 
-// Puts an item into a full block. Two blocks of half its size come in its place, so that at `Err` nothing has to be undone.
+// Puts an item instead of the one with its key. No other block changes, and each has as many items as before. At `Err`, memory ran
+// out, and the list is as it was.
+fn replace_in_block<T: Keyed + Drop>(
+    alloc: Global,
+    blocks: &mut Vec<Block<T>>,
+    place: usize,
+    item: Shared<T>,
+    guess: usize,
+) -> Result<(), NoMemory>
+    requires blocks { AreBlocks bytes_cmp T.key blocks.old.items }
+    requires within { place < length blocks.old.items }
+    requires block { IsBlockFor bytes_cmp T.key (T.key item) blocks.old.items place }
+    requires found { find_in bytes_cmp T.key (T.key item) (slice_index_or blocks.old.items place []) ≢ None }
+    ensures ok { OnOk result (items_of blocks.new.items ≡ put_in bytes_cmp T.key item (items_of blocks.old.items)) }
+    ensures err { OnErr result (items_of blocks.new.items ≡ items_of blocks.old.items) }
+    ensures kept { AreBlocks bytes_cmp T.key blocks.new.items }
+{
+    blocks[place].put(alloc, item, guess)
+}
+
+// Puts a further item into a full block. Two blocks of half its size come in its place, so that at `Err` nothing has to be undone.
 fn put_in_full_block<T: Keyed + Drop>(
     alloc: Global,
     blocks: &mut Vec<Block<T>>,
@@ -91,6 +126,12 @@ pub fn put_item<T: Keyed + Drop>(
     let place = block_for(blocks, item.key(), near.block());
     if blocks[place].items().len() < MAX_BLOCK_ITEMS {
         return put_in_block(alloc, blocks, place, item, near.item());
+    }
+    if blocks[place].has_key(item.key(), near.item()) {
+        return replace_in_block(alloc, blocks, place, item, near.item());
+    }
+    if place + 1 == blocks.len() && blocks[place].is_before(item.key()) {
+        return append_block(alloc, blocks, item);
     }
     put_in_full_block(alloc, blocks, place, item, near.item())
 }

@@ -48,6 +48,16 @@ impl<T> SharedBlocks<T> {
 }
 
 impl<T: Keyed + Drop> SharedBlocks<T> {
+    /// Further owners of these blocks, in memory of their own: it costs a pointer for each.
+    pub fn of(alloc: Global, blocks: &[Block<T>]) -> Result<Self, NoMemory>
+        ensures { IfOk result (λ made. made ≡ blocks.now) }
+    {
+        let blocks = copy_all(alloc, blocks)?;
+        Ok(SharedBlocks {
+            blocks: Some(Rc::new(alloc, blocks)?),
+        })
+    }
+
     // The blocks in memory of their own: a pointer for each is copied.
     fn own(&self, alloc: Global) -> Result<Vec<Block<T>>, NoMemory>
         ensures { IfOk result (λ made. made.items ≡ self.now) }

@@ -3,11 +3,12 @@ use Rattle.kz_types.specs.Order.{bytes_cmp}
 use Rattle.kz_types.proofs.Order.{bytes_order}
 use Rattle.kz_sorted.specs.BlockLists.{items_of, AreBlocks}
 use Rattle.kz_sorted.specs.declared.limits.TheConstants.{HALF_BLOCK_ITEMS}
+use Rattle.kz_sorted.proofs.ItemsOf.{are_parts}
 use Rattle.kz_sorted.proofs.Changes.{read_rises, full_lengths, put_in_two, put_in_two_kept}
 use Rattle.kz_sorted.proofs.change.put_in_full_block.Goals as goal
 
 pub items_with-requires : goal.items_with-requires
-items_with-requires g c = read_rises bytes_order g.T.Keyed.key c.args.blocks.now.items c.args.place c.index.result.now c.requires.blocks c.requires.within c.index.ensures
+items_with-requires g c = read_rises bytes_order g.T.Keyed.key c.args.blocks.now.items c.args.place c.index.result.now (are_parts c.args.blocks.now.items c.requires.blocks) c.requires.within c.index.ensures
 
 pub split_off-requires : goal.split_off-requires
 split_off-requires g c = omega (arith, c.in_ok-items.items.ok.0, full_lengths bytes_order g.T.Keyed.key c.args.item c.args.blocks.now.items c.args.place c.index.result.now c.in_ok-items.items.items c.requires.within c.requires.full c.index.ensures c.in_ok-items.ensures)

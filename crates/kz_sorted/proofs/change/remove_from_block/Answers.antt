@@ -1,11 +1,12 @@
 use Rattle.std.proofs.Common.{refl}
 use Rattle.std.proofs.lemmas.Result.{on_ok_weaker}
 use Rattle.kz_types.proofs.Order.{bytes_order}
+use Rattle.kz_sorted.proofs.ItemsOf.{are_parts}
 use Rattle.kz_sorted.proofs.Changes.{at_either, read_rises, without_in_set, without_in_set_kept, same_kept}
 use Rattle.kz_sorted.proofs.change.remove_from_block.Goals as goal
 
 pub remove-requires : goal.remove-requires
-remove-requires g c = read_rises bytes_order g.T.Keyed.key c.args.blocks.now.items c.args.place c.index_mut.result.now c.requires.blocks c.requires.within c.index_mut.ensures.value
+remove-requires g c = read_rises bytes_order g.T.Keyed.key c.args.blocks.now.items c.args.place c.index_mut.result.now (are_parts c.args.blocks.now.items c.requires.blocks) c.requires.within c.index_mut.ensures.value
 
 pub returns-clause-ok : goal.returns-clause-ok
 returns-clause-ok g c =

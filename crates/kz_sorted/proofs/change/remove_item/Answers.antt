@@ -4,13 +4,14 @@ use Rattle.kz_types.specs.Ordered.{find}
 use Rattle.kz_types.proofs.Order.{bytes_order}
 use Rattle.kz_types.proofs.Append.{without_absent}
 use Rattle.kz_sorted.specs.BlockLists.{items_of, IsBlockFor}
+use Rattle.kz_sorted.proofs.ItemsOf.{are_parts}
 use Rattle.kz_sorted.proofs.Changes.{read_rises, read_found}
 use Rattle.kz_sorted.proofs.change.remove_item.Goals as goal
 
 pub find-requires : goal.find-requires
 find-requires g c =
     let within : c.block_for-place.result < length c.args.blocks.now.items = search rules in
-    read_rises bytes_order g.T.Keyed.key c.args.blocks.now.items c.block_for-place.result c.index.result.now c.requires within c.index.ensures
+    read_rises bytes_order g.T.Keyed.key c.args.blocks.now.items c.block_for-place.result c.index.result.now (are_parts c.args.blocks.now.items c.requires) within c.index.ensures
 
 pub returns-then-is_none-clause-ok : goal.returns-then-is_none-clause-ok
 returns-then-is_none-clause-ok g c =

@@ -3,15 +3,16 @@ use Rattle.kz_types.specs.Order.{bytes_cmp}
 use Rattle.kz_types.proofs.Order.{bytes_order}
 use Rattle.kz_sorted.specs.BlockLists.{IsBlockFor}
 use Rattle.kz_sorted.proofs.BlockFor.{first_keys_rise, block_at_first_key, block_between_first_keys}
+use Rattle.kz_sorted.proofs.ItemsOf.{are_parts}
 use Rattle.kz_sorted.proofs.search.block_for.Goals as goal
 
 pub spot_near-requires : goal.spot_near-requires
-spot_near-requires g c = first_keys_rise bytes_order g.T.Keyed.key [] c.args.blocks.now c.requires
+spot_near-requires g c = first_keys_rise bytes_order g.T.Keyed.key [] c.args.blocks.now (are_parts c.args.blocks.now c.requires)
 
 pub returns-in-Ok-clause-block : goal.returns-in-Ok-clause-block
-returns-in-Ok-clause-block g c = block_at_first_key bytes_order g.T.Keyed.key [] c.args.key.now c.args.blocks.now c.in-Ok.place c.requires c.in-Ok.ensures
+returns-in-Ok-clause-block g c = block_at_first_key bytes_order g.T.Keyed.key [] c.args.key.now c.args.blocks.now c.in-Ok.place (are_parts c.args.blocks.now c.requires) c.in-Ok.ensures
 
 pub returns-in-Err-clause-block : goal.returns-in-Err-clause-block
 returns-in-Err-clause-block g c =
     subst (λ (i : ℕ). IsBlockFor bytes_cmp g.T.Keyed.key c.args.key.now c.args.blocks.now i) (sym c.saturating_sub.ensures)
-    (block_between_first_keys bytes_order g.T.Keyed.key [] c.args.key.now c.args.blocks.now c.in-Err.place c.requires c.in-Err.ensures)
+    (block_between_first_keys bytes_order g.T.Keyed.key [] c.args.key.now c.args.blocks.now c.in-Err.place (are_parts c.args.blocks.now c.requires) c.in-Err.ensures)

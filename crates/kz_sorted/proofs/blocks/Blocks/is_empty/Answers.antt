@@ -6,7 +6,7 @@ use Rattle.kz_sorted.proofs.blocks.Blocks.is_empty.Goals as goal
 
 pub returns : goal.returns
 returns g c =
-    let bs = c.self.inside.blocks in (
-      λ yes. sym c.self.view_is ∙ ap items_of (nil_from_length bs (let none = c.is_empty.ensures in search rules)),
-      λ e. let none : bs ≡ [] = items_of_nil bs c.self.invariant.each (c.self.view_is ∙ e) in let empty = ap length none in search rules,
+    let ps = c.self.inside.parts in (
+      λ yes. sym c.self.view_is ∙ ap items_of (nil_from_length ps (let none = c.is_empty.ensures in search rules)),
+      λ e. let none : ps ≡ [] = items_of_nil ps c.self.invariant.each (c.self.view_is ∙ e) in let empty = ap length none in search rules,
     )

@@ -1,0 +1,6 @@
+use Rattle.kz_types.proofs.Order.{bytes_order}
+use Rattle.kz_sorted.proofs.Parts.{all_before}
+use Rattle.kz_sorted.proofs.block.Block.is_before.Goals as goal
+
+pub returns : goal.returns
+returns g c = λ yes. all_before bytes_order g.T.Keyed.key (λ item. item.now) c.args.key.now c.args.self.now c.last.result c.requires c.last.ensures (c.ends_before.ensures yes)
