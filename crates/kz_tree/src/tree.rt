@@ -13,8 +13,7 @@ use crate::effects::after_ops;
 use crate::faults::{ClosedFault, MultiFault, tree_fault};
 use crate::prepared::Prepared;
 use crate::sessions::{is_live, with_session, without_owned, without_session};
-use kz_sorted::Items;
-use kz_tree_rows::{Rows, reads};
+use kz_tree_rows::{Items, Rows, reads};
 use kz_types::{
     Duplicate, Limit, MAX_LONG, MoveFault, NoMemory, Op, Recorded, Rendered, Row, TreeFault, ZPath,
     copy_all,
@@ -227,7 +226,7 @@ impl Tree {
     }
 
     /// The znodes but the root, by rising path.
-    pub fn rows(&self) -> Items<'_, Row>
+    pub fn rows(&self) -> Items<'_>
         ensures { result ≡ self.now.rows }
     {
         self.rows.items()

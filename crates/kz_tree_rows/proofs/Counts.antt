@@ -86,6 +86,11 @@ counted_found rows migrated r h known =
       inside = h.inside ∙ sym (sum_by-put_found bytes_order path_of_row part r rows old.0 h.rise old.1 (same_part r old.0 same));
     }
 
+pub length_without : (path : List ℕ) (rows : List Row) → row_at path rows ≢ None → 1 + length (without_row path rows) ≡ length rows
+length_without path rows known =
+    let old = there (row_at path rows) known in
+    omega (arith, ones rows, ones (without_row path rows), sum_by-without bytes_order path_of_row (λ (x : Row). 1) path rows old.0 old.1)
+
 -- what a path that is there counts, and what is left without it
 pub record AreLess (path : List ℕ) (rows : List Row) (migrated : ℕ) : Type 0 where
   pub all : 1 + length (without_row path rows) ≡ length rows
@@ -96,7 +101,7 @@ counted_less rows migrated path h known =
     let old = there (row_at path rows) known in
     let same : part old.0 ≡ cond (is_migrated path) 1 0 = ap (λ p. cond (is_migrated p) 1 0) (key_of_found bytes_order path_of_row path rows old.0 old.1) in
     record {
-      all = omega (arith, ones rows, ones (without_row path rows), sum_by-without bytes_order path_of_row (λ (x : Row). 1) path rows old.0 old.1);
+      all = length_without path rows known;
       inside = ap (λ n. n + count_by (λ (r : Row). is_migrated r.path) (without_row path rows)) (sym same) ∙ sum_by-without bytes_order path_of_row part path rows old.0 old.1 ∙ sym h.inside;
     }
 

@@ -1,23 +1,25 @@
 -- The last znode, and one that comes after it.
-use Rattle.std.proofs.Common.{◌≡◌, ℕ, suc, ◌+◌, ◌-◌, ◌<◌, Bool, true, false, ◌&&◌, List, [], ◌∷◌, ◌++◌, Option, Some, None, IfSome, Ordering, Less, Equal, Greater, All, Contains, length, slice_get, get_or, take, drop, refl, sym, ap, ◌∙◌, subst, arith, append_assoc}
+use Rattle.std.proofs.Common.{◌≡◌, ℕ, suc, ◌+◌, ◌-◌, ◌<◌, Bool, true, false, ◌&&◌, List, [], ◌∷◌, ◌++◌, map, Option, Some, None, IfSome, Ordering, Less, Equal, Greater, All, Contains, length, slice_get, get_or, take, drop, refl, sym, ap, ◌∙◌, subst, arith}
 use Rattle.std.specs.List.{list_all}
 use Rattle.std.specs.Ordering.{match_ordering}
 use Rattle.std.proofs.lemmas.List.{drop_all, map-append, get_or-drop, length-drop}
-use Rattle.std.proofs.lemmas.List.Elements.{All-nil, All-cons, All-head, All-tail, All-append, Contains-append_left, Contains-append_right}
+use Rattle.std.proofs.lemmas.List.Elements.{All-nil, All-cons, All-head, All-tail, Contains-append_left, Contains-append_right}
+use Rattle.std.proofs.lemmas.List.Folds.{list_all-append}
 use Rattle.kz_types.specs.declared.tree.Row.{Row}
 use Rattle.kz_types.specs.Order.{bytes_cmp}
 use Rattle.kz_types.proofs.Order.{bytes_order}
 use Rattle.kz_types.proofs.Lookup.{rest_rises, found_at, key_of_found, found_is_contained, contained_is_found}
-use Rattle.kz_types.specs.Ordered.{RisesAbove, Rises, AllBelow}
-use Rattle.kz_types.proofs.Append.{find_all_below, put_last, Rises-push}
-use Rattle.kz_sorted.specs.BlockLists.{items_of, IsBlock, AreBlocks, IsBlockFor}
+use Rattle.kz_types.specs.Ordered.{RisesAbove, AllBelow}
+use Rattle.kz_types.proofs.Append.{find_all_below}
+use Rattle.kz_sorted.specs.BlockLists.{items_of, IsBlockFor}
 use Rattle.kz_sorted.proofs.ItemsOf.{items_of_split}
 use Rattle.kz_sorted.proofs.BlockFor.{find-items_of}
+use Rattle.kz_sorted.proofs.Parts.{append_part, append_block_kept, append_part_kept}
 use Rattle.kz_spec_data.specs.Tree.{path_of_row, row_at, put_row}
 use Rattle.kz_spec_data.specs.Loads.{is_before}
-use Rattle.kz_tree_rows.specs.declared.joined_numbers.Numbers.{Numbers}
+use Rattle.kz_row_numbers.specs.declared.joined_numbers.Numbers.{Numbers}
 use Rattle.kz_tree_rows.specs.Kept.{AreRows}
-use Rattle.kz_tree_rows.specs.Numbered.{numbers_of, AreNumbered}
+use Rattle.kz_tree_rows.specs.Numbered.{numbers_of, AreNumbered, AreNumberedParts}
 
 and_true : (a : Bool) → (a && true) ≡ a
 and_true true = refl
@@ -102,21 +104,33 @@ last_is_for path bs i last below =
 pub absent_there : (path : List ℕ) (bs : List (List Row)) (i : ℕ) → i < length bs → IsBlockFor bytes_cmp path_of_row path bs i → AllBelow bytes_cmp path_of_row (items_of bs) path → row_at path (get_or bs i []) ≡ None
 absent_there path bs i within for_path below = sym (find-items_of bytes_order path_of_row path bs i [] within for_path) ∙ find_all_below bytes_order path_of_row path (items_of bs) below
 
--- in a block of its own
-block_more : (r : Row) (bs : List (List Row)) → items_of (bs ++ (r ∷ []) ∷ []) ≡ items_of bs ++ r ∷ []
-block_more r [] = refl
-block_more r (b ∷ bs) = ap (λ zs. b ++ zs) (block_more r bs) ∙ sym (append_assoc b (items_of bs) (r ∷ []))
+-- those of the last part do, too
+pub last_part_before : (path : List ℕ) (ps : List (List Row)) (i : ℕ) → i < length ps → list_all (is_before path) (items_of ps) ≡ true → list_all (is_before path) (get_or ps i []) ≡ true
+last_part_before path ps i within h =
+    let p : Row → Bool = is_before path in
+    let front : List Row = items_of (take i ps) in
+    let part : List Row = get_or ps i [] in
+    let back : List Row = items_of (drop (i + 1) ps) in
+    let split : list_all p (items_of ps) ≡ (list_all p front && list_all p (part ++ back)) = ap (list_all p) (items_of_split ps i [] within) ∙ list_all-append p front (part ++ back) in
+    and_first (list_all p part) (list_all p back) (sym (list_all-append p part back) ∙ and_second (list_all p front) (list_all p (part ++ back)) (sym split ∙ h))
 
+-- in a block or a part of its own
 pub put_in_own : (r : Row) (bs : List (List Row)) → AllBelow bytes_cmp path_of_row (items_of bs) r.path → items_of (bs ++ (r ∷ []) ∷ []) ≡ put_row r (items_of bs)
-put_in_own r bs below = block_more r bs ∙ sym (put_last bytes_order path_of_row r (items_of bs) below)
+put_in_own r bs below = append_part bytes_order path_of_row r bs (r ∷ []) below refl
+
+own_numbers : (r : Row) (bs : List (List Row)) (ns made : List Numbers) → ns ≡ map numbers_of bs → made ≡ ns ++ numbers_of (r ∷ []) ∷ [] → made ≡ map numbers_of (bs ++ (r ∷ []) ∷ [])
+own_numbers r bs ns made h is = is ∙ ap (λ l. l ++ numbers_of (r ∷ []) ∷ []) h ∙ sym (map-append numbers_of bs ((r ∷ []) ∷ []))
 
 pub own_numbered : (r : Row) (bs : List (List Row)) (ns made : List Numbers) → AreNumbered bs ns → AllBelow bytes_cmp path_of_row (items_of bs) r.path → made ≡ ns ++ numbers_of (r ∷ []) ∷ [] → AreNumbered (bs ++ (r ∷ []) ∷ []) made
 own_numbered r bs ns made h below is = record {
-  blocks = record {
-    rises = subst (Rises bytes_cmp path_of_row) (sym (block_more r bs)) (Rises-push bytes_order path_of_row (items_of bs) r h.blocks.rises below);
-    each = All-append IsBlock bs ((r ∷ []) ∷ []) h.blocks.each (All-cons IsBlock (r ∷ []) [] (omega arith, omega arith) (All-nil IsBlock));
-  };
-  numbers = is ∙ ap (λ l. l ++ numbers_of (r ∷ []) ∷ []) h.numbers ∙ sym (map-append numbers_of bs ((r ∷ []) ∷ []));
+  blocks = append_block_kept bytes_order path_of_row r bs (r ∷ []) h.blocks below refl;
+  numbers = own_numbers r bs ns made h.numbers is;
+}
+
+pub own_part_numbered : (r : Row) (ps : List (List Row)) (ns made : List Numbers) → AreNumberedParts ps ns → AllBelow bytes_cmp path_of_row (items_of ps) r.path → made ≡ ns ++ numbers_of (r ∷ []) ∷ [] → AreNumberedParts (ps ++ (r ∷ []) ∷ []) made
+own_part_numbered r ps ns made h below is = record {
+  parts = append_part_kept bytes_order path_of_row r ps (r ∷ []) h.parts below refl;
+  numbers = own_numbers r ps ns made h.numbers is;
 }
 
 -- ---- one of the last znodes
@@ -132,11 +146,11 @@ some_further None P Q f h = h
 some_further (Some x) P Q f h = f x h
 
 -- what is found in a block is found among all
-pub found_in_block : (path : List ℕ) (bs : List (List Row)) (i : ℕ) (r : Row) → AreBlocks bytes_cmp path_of_row bs → i < length bs → row_at path (get_or bs i []) ≡ Some r → row_at path (items_of bs) ≡ Some r
+pub found_in_block : (path : List ℕ) (bs : List (List Row)) (i : ℕ) (r : Row) → AreRows (items_of bs) → i < length bs → row_at path (get_or bs i []) ≡ Some r → row_at path (items_of bs) ≡ Some r
 found_in_block path bs i r h within found =
     let b : List Row = get_or bs i [] in
     let rest : List Row = items_of (drop (i + 1) bs) in
     let inside : Contains (items_of bs) r =
     subst (λ (xs : List Row). Contains xs r) (sym (items_of_split bs i [] within))
     (Contains-append_right (items_of (take i bs)) (b ++ rest) r (Contains-append_left b rest r (found_is_contained bytes_order path_of_row path b r found))) in
-    ap (λ p. row_at p (items_of bs)) (sym (key_of_found bytes_order path_of_row path b r found)) ∙ contained_is_found bytes_order path_of_row (items_of bs) r h.rises inside
+    ap (λ p. row_at p (items_of bs)) (sym (key_of_found bytes_order path_of_row path b r found)) ∙ contained_is_found bytes_order path_of_row (items_of bs) r h inside

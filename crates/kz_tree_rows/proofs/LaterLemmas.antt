@@ -9,10 +9,10 @@ use Rattle.std.proofs.lemmas.List.Elements.{filter-append}
 use Rattle.kz_types.specs.Paths.{is_migrated}
 use Rattle.kz_types.specs.declared.tree.Row.{Row}
 use Rattle.kz_sorted.specs.BlockLists.{items_of}
-use Rattle.kz_tree_rows.specs.declared.joined_numbers.Numbers.{Numbers}
-use Rattle.kz_tree_rows.specs.Joins as joins
-use Rattle.kz_tree_rows.specs.Joins.{is_above}
-use Rattle.kz_tree_rows.proofs.Joining.{above_greater, later_joined}
+use Rattle.kz_row_numbers.specs.declared.joined_numbers.Numbers.{Numbers}
+use Rattle.kz_row_numbers.specs.Joins as joins
+use Rattle.kz_row_numbers.specs.Joins.{is_above}
+use Rattle.kz_row_numbers.proofs.Joining.{above_greater, later_joined}
 use Rattle.kz_spec_data.specs.Tree.{is_later, first_row}
 use Rattle.kz_tree_rows.specs.Numbered.{numbers_of_row, numbers_of}
 

@@ -1,8 +1,8 @@
 -- The numbers of znodes and of blocks after a change.
-use Rattle.std.proofs.Common.{◌≡◌, ℕ, zero, suc, ◌+◌, ◌-◌, ◌^◌, ◌<◌, min, ℤ, ◌≤ℤ◌, Bool, true, false, cond, List, [], ◌∷◌, ◌++◌, length, get_or, set, take, drop, insert, remove, map, Option, Some, None, refl, sym, ap, ◌∙◌, subst, arith, length-append}
+use Rattle.std.proofs.Common.{◌≡◌, ℕ, zero, suc, ◌+◌, ◌-◌, ◌^◌, ◌<◌, min, ℤ, ◌≤ℤ◌, Bool, true, false, cond, List, [], ◌∷◌, ◌++◌, length, get_or, set, take, drop, insert, remove, map, Option, Some, None, refl, sym, ap, ◌∙◌, subst, arith}
 use Rattle.std.specs.Int.{int_max}
 use Rattle.std.proofs.lemmas.Int.{ints, clamps}
-use Rattle.std.proofs.lemmas.List.{append_cancel_left, append_cancel_right, map-append, map-set, set-get_or, get_or-set_same, length-map, take_more, take-map, drop-map}
+use Rattle.std.proofs.lemmas.List.{append_cancel_left, append_cancel_right, map-append, map-set, set-get_or, get_or-set_same, take_more, take-map, drop-map}
 use Rattle.kz_types.specs.Paths.{is_migrated}
 use Rattle.kz_types.specs.declared.tree.Row.{Row}
 use Rattle.kz_types.specs.Order.{bytes_cmp}
@@ -11,9 +11,9 @@ use Rattle.kz_types.proofs.Lookup.{some_is_none, same_some, find_here, find_skip
 use Rattle.kz_sorted.specs.BlockLists.{items_of, AreBlocks, IsBlockFor, IsOneChanged}
 use Rattle.kz_sorted.proofs.ItemsOf.{items_of_split, items_of-set}
 use Rattle.kz_sorted.proofs.BlockFor.{put-items_of}
-use Rattle.kz_tree_rows.specs.declared.joined_numbers.Numbers.{Numbers}
-use Rattle.kz_tree_rows.specs.Joins.{greater, no_numbers, joined, all_joined}
-use Rattle.kz_tree_rows.proofs.Joining.{same_numbers, greater-assoc, greater-turned, joined-assoc, joined-turned, all_joined_push}
+use Rattle.kz_row_numbers.specs.declared.joined_numbers.Numbers.{Numbers}
+use Rattle.kz_row_numbers.specs.Joins.{greater, no_numbers, joined, all_joined}
+use Rattle.kz_row_numbers.proofs.Joining.{same_numbers, greater-assoc, greater-turned, joined-assoc, joined-turned, all_joined-append, all_joined_push}
 use Rattle.kz_spec_data.specs.Tree.{path_of_row, row_at, put_row}
 use Rattle.kz_tree_rows.specs.Kept.{AreRows}
 use Rattle.kz_tree_rows.specs.Numbered.{latest_of, numbers_of_row, numbers_of, AreNumbered}
@@ -25,9 +25,14 @@ pub rows_of_block : (rows : List Row) → (numbers_of rows).rows ≡ min (length
 rows_of_block [] = omega arith
 rows_of_block (r ∷ rs) = omega (arith, rows_of_block rs)
 
+-- the numbers of several lists are those of the list of all their znodes
+pub numbers_of_all : (bs : List (List Row)) → all_joined (map numbers_of bs) ≡ numbers_of (items_of bs)
+numbers_of_all [] = refl
+numbers_of_all (b ∷ bs) =
+    ap (joined (numbers_of b)) (numbers_of_all bs) ∙ sym (ap all_joined (map-append numbers_of_row b (items_of bs)) ∙ all_joined-append (map numbers_of_row b) (map numbers_of_row (items_of bs)))
+
 pub rows_of_all : (bs : List (List Row)) → (all_joined (map numbers_of bs)).rows ≡ min (length (items_of bs)) (2 ^ 64 - 1)
-rows_of_all [] = omega arith
-rows_of_all (b ∷ bs) = omega (arith, rows_of_block b, rows_of_all bs, length-append b (items_of bs))
+rows_of_all bs = ap (λ (n : Numbers). n.rows) (numbers_of_all bs) ∙ rows_of_block (items_of bs)
 
 -- ---- one after another
 
@@ -84,16 +89,17 @@ numbers_put_found r s rows n rises is found m p =
 
 -- ---- the blocks
 
-pub as_many : (bs : List (List Row)) (ns : List Numbers) → AreNumbered bs ns → length ns ≡ length bs
-as_many bs ns h = ap length h.numbers ∙ length-map bs numbers_of
-
-pub numbers_at : (bs : List (List Row)) (ns : List Numbers) (i : ℕ) → AreNumbered bs ns → i < length bs → get_or ns i no_numbers ≡ numbers_of (get_or bs i [])
-numbers_at bs ns i h within = ap (λ l. get_or l i no_numbers) h.numbers ∙ mapped bs i within
+pub numbers_at : (bs : List (List Row)) (ns : List Numbers) (i : ℕ) → ns ≡ map numbers_of bs → i < length bs → get_or ns i no_numbers ≡ numbers_of (get_or bs i [])
+numbers_at bs ns i h within = ap (λ l. get_or l i no_numbers) h ∙ mapped bs i within
   where
     mapped : (bs : List (List Row)) (i : ℕ) → i < length bs → get_or (map numbers_of bs) i no_numbers ≡ numbers_of (get_or bs i [])
     mapped [] i h = absurd (omega arith)
     mapped (b ∷ bs) zero h = refl
     mapped (b ∷ bs) (suc i) h = mapped bs i (omega (arith, h))
+
+-- one has changed, and it has these numbers
+pub numbers_set : (bs : List (List Row)) (ns made : List Numbers) (i : ℕ) (b : List Row) → ns ≡ map numbers_of bs → made ≡ set ns i (numbers_of b) → made ≡ map numbers_of (set bs i b)
+numbers_set bs ns made i b h is = is ∙ ap (λ l. set l i (numbers_of b)) h ∙ sym (map-set numbers_of bs i b)
 
 -- at most one block has changed, and it has these numbers
 pub numbered_one : (bs new : List (List Row)) (ns made : List Numbers) (i : ℕ) → AreNumbered bs ns → i < length bs → IsOneChanged i bs new → AreBlocks bytes_cmp path_of_row new → made ≡ set ns i (numbers_of (get_or new i [])) → AreNumbered new made
@@ -101,7 +107,7 @@ numbered_one bs new ns made i h within one blocks is =
     let at : get_or new i [] ≡ one.block = ap (λ l. get_or l i []) one.made ∙ get_or-set_same bs i one.block [] within in
     record {
       blocks = blocks;
-      numbers = is ∙ ap (λ b. set ns i (numbers_of b)) at ∙ ap (λ l. set l i (numbers_of one.block)) h.numbers ∙ sym (map-set numbers_of bs i one.block) ∙ ap (map numbers_of) (sym one.made);
+      numbers = numbers_set bs ns made i one.block h.numbers (is ∙ ap (λ b. set ns i (numbers_of b)) at) ∙ ap (map numbers_of) (sym one.made);
     }
 
 -- where the znodes of all blocks are the same, the block is

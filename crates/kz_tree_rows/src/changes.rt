@@ -1,14 +1,15 @@
 //! Changes of blocks of znodes and of their numbers.
-ghost use Rattle.std.specs.Prelude.{◌≡◌, ◌≢◌, ◌<◌, [], None, ◌+◌, length, slice_index_or, set, insert, remove, IfOk, OnOk, OnErr};
+ghost use Rattle.std.specs.Prelude.{◌≡◌, ◌≢◌, ◌<◌, ◌≤◌, [], ◌∷◌, ◌++◌, None, ◌+◌, length, slice_index_or, set, insert, remove, IfOk, OnOk, OnErr, IsTrue, IsFalse};
 ghost use Rattle.kz_types.specs.Order.{bytes_cmp};
 ghost use Rattle.kz_types.specs.Ordered.{AllBelow};
-ghost use Rattle.kz_sorted.specs.BlockLists.{items_of, AreBlocks, IsBlockFor};
+ghost use Rattle.kz_sorted.specs.BlockLists.{items_of, AreBlocks, IsBlockFor, IsOneChanged};
 ghost use Rattle.kz_sorted.specs.declared.limits.TheConstants.{MAX_BLOCK_ITEMS};
 ghost use Rattle.kz_spec_data.specs.Tree.{path_of_row, row_at, put_row, without_row};
-ghost use Rattle.kz_tree_rows.specs.Numbered.{numbers_of, AreNumbered};
+ghost use Rattle.kz_tree_rows.specs.Kept.{AreRows};
+ghost use Rattle.kz_tree_rows.specs.Numbered.{numbers_of, AreNumbered, FitsIn};
 
 use crate::numbers::{numbers_of, numbers_of_row, numbers_with, segments_of};
-use crate::{Numbers, Segments, join};
+use kz_row_numbers::{Numbers, Segments, join};
 use kz_sorted::{
     Block, HALF_BLOCK_ITEMS, Keyed, MAX_BLOCK_ITEMS, Near, Shared, block_for, put_first,
     put_in_block, remove_from_block,
@@ -45,8 +46,38 @@ fn number_anew(blocks: &[Block<Row>], segments: &mut Segments, place: usize)
     segments.set(place, numbers_of(blocks[place].items()));
 }
 
-// Puts a znode into a block that has room for one more.
-fn put_with_room(
+/// Whether a znode of this path can be put into a block, which then has no more znodes than a block may have: there is room for
+/// one more, or it replaces one.
+pub fn fits_in(block: &Block<Row>, path: &[u8], guess: usize) -> bool
+    requires { AreRows block.now }
+    ensures fits { IsTrue result → FitsIn path.now block.now }
+    ensures full { IsFalse result → MAX_BLOCK_ITEMS ≤ length block.now }
+{
+    block.items().len() < MAX_BLOCK_ITEMS || block.has_key(path, guess)
+}
+
+// Puts a znode into a block in which it fits. No other block changes, and no number yet.
+fn put_fitting(
+    alloc: Global,
+    blocks: &mut Vec<Block<Row>>,
+    place: usize,
+    row: Shared<Row>,
+    guess: usize,
+) -> Result<(), NoMemory>
+    requires blocks { AreBlocks bytes_cmp path_of_row blocks.old.items }
+    requires within { place < length blocks.old.items }
+    requires block { IsBlockFor bytes_cmp path_of_row row.path blocks.old.items place }
+    requires fits { FitsIn row.path (slice_index_or blocks.old.items place []) }
+    ensures ok { OnOk result (items_of blocks.new.items ≡ put_row row (items_of blocks.old.items)) }
+    ensures err { OnErr result (items_of blocks.new.items ≡ items_of blocks.old.items) }
+    ensures kept { AreBlocks bytes_cmp path_of_row blocks.new.items }
+    ensures one { IsOneChanged place blocks.old.items blocks.new.items }
+{
+    blocks[place].put(alloc, row, guess)
+}
+
+// Puts a znode into a block in which it fits.
+fn put_in_one(
     alloc: Global,
     blocks: &mut Vec<Block<Row>>,
     segments: &mut Segments,
@@ -57,14 +88,14 @@ fn put_with_room(
     requires numbered { AreNumbered blocks.old.items segments.old }
     requires within { place < length blocks.old.items }
     requires block { IsBlockFor bytes_cmp path_of_row row.path blocks.old.items place }
-    requires room { length (slice_index_or blocks.old.items place []) < MAX_BLOCK_ITEMS }
+    requires fits { FitsIn row.path (slice_index_or blocks.old.items place []) }
     ensures ok { OnOk result (items_of blocks.new.items ≡ put_row row (items_of blocks.old.items)) }
     ensures err { OnErr result (items_of blocks.new.items ≡ items_of blocks.old.items) }
     ensures kept { AreNumbered blocks.new.items segments.new }
 {
     let (replaced, _) = blocks[place].find(row.key(), guess);
     let numbers = numbers_with(segments.at(place), replaced, row.get());
-    put_in_block(alloc, blocks, place, row, guess)?;
+    put_fitting(alloc, blocks, place, row, guess)?;
     match numbers {
         Some(numbers) => segments.set(place, numbers),
         None => number_anew(blocks, segments, place),
@@ -72,8 +103,8 @@ fn put_with_room(
     Ok(())
 }
 
-// The numbers with two in the place of one.
-fn with_two(
+/// The numbers with two in the place of one.
+pub fn with_two(
     alloc: Global,
     segments: &Segments,
     place: usize,
@@ -89,8 +120,21 @@ fn with_two(
     Segments::of(alloc, numbers)
 }
 
-// The numbers without those at a place.
-fn without_one(alloc: Global, segments: &Segments, place: usize) -> Result<Segments, NoMemory>
+/// The numbers and these at the end.
+pub fn with_one_more(
+    alloc: Global,
+    segments: &Segments,
+    last: Numbers,
+) -> Result<Segments, NoMemory>
+    ensures { IfOk result (λ made. made ≡ segments.now ++ last ∷ []) }
+{
+    let mut numbers = segments.numbers(alloc)?;
+    numbers.push(last)?;
+    Segments::of(alloc, numbers)
+}
+
+/// The numbers without those at a place.
+pub fn without_one(alloc: Global, segments: &Segments, place: usize) -> Result<Segments, NoMemory>
     requires { place < length segments.now }
     ensures { IfOk result (λ made. made ≡ remove segments.now place) }
 {
@@ -144,8 +188,8 @@ pub fn put(
         return put_first_row(alloc, blocks, segments, row);
     }
     let place = block_for(blocks, row.key(), near.block());
-    if blocks[place].items().len() < MAX_BLOCK_ITEMS {
-        return put_with_room(alloc, blocks, segments, place, row, near.item());
+    if fits_in(&blocks[place], row.key(), near.item()) {
+        return put_in_one(alloc, blocks, segments, place, row, near.item());
     }
     put_in_two(alloc, blocks, segments, place, row, near.item())
 }
@@ -189,9 +233,7 @@ fn append_block(
 {
     let mut rows = Vec::new(alloc);
     rows.push(row)?;
-    let mut numbers = segments.numbers(alloc)?;
-    numbers.push(numbers_of(&rows))?;
-    let changed = Segments::of(alloc, numbers)?;
+    let changed = with_one_more(alloc, segments, numbers_of(&rows))?;
     let block = Block::new(alloc, rows)?;
     blocks.push(block)?;
     *segments = changed;

@@ -1,15 +1,19 @@
 //! Znodes by rising path, with the numbers of each block.
-ghost use Rattle.std.specs.Prelude.{◌≡◌, ◌-◌, [], true, Some, length, min, slice_get, option_map, IfOk, IfSome, OnOk, OnErr};
+ghost use Rattle.std.specs.Prelude.{◌≡◌, ◌-◌, [], true, Some, length, slice_get, option_map, IfOk, IfSome, OnOk, OnErr};
 ghost use Rattle.std.specs.List.{filter, list_all};
 ghost use Rattle.kz_types.specs.Paths.{is_migrated};
 ghost use Rattle.kz_spec_data.specs.Loads.{is_before};
-ghost use Rattle.kz_spec_data.specs.Tree.{row_at, put_row, without_row, is_after, is_later, first_row};
+ghost use Rattle.kz_sorted.specs.BlockLists.{items_of, first_key};
+ghost use Rattle.kz_spec_data.specs.Tree.{path_of_row, row_at, put_row, without_row, is_after, is_later, first_row};
 ghost use Rattle.kz_tree_rows.specs.Kept.{AreRows};
+ghost use Rattle.kz_tree_rows.specs.Numbered.{numbers_of, AreNumbered, AreHalves};
 
-use crate::children::is_before;
+use crate::changes;
 use crate::later::first_later;
-use crate::{Segments, changes};
-use kz_sorted::{Block, Items, Near, Shared, block_for, items_after};
+use kz_row_numbers::{Numbers, Segments};
+use kz_sorted::{
+    Block, Items, Keyed, MAX_BLOCK_ITEMS, MAX_PART_BLOCKS, Near, Shared, block_for, items_after,
+};
 use kz_types::{Duplicate, NoMemory, Row, copy_all};
 use std::alloc::Global;
 use std::marker::Model;
@@ -18,7 +22,7 @@ use std::marker::Model;
 ///
 /// They are kept as shared blocks, and the numbers of the blocks as segments. A copy costs a pointer and the numbers of each
 /// block. A change of a block puts new numbers in place of its old ones. Where a block comes or goes, the segments are made
-/// anew from its numbers and those of the other blocks.
+/// anew from its numbers and those of the other blocks. A tree keeps its znodes as several of these lists, its parts.
 #[derive(Drop)]
 pub struct NumberedRows {
     alloc: Global,
@@ -58,6 +62,23 @@ fn find_among_last<'a>(rows: &'a [Shared<Row>], path: &[u8]) -> Option<&'a Row>
     None
 }
 
+// These blocks with their numbers, as a list that shares the blocks.
+fn of_blocks(
+    alloc: Global,
+    blocks: &[Block<Row>],
+    numbers: Vec<Numbers>,
+) -> Result<NumberedRows, NoMemory>
+    requires { AreNumbered blocks.now numbers.items }
+    ensures { IfOk result (λ made. made ≡ items_of blocks.now) }
+{
+    Ok(NumberedRows {
+        alloc,
+        blocks: copy_all(alloc, blocks)?,
+        segments: Segments::of(alloc, numbers)?,
+        near: Near::new(),
+    })
+}
+
 impl NumberedRows {
     /// No znode. It takes no memory.
     pub fn new(alloc: Global) -> NumberedRows
@@ -71,11 +92,41 @@ impl NumberedRows {
         }
     }
 
-    /// How many znodes there are, or the greatest `usize` where there are more.
-    pub fn count(&self) -> usize
-        ensures { result ≡ min (length self.now) usize.MAX }
+    /// The numbers of all znodes together.
+    pub fn numbers(&self) -> Numbers
+        ensures { result ≡ numbers_of self.now }
     {
-        self.segments.whole().rows
+        self.segments.whole()
+    }
+
+    /// Whether a znode of this path can be put, and there are no more blocks then than a part may have. Contracts don't see
+    /// the blocks.
+    pub fn has_room(&self, path: &[u8]) -> bool {
+        if self.blocks.len() < MAX_PART_BLOCKS {
+            return true;
+        }
+        let place = block_for(&self.blocks, path, self.near.block());
+        changes::fits_in(&self.blocks[place], path, self.near.item())
+    }
+
+    /// The same of a znode after all others. It searches for no place.
+    pub fn has_room_at_end(&self) -> bool {
+        match self.blocks.last() {
+            Some(block) => {
+                self.blocks.len() < MAX_PART_BLOCKS || block.items().len() < MAX_BLOCK_ITEMS
+            }
+            None => true,
+        }
+    }
+
+    /// The path of the first znode. It is empty where there is none.
+    pub fn first_path(&self) -> &[u8]
+        ensures { result.now ≡ first_key path_of_row [] self.now }
+    {
+        match self.blocks.first() {
+            Some(block) => block.key(),
+            None => &[],
+        }
     }
 
     /// The znode at a path. Where the last look-up ended is tried first, and what comes after it. Else the block is found by halves,
@@ -92,8 +143,8 @@ impl NumberedRows {
         found
     }
 
-    // The znode at a path, if it is one of the last of all.
-    fn find_at_end(&self, path: &[u8]) -> Option<&Row>
+    /// The znode at a path, if it is one of the last of all. It looks at few of them.
+    pub fn find_at_end(&self, path: &[u8]) -> Option<&Row>
         ensures { IfSome result (λ row. row_at path.now self.now ≡ Some row.now) }
     {
         if self.blocks.is_empty() {
@@ -101,16 +152,6 @@ impl NumberedRows {
         }
         let place = self.blocks.len() - 1;
         find_among_last(self.blocks[place].items(), path)
-    }
-
-    /// The znode at a path, as `find` tells it. A few of the last znodes are looked at first.
-    pub fn find_near_end(&self, path: &[u8]) -> Option<&Row>
-        ensures { option_map (λ row. row.now) result ≡ row_at path.now self.now }
-    {
-        if let Some(row) = self.find_at_end(path) {
-            return Some(row);
-        }
-        self.find(path)
     }
 
     /// The last znode, if there is one. It looks at one block.
@@ -123,16 +164,6 @@ impl NumberedRows {
         }
         let place = self.blocks.len() - 1;
         self.blocks[place].last()
-    }
-
-    /// Whether the path of each znode comes before this one. It compares that of the last znode alone.
-    pub fn are_before(&self, path: &[u8]) -> bool
-        ensures { result ≡ list_all (is_before path.now) self.now }
-    {
-        match self.last() {
-            Some(row) => is_before(row.path.bytes(), path),
-            None => true,
-        }
     }
 
     /// All znodes, by rising path.
@@ -165,6 +196,22 @@ impl NumberedRows {
             return None;
         };
         first_later(self.blocks[place].items(), zxid)
+    }
+
+    /// A list of the first half of the blocks, and one of the others, where there are two blocks or more. They share the
+    /// blocks with this one.
+    pub fn in_two(&self) -> Result<Option<(NumberedRows, NumberedRows)>, NoMemory>
+        ensures { IfOk result (λ made. IfSome made (λ halves. AreHalves halves.0 halves.1 self.now)) }
+    {
+        let middle = self.blocks.len() / 2;
+        if middle == 0 {
+            return Ok(None);
+        }
+        let mut numbers = self.segments.numbers(self.alloc)?;
+        let others = numbers.split_off(middle)?;
+        let second = of_blocks(self.alloc, &self.blocks[middle..], others)?;
+        let first = of_blocks(self.alloc, &self.blocks[..middle], numbers)?;
+        Ok(Some((first, second)))
     }
 
     /// Puts a znode at its place, instead of the one with its path. At `Err`, memory ran out, and the znodes are as they
@@ -209,13 +256,15 @@ impl NumberedRows {
 }
 
 impl Duplicate for NumberedRows {
-    // The same znodes in the same blocks.
+    // The same znodes in the same blocks. A look-up in the copy begins where the last one here ended.
     fn copy(&self, alloc: Global) -> Result<Self, NoMemory> {
+        let near = Near::new();
+        near.set(self.near.block(), self.near.item());
         Ok(NumberedRows {
             alloc,
             blocks: copy_all(alloc, &self.blocks)?,
             segments: self.segments.copy(alloc)?,
-            near: Near::new(),
+            near,
         })
     }
 }

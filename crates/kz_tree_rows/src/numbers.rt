@@ -6,7 +6,7 @@ ghost use Rattle.kz_tree_rows.specs.Kept.{AreRows};
 ghost use Rattle.kz_tree_rows.specs.Numbered.{latest_of, numbers_of_row, numbers_of};
 
 use crate::migrated::is_migrated;
-use crate::{Numbers, Segments, join};
+use kz_row_numbers::{Numbers, Segments, join};
 use kz_sorted::{Block, Shared};
 use kz_types::{NoMemory, Row};
 use std::alloc::Global;

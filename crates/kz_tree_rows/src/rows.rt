@@ -6,18 +6,18 @@ ghost use Rattle.kz_spec_data.specs.Loads.{is_before};
 ghost use Rattle.kz_spec_data.specs.Tree.{row_at, put_row, without_row, with_child_change, is_after, is_later, first_row, count_beside};
 ghost use Rattle.kz_tree_rows.specs.Kept.{AreRows};
 
+use crate::items::Items;
 use crate::migrated::is_migrated;
-use crate::numbered::NumberedRows;
-use kz_sorted::Items;
+use crate::parts::PartedRows;
 use kz_types::{Duplicate, NoMemory, Row, ZPath};
 use std::alloc::Global;
 use std::marker::Model;
 
-/// Znodes by rising path, no two with one path, and no more than a `usize` can count. A copy has the same blocks of znodes:
-/// it costs a pointer and some numbers for each. Contracts see the list of the znodes.
+/// Znodes by rising path, no two with one path, and no more than a `usize` can count. A copy has the same parts of
+/// znodes: it costs a pointer and some numbers for each. Contracts see the list of the znodes.
 #[derive(Drop)]
 pub struct Rows {
-    list: NumberedRows,
+    list: PartedRows,
     migrated: usize,
 }
 
@@ -55,7 +55,7 @@ impl Rows {
         ensures { result ≡ [] }
     {
         Rows {
-            list: NumberedRows::new(alloc),
+            list: PartedRows::new(alloc),
             migrated: 0,
         }
     }
@@ -107,7 +107,7 @@ impl Rows {
     }
 
     /// All znodes, by rising path.
-    pub fn items(&self) -> Items<'_, Row>
+    pub fn items(&self) -> Items<'_>
         ensures items { result ≡ self.now }
         ensures rise { AreRows self.now }
     {
@@ -115,7 +115,7 @@ impl Rows {
     }
 
     /// The znodes after a path, or all, by rising path.
-    pub fn items_after(&self, after: Option<&ZPath>) -> Items<'_, Row>
+    pub fn items_after(&self, after: Option<&ZPath>) -> Items<'_>
         ensures items { result ≡ filter (is_after (option_map (λ path. path.now) after.entry)) self.now }
         ensures rise { AreRows self.now }
     {
@@ -126,7 +126,7 @@ impl Rows {
     }
 
     /// The znodes after these bytes, by rising path.
-    pub fn items_behind(&self, bytes: &[u8]) -> Items<'_, Row>
+    pub fn items_behind(&self, bytes: &[u8]) -> Items<'_>
         ensures items { result ≡ filter (is_after (Some bytes.now)) self.now }
         ensures rise { AreRows self.now }
     {

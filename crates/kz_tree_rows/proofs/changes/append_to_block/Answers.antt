@@ -1,6 +1,6 @@
 use Rattle.std.proofs.Common.{◌≡◌, List, [], get_or, ap, ◌∙◌, sym, subst}
 use Rattle.kz_types.specs.declared.tree.Row.{Row}
-use Rattle.kz_tree_rows.specs.Joins.{joined}
+use Rattle.kz_row_numbers.specs.Joins.{joined}
 use Rattle.kz_tree_rows.specs.Numbered.{numbers_of, numbers_of_row, AreNumbered}
 use Rattle.kz_spec_data.specs.Tree.{put_row}
 use Rattle.kz_tree_rows.proofs.Ends.{absent_there}
@@ -16,7 +16,7 @@ pub returns-clause-kept : goal.returns-clause-kept
 returns-clause-kept c =
     let bs = c.args.blocks.now.items in
     let place = c.args.place in
-    let before : c.at.result ≡ numbers_of (get_or bs place []) = c.at.ensures ∙ numbers_at bs c.args.segments.now place c.requires.numbered c.requires.within in
+    let before : c.at.result ≡ numbers_of (get_or bs place []) = c.at.ensures ∙ numbers_at bs c.args.segments.now place c.requires.numbered.numbers c.requires.within in
     let one : c.numbers_of_row.result ≡ numbers_of_row c.args.row = c.numbers_of_row.ensures ∙ ap numbers_of_row c.get.ensures in
     let number : c.join-numbers.result ≡ numbers_of (put_row c.args.row (get_or bs place [])) =
     c.join-numbers.ensures ∙ ap (joined c.at.result) one ∙ ap (λ n. joined n (numbers_of_row c.args.row)) before

@@ -4,6 +4,7 @@ use Rattle.kz_types.specs.Order.{bytes_cmp}
 use Rattle.kz_types.proofs.Order.{bytes_order}
 use Rattle.kz_types.proofs.Append.{without_absent}
 use Rattle.kz_sorted.specs.BlockLists.{items_of, IsBlockFor}
+use Rattle.kz_sorted.proofs.ItemsOf.{are_parts}
 use Rattle.kz_sorted.proofs.Changes.{read_rises, read_found}
 use Rattle.kz_spec_data.specs.Tree.{path_of_row, row_at}
 use Rattle.kz_tree_rows.proofs.changes.take_out.Goals as goal
@@ -11,7 +12,7 @@ use Rattle.kz_tree_rows.proofs.changes.take_out.Goals as goal
 pub find-requires : goal.find-requires
 find-requires c =
     let within : c.block_for-place.result < length c.args.blocks.now.items = search rules in
-    read_rises bytes_order path_of_row c.args.blocks.now.items c.block_for-place.result c.index.result.now c.requires.blocks within c.index.ensures
+    read_rises bytes_order path_of_row c.args.blocks.now.items c.block_for-place.result c.index.result.now (are_parts c.args.blocks.now.items c.requires.blocks) within c.index.ensures
 
 pub returns-then-is_none-clause-ok : goal.returns-then-is_none-clause-ok
 returns-then-is_none-clause-ok c =

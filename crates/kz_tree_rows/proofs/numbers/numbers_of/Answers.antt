@@ -1,5 +1,5 @@
 use Rattle.std.proofs.Common.{ap, ◌∙◌}
-use Rattle.kz_tree_rows.specs.Joins.{joined}
+use Rattle.kz_row_numbers.specs.Joins.{joined}
 use Rattle.kz_tree_rows.specs.Numbered.{numbers_of_row}
 use Rattle.kz_tree_rows.proofs.Numbering.{numbers_more}
 use Rattle.kz_tree_rows.proofs.numbers.numbers_of.Goals as goal

@@ -1,6 +1,6 @@
 use Rattle.std.proofs.Common.{◌≡◌, ◌≤ℤ◌, Some, None, option_map, sym, ap, ◌∙◌, rules}
-use Rattle.kz_tree_rows.specs.declared.joined_numbers.Numbers.{Numbers}
-use Rattle.kz_tree_rows.specs.Joins.{joined}
+use Rattle.kz_row_numbers.specs.declared.joined_numbers.Numbers.{Numbers}
+use Rattle.kz_row_numbers.specs.Joins.{joined}
 use Rattle.kz_spec_data.specs.Tree.{row_at}
 use Rattle.kz_tree_rows.specs.Numbered.{numbers_of_row}
 use Rattle.kz_tree_rows.proofs.Numbering.{numbers_put_new, numbers_put_found}

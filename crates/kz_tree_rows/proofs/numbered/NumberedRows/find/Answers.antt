@@ -3,6 +3,7 @@ use Rattle.kz_types.specs.declared.tree.Row.{Row}
 use Rattle.kz_types.specs.Order.{bytes_cmp}
 use Rattle.kz_types.proofs.Order.{bytes_order}
 use Rattle.kz_sorted.specs.BlockLists.{IsBlockFor}
+use Rattle.kz_sorted.proofs.ItemsOf.{are_parts}
 use Rattle.kz_sorted.proofs.Changes.{read_rises, read_found}
 use Rattle.kz_spec_data.specs.Tree.{path_of_row, row_at}
 use Rattle.kz_tree_rows.proofs.numbered.NumberedRows.find.Goals as goal
@@ -10,7 +11,7 @@ use Rattle.kz_tree_rows.proofs.numbered.NumberedRows.find.Goals as goal
 pub find-at-requires : goal.find-at-requires
 find-at-requires c =
     let within : c.block_for-place.result < length c.self.inside.blocks.items = search rules in
-    read_rises bytes_order path_of_row c.self.inside.blocks.items c.block_for-place.result c.index.result.now c.self.invariant.blocks within c.index.ensures
+    read_rises bytes_order path_of_row c.self.inside.blocks.items c.block_for-place.result c.index.result.now (are_parts c.self.inside.blocks.items c.self.invariant.blocks) within c.index.ensures
 
 pub returns : goal.returns
 returns c =

@@ -1,6 +1,6 @@
 use Rattle.std.proofs.Common.{◌≡◌, Some, None, [], get_or, position, sym, ap, ◌∙◌, to_z-of_z}
 use Rattle.std.proofs.lemmas.List.{get_or_read}
-use Rattle.kz_tree_rows.specs.Joins.{is_later}
+use Rattle.kz_row_numbers.specs.Joins.{is_later}
 use Rattle.kz_tree_rows.proofs.LaterLemmas.{first_in, none_later, one_later}
 use Rattle.kz_tree_rows.proofs.numbered.NumberedRows.first_later.Goals as goal
 

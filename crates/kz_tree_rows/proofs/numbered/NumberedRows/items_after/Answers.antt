@@ -6,6 +6,7 @@ use Rattle.kz_types.specs.Order.{bytes_cmp}
 use Rattle.kz_types.proofs.Order.{bytes_order}
 use Rattle.kz_types.specs.Ordered.{Rises}
 use Rattle.kz_sorted.specs.BlockLists.{items_of, IsBlockFor}
+use Rattle.kz_sorted.proofs.ItemsOf.{are_parts}
 use Rattle.kz_sorted.proofs.Changes.{read_rises}
 use Rattle.kz_sorted.proofs.AfterLemmas.{items_after-items_of}
 use Rattle.kz_spec_data.specs.Tree.{path_of_row, is_after}
@@ -15,7 +16,7 @@ pub items_after-items-requires : goal.items_after-items-requires
 items_after-items-requires c =
     let within : c.block_for-place.result < length c.self.inside.blocks.items = search rules in
     subst (λ (xs : List Row). Rises bytes_cmp path_of_row xs) (sym c.items-2.ensures)
-    (read_rises bytes_order path_of_row c.self.inside.blocks.items c.block_for-place.result c.index.result.now c.self.invariant.blocks within c.index.ensures)
+    (read_rises bytes_order path_of_row c.self.inside.blocks.items c.block_for-place.result c.index.result.now (are_parts c.self.inside.blocks.items c.self.invariant.blocks) within c.index.ensures)
 
 pub returns-clause-items : goal.returns-clause-items
 returns-clause-items c =

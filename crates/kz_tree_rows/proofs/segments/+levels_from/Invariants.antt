@@ -1,5 +1,0 @@
-use Rattle.std.proofs.Common.{length}
-use Rattle.kz_tree_rows.proofs.segments.+levels_from.Given as goal
-
-abbrev pub decreases-levels_from : goal.decreases-levels_from
-decreases-levels_from l = length l.level
