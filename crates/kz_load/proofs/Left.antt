@@ -20,7 +20,6 @@ use Rattle.kz_commands.proofs.Disks.{one_file}
 use Rattle.kz_spec_machine.specs.Loading.{loaded}
 use Rattle.kz_tree_store.specs.Opened.{Known, IsTreeFile, LeavesTree, tree_found, tree_in_file}
 use Rattle.kz_load.specs.Leaves.{StandsForEither, LeavesEither, LeavesNewOrLoaded, AreLeftByLoad, LoadStops}
-use Rattle.kz_load.specs.LoadsTrees.{status_of_load_fault}
 use Rattle.kz_load.proofs.Filled.{map_some, every_some, stands}
 use Rattle.kz_load.proofs.Frames.{Wrote}
 use Rattle.kz_load.proofs.Made.{made_new}
@@ -60,14 +59,6 @@ fault_left tree_fault.Down input before root k now left old new wrote none same 
 fault_left tree_fault.NoMemory input before root k now left old new wrote none same tree_is torn is = settled_either input before k now left (none wrote.0) (same wrote.0) tree_is
 fault_left (tree_fault.Full size) input before root k now left old new wrote none same tree_is torn is = settled_either input before k now left (none wrote.0) (same wrote.0) tree_is
 fault_left tree_fault.Device input before root k now left old new wrote none same tree_is torn is = torn_either input before root now left (torn refl) is
-
-pub not_done : (fault : TreeFault) → status_of_load_fault fault ≢ status.Done
-not_done (tree_fault.Refused index code) is = absurd (cc is)
-not_done (tree_fault.Limit index number) is = absurd (cc is)
-not_done tree_fault.Down is = absurd (cc is)
-not_done tree_fault.NoMemory is = absurd (cc is)
-not_done (tree_fault.Full size) is = absurd (cc is)
-not_done tree_fault.Device is = absurd (cc is)
 
 -- ---- the file of a new tree
 

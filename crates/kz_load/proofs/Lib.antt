@@ -1,4 +1,5 @@
 mod Steps
+mod Bytes
 pub mod Made
 pub mod Frames
 pub mod Filled

@@ -8,11 +8,11 @@ ghost use Rattle.kz_load.specs.Leaves.{LeavesUnopened, LeavesEither, LeavesNewOr
 ghost use Rattle.kz_load.specs.LoadsFiles.{LoadsFiles};
 ghost use Rattle.kz_load.specs.LoadsTrees.{IsUnopenedTree, FillsStore, LoadsTree, CanFailLoad, status_of_open_fault, status_of_load_fault};
 
-use crate::{Loaded, read_tree, stop_status};
+use crate::{read_tree, stop_status};
 use kz_commands::init;
 use kz_disk::Disk;
 use kz_io::Source;
-use kz_tree_store::{LoadLast, TreeOpenFault, TreeStore};
+use kz_tree_store::{TreeOpenFault, TreeStore};
 use kz_types::{Limit, MAX_FILE_BYTES, Status, TreeFault};
 use std::alloc::Global;
 
@@ -64,7 +64,7 @@ fn open_new<D: Disk>(alloc: Global, tree: D) -> Result<TreeStore<D>, (Status, D)
     }
 }
 
-// Reads the tree of an input, and loads it into a store in one call.
+// Reads the tree of an input, and moves it into a store.
 fn fill<S: Source, D: Disk>(alloc: Global, input: &mut S, store: &mut TreeStore<D>) -> Status
     requires up { store_down store.old ≡ false }
     requires fresh { is_fresh store.old ≡ true }
@@ -74,15 +74,11 @@ fn fill<S: Source, D: Disk>(alloc: Global, input: &mut S, store: &mut TreeStore<
     ensures left { LeavesEither (S.left input.old) (held_tree store.old) (D.told (store_disk store.new)) (D.may_leave (store_disk store.new)) }
     ensures settled { result ≡ Status.Done → NothingPends (D.told (store_disk store.new)) (D.may_leave (store_disk store.new)) }
 {
-    let Loaded {
-        zxid,
-        sessions,
-        rows,
-    } = match read_tree(alloc, input) {
-        Ok(loaded) => loaded,
+    let check = match read_tree(alloc, input) {
+        Ok(check) => check,
         Err(stop) => return stop_status(stop),
     };
-    match store.load(rows.as_slice(), Some(LoadLast { zxid, sessions })) {
+    match store.load_checked(check) {
         Ok(()) => Status::Done,
         Err(fault) => load_status(fault),
     }

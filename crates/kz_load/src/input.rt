@@ -3,20 +3,20 @@ ghost use Rattle.std.specs.Prelude.{◌≡◌, true, IfOk, IfErr, OnOk, IfSome, 
 ghost use Rattle.std.specs.Io.KnownBytes.{IsAtEnd};
 ghost use Rattle.kz_spec_data.specs.Loads.{is_load};
 ghost use Rattle.kz_spec_machine.specs.Endings.{EndsAtFailure};
-ghost use Rattle.kz_spec_machine.specs.Loading.{tree_with, loaded};
+ghost use Rattle.kz_spec_machine.specs.Loading.{loaded};
 ghost use Rattle.kz_load.specs.Stops.{IsStopOf};
 
-use crate::part::Loaded;
 use crate::reader::Reader;
 use crate::stop::LoadStop;
 use kz_io::Source;
+use kz_tree::LoadCheck;
 use std::alloc::Global;
 
 /// Reads a tree: a header and its znodes, each on a line of its own. It stops at the first line that is none of a tree, or breaks
 /// a rule of a load, and where a limit would be passed. With a tree the input is read to its end. `ReadFault` comes exactly where
 /// a read failed, and that was the last read.
-pub fn read_tree<S: Source>(alloc: Global, input: &mut S) -> Result<Loaded, LoadStop>
-    ensures loaded { IfOk result (λ t. IfSome (S.left input.old) (λ script. loaded script ≡ Ok (tree_with t.zxid t.sessions t.rows))) }
+pub fn read_tree<S: Source>(alloc: Global, input: &mut S) -> Result<LoadCheck, LoadStop>
+    ensures loaded { IfOk result (λ check. IfSome (S.left input.old) (λ script. loaded script ≡ Ok check)) }
     ensures rules { IfOk result (λ t. is_load t.zxid t.sessions t.rows ≡ true) }
     ensures whole { OnOk result (IsAtEnd (S.left input.new)) }
     ensures stop { IfErr result (λ stop. IfSome (S.left input.old) (λ script. IsStopOf (loaded script) stop)) }

@@ -10,5 +10,4 @@ mod stop;
 
 pub use command::load;
 pub use input::read_tree;
-pub use part::Loaded;
 pub use stop::{LoadStop, stop_status};

@@ -5,7 +5,6 @@ ghost use Rattle.kz_spec_data.specs.Lines.{Item};
 ghost use Rattle.kz_spec_data.specs.Loads.{is_header, is_load, row_refusal};
 ghost use Rattle.kz_spec_machine.specs.Loading.{tree_with, tree_after, at_head, at_line};
 ghost use Rattle.kz_tree.specs.Loads.{IsHeaderFaultOf, IsRowFaultOf, with_row};
-ghost use Rattle.kz_load.specs.Kept.{IsSame};
 ghost use Rattle.kz_load.specs.Stops.{IsLineStop};
 ghost use Rattle.kz_load.specs.Pending.{load_after};
 
@@ -15,20 +14,11 @@ use kz_tree::{LoadCheck, LoadFault};
 use kz_types::{Row, Sequence};
 use std::alloc::Global;
 
-/// A tree that was read: its last zxid, its live sessions, and its znodes by rising path.
-#[derive(Drop)]
-pub struct Loaded {
-    pub zxid: i64,
-    pub sessions: Sequence<i64>,
-    pub rows: Sequence<Row>,
-}
-
-/// The tree of the lines so far beside its check, and the number of the next line, counted from 1.
+/// The number of the next line, counted from 1, and the check that holds the header and the znodes of the lines so far.
 #[derive(Drop)]
 pub struct Part {
     pub number: u64,
     pub check: LoadCheck,
-    pub loaded: Loaded,
 }
 
 // A tree with this header and no znodes.
@@ -36,22 +26,12 @@ fn with_header(alloc: Global, zxid: i64, sessions: Sequence<i64>) -> Result<Part
     ensures header { OnOk result (is_header zxid sessions ≡ true) }
     ensures number { IfOk result (λ made. made.number ≡ 2) }
     ensures check { IfOk result (λ made. made.check ≡ tree_with zxid sessions []) }
-    ensures same { IfOk result IsSame }
     ensures err { IfErr result (IsHeaderFaultOf (is_header zxid sessions)) }
 {
-    let check = match LoadCheck::new(alloc, zxid, sessions.as_slice()) {
-        Ok(check) => check,
-        Err(fault) => return Err(fault),
-    };
-    Ok(Part {
-        number: 2,
-        check,
-        loaded: Loaded {
-            zxid,
-            sessions,
-            rows: Sequence::new(alloc),
-        },
-    })
+    match LoadCheck::new(alloc, zxid, sessions.as_slice()) {
+        Ok(check) => Ok(Part { number: 2, check }),
+        Err(fault) => Err(fault),
+    }
 }
 
 impl Part {
@@ -59,7 +39,6 @@ impl Part {
     pub fn begin(alloc: Global, said: LoadLine) -> Result<Part, LoadStop>
         ensures ok { IfOk result (λ part. (is : List Item) → at_head (Some said) (λ zxid sessions. tree_after 2 zxid sessions [] is) ≡ load_after part is) }
         ensures number { IfOk result (λ part. part.number ≡ 2) }
-        ensures same { IfOk result IsSame }
         ensures stop { IfErr result (λ stop. (is : List Item) → IsLineStop (at_head (Some said) (λ zxid sessions. tree_after 2 zxid sessions [] is)) stop) }
     {
         match said {
@@ -74,31 +53,25 @@ impl Part {
     // Takes the next znode. A tree that has refused one takes no more.
     fn take(&mut self, row: Row) -> Result<(), LoadFault>
         requires room { self.old.number + 1 < 2 ^ 64 }
-        requires same { IsSame self.old }
         ensures ok { OnOk result (row_refusal self.old.check.zxid self.old.check.sessions self.old.check.rows row ≡ None) }
         ensures number { OnOk result (self.new.number ≡ self.old.number + 1) }
         ensures taken { OnOk result (self.new.check ≡ with_row row self.old.check) }
-        ensures same { OnOk result (IsSame self.new) }
         ensures err { IfErr result (IsRowFaultOf (row_refusal self.old.check.zxid self.old.check.sessions self.old.check.rows row)) }
     {
-        match self.check.take(&row) {
-            Ok(()) => {}
-            Err(fault) => return Err(fault),
+        match self.check.take_owned(row) {
+            Ok(()) => {
+                self.number += 1;
+                Ok(())
+            }
+            Err(fault) => Err(fault),
         }
-        let Ok(()) = self.loaded.rows.push(row) else {
-            return Err(LoadFault::NoMemory);
-        };
-        self.number += 1;
-        Ok(())
     }
 
     /// Goes over a line after the first, which says this. A tree that has stopped takes no more.
     pub fn next(&mut self, said: LoadLine) -> Result<(), LoadStop>
         requires room { self.old.number + 1 < 2 ^ 64 }
-        requires same { IsSame self.old }
         ensures ok { OnOk result ((is : List Item) → at_line self.old.number self.old.check.zxid self.old.check.sessions self.old.check.rows (Some said) (λ rows. tree_after (self.old.number + 1) self.old.check.zxid self.old.check.sessions rows is) ≡ load_after self.new is) }
         ensures number { OnOk result (self.new.number ≡ self.old.number + 1) }
-        ensures same { OnOk result (IsSame self.new) }
         ensures stop { IfErr result (λ stop. (is : List Item) → IsLineStop (at_line self.old.number self.old.check.zxid self.old.check.sessions self.old.check.rows (Some said) (λ rows. tree_after (self.old.number + 1) self.old.check.zxid self.old.check.sessions rows is)) stop) }
     {
         let line = self.number;
@@ -112,18 +85,12 @@ impl Part {
     }
 
     /// The tree of all lines. It takes no memory.
-    pub fn finish(self) -> Loaded
-        requires same { IsSame self }
-        ensures tree { tree_with result.zxid result.sessions result.rows ≡ self.check }
+    pub fn finish(self) -> LoadCheck
+        ensures check { result ≡ self.check }
         ensures load { is_load result.zxid result.sessions result.rows ≡ true }
     {
-        let Part {
-            number: _,
-            check,
-            loaded,
-        } = self;
-        // What the check has become keeps the rules of a load, and it is the same tree.
-        let _tree = check.into_tree();
-        loaded
+        let Part { number: _, check } = self;
+        let _ = check.rows();
+        check
     }
 }

@@ -2,16 +2,16 @@
 ghost use Rattle.std.specs.Prelude.{◌≡◌, ◌+◌, ◌<◌, ◌^◌, [], ◌∷◌, true, List, IfOk, IfErr, OnOk, Ok};
 ghost use Rattle.kz_spec_data.specs.Lines.{Item, line};
 ghost use Rattle.kz_spec_data.specs.Loads.{is_load};
-ghost use Rattle.kz_spec_machine.specs.Loading.{tree_with};
-ghost use Rattle.kz_load.specs.Kept.{IsSamePlace, number_of};
+ghost use Rattle.kz_load.specs.Kept.{number_of};
 ghost use Rattle.kz_load.specs.Stops.{IsLineStop};
 ghost use Rattle.kz_load.specs.Pending.{load_of_lines};
 
-use crate::part::{Loaded, Part};
+use crate::part::Part;
 use crate::stop::LoadStop;
 use kz_dump::read_row_line;
 use kz_record_json::LineFault;
 use kz_spec_machine::LoadLine;
+use kz_tree::LoadCheck;
 use std::alloc::Global;
 
 /// Where a load stands between two lines.
@@ -37,10 +37,8 @@ impl Place {
     /// Goes over a line. A load that has stopped goes over no more.
     pub fn advance(&mut self, alloc: Global, text: &[u8]) -> Result<(), LoadStop>
         requires room { number_of self.old + 1 < 2 ^ 64 }
-        requires same { IsSamePlace self.old }
         ensures ok { OnOk result ((is : List Item) → load_of_lines self.old (line text.now ∷ is) ≡ load_of_lines self.new is) }
         ensures number { OnOk result (number_of self.new ≡ number_of self.old + 1) }
-        ensures same { OnOk result (IsSamePlace self.new) }
         ensures stop { IfErr result (λ stop. (is : List Item) → IsLineStop (load_of_lines self.old (line text.now ∷ is)) stop) }
     {
         let line = self.number();
@@ -62,9 +60,8 @@ impl Place {
     }
 
     /// The end of the input.
-    pub fn finish(self) -> Result<Loaded, LoadStop>
-        requires same { IsSamePlace self }
-        ensures ok { IfOk result (λ t. load_of_lines self [] ≡ Ok (tree_with t.zxid t.sessions t.rows)) }
+    pub fn finish(self) -> Result<LoadCheck, LoadStop>
+        ensures ok { IfOk result (λ check. load_of_lines self [] ≡ Ok check) }
         ensures load { IfOk result (λ t. is_load t.zxid t.sessions t.rows ≡ true) }
         ensures stop { IfErr result (IsLineStop (load_of_lines self [])) }
     {

@@ -1,16 +1,17 @@
 //! An input of a load that comes in pieces.
-ghost use Rattle.std.specs.Prelude.{◌≡◌, ◌≢◌, ◌+◌, ◌<◌, ◌≤◌, [], ◌∷◌, true, List, IfOk, IfErr, OnOk, Ok, ℕ, length};
+ghost use Rattle.std.specs.Prelude.{◌≡◌, ◌≢◌, ◌+◌, ◌<◌, ◌≤◌, [], ◌∷◌, ◌++◌, true, List, IfOk, IfErr, OnOk, Ok, ℕ, length};
 ghost use Rattle.kz_types.specs.declared.limits.TheConstants.{MAX_INPUT_BYTES};
+ghost use Rattle.kz_spec_data.specs.Forms.{AllFit};
 ghost use Rattle.kz_spec_data.specs.Lines.{with_front};
 ghost use Rattle.kz_spec_data.specs.Loads.{is_load};
-ghost use Rattle.kz_spec_machine.specs.Loading.{tree_with, loaded};
-ghost use Rattle.kz_load.specs.Kept.{IsKept, IsSamePlace, number_of};
+ghost use Rattle.kz_spec_machine.specs.Loading.{loaded};
+ghost use Rattle.kz_load.specs.Kept.{IsKept, number_of};
 ghost use Rattle.kz_load.specs.Stops.{IsLineStop};
 ghost use Rattle.kz_load.specs.Pending.{load_of_lines, load_to_come, GoesOn, Stops};
 
-use crate::part::Loaded;
 use crate::place::Place;
 use crate::stop::LoadStop;
+use kz_tree::LoadCheck;
 use kz_types::{MAX_INPUT_BYTES, MAX_LINE_BYTES};
 use std::alloc::Global;
 
@@ -39,25 +40,27 @@ impl Reader {
         }
     }
 
-    // A byte of a line.
-    fn push(&mut self, byte: u8) -> Result<(), LoadStop>
-        requires no_end { byte ≢ 10 }
+    // Takes bytes of a line.
+    fn push(&mut self, bytes: &[u8]) -> Result<(), LoadStop>
+        requires no_ends { AllFit (λ b. b ≢ 10) bytes.now }
         requires kept { IsKept self.old }
-        ensures ok { OnOk result (GoesOn self.old self.new (byte ∷ [])) }
-        ensures count { OnOk result (self.new.taken ≡ self.old.taken + 1) }
+        ensures ok { OnOk result (GoesOn self.old self.new bytes.now) }
+        ensures count { OnOk result (self.new.taken ≡ self.old.taken + length bytes.now) }
         ensures kept { OnOk result (IsKept self.new) }
-        ensures stop { IfErr result (Stops self.old (byte ∷ [])) }
+        ensures stop { IfErr result (Stops self.old bytes.now) }
     {
-        if self.line.len() >= MAX_LINE_BYTES {
+        let room = MAX_LINE_BYTES.saturating_sub(self.line.len());
+        let more = MAX_INPUT_BYTES - self.taken;
+        if bytes.len() > room && room as u64 <= more {
             return Err(LoadStop::LongLine);
         }
-        if self.taken >= MAX_INPUT_BYTES {
+        if bytes.len() as u64 > more {
             return Err(LoadStop::LongInput);
         }
-        let Ok(()) = self.line.push(byte) else {
+        let Ok(()) = self.line.extend_from_slice(bytes) else {
             return Err(LoadStop::NoMemory);
         };
-        self.taken += 1;
+        self.taken += bytes.len() as u64;
         Ok(())
     }
 
@@ -81,18 +84,18 @@ impl Reader {
         Ok(())
     }
 
-    // A byte of the input.
-    fn step(&mut self, byte: u8) -> Result<(), LoadStop>
+    // Takes the rest of a line, and its end.
+    fn take_line(&mut self, rest: &[u8]) -> Result<(), LoadStop>
+        requires no_ends { AllFit (λ b. b ≢ 10) rest.now }
         requires kept { IsKept self.old }
-        ensures ok { OnOk result (GoesOn self.old self.new (byte ∷ [])) }
-        ensures count { OnOk result (self.new.taken ≡ self.old.taken + 1) }
+        ensures ok { OnOk result (GoesOn self.old self.new (rest.now ++ 10 ∷ [])) }
+        ensures count { OnOk result (self.new.taken ≡ self.old.taken + length rest.now + 1) }
         ensures kept { OnOk result (IsKept self.new) }
-        ensures stop { IfErr result (Stops self.old (byte ∷ [])) }
+        ensures stop { IfErr result (Stops self.old (rest.now ++ 10 ∷ [])) }
     {
-        if byte == b'\n' {
-            self.end_line()
-        } else {
-            self.push(byte)
+        match self.push(rest) {
+            Ok(()) => self.end_line(),
+            Err(stop) => Err(stop),
         }
     }
 
@@ -104,19 +107,23 @@ impl Reader {
         ensures kept { OnOk result (IsKept self.new) }
         ensures stop { IfErr result (Stops self.old piece.now) }
     {
-        for byte in piece {
-            match self.step(*byte) {
-                Ok(()) => {}
-                Err(stop) => return Err(stop),
+        let mut from = 0;
+        for at in 0..piece.len() {
+            if piece[at] == b'\n' {
+                match self.take_line(&piece[from..at]) {
+                    Ok(()) => {}
+                    Err(stop) => return Err(stop),
+                }
+                from = at + 1;
             }
         }
-        Ok(())
+        self.push(&piece[from..])
     }
 
     /// The end of the input.
-    pub fn finish(self) -> Result<Loaded, LoadStop>
+    pub fn finish(self) -> Result<LoadCheck, LoadStop>
         requires kept { IsKept self }
-        ensures ok { IfOk result (λ t. load_to_come self [] ≡ Ok (tree_with t.zxid t.sessions t.rows)) }
+        ensures ok { IfOk result (λ check. load_to_come self [] ≡ Ok check) }
         ensures load { IfOk result (λ t. is_load t.zxid t.sessions t.rows ≡ true) }
         ensures stop { IfErr result (IsLineStop (load_to_come self [])) }
     {
@@ -136,9 +143,7 @@ impl Reader {
 // Goes over a last line without an end, if there is one.
 fn last_line(alloc: Global, place: &mut Place, line: &[u8]) -> Result<(), LoadStop>
     requires room { number_of place.old ≤ MAX_INPUT_BYTES + 1 }
-    requires same { IsSamePlace place.old }
     ensures ok { OnOk result (load_of_lines place.old (with_front line.now []) ≡ load_of_lines place.new []) }
-    ensures same { OnOk result (IsSamePlace place.new) }
     ensures stop { IfErr result (IsLineStop (load_of_lines place.old (with_front line.now []))) }
 {
     if line.is_empty() {

@@ -1,5 +1,6 @@
 use kz_io::MemorySource;
-use kz_load::{LoadStop, Loaded, read_tree, stop_status};
+use kz_load::{LoadStop, read_tree, stop_status};
+use kz_tree::LoadCheck;
 use kz_types::Status;
 use std::alloc::Global;
 use std::process::Abort;
@@ -13,7 +14,7 @@ fn made<T: Drop, E: Drop>(rt: &impl Abort, outcome: Result<T, E>) -> T {
 }
 
 // Reads an input, of which the reads with these numbers fail.
-fn read(rt: &impl Abort, alloc: Global, input: &str, fail: &[u64]) -> Result<Loaded, LoadStop> {
+fn read(rt: &impl Abort, alloc: Global, input: &str, fail: &[u64]) -> Result<LoadCheck, LoadStop> {
     let bytes = made(rt, input.as_bytes().to_vec(alloc));
     let fail = made(rt, fail.to_vec(alloc));
     let mut source = MemorySource::new(bytes, fail);
@@ -34,12 +35,11 @@ static TREES: [Tree; 3] = [
     ),
 ];
 
-fn has_paths(loaded: &Loaded, paths: &[&str]) -> bool {
-    let rows = loaded.rows.as_slice();
-    if rows.len() != paths.len() {
+fn has_paths(check: &LoadCheck, paths: &[&str]) -> bool {
+    if check.count() != paths.len() {
         return false;
     }
-    for (row, path) in rows.iter().zip(paths) {
+    for (row, path) in check.rows().zip(paths) {
         if row.path.bytes() != path.as_bytes() {
             return false;
         }
@@ -51,11 +51,11 @@ fn has_paths(loaded: &Loaded, paths: &[&str]) -> bool {
 fn trees_are_read(rt: HostRuntime) {
     let alloc = rt.alloc();
     for (input, zxid, sessions, paths) in &TREES {
-        let loaded = made(&rt, read(&rt, alloc, input, &[]));
-        assert!(rt; loaded.zxid == *zxid);
-        assert!(rt; loaded.sessions.as_slice() == *sessions);
-        assert!(rt; has_paths(&loaded, paths));
-        drop(loaded);
+        let check = made(&rt, read(&rt, alloc, input, &[]));
+        assert!(rt; check.zxid() == *zxid);
+        assert!(rt; check.sessions() == *sessions);
+        assert!(rt; has_paths(&check, paths));
+        drop(check);
     }
 }
 

@@ -1,11 +1,11 @@
 //! The check of a tree that is loaded.
-ghost use Rattle.std.specs.Prelude.{◌≡◌, [], None, true, IfOk, IfErr, OnOk, OnErr};
+ghost use Rattle.std.specs.Prelude.{◌≡◌, [], None, true, length, IfOk, IfErr, OnOk, OnErr};
 ghost use Rattle.kz_spec_data.specs.Loads.{is_header, row_refusal, is_load};
 ghost use Rattle.kz_tree.specs.Loads.{IsHeaderFaultOf, IsRowFaultOf, with_row};
 
 use crate::load_rules::{admit, is_header};
 use crate::tree::Tree;
-use kz_tree_rows::Rows;
+use kz_tree_rows::{Items, Rows};
 use kz_types::{Duplicate, Row, copy_all};
 use std::alloc::Global;
 use std::marker::Model;
@@ -102,6 +102,35 @@ impl LoadCheck {
     {
         admit(self.alloc, self.zxid, &self.sessions, &self.rows, &row)?;
         self.put(row)
+    }
+
+    /// The last zxid of the header.
+    pub fn zxid(&self) -> i64
+        ensures { result ≡ self.now.zxid }
+    {
+        self.zxid
+    }
+
+    /// The live sessions of the header, rising.
+    pub fn sessions(&self) -> &[i64]
+        ensures { result.now ≡ self.now.sessions }
+    {
+        self.sessions.as_slice()
+    }
+
+    /// The znodes so far, by rising path.
+    pub fn rows(&self) -> Items<'_>
+        ensures rows { result ≡ self.now.rows }
+        ensures load { is_load self.now.zxid self.now.sessions self.now.rows ≡ true }
+    {
+        self.rows.items()
+    }
+
+    /// How many znodes there are so far.
+    pub fn count(&self) -> usize
+        ensures { result ≡ length self.now.rows }
+    {
+        self.rows.count()
     }
 
     /// The tree of this header and these znodes. It takes no memory.

@@ -1,5 +1,5 @@
 -- What a transaction makes of what is known of a file.
-use Rattle.std.proofs.Common.{◌≡◌, ◌⊎◌, ℕ, ℤ, pos, ◌+ℤ◌, Bool, true, false, cond, List, [], ◌++◌, Option, Some, None, is_some, Result, Ok, refl, sym, ap, ◌∙◌, subst, inl, inr, ⊎_elim}
+use Rattle.std.proofs.Common.{◌≡◌, ◌⊎◌, ℕ, ℤ, pos, ◌+ℤ◌, Bool, true, false, cond, List, [], ◌++◌, Option, Some, None, is_some, Result, Ok, Err, refl, sym, ap, ◌∙◌, subst, inl, inr, ⊎_elim}
 use Rattle.std.specs.Prelude.{is_none, not}
 use Rattle.std.proofs.lemmas.Bool.Decides.{Decides-int_eq}
 use Rattle.kz_types.specs.declared.tree.Row.{Row}
@@ -12,12 +12,12 @@ use Rattle.kz_spec_data.specs.Loads.{is_header, are_loadable, is_load}
 use Rattle.kz_spec_data.specs.TreeFile.{Load, fresh, under_way, over, is_fresh, Stored, stored_of, stored_next, load_with_rows, with_load, stored_by_load, after_txn}
 use Rattle.kz_disk.specs.Disks.{StaysTold}
 use Rattle.kz_spec_data.specs.Frames.{tree_letter, journal_of}
-use Rattle.kz_tree_store.specs.Opened.{Known, known_of, rows_known, IsTreeFile, LeavesTree}
+use Rattle.kz_tree_store.specs.Opened.{Known, known_of, known_in, rows_known, IsTreeFile, LeavesTree}
 use Rattle.kz_tree_store.specs.Changes.{MakesTree, MakesKnown, HasTxn, LeftByTxn}
 use Rattle.kz_tree_store.proofs.Frames.{same_after, left_by_change}
 use Rattle.kz_tree_store.specs.Held.{ArePositive}
 use Rattle.kz_tree_store.specs.Taken.{ended}
-use Rattle.kz_tree_store.specs.LoadCalls.{rows_so_far}
+use Rattle.kz_tree_store.specs.LoadCalls.{rows_so_far, without_load, IsUnderWay}
 use Rattle.kz_tree_store.proofs.Positive.{both, header_positive}
 
 -- ---- changes of the tree
@@ -161,6 +161,20 @@ loaded_is zxid z sessions ss rows rs t z_is ss_are rs_are keeps h =
 pub load_positive : (zxid : ℤ) (sessions : List ℤ) (rows : List Row) (t : Tree) → is_load zxid sessions rows ≡ true → t ≡ record { zxid = zxid; sessions = sessions; rows = rows } → ArePositive t.sessions
 load_positive zxid sessions rows t keeps is =
     subst (λ (x : Tree). ArePositive x.sessions) (sym is) (header_positive zxid sessions (both (is_header zxid sessions) (are_loadable zxid sessions [] rows) keeps).0)
+
+-- what is known of a file, without the load that was begun
+abbrev without_loads : Result Known ℕ → Result Known ℕ
+without_loads (Ok k) = Ok (without_load k)
+without_loads (Err at) = Err at
+
+pub known_without : (begun : Bool) (r : Result Stored ℕ) (k : Known) → known_in begun r ≡ Ok k → known_in false r ≡ Ok (without_load k)
+known_without begun (Ok s) k h = ap without_loads h
+known_without begun (Err at) k h = ap without_loads h
+
+-- all znodes of a load are in a file, and none was begun before
+pub all_rows_written : (t : Txn) (k : Known) (rows : List Row) (told now : Option (List ℕ)) → StaysTold told now → ((file : List ℕ) → told ≡ Some file → IsTreeFile file k)
+    → ((file : List ℕ) → told ≡ Some file → HasTxn t file now) → k.fresh ≡ true → t ≡ LoadRows true rows → k.loaded ≡ None → IsUnderWay now rows k
+all_rows_written t k rows told now stays same written new is none = rows_written t k true rows rows None told now stays same written new is (sym (ap is_none none)) (sym none) refl
 
 -- a stop in a request whose change was prepared
 pub between : {E : Type 0} (t same new : Tree) (made : Result Tree E) (left : Option Tree → Type 0) → same ≡ t → made ≡ Ok new → Either same new left → Between t made left

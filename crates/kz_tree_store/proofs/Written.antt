@@ -1,11 +1,15 @@
 -- The frame of a transaction, once it is written.
-use Rattle.std.proofs.Common.{◌≡◌, inl, inr, ℕ, ◌+◌, ◌≤◌, max, Bool, List, length, Option, Some, Result, Ok, Err, ap, ◌∙◌, subst, arith}
+use Rattle.std.proofs.Common.{◌≡◌, inl, inr, ℕ, ◌+◌, ◌<◌, ◌≤◌, max, Bool, true, List, length, length-append, Option, Some, Result, Ok, Err, ap, ◌∙◌, subst, arith}
 use Rattle.std.specs.Prelude.{OnOk, ⊤}
+use Rattle.std.specs.Int.{w32, to_be_bytes}
 use Rattle.kz_types.specs.declared.limits.TheConstants.{MAX_FILE_BYTES}
+use Rattle.kz_types.specs.declared.tree.Row.{Row}
+use Rattle.kz_spec_data.specs.Forms.{items_written}
 use Rattle.kz_spec_data.specs.Requests.{Disk, StoreFile, answer_by, ChangesDisk}
 use Rattle.kz_spec_data.specs.declared.files.Txn.{Txn}
+use Rattle.kz_spec_data.specs.declared.files.Txn.TheVariants.{LoadRows}
 use Rattle.kz_spec_data.specs.Frames.{tree_letter, journal_of, journal_with_frame, LeftByAppend}
-use Rattle.kz_spec_data.specs.Transactions.{TxnFits, txn_of, txn_written}
+use Rattle.kz_spec_data.specs.Transactions.{row, TxnFits, txn_of, txn_written}
 use Rattle.kz_journal.specs.declared.change_fault.ChangeFault.{ChangeFault}
 use Rattle.kz_journal.specs.declared.change_fault.ChangeFault.TheVariants.{Failed, Full, NoMemory}
 use Rattle.kz_journal.specs.Changes.{answer_of_change_fault, HasFrame}
@@ -59,3 +63,12 @@ disk_by_txn r t payload old new spells disk = subst (λ n. ChangesDisk ⊤ n (an
 -- a transaction that was written
 pub written_for : (t : Txn) (payload : List ℕ) → payload ≡ txn_written t → TxnFits t → ((u : Txn) → TxnFits u → txn_of (txn_written u) ≡ Ok u) → IsPayloadOf t payload
 written_for t payload is fits law = record { size = ap length is; read = λ h. ap txn_of is ∙ law t fits }
+
+-- as many zeros as no file has room for
+pub too_many : (t : Txn) (payload : List ℕ) → length payload ≡ length (txn_written t) → MAX_FILE_BYTES < length payload → IsPayloadOf t payload
+too_many t payload size more = record { size = size; read = λ few. absurd (omega (arith, more, few)) }
+
+-- a transaction that loads znodes has six bytes before them
+pub rows_length : (rows : List Row) → 6 + length (items_written row.written rows) ≡ length (txn_written (LoadRows true rows))
+unfolding txn_written
+rows_length rows = let e = length-append (to_be_bytes w32 (length rows)) (items_written row.written rows) in omega (arith, e)

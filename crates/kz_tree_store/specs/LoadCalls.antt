@@ -12,7 +12,7 @@ use Rattle.kz_spec_data.specs.Loads.{is_load}
 use Rattle.kz_tree_store.specs.declared.last.LoadLast.{LoadLast}
 use Rattle.kz_journal.specs.declared.change_fault.ChangeFault.{ChangeFault}
 use Rattle.kz_journal.specs.declared.change_fault.ChangeFault.TheVariants as change
-use Rattle.kz_tree_store.specs.Opened.{Known}
+use Rattle.kz_tree_store.specs.Opened.{Known, IsTreeFile}
 
 -- the znodes of a load so far
 abbrev pub rows_so_far : Option (List Row) → List Row
@@ -36,6 +36,10 @@ KeepRules (Some last) rows = is_load last.zxid last.sessions rows ≡ true
 abbrev pub loaded_tree : LoadLast → List Row → Tree
 loaded_tree last rows = record { zxid = last.zxid; sessions = last.sessions; rows = rows }
 
+-- the end of a load whose tree this is
+abbrev pub last_of : Tree → LoadLast
+last_of t = record { zxid = t.zxid; sessions = t.sessions }
+
 -- what is known of the file after a call of a load, up to which these znodes have come
 abbrev pub after_load : Option LoadLast → List Row → Known → Known
 after_load None rows k = record { tree = k.tree; fresh = true; loaded = Some rows }
@@ -49,6 +53,10 @@ without_load k = record { tree = k.tree; fresh = k.fresh; loaded = None }
 abbrev pub load_payloads : Bool → List Row → Option LoadLast → List ℕ
 load_payloads first rows None = length (txn_written (LoadRows first rows)) ∷ []
 load_payloads first rows (Some last) = length (txn_written (LoadRows first rows)) ∷ length (txn_written (LoadEnd last.zxid last.sessions)) ∷ []
+
+-- Of the file that is told this is known, and that these znodes of a load have come.
+abbrev pub IsUnderWay : Option (List ℕ) → List Row → Known → Type 0
+IsUnderWay told rows k = (file : List ℕ) → told ≡ Some file → IsTreeFile file (record { tree = k.tree; fresh = k.fresh; loaded = Some rows })
 
 -- an answer that says why a frame isn't written
 abbrev pub IsStop : StoreAnswer → Type 0

@@ -1,7 +1,9 @@
 //! A tree of znodes on a disk: each change of the tree is a frame of a journal.
 #![tactic(auto)]
 
+mod all_rows;
 mod change;
+mod checked;
 mod fault;
 mod held;
 mod joined;

@@ -8,7 +8,7 @@ use crate::store::TreeStore;
 use crate::txns::{load_end_txn, load_rows_txn};
 use kz_disk::Disk;
 use kz_journal::ChangeFault;
-use kz_tree::TreeFault;
+use kz_tree::{Tree, TreeFault};
 use kz_types::Row;
 
 impl<D: Disk> TreeStore<D> {
@@ -19,8 +19,8 @@ impl<D: Disk> TreeStore<D> {
     ghost use Rattle.kz_spec_data.specs.Transactions.{txn_written};
     ghost use Rattle.kz_spec_data.specs.Loads.{is_load};
     ghost use Rattle.kz_journal.specs.Changes.{answer_of_change_fault};
-    ghost use Rattle.kz_tree_store.specs.Stores.{held_tree, is_fresh, loaded, known, store_down, store_state, left_of};
-    ghost use Rattle.kz_tree_store.specs.LoadCalls.{rows_so_far, KeepRules, after_load, without_load, load_payloads, WritesFrames, LeftByLoad};
+    ghost use Rattle.kz_tree_store.specs.Stores.{held_tree, is_fresh, loaded, known, store_down, store_disk, store_state, left_of};
+    ghost use Rattle.kz_tree_store.specs.LoadCalls.{rows_so_far, KeepRules, last_of, after_load, without_load, load_payloads, IsUnderWay, WritesFrames, LeftByLoad};
 
     // Writes znodes of a load. At an error no load of this store is under way.
     fn load_rows(&mut self, rows: &[Row]) -> Result<(), ChangeFault>
@@ -55,31 +55,19 @@ impl<D: Disk> TreeStore<D> {
         }
     }
 
-    // Writes the end of the load that is under way. At an error none is.
-    fn end_load(&mut self, last: &LoadLast) -> Result<(), ChangeFault>
+    // Writes the end of the load that is under way in the file, whose tree this is, and takes the tree.
+    pub(crate) fn write_end(&mut self, tree: Tree) -> Result<(), ChangeFault>
         requires up { store_down self.old ≡ false }
-        requires under_way { (rows : List RowValue) × (loaded self.old ≡ Some rows) × KeepRules (Some last.now) rows }
-        ensures ok { OnOk result (known self.new ≡ after_load (Some last.now) (rows_so_far (loaded self.old)) (known self.old)) }
-        ensures same { OnErr result (known self.new ≡ without_load (known self.old)) }
-        ensures disk { ChangesDisk ⊤ (length (txn_written (LoadEnd last.now.zxid last.now.sessions))) (answer_by answer_of_change_fault result) (store_state D.faults self.old) (store_state D.faults self.new) }
-        ensures stop { IsErrOf result ChangeFault.Failed → LeftByLoad (Some last.now) (rows_so_far (loaded self.old)) (held_tree self.old) (left_of D.told D.may_leave self.new) }
+        requires unloaded { loaded self.old ≡ None }
+        requires rules { is_load tree.zxid tree.sessions tree.rows ≡ true }
+        requires under_way { IsUnderWay (D.told (store_disk self.old)) tree.rows (known self.old) }
+        ensures ok { OnOk result (known self.new ≡ after_load (Some (last_of tree)) tree.rows (known self.old)) }
+        ensures same { OnErr result (known self.new ≡ known self.old) }
+        ensures disk { ChangesDisk ⊤ (length (txn_written (LoadEnd tree.zxid tree.sessions))) (answer_by answer_of_change_fault result) (store_state D.faults self.old) (store_state D.faults self.new) }
+        ensures stop { IsErrOf result ChangeFault.Failed → LeftByLoad (Some (last_of tree)) tree.rows (held_tree self.old) (left_of D.told D.may_leave self.new) }
     {
-        let rows = match self.loaded.take() {
-            Some(rows) => rows,
-            None => unreachable!(),
-        };
-        let Ok(txn) = load_end_txn(self.alloc, last) else {
+        let Ok(txn) = load_end_txn(self.alloc, tree.last_zxid(), tree.sessions()) else {
             return Err(ChangeFault::NoMemory);
-        };
-        let tree = match loaded_tree(
-            self.alloc,
-            last.zxid,
-            last.sessions.as_slice(),
-            rows.into_vec(),
-        ) {
-            Ok(tree) => tree,
-            Err(FrameFault::Damaged) => unreachable!(),
-            Err(FrameFault::NoMemory) => return Err(ChangeFault::NoMemory),
         };
         match write_change(self.alloc, &mut self.journal, &txn) {
             Ok(()) => {
@@ -94,6 +82,32 @@ impl<D: Disk> TreeStore<D> {
             Err(ChangeFault::Full { length }) => Err(ChangeFault::Full { length }),
             Err(ChangeFault::NoMemory) => Err(ChangeFault::NoMemory),
         }
+    }
+
+    // Writes the end of the load that is under way. At an error none is.
+    fn end_load(&mut self, last: &LoadLast) -> Result<(), ChangeFault>
+        requires up { store_down self.old ≡ false }
+        requires under_way { (rows : List RowValue) × (loaded self.old ≡ Some rows) × KeepRules (Some last.now) rows }
+        ensures ok { OnOk result (known self.new ≡ after_load (Some last.now) (rows_so_far (loaded self.old)) (known self.old)) }
+        ensures same { OnErr result (known self.new ≡ without_load (known self.old)) }
+        ensures disk { ChangesDisk ⊤ (length (txn_written (LoadEnd last.now.zxid last.now.sessions))) (answer_by answer_of_change_fault result) (store_state D.faults self.old) (store_state D.faults self.new) }
+        ensures stop { IsErrOf result ChangeFault.Failed → LeftByLoad (Some last.now) (rows_so_far (loaded self.old)) (held_tree self.old) (left_of D.told D.may_leave self.new) }
+    {
+        let rows = match self.loaded.take() {
+            Some(rows) => rows,
+            None => unreachable!(),
+        };
+        let tree = match loaded_tree(
+            self.alloc,
+            last.zxid,
+            last.sessions.as_slice(),
+            rows.into_vec(),
+        ) {
+            Ok(tree) => tree,
+            Err(FrameFault::Damaged) => unreachable!(),
+            Err(FrameFault::NoMemory) => return Err(ChangeFault::NoMemory),
+        };
+        self.write_end(tree)
     }
 
     /// Writes further znodes of a tree that is loaded, by rising path, and, with `last`, the end of the load. The tree is that of

@@ -11,8 +11,8 @@ use kz_txn::{txn_size, write_txn, written_is_read};
 use kz_types::{MAX_FILE_BYTES, NoMemory, Op, Row, ZPath};
 use std::alloc::Global;
 
-// So many zeros.
-fn zeros(alloc: Global, count: u128) -> Result<Vec<u8>, NoMemory>
+/// So many zeros.
+pub(crate) fn zeros(alloc: Global, count: u128) -> Result<Vec<u8>, NoMemory>
     ensures { IfOk result (λ bytes. length bytes.items ≡ count) }
 {
     if count > usize::MAX as u128 {
@@ -95,7 +95,8 @@ pub(crate) fn are_ops_held(ops: &[Op])
     }
 }
 
-fn is_row_held(row: &Row)
+/// The same of a znode.
+pub(crate) fn is_row_held(row: &Row)
     ensures { IsRowHeld row.now }
 {
     is_path_held(&row.path);
@@ -106,7 +107,7 @@ fn is_row_held(row: &Row)
     is_held64(row.pzxid);
 }
 
-/// The same of each znode.
+/// The same of each of these znodes.
 pub(crate) fn are_rows_held(rows: &[Row])
     ensures { AllFit IsRowHeld rows.now }
 {

@@ -11,11 +11,10 @@ ghost use Rattle.kz_tree_store.specs.Held.{ArePositive};
 ghost use Rattle.kz_tree_store.specs.Changes.{FitsIfFew};
 ghost use Rattle.kz_tree_store.specs.Payloads.{txn_of_change};
 
-use crate::last::LoadLast;
 use crate::payload::{are_ops_held, are_rows_held, are_sessions_held};
 use kz_spec_data::Txn;
 use kz_tree::Tree;
-use kz_types::{Duplicate, NoMemory, Op, Row, Sequence, copy_all};
+use kz_types::{NoMemory, Op, Row, Sequence, copy_all};
 use std::alloc::Global;
 
 // The zxid after a tree's last one, where there is one.
@@ -82,14 +81,15 @@ pub(crate) fn load_rows_txn(alloc: Global, first: bool, rows: &[Row]) -> Result<
 }
 
 /// The transaction of the end of a load.
-pub(crate) fn load_end_txn(alloc: Global, last: &LoadLast) -> Result<Txn, NoMemory>
-    requires { is_header last.now.zxid last.now.sessions ≡ true }
-    ensures txn { IfOk result (λ t. t ≡ LoadEnd last.now.zxid last.now.sessions) }
+pub(crate) fn load_end_txn(alloc: Global, zxid: i64, sessions: &[i64]) -> Result<Txn, NoMemory>
+    requires { is_header zxid sessions.now ≡ true }
+    ensures txn { IfOk result (λ t. t ≡ LoadEnd zxid sessions.now) }
     ensures fits { IfOk result FitsIfFew }
 {
-    are_sessions_held(last.sessions.as_slice());
+    are_sessions_held(sessions);
+    let copies = copy_all(alloc, sessions)?;
     Ok(Txn::LoadEnd {
-        zxid: last.zxid,
-        sessions: last.sessions.copy(alloc)?,
+        zxid,
+        sessions: Sequence::from_vec(copies),
     })
 }

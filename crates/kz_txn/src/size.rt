@@ -48,7 +48,8 @@ fn ops_size(items: &[Op]) -> u128
     4 + all_ops_size(items)
 }
 
-fn row_size(r: &Row) -> u128
+/// How many bytes `put_row` would append for a znode, whether or not its lengths fit their fields. It takes no memory.
+pub fn row_size(r: &Row) -> u128
     ensures size { result ≡ length (row.written r.now) }
     ensures bound { result ≤ 2 ^ 64 + 44 }
 {

@@ -136,7 +136,8 @@ fn put_ops(out: &mut Vec<u8>, items: &[Op]) -> Result<(), NoMemory>
 
 // ---- znodes that are loaded
 
-fn put_row(out: &mut Vec<u8>, r: &Row) -> Result<(), NoMemory>
+/// Appends a znode of a transaction that loads some. Each length has to fit its field of 32 bits. `NoMemory`: memory ran out.
+pub fn put_row(out: &mut Vec<u8>, r: &Row) -> Result<(), NoMemory>
     requires { row.fits r.now }
     ensures { OnOk result (out.new.items ≡ out.old.items ++ row.written r.now) }
 {
@@ -157,15 +158,6 @@ fn push_rows(out: &mut Vec<u8>, items: &[Row]) -> Result<(), NoMemory>
     for item in items {
         put_row(out, item)?;
     }
-    Ok(())
-}
-
-fn put_rows(out: &mut Vec<u8>, items: &[Row]) -> Result<(), NoMemory>
-    requires { (list_of row).fits items.now }
-    ensures { OnOk result (out.new.items ≡ out.old.items ++ (list_of row).written items.now) }
-{
-    put_count(out, items.len())?;
-    push_rows(out, items)?;
     Ok(())
 }
 
@@ -201,13 +193,24 @@ fn put_multi(out: &mut Vec<u8>, zxid: i64, ops: &[Op]) -> Result<(), NoMemory>
     Ok(())
 }
 
+/// Appends what stands before the znodes of a transaction that loads some: its kind byte, whether it is the first of its load, and
+/// the count of the znodes, each of which `put_row` appends after it. `NoMemory`: memory ran out.
+pub fn put_load_rows_head(out: &mut Vec<u8>, first: bool, count: usize) -> Result<(), NoMemory>
+    requires { count < 2 ^ 32 }
+    ensures { OnOk result (out.new.items ≡ out.old.items ++ (2 ∷ (flag.written first ++ to_be_bytes w32 count))) }
+{
+    put_byte(out, 2)?;
+    put_flag(out, first)?;
+    put_count(out, count)?;
+    Ok(())
+}
+
 fn put_load_rows(out: &mut Vec<u8>, first: bool, rows: &[Row]) -> Result<(), NoMemory>
     requires { (list_of row).fits rows.now }
     ensures { OnOk result (out.new.items ≡ out.old.items ++ (2 ∷ load_rows.written (first, rows.now))) }
 {
-    put_byte(out, 2)?;
-    put_flag(out, first)?;
-    put_rows(out, rows)?;
+    put_load_rows_head(out, first, rows.len())?;
+    push_rows(out, rows)?;
     Ok(())
 }
 

@@ -1,4 +1,4 @@
-use Rattle.std.proofs.Common.{◌≡◌, ◌∷◌, ◌++◌, [], ℤ, Err, length, ap, ◌∙◌, append_assoc, subst, to_z, of_z, w64, arith}
+use Rattle.std.proofs.Common.{◌≡◌, ◌∷◌, [], ℤ, Err, length, ap, ◌∙◌, append_assoc, subst, to_z, of_z, w64, arith}
 use Rattle.std.proofs.lemmas.Int.{to_z-of_z}
 use Rattle.std.specs.Vec.Iter.{into_iter_items}
 use Rattle.kz_spec_data.specs.Tree.{Tree}
