@@ -1,9 +1,3 @@
-pub mod ConfigLemmas
 pub mod CredentialLemmas
 pub mod EntryLemmas
 pub mod JsonLemmas
-pub mod Members
-pub mod Plain
-pub mod TextLemmas
-pub mod TopicLemmas
-pub mod WrittenLemmas

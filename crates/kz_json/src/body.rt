@@ -7,7 +7,7 @@ ghost use Rattle.kz_json.specs.Entries.{keeps_quotas};
 use crate::acls::Resource;
 use crate::quotas::quotas_text;
 use crate::reading::{read_acls, read_config, read_producer, read_quotas, read_state, read_topic};
-use crate::written::{
+use kz_body_texts::{
     PartitionState, acls_text, config_text, producer_text, state_text, topic_text,
 };
 use kz_types::{Body, BodyFault, EntityKey, NoMemory};

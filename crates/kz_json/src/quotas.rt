@@ -8,10 +8,9 @@ ghost use Rattle.kz_spec_data.specs.Credentials.{mechanism_name, credential_text
 ghost use Rattle.kz_spec_data.specs.Bodies.{config_data};
 ghost use Rattle.kz_json.specs.Entries.{are_quotas};
 
-use crate::topics::number_text;
-use crate::written::config_text;
 use base64::engine::general_purpose::STANDARD;
 use kz_body_parts::QuotaText;
+use kz_body_texts::{config_text, number_text};
 use kz_types::{Duplicate, NoMemory, Pair, QuotaRow, ScramPair, ScramRow, Text};
 use std::alloc::Global;
 

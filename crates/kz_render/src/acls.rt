@@ -7,7 +7,7 @@ ghost use Rattle.kz_render.specs.Gathered.{resource_znode, PutAlike};
 
 use crate::push::push_znode;
 use crate::resources::{Resource, resources};
-use kz_json::acls_text;
+use kz_body_texts::acls_text;
 use kz_sorted::Blocks;
 use kz_types::{AclEntry, Duplicate, NoMemory, Rendered};
 use std::alloc::Global;

@@ -12,8 +12,8 @@ use crate::entries::{
 };
 use crate::quota_rows::quota_body;
 use crate::{block_text, quotas_at, state_body, topic_body};
+use kz_body_texts::{acls_text, config_text};
 use kz_image::Image;
-use kz_json::{acls_text, config_text};
 use kz_types::{AclRow, EntityKey, NoMemory, Pair, ScramPair, Text, ZPath};
 use std::alloc::Global;
 

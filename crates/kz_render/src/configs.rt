@@ -6,7 +6,7 @@ ghost use Rattle.kz_spec_data.specs.Rendering.{broker_key, config_znode};
 
 use crate::paths::entity_path;
 use crate::push::push_znode;
-use kz_json::config_text;
+use kz_body_texts::config_text;
 use kz_sorted::Blocks;
 use kz_types::{Configuration, EntityKey, NoMemory, Rendered, Text, ZPath, number_in};
 use std::alloc::Global;

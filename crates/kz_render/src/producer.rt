@@ -9,7 +9,7 @@ ghost use Rattle.kz_spec_data.specs.Legal.{IsNext};
 ghost use Rattle.kz_spec_data.specs.Rendering.{producer_znodes};
 
 use crate::push::push_znode;
-use kz_json::producer_text;
+use kz_body_texts::producer_text;
 use kz_types::{NoMemory, Rendered, Text, ZPath};
 use std::alloc::Global;
 

@@ -10,7 +10,7 @@ ghost use Rattle.kz_render.specs.Apart.{own_znodes, configs_of, topics_apart};
 
 use crate::push::{push_bare, push_znode};
 use crate::topic_paths::{number_path, partitions_path, state_path, topic_config_path, topic_path};
-use kz_json::{PartitionState, config_text, state_text, topic_text};
+use kz_body_texts::{PartitionState, config_text, state_text, topic_text};
 use kz_sorted::Blocks;
 use kz_types::{
     AssignmentRow, Duplicate, NoMemory, Pair, PartitionEntry, PartitionRow, Rendered, Shared, Text,

@@ -1,8 +1,0 @@
-use Rattle.std.proofs.Common.{◌≡◌, drop}
-use Rattle.serde_json.specs.View.{members_view}
-use Rattle.serde_json.specs.Data.{no_members}
-use Rattle.kz_spec_data.specs.Bodies.{adding_members}
-use Rattle.kz_json.proofs.written.adding_map.Given as goal
-
-abbrev pub invariant-loop-row : goal.invariant-loop-row
-invariant-loop-row l = adding_members (members_view l.members.entries) (drop l.row-index l.rows) ≡ adding_members no_members l.rows

@@ -1,8 +1,0 @@
-use Rattle.std.proofs.Common.{string_bytes}
-use Rattle.kz_json.proofs.ConfigLemmas.{config_joined}
-use Rattle.kz_json.proofs.written.config_text.Goals as goal
-
-pub returns : goal.returns
-returns c =
-    config_joined (string_bytes c.in_ok-text.text) (string_bytes c.push_str.new.self) (string_bytes c.push_texts.new.text) (string_bytes c.push_str-2.new.self) c.args.pairs.now
-    c.in_ok-text.ensures.bytes c.in_ok-push_str.ensures.bytes c.in_ok-push_texts.ensures c.in_ok-push_str-2.ensures.bytes

@@ -1,8 +1,0 @@
-use Rattle.std.proofs.Common.{◌∙◌, ap, refl}
-use Rattle.serde_json.specs.Data.{no_members}
-use Rattle.serde_json.specs.Written.{members_have_float}
-use Rattle.kz_json.proofs.WrittenLemmas.{replicas_no_float}
-use Rattle.kz_json.proofs.written.push_replicas.Goals as goal
-
-pub push_object-requires : goal.push_object-requires
-push_object-requires c = ap members_have_float c.in_ok-members.ensures ∙ replicas_no_float no_members c.args.rows.now refl
