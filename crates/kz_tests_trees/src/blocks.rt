@@ -4,8 +4,8 @@ use kz_types::{Duplicate, NoMemory};
 use std::alloc::Global;
 use std::process::Abort;
 
-// How many items a list of the tests has: those of three blocks or more. It has no factor with 7 and 11.
-const COUNT: u32 = 1500;
+// How many items a list of the tests has: those of three parts or more. It has no factor with 7 and 11.
+const COUNT: u32 = 10_007;
 
 #[derive(Drop)]
 struct Item {
@@ -90,13 +90,13 @@ fn are_from_to(items: &[Item], from: u32, to: u32) -> bool {
 #[test]
 fn items_are_put_found_and_taken_out(rt: HostRuntime) {
     let mut list = full_list(&rt, rt.alloc());
-    assert!(rt; list.len() == 1500);
+    assert!(rt; list.len() == 10_007);
     assert!(rt; value_of(&list, 0) == Some(1));
-    assert!(rt; value_of(&list, 1499) == Some(1));
-    assert!(rt; value_of(&list, 1500).is_none());
+    assert!(rt; value_of(&list, 10_006) == Some(1));
+    assert!(rt; value_of(&list, 10_007).is_none());
     put(&rt, &mut list, 700, 2);
-    take_out(&rt, &mut list, 1500);
-    assert!(rt; list.len() == 1500);
+    take_out(&rt, &mut list, 10_007);
+    assert!(rt; list.len() == 10_007);
     assert!(rt; value_of(&list, 700) == Some(2));
     for number in 0..COUNT {
         assert!(rt; !list.is_empty());
@@ -112,27 +112,28 @@ fn a_change_of_a_copy_leaves_the_list(rt: HostRuntime) {
     let list = full_list(&rt, rt.alloc());
     let mut copy = made(&rt, list.copy(rt.alloc()));
     put(&rt, &mut copy, 3, 2);
-    put(&rt, &mut copy, 2000, 2);
+    put(&rt, &mut copy, 20_000, 2);
     take_out(&rt, &mut copy, 900);
-    assert!(rt; list.len() == 1500);
+    assert!(rt; list.len() == 10_007);
     assert!(rt; value_of(&list, 3) == Some(1));
     assert!(rt; value_of(&list, 900) == Some(1));
-    assert!(rt; value_of(&list, 2000).is_none());
+    assert!(rt; value_of(&list, 20_000).is_none());
     drop(list);
-    assert!(rt; copy.len() == 1500);
+    assert!(rt; copy.len() == 10_007);
     assert!(rt; value_of(&copy, 3) == Some(2));
     assert!(rt; value_of(&copy, 4) == Some(1));
     assert!(rt; value_of(&copy, 900).is_none());
-    assert!(rt; value_of(&copy, 2000) == Some(2));
+    assert!(rt; value_of(&copy, 20_000) == Some(2));
 }
 
 // A number that may be given, and the number of the first item after it.
-static NEXT: [(Option<u32>, Option<u32>); 5] = [
+static NEXT: [(Option<u32>, Option<u32>); 6] = [
     (None, Some(0)),
     (Some(0), Some(1)),
     (Some(511), Some(512)),
-    (Some(1499), None),
-    (Some(5000), None),
+    (Some(4799), Some(4800)),
+    (Some(10_006), None),
+    (Some(20_000), None),
 ];
 
 // The number of the first item after a number, or of all items.
@@ -158,9 +159,9 @@ fn number_at(page: &[&Item], place: usize) -> Option<u32> {
 fn items_come_in_order(rt: HostRuntime) {
     let list = full_list(&rt, rt.alloc());
     let copies = made(&rt, list.copies(rt.alloc()));
-    assert!(rt; are_from_to(&copies, 0, 1500));
+    assert!(rt; are_from_to(&copies, 0, 10_007));
     assert!(rt; number_of(list.first()) == Some(0));
-    assert!(rt; number_of(list.last()) == Some(1499));
+    assert!(rt; number_of(list.last()) == Some(10_006));
     for (after, next) in &NEXT {
         assert!(rt; next_number(&list, *after) == *next);
     }
@@ -169,14 +170,14 @@ fn items_come_in_order(rt: HostRuntime) {
         assert!(rt; number_of(Some(item)) == Some(next));
         next = next.wrapping_add(1);
     }
-    assert!(rt; next == 1500);
+    assert!(rt; next == 10_007);
     let key = key_of(699);
     let mut next = 700u32;
     for item in list.items_after(Some(key.as_slice())) {
         assert!(rt; number_of(Some(item)) == Some(next));
         next = next.wrapping_add(1);
     }
-    assert!(rt; next == 1500);
+    assert!(rt; next == 10_007);
     let key = key_of(511);
     let page = made(&rt, list.page(rt.alloc(), Some(key.as_slice()), 600));
     assert!(rt; page.len() == 600);
