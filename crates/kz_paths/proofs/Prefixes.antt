@@ -1,5 +1,5 @@
 -- When a path is at or below another.
-use Rattle.std.proofs.Common.{◌≡◌, ℕ, suc, Bool, true, false, ◌&&◌, ◌||◌, List, [], ◌∷◌, length, get_or, refl, sym, ap, ◌∙◌, arith, ne_eqb}
+use Rattle.std.proofs.Common.{◌≡◌, ℕ, suc, Bool, true, false, ◌&&◌, ◌||◌, List, [], ◌∷◌, ◌<◌, length, get_or, refl, sym, ap, ◌∙◌, arith, ne_eqb}
 use Rattle.std.specs.Bool.{nat_eq}
 use Rattle.std.specs.Str.{bytes_eq}
 use Rattle.std.specs.List.{starts_with}
@@ -43,3 +43,15 @@ pub at_or_below : (root path : List ℕ)
 at_or_below root path =
     ap (λ b. b || is_below root path) (same_is root path) ∙ ap (λ b. (starts_with nat_eq path root && nat_eq (length path) (length root)) || b) (below_is root path)
     ∙ by_parts (starts_with nat_eq path root) (nat_eq (length path) (length root)) (nat_eq (get_or path (length root) 0) 47)
+
+and_false : (a : Bool) → (a && false) ≡ false
+and_false true = refl
+and_false false = refl
+
+-- A longer path that has no slash where the other ends isn't below it.
+pub elsewhere : (root path : List ℕ) → length root < length path → (get_or path (length root) 0 ≡ 47 → ⊥) → false ≡ (bytes_eq path root || is_below root path)
+elsewhere root path lt other = sym (
+    at_or_below root path
+    ∙ ap (λ b. starts_with nat_eq path root && (b || nat_eq (get_or path (length root) 0) 47)) (ne_eqb (length path) (length root) (λ e. omega arith))
+    ∙ ap (λ b. starts_with nat_eq path root && b) (ne_eqb (get_or path (length root) 0) 47 other)
+    ∙ and_false (starts_with nat_eq path root))

@@ -9,10 +9,13 @@ use crate::texts::{
     root_texts,
 };
 
-/// Whether a path is at another or below it.
+/// Whether a path is at another or below it. Most paths have no slash where the other ends, so that is looked at first.
 fn is_at_or_below(above: &[u8], path: &[u8]) -> bool
     ensures { result ≡ (bytes_eq path.now above.now || is_below above.now path.now) }
 {
+    if above.len() < path.len() && path[above.len()] != b'/' {
+        return false;
+    }
     path.starts_with(above) && (path.len() == above.len() || path[above.len()] == b'/')
 }
 

@@ -1,13 +1,13 @@
 -- Lemmas on the rule of paths.
-use Rattle.std.proofs.Common.{◌≡◌, nat_le, ℕ, ◌+◌, ◌-◌, ◌<◌, ◌≤◌, ◌==◌, Bool, true, false, ◌&&◌, List, [], ◌∷◌, ◌++◌, length, drop, length-take, length-drop, slice_index, get_or, ◌∙◌, sym, ap, refl, arith, inl, inr}
+use Rattle.std.proofs.Common.{◌≡◌, nat_le, ℕ, ◌+◌, ◌-◌, ◌<◌, ◌≤◌, ◌==◌, Bool, true, false, ◌&&◌, List, [], ◌∷◌, ◌++◌, length, take, drop, length-take, length-drop, slice_index, get_or, ◌∙◌, sym, ap, refl, arith, inl, inr}
 use Rattle.std.proofs.lemmas.Bool.{cases_lt, ne_eqb, false≢true}
 use Rattle.std.proofs.lemmas.Str.{IsUtf8-from_is_utf8}
 use Rattle.std.proofs.lemmas.List.{drop_more, get_or-take, get_or-drop, get_or_default}
-use Rattle.std.proofs.lemmas.List.Folds.{drop_split}
+use Rattle.std.proofs.lemmas.List.Folds.{drop_split, list_all_more}
 use Rattle.std.proofs.lemmas.List.Splits.{slice_split_none, slice_split_at, slice_split-cons_yes}
 use Rattle.std.specs.List.{All, slice_split, list_all, slice_range}
 use Rattle.std.specs.Str.{IsUtf8, is_utf8}
-use Rattle.kz_types.specs.PathRule.{parts, is_part, is_path, has_path_form}
+use Rattle.kz_types.specs.PathRule.{parts, is_shown, is_part, is_path, has_path_form}
 
 -- bytes that are no UTF-8
 pub is_utf8_false : (bs : List ℕ) → ¬ (IsUtf8 bs) → is_utf8 bs ≡ false
@@ -76,6 +76,23 @@ pub ends : (bs : List ℕ) (start : ℕ) (part : Bool) → start ≤ length bs �
 ends bs start part le none left is first =
     is ∙ sym (and_true (is_part (drop start bs))) ∙ sym (ap (list_all is_part) (split_last bs start le none)) ∙ sym left
     ∙ sym (ap (λ b. b && list_all is_part (parts bs)) first)
+
+-- whether the bytes from `start` on are shown, with the one at `at`
+pub shown_more : (bs : List ℕ) (start at : ℕ) (shown : Bool) → start ≤ at → at < length bs → shown ≡ list_all is_shown (slice_range bs start at)
+    → shown && is_shown (slice_index bs at) ≡ list_all is_shown (slice_range bs start (at + 1))
+shown_more bs start at shown le lt known =
+    let one : (at - start) + 1 ≡ (at + 1) - start = omega arith in
+    let place : start + (at - start) ≡ at = omega arith in
+    let inner : at - start < length (drop start bs) = omega (arith, length-drop start bs) in
+    let value : get_or (drop start bs) (at - start) 0 ≡ slice_index bs at = get_or-drop start bs (at - start) 0 ∙ ap (slice_index bs) place in
+    ap (λ b. b && is_shown (slice_index bs at)) known
+    ∙ ap (λ b. list_all is_shown (slice_range bs start at) && is_shown b) (sym value)
+    ∙ sym (list_all_more is_shown (drop start bs) (at - start) 0 inner)
+    ∙ ap (λ k. list_all is_shown (take k (drop start bs))) one
+
+-- no bytes are shown
+pub shown_none : (bs : List ℕ) (at : ℕ) → true ≡ list_all is_shown (slice_range bs at at)
+shown_none bs at = let none : 0 ≡ at - at = omega arith in ap (λ k. list_all is_shown (take k (drop at bs))) none
 
 -- the byte at `at` is no slash either
 pub none_more : (bs : List ℕ) (start at : ℕ) → HasNoSlash bs start at → (slice_index bs at ≡ 47 → ⊥) → HasNoSlash bs start (at + 1)

@@ -4,7 +4,7 @@ ghost use Rattle.std.specs.Cmp.Lexicographic.{pointwise, nat_list_eq_equiv};
 ghost use Rattle.std.specs.Prelude.{◌≡◌, List, ℕ, nat_eq, true, false, MatchResult};
 ghost use Rattle.kz_types.specs.PathRule.{is_path, IsPathFault};
 
-use crate::path_rule::{fault_place, keeps_rule};
+use crate::path_rule::{fault_place, path_text};
 use crate::{Duplicate, NoMemory, PathFault, Text};
 use std::alloc::Global;
 use std::marker::Model;
@@ -32,14 +32,13 @@ impl ZPath {
     pub fn new(alloc: Global, bytes: &[u8]) -> Result<ZPath, PathFault>
         ensures { MatchResult result (λ path. (path ≡ bytes.now) × (is_path bytes.now ≡ true)) (IsPathFault bytes.now) }
     {
-        if !keeps_rule(bytes) {
+        let Some(text) = path_text(bytes) else {
             return Err(PathFault::BadName {
                 at: fault_place(bytes),
             });
-        }
-        match Text::new(alloc, bytes) {
-            Ok(Some(text)) => Ok(ZPath { text }),
-            Ok(None) => unreachable!(),
+        };
+        match Text::from_str(alloc, text) {
+            Ok(text) => Ok(ZPath { text }),
             Err(NoMemory) => Err(PathFault::NoMemory),
         }
     }

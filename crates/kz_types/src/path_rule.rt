@@ -1,5 +1,5 @@
 //! The rule of paths.
-ghost use Rattle.std.specs.Prelude.{◌≡◌, ◌&&◌, ◌==◌, slice_index};
+ghost use Rattle.std.specs.Prelude.{◌≡◌, ◌&&◌, ◌==◌, false, true, slice_index, MatchOption};
 ghost use Rattle.std.specs.List.{list_all};
 ghost use Rattle.std.specs.Str.{is_utf8};
 ghost use Rattle.std.specs.Int.{is_in_range};
@@ -33,7 +33,25 @@ pub fn may_be_part(part: &[u8]) -> bool
     are_shown(part)
 }
 
-/// Whether a slash stands before each part, and each part is one of the rule.
+/// Whether bytes may stand between two slashes, of which it is known whether each may be shown.
+fn shown_may_be_part(part: &[u8], shown: bool) -> bool
+    requires { shown ≡ list_all is_shown part.now }
+    ensures { result ≡ is_part part.now }
+{
+    if part.len() > 2 {
+        return shown;
+    }
+    may_be_part(part)
+}
+
+// Whether both hold.
+fn are_both(one: bool, other: bool) -> bool
+    ensures { result ≡ (one && other) }
+{
+    one & other
+}
+
+/// Whether a slash stands before each part, and each part is one of the rule. Each byte is looked at once.
 fn has_parts(bytes: &[u8]) -> bool
     ensures { result ≡ ((slice_index bytes.now 0 == 47) && list_all is_part (parts bytes.now)) }
 {
@@ -41,33 +59,57 @@ fn has_parts(bytes: &[u8]) -> bool
         return false;
     }
     let mut start = 1;
+    let mut shown = true;
     for at in 1..bytes.len() {
-        if bytes[at] == b'/' {
-            if !may_be_part(&bytes[start..at]) {
+        let byte = bytes[at];
+        if byte == b'/' {
+            if !shown_may_be_part(&bytes[start..at], shown) {
                 return false;
             }
             start = at + 1;
+            shown = true;
+        } else {
+            shown = are_both(shown, is_shown(byte));
         }
     }
-    may_be_part(&bytes[start..])
+    shown_may_be_part(&bytes[start..], shown)
+}
+
+// The text that bytes are, where they are UTF-8.
+fn text_of(bytes: &[u8]) -> Option<&str>
+    ensures { MatchOption result (is_utf8 bytes.now ≡ false) (λ text. (text.now ≡ bytes.now) × (is_utf8 bytes.now ≡ true)) }
+{
+    match str::from_utf8(bytes) {
+        Ok(text) => Some(text),
+        Err(_) => None,
+    }
 }
 
 /// Whether bytes are UTF-8.
 pub fn is_text(bytes: &[u8]) -> bool
     ensures { result ≡ is_utf8 bytes.now }
 {
-    match str::from_utf8(bytes) {
-        Ok(_) => true,
-        Err(_) => false,
+    text_of(bytes).is_some()
+}
+
+/// The text of a path, where bytes are one.
+#[tactic(auto, unfolding(crate::specs::PathRule::is_path, crate::specs::PathRule::has_path_form))]
+pub(crate) fn path_text(bytes: &[u8]) -> Option<&str>
+    ensures { MatchOption result (is_path bytes.now ≡ false) (λ text. (text.now ≡ bytes.now) × (is_path bytes.now ≡ true)) }
+{
+    let text = text_of(bytes)?;
+    if has_parts(bytes) && bytes.len() <= MAX_PATH_BYTES {
+        Some(text)
+    } else {
+        None
     }
 }
 
 /// Whether bytes keep the rule of paths.
-#[tactic(auto, unfolding(crate::specs::PathRule::is_path, crate::specs::PathRule::has_path_form))]
 pub fn keeps_rule(bytes: &[u8]) -> bool
     ensures { result ≡ is_path bytes.now }
 {
-    is_text(bytes) && has_parts(bytes) && bytes.len() <= MAX_PATH_BYTES
+    path_text(bytes).is_some()
 }
 
 /// Whether a character of several bytes begins with a byte.

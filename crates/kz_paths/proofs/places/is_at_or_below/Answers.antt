@@ -1,6 +1,6 @@
 use Rattle.std.proofs.Common.{arith}
 use Rattle.std.proofs.lemmas.Grind.{common_steps}
-use Rattle.kz_paths.proofs.Prefixes.{at_or_below}
+use Rattle.kz_paths.proofs.Prefixes.{at_or_below, elsewhere}
 use Rattle.kz_paths.proofs.places.is_at_or_below.Goals as goal
 
 pub returns-then-path-above : goal.returns-then-path-above
@@ -11,3 +11,6 @@ returns-else-path-above c = let e = at_or_below c.args.above.now c.args.path.now
 
 pub returns-else-starts_with : goal.returns-else-starts_with
 returns-else-starts_with c = let e = at_or_below c.args.above.now c.args.path.now in grind (arith, common_steps, e)
+
+pub returns-then-path-above-ne47 : goal.returns-then-path-above-ne47
+returns-then-path-above-ne47 c = elsewhere c.args.above.now c.args.path.now c.if-above-path.true c.if-path-above-ne47.true
