@@ -70,6 +70,12 @@ module _ {A K : Type 0} {cmp : K → K → Ordering} (o : TotalOrder cmp) (key :
   all_before f k xs None h last below = none_before k xs (sym last)
   all_before f k xs (Some b) h last below = before_last k xs (f b) h (sym last) below
 
+  -- where all items are below a key, the last is
+  pub last_is_before : {B : Type 0} (f : B → A) (k : K) (xs : List A) (r : Option B) → option_map f r ≡ slice_get xs (length xs - 1) → AllBelow cmp key xs k → IfSome r (λ b. cmp (key (f b)) k ≡ Less)
+  last_is_before f k xs None last below = tt
+  last_is_before f k xs (Some b) last below =
+      subst (λ y. cmp (key y) k ≡ Less) (get_or_from_slice_get xs (length xs - 1) (f b) (f b) (sym last)) (below (length xs - 1) (f b) (slice_get_within xs (length xs - 1) (f b) (sym last)))
+
   -- where the last part is the one for a key, and its items are below it, all are
   pub all_before_last : (k : K) (ps : List (List A)) (i : ℕ) (p : List A) → i + 1 ≡ length ps → p ≡ get_or ps i p → IsBlockFor cmp key k ps i → AllBelow cmp key p k → AllBelow cmp key (items_of ps) k
   all_before_last k ps i p last is for_key below =

@@ -1,5 +1,5 @@
 //! A block of items.
-ghost use Rattle.std.specs.Prelude.{◌≡◌, ◌≢◌, ◌-◌, List, [], None, length, min, IfOk, IfSome, OnOk, OnErr, IsTrue, option_map, slice_get};
+ghost use Rattle.std.specs.Prelude.{◌≡◌, ◌≢◌, ◌-◌, List, [], None, length, min, IfOk, IfSome, OnOk, OnErr, IsTrue, ◌↔◌, option_map, slice_get};
 ghost use Rattle.std.specs.declared.cmp.Ordering.TheVariants.{Less};
 ghost use Rattle.kz_types.specs.Order.{bytes_cmp};
 ghost use Rattle.kz_types.specs.Ordered.{put as put_in, without as without_in, find as find_in, Rises, AllBelow};
@@ -106,7 +106,7 @@ impl<T: Keyed> Block<T> {
     /// Whether all items come before this key. It compares the key of the last one alone.
     pub fn is_before(&self, key: &[u8]) -> bool
         requires { Rises bytes_cmp T.key self.now }
-        ensures { IsTrue result → AllBelow bytes_cmp T.key self.now key.now }
+        ensures { IsTrue result ↔ AllBelow bytes_cmp T.key self.now key.now }
     {
         ends_before(self.last(), key)
     }
@@ -114,7 +114,7 @@ impl<T: Keyed> Block<T> {
     /// Whether an item has this key. A guess of its place is tried first.
     pub fn has_key(&self, key: &[u8], guess: usize) -> bool
         requires { Rises bytes_cmp T.key self.now }
-        ensures { IsTrue result → find_in bytes_cmp T.key key.now self.now ≢ None }
+        ensures { IsTrue result ↔ (find_in bytes_cmp T.key key.now self.now ≢ None) }
     {
         let (found, _) = self.find(key, guess);
         found.is_some()
@@ -154,7 +154,7 @@ impl<T: Keyed> Keyed for Block<T> {
 
 /// Whether the last item of a list, if there is one, comes before a key.
 pub fn ends_before<T: Keyed>(last: Option<&T>, key: &[u8]) -> bool
-    ensures { IsTrue result → IfSome last.entry (λ item. bytes_cmp (T.key item.now) key.now ≡ Less) }
+    ensures { IsTrue result ↔ IfSome last.entry (λ item. bytes_cmp (T.key item.now) key.now ≡ Less) }
 {
     match last {
         Some(item) => item.key().cmp(key).is_lt(),

@@ -118,7 +118,7 @@ impl<T: Keyed> Part<T> {
 
     /// Whether all items come before this key. It compares the key of the last one alone.
     pub fn is_before(&self, key: &[u8]) -> bool
-        ensures { IsTrue result → AllBelow bytes_cmp T.key self.now key.now }
+        ensures { IsTrue result ↔ AllBelow bytes_cmp T.key self.now key.now }
     {
         let _blocks = &self.blocks;
         ends_before(self.last(), key)

@@ -71,7 +71,7 @@ fn znodes_are_put_and_found(rt: HostRuntime) {
     assert!(rt; is_at(rows.next_after(Some(&after)), "/brokers/topics"));
     let mut items = rows.items_after(Some(&after));
     assert!(rt; is_at(items.next(), "/brokers/topics"));
-    let mut items = rows.items_behind(b"/config/");
+    let mut items = rows.items_after_bytes(b"/config/");
     assert!(rt; is_at(items.next(), "/config/brokers"));
     drop(rows);
 }

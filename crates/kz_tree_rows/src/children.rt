@@ -41,7 +41,7 @@ pub fn has_children(alloc: Global, path: &[u8], rows: &Rows) -> Result<bool, NoM
     if rows.find(&first).is_some() {
         return Ok(true);
     }
-    for row in rows.items_behind(&first) {
+    for row in rows.items_after_bytes(&first) {
         if !is_before(row.path.bytes(), &end) {
             return Ok(false);
         }

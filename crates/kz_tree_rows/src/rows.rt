@@ -126,7 +126,7 @@ impl Rows {
     }
 
     /// The znodes after these bytes, by rising path.
-    pub fn items_behind(&self, bytes: &[u8]) -> Items<'_>
+    pub fn items_after_bytes(&self, bytes: &[u8]) -> Items<'_>
         ensures items { result ≡ filter (is_after (Some bytes.now)) self.now }
         ensures rise { AreRows self.now }
     {

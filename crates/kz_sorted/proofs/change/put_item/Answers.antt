@@ -29,5 +29,5 @@ append_block-requires-clause-after g c =
     let last : place + 1 ≡ length bs = search rules in
     let for_key : IsBlockFor bytes_cmp key (key c.args.item) c.deref.result.now place = subst (λ (k : List ℕ). IsBlockFor bytes_cmp key k c.deref.result.now place) c.key.ensures c.block_for-place.ensures.block in
     let among : IsBlockFor bytes_cmp key (key c.args.item) bs place = subst (λ (xs : List (List g.row.T.Denot)). IsBlockFor bytes_cmp key (key c.args.item) xs place) c.deref.ensures.value for_key in
-    let below : AllBelow bytes_cmp key block (key c.args.item) = subst (λ (k : List ℕ). AllBelow bytes_cmp key block k) c.key-then-place-len.ensures (c.if-is_before.ensures (search rules)) in
+    let below : AllBelow bytes_cmp key block (key c.args.item) = subst (λ (k : List ℕ). AllBelow bytes_cmp key block k) c.key-then-place-len.ensures (c.if-is_before.ensures.0 (search rules)) in
     all_before_last bytes_order key (key c.args.item) bs place block last c.index-then-place-len.ensures among below

@@ -16,5 +16,5 @@ append_part-requires-then-is_before-clause-after g c =
     let last : place + 1 ≡ length ps = search rules in
     let for_key : IsBlockFor bytes_cmp key (key c.args.item) c.deref.result.now place = subst (λ (k : List ℕ). IsBlockFor bytes_cmp key k c.deref.result.now place) c.key.ensures c.part_for-place.ensures.part in
     let among : IsBlockFor bytes_cmp key (key c.args.item) ps place = subst (λ (xs : List (List g.row.T.Denot)). IsBlockFor bytes_cmp key (key c.args.item) xs place) c.deref.ensures.value for_key in
-    let below : AllBelow bytes_cmp key part (key c.args.item) = subst (λ (k : List ℕ). AllBelow bytes_cmp key part k) c.key-then-place-len.ensures (c.if-is_before.ensures (search rules)) in
+    let below : AllBelow bytes_cmp key part (key c.args.item) = subst (λ (k : List ℕ). AllBelow bytes_cmp key part k) c.key-then-place-len.ensures (c.if-is_before.ensures.0 (search rules)) in
     all_before_last bytes_order key (key c.args.item) ps place part last c.index-then-place-len.ensures among below

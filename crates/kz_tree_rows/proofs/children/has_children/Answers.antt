@@ -23,10 +23,10 @@ loop-row-init c =
     let absent : is_some c.find.result ≡ false = search rules in
     let none : row_at (c.args.path.now ++ 47 ∷ []) c.args.rows.now ≡ None = none_there _ c.find.result _ absent (c.find.ensures ∙ ap (λ path. row_at path c.args.rows.now) first) in
     let is : c.into_iter-row-iterator.result ≡ filter (is_after (Some (c.args.path.now ++ 47 ∷ []))) c.args.rows.now =
-    c.into_iter-row-iterator.ensures.into_iter_gives ∙ c.items_behind-row-items.ensures.items ∙ ap (λ path. filter (is_after (Some path)) c.args.rows.now) second in
+    c.into_iter-row-iterator.ensures.into_iter_gives ∙ c.items_after_bytes-row-items.ensures.items ∙ ap (λ path. filter (is_after (Some path)) c.args.rows.now) second in
     rw is (
       from_slash c.args.path.now c.requires c.args.rows.now none,
-      Rises-filter bytes_order path_of_row (is_after (Some (c.args.path.now ++ 47 ∷ []))) c.args.rows.now c.items_behind-row-items.ensures.rise,
+      Rises-filter bytes_order path_of_row (is_after (Some (c.args.path.now ++ 47 ∷ []))) c.args.rows.now c.items_after_bytes-row-items.ensures.rise,
     )
 
 pub returns-then-not-is_before : goal.returns-then-not-is_before
