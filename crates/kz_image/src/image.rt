@@ -1,5 +1,5 @@
 //! The metadata.
-ghost use Rattle.std.specs.Prelude.{ℕ, ◌≡◌, ◌&&◌, true, false, All, None, Some, pos, int_le, option_map, IfOk, OnOk, OnErr, IfErr, take, if◌then◌else◌};
+ghost use Rattle.std.specs.Prelude.{ℕ, ◌≡◌, ◌∷◌, [], ◌&&◌, true, false, All, None, Some, pos, int_le, option_map, IfOk, OnOk, OnErr, IfErr, take, if◌then◌else◌};
 ghost use Rattle.std.specs.Ordering.{int_cmp, int_eq};
 ghost use Rattle.std.specs.List.{list_any};
 ghost use Rattle.kz_types.specs.Order.{bytes_cmp};
@@ -551,14 +551,28 @@ impl Duplicate for Image {
     }
 }
 
+// Whether a controller may be asked for one record alone.
+fn valid_alone(image: &Image, item: &MetaRecord) -> Result<(), ImageFault>
+    ensures ok { OnOk result (first_bad 0 (item.now ∷ []) image.now ≡ None) }
+    ensures err { IfErr result (IsFirstBad (first_bad 0 (item.now ∷ []) image.now)) }
+{
+    match refused(image, item) {
+        Some(why) => Err(ImageFault::BadRecord { index: 0, why }),
+        None => Ok(()),
+    }
+}
+
 /// Whether a controller may be asked for these records, each judged on the metadata that those before it leave. Nothing
-/// changes.
+/// changes. A record alone is judged without a copy.
 ///
 /// `BadRecord`: the first record that breaks a rule, and the first rule that it breaks. `NoMemory`: memory ran out.
 pub fn valid(alloc: Global, image: &Image, items: &[MetaRecord]) -> Result<(), ImageFault>
     ensures ok { OnOk result (first_bad 0 items.now image.now ≡ None) }
     ensures err { IfErr result (IsFirstBad (first_bad 0 items.now image.now)) }
 {
+    if items.len() == 1 {
+        return valid_alone(image, &items[0]);
+    }
     let Ok(mut after) = image.copy(alloc) else {
         return Err(ImageFault::NoMemory);
     };
