@@ -60,10 +60,14 @@ unfolding has_path
 state_rule name (pos n) h legal small = state_path name n h (omega (arith, ints, small))
 state_rule name (negsuc n) h legal small = absurd (false≢true legal)
 
-state_of_number : (name : List ℕ) (number : ℤ) → path_of (Partition name number) ≡ number_path name number ++ codes "/state"
+pub state_of_number : (name : List ℕ) (number : ℤ) → path_of (Partition name number) ≡ number_path name number ++ codes "/state"
 unfolding path_of
 state_of_number name number = ap (λ t. codes "/brokers/topics/" ++ t)
     (sym (append_assoc (name ++ codes "/partitions") (codes "/" ++ signed_decimal number) (codes "/state") ∙ append_assoc name (codes "/partitions") (codes "/" ++ (signed_decimal number ++ codes "/state"))))
+
+pub state_after : (name : List ℕ) (number : ℤ) → is_topic_name name ≡ true → is_not_negative number ≡ true → number ≤ℤ pos 2147483647 → is_path (number_path name number ++ codes "/state") ≡ true
+unfolding has_path
+state_after name number h legal small = sym (ap is_path (state_of_number name number)) ∙ state_rule name number h legal small
 
 pub number_rule : (name : List ℕ) (number : ℤ) → has_path (Partition name number) ≡ true → is_path (number_path name number) ≡ true
 unfolding has_path path_of

@@ -27,6 +27,8 @@ pub fn path_after(alloc: Global, path: &ZPath, rest: &str) -> Result<ZPath, NoMe
     ensures { IfOk result (λ made. made ≡ path.now ++ rest.now) }
 {
     let path = path.as_str();
-    let text = format!(in alloc; "{path}{rest}")?;
+    let mut text = String::with_capacity(alloc, path.len().saturating_add(rest.len()))?;
+    text.push_str(path)?;
+    text.push_str(rest)?;
     Ok(ZPath::from_text(Text::from_string(text)))
 }

@@ -21,14 +21,13 @@ pub fn topic_path(alloc: Global, name: &Text) -> Result<ZPath, NoMemory>
     entity_path(alloc, &key)
 }
 
-/// The path of the parent of a topic's partitions.
-pub fn partitions_path(alloc: Global, name: &Text) -> Result<ZPath, NoMemory>
-    requires { is_topic_name name.now ≡ true }
+/// The path of the parent of a topic's partitions, from the path of the topic.
+pub fn partitions_path(alloc: Global, topic: &ZPath, name: &Text) -> Result<ZPath, NoMemory>
+    requires named { is_topic_name name.now ≡ true }
+    requires topic { topic.now ≡ path_of (key.Topic name.now) }
     ensures { IfOk result (λ path. path ≡ partitions_path name.now) }
 {
-    let topic = topic_path(alloc, name)?;
-    let path = path_after(alloc, &topic, "/partitions")?;
-    Ok(path)
+    path_after(alloc, topic, "/partitions")
 }
 
 // A number as a part of a path, with the slash before it.
@@ -38,7 +37,7 @@ fn number_part(alloc: Global, number: i32) -> Result<String, NoMemory>
     Ok(format!(in alloc; "/{number}")?)
 }
 
-/// The path of the parent of a partition's state.
+/// The path of the parent of a partition's state, from that of the parent of the topic's partitions.
 pub fn number_path(
     alloc: Global,
     partitions: &ZPath,
@@ -46,27 +45,28 @@ pub fn number_path(
     number: i32,
 ) -> Result<ZPath, NoMemory>
     requires partitions { partitions.now ≡ partitions_path name.now }
-    requires rule { has_path (key.Partition name.now number) ≡ true }
+    requires named { is_topic_name name.now ≡ true }
+    requires numbered { is_not_negative number ≡ true }
     ensures { IfOk result (λ path. path ≡ number_path name.now number) }
 {
     let part = number_part(alloc, number)?;
-    let path = path_after(alloc, partitions, &part)?;
-    Ok(path)
+    path_after(alloc, partitions, &part)
 }
 
-/// The path of the state of a partition.
-#[tactic(auto, using(crate::proofs::TopicPaths::state_rule), unfolding(kz_types::specs::Paths::is_legal))]
-pub fn state_path(alloc: Global, name: &Text, number: i32) -> Result<ZPath, NoMemory>
+/// The path of the state of a partition, from that of its parent.
+pub fn state_path(
+    alloc: Global,
+    parent: &ZPath,
+    name: &Text,
+    number: i32,
+) -> Result<ZPath, NoMemory>
+    requires parent { parent.now ≡ number_path name.now number }
     requires named { is_topic_name name.now ≡ true }
     requires numbered { is_not_negative number ≡ true }
-    ensures path { IfOk result (λ path. path ≡ path_of (key.Partition name.now number)) }
-    ensures rule { has_path (key.Partition name.now number) ≡ true }
+    ensures { IfOk result (λ path. path ≡ path_of (key.Partition name.now number)) }
 {
-    let key = EntityKey::Partition {
-        topic: name.copy(alloc)?,
-        number,
-    };
-    entity_path(alloc, &key)
+    let path = path_after(alloc, parent, "/state")?;
+    Ok(path)
 }
 
 /// The path of a topic's configuration.

@@ -1,7 +1,8 @@
 //! The znodes of topics.
 ghost use Rattle.std.specs.Prelude.{◌≡◌, ◌∷◌, ◌++◌, [], All, IfOk, OnOk, map, true, string_bytes};
 ghost use Rattle.std.specs.List.{flat_map};
-ghost use Rattle.kz_types.specs.Paths.{is_topic_name, is_not_negative};
+ghost use Rattle.kz_types.specs.Paths.{path_of, is_topic_name, is_not_negative};
+ghost use Rattle.kz_types.specs.declared.key.EntityKey.TheVariants as key;
 ghost use Rattle.kz_types.specs.declared.bodies.Body.TheVariants as body;
 ghost use Rattle.kz_spec_data.specs.Bodies.{text_of_body};
 ghost use Rattle.kz_spec_data.specs.Legal.{IsPartition, IsTopic};
@@ -70,20 +71,21 @@ pub fn state_body(alloc: Global, row: &PartitionRow) -> Result<String, NoMemory>
     )
 }
 
-// Adds the znode of a topic and the parent of its partitions.
+// Adds the znode of a topic and the parent of its partitions, whose paths are these.
 fn push_topic_znode(
     alloc: Global,
     znodes: &mut Vec<Rendered>,
     topic: &TopicEntry,
+    path: ZPath,
+    partitions: &ZPath,
 ) -> Result<(), NoMemory>
-    requires { is_topic_name topic.now.name ≡ true }
+    requires path { path ≡ path_of (key.Topic topic.now.name) }
+    requires partitions { partitions.now ≡ partitions_path topic.now.name }
     ensures { OnOk result (znodes.new.items ≡ znodes.old.items ++ (topic_znode topic.now ∷ bare (partitions_path topic.now.name) ∷ [])) }
 {
-    let path = topic_path(alloc, &topic.name)?;
-    let partitions = partitions_path(alloc, &topic.name)?;
     let text = topic_body(alloc, topic)?;
     push_znode(znodes, path, text.into_bytes())?;
-    push_bare(alloc, znodes, partitions)
+    push_bare(alloc, znodes, partitions.copy(alloc)?)
 }
 
 // Adds the znode of a partition's number, and its state below it.
@@ -99,8 +101,8 @@ fn push_partition(
     requires partitions { partitions.now ≡ partitions_path name.now }
     ensures { OnOk result (znodes.new.items ≡ znodes.old.items ++ partition_znodes name.now partition.now) }
 {
-    let state = state_path(alloc, name, partition.number)?;
     let number = number_path(alloc, partitions, name, partition.number)?;
+    let state = state_path(alloc, &number, name, partition.number)?;
     let text = state_body(alloc, &partition.row)?;
     push_bare(alloc, znodes, number)?;
     push_znode(znodes, state, text.into_bytes())
@@ -151,10 +153,10 @@ fn push_topic(alloc: Global, znodes: &mut Vec<Rendered>, topic: &TopicEntry) -> 
     ensures { OnOk result (znodes.new.items ≡ znodes.old.items ++ own_znodes topic.now) }
 {
     let name = &topic.name;
-    let path = partitions_path(alloc, name)?;
-    let partitions = topic.partitions.as_slice();
-    push_topic_znode(alloc, znodes, topic)?;
-    push_partitions(alloc, znodes, name, &path, partitions)
+    let path = topic_path(alloc, name)?;
+    let parent = partitions_path(alloc, &path, name)?;
+    push_topic_znode(alloc, znodes, topic, path, &parent)?;
+    push_partitions(alloc, znodes, name, &parent, topic.partitions.as_slice())
 }
 
 // Adds the znodes of all topics and of their partitions.
