@@ -1,5 +1,5 @@
 -- Taking records one after another, and the view that they lead to.
-use Rattle.std.proofs.Common.{◌≡◌, Bool, true, false, cond, ℤ, pos, ◌+ℤ◌, ◌≤ℤ◌, ◌+◌, int_lt, int_cmp, List, [], ◌∷◌, ◌++◌, length, Option, Some, None, Result, Ok, Err, OnOk, refl, sym, ap, ◌∙◌, subst, append_assoc, append-nil, filter, arith}
+use Rattle.std.proofs.Common.{◌≡◌, inl, inr, Bool, true, false, cond, ℤ, pos, ◌+ℤ◌, ◌≤ℤ◌, ◌+◌, ◌-◌, ◌≤◌, int_lt, int_cmp, List, [], ◌∷◌, ◌++◌, length, Option, Some, None, Result, Ok, Err, OnOk, refl, sym, ap, ◌∙◌, subst, append_assoc, append-nil, get_or, filter, arith}
 use Rattle.std.proofs.lemmas.Int.{ints}
 use Rattle.std.proofs.lemmas.List.{length-append}
 use Rattle.kz_types.specs.declared.log.BatchRow.{BatchRow}
@@ -24,11 +24,11 @@ use Rattle.kz_log.proofs.Views.{at_of, after_base, after_cut, based, baseless}
 
 -- ---- one after another
 
-applied-append : (xs ys : List Entry) (i : Image) → all_entries_applied (xs ++ ys) i ≡ all_entries_applied ys (all_entries_applied xs i)
+pub applied-append : (xs ys : List Entry) (i : Image) → all_entries_applied (xs ++ ys) i ≡ all_entries_applied ys (all_entries_applied xs i)
 applied-append [] ys i = refl
 applied-append (x ∷ xs) ys i = applied-append xs ys _
 
-stands_as : (pushed others given more : List Entry) (s : SettlerState) → pushed ≡ others → given ≡ more → IsStateAfter pushed given s → IsStateAfter others more s
+pub stands_as : (pushed others given more : List Entry) (s : SettlerState) → pushed ≡ others → given ≡ more → IsStateAfter pushed given s → IsStateAfter others more s
 stands_as pushed others given more s is same h = subst (λ p. IsStateAfter p more s) is (subst (λ g. IsStateAfter pushed g s) same h)
 
 takes_then : (es fs : List Entry) (a b c : Building) → Takes es a b → Takes fs b c → Takes (es ++ fs) a c
@@ -153,7 +153,7 @@ on_ok (Err e) P Q p f = tt
 stands_new : IsStateAfter [] [] (record { begun = None; kept = []; released = [] })
 stands_new = record { begun = refl; kept = refl; counted = λ at by. refl }
 
-built_is_at : (l : Log) (b : Building) (given : List Entry) → Chain l.base l.batches → b.position ≡ end_of l → b.settling.released ≡ [] → IsStateAfter (entries l.batches) given b.settling
+pub built_is_at : (l : Log) (b : Building) (given : List Entry) → Chain l.base l.batches → b.position ≡ end_of l → b.settling.released ≡ [] → IsStateAfter (entries l.batches) given b.settling
     → b.image ≡ all_entries_applied given l.base_image → IsAt l (view_of b)
 built_is_at l b given chain at popped s image =
     let by : AllBy b.position (entries l.batches) = subst (λ p. AllBy p (entries l.batches)) (sym at) (entries_end l.base l.batches chain) in
@@ -168,7 +168,7 @@ built_is_at l b given chain at popped s image =
       kept = s.kept;
     })
 
-stands_at : (l : Log) (v : View) → Chain l.base l.batches → IsAt l v → end_of l ≡ v.position → IsStateAfter (entries l.batches) (counting_records (entries l.batches) v.position) (building_of v).settling
+pub stands_at : (l : Log) (v : View) → Chain l.base l.batches → IsAt l v → end_of l ≡ v.position → IsStateAfter (entries l.batches) (counting_records (entries l.batches) v.position) (building_of v).settling
 stands_at l v chain is at =
     let all : entries_by v.position (entries l.batches) ≡ entries l.batches = by_here l v.position l.batches [] (sym (append-nil l.batches)) at chain in
     let by : AllBy v.position (entries l.batches) = subst (λ p. AllBy p (entries l.batches)) at (entries_end l.base l.batches chain) in
@@ -261,3 +261,44 @@ still_reads v f fits base none l k is read =
     reads_of v v f (still v f base none)
     (sym (fits.end ∙ ap (λ b. last_end (start_of v b) f.batches) base ∙ ap (last_end v.position) none))
     (sym (ap (λ b. last_epoch (known_epoch b v.epoch) f.batches) base ∙ ap (last_epoch v.epoch) none)) l k is read
+
+-- ---- beside another view
+
+-- a view of the log that stands at the log's end is what the log says there
+at_end : (l : Log) (v : View) → IsLog l → IsViewOf l v → v.position ≡ end_of l → IsAt l v
+at_end l v k (inl below) at =
+    let end = chain_end l.base l.batches (chain_of l.base l.batches k.follow) in
+    absurd (omega (arith, ints, below, at, end))
+at_end l v k (inr is) at = is
+
+known_by : (t : Bool) (base : ℤ × Image) (epoch : ℤ) → known_epoch (cond t (Some base) None) epoch ≡ cond t (pos 0) epoch
+known_by true base epoch = refl
+known_by false base epoch = refl
+
+read_epoch_is : (l : Log) (v : View) (f : Feed) → IsFeed (feed_from l v.position) f → last_epoch (known_epoch f.base v.epoch) f.batches ≡ read_epoch l v
+read_epoch_is l v f read =
+    ap (λ b. last_epoch (known_epoch b v.epoch) f.batches) read.base
+    ∙ ap (last_epoch (known_epoch (feed_from l v.position).base v.epoch)) read.batches
+    ∙ ap (λ e. last_epoch e (filter (begins_after v.position) l.batches)) (known_by (int_lt v.position l.base) (l.base, l.base_image) v.epoch)
+
+-- where another view stands at the end of what is read after a view of a log, it is the view of the log's end, but for its epoch
+pub shared_reads : (v other n : View) (f : Feed) → other.position ≡ f.end → n ≡ record other { epoch = last_epoch (known_epoch f.base v.epoch) f.batches }
+    → (l : Log) → IsLog l → IsViewOf l v → IsViewOf l other → IsFeed (feed_from l v.position) f → n ≡ read_view l v
+shared_reads v other n f at is l k view beside read =
+    let made : View = record other { epoch = last_epoch (known_epoch f.base v.epoch) f.batches } in
+    let here = at_end l other k beside (at ∙ read.end) in
+    is ∙ read_is l v made k (record { end = here.end; image = here.image; begun = here.begun; kept = here.kept }) (at ∙ read.end) (read_epoch_is l v f read)
+
+last_is : (b x : BatchRow) → b ≡ x → x.epoch ≡ b.epoch
+last_is b x is = ap (λ (r : BatchRow). r.epoch) (sym is)
+
+last_at : (epoch : ℤ) (x : BatchRow) (bs : List BatchRow) (b : BatchRow) → b ≡ get_or (x ∷ bs) (length bs) b → last_epoch epoch (x ∷ bs) ≡ b.epoch
+last_at epoch x [] b is = last_is b x is
+last_at epoch x (y ∷ bs) b is = last_at x.epoch y bs b is
+
+-- the epoch of the last batch
+pub last_epoch_at : (epoch : ℤ) (bs : List BatchRow) (b : BatchRow) → 1 ≤ length bs → b ≡ get_or bs (length bs - 1) b → last_epoch epoch bs ≡ b.epoch
+last_epoch_at epoch [] b some is = absurd (omega (arith, some))
+last_epoch_at epoch (x ∷ bs) b some is =
+    let at : length (x ∷ bs) - 1 ≡ length bs = omega arith in
+    last_at epoch x bs b (subst (λ n. b ≡ get_or (x ∷ bs) n b) at is)

@@ -1,3 +1,4 @@
+pub mod Appended
 pub mod Batches
 pub mod Building
 pub mod Cuts

@@ -61,7 +61,7 @@ added_ok : (refused : Option ℕ) (l new : Log) → log_unless_limit refused l �
 added_ok (Some number) l new h = cc
 added_ok None l new h = cc
 
-append_by : (t : Bool) (refused : Option ℕ) (l new : Log) (e : LogFault) → cond t (log_unless_limit refused l) (Err e) ≡ Ok new → l ≡ new
+pub append_by : (t : Bool) (refused : Option ℕ) (l new : Log) (e : LogFault) → cond t (log_unless_limit refused l) (Err e) ≡ Ok new → l ≡ new
 append_by true refused l new e h = added_ok refused l new h
 append_by false refused l new e h = cc
 

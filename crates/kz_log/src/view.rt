@@ -1,5 +1,5 @@
 //! What a controller knows of a log.
-ghost use Rattle.std.specs.Prelude.{◌≡◌, [], OnOk, OnErr, IfOk};
+ghost use Rattle.std.specs.Prelude.{◌≡◌, true, [], OnOk, OnErr, IfOk};
 ghost use Rattle.kz_spec_data.specs.Log.{Log, new_view, IsLog, IsAt, IsViewOf, entries, log_with_feed, feed_from, last_epoch, read_view};
 ghost use Rattle.kz_log.specs.Building.{building_from, view_of, IsBuiltFrom};
 ghost use Rattle.kz_log.specs.Requests.{IsFeed};
@@ -11,6 +11,26 @@ use kz_settle::Settler;
 use kz_types::{Duplicate, NoMemory};
 use std::alloc::Global;
 use std::marker::Model;
+
+// The epoch that is known before the batches of a feed.
+fn epoch_before(feed: &Feed, epoch: i32) -> i32
+    ensures { result ≡ known_epoch feed.now.base epoch }
+{
+    match &feed.base {
+        Some(_) => 0,
+        None => epoch,
+    }
+}
+
+// The epoch of the last batch of a feed, or, where it has none, what is known before them.
+fn epoch_after(feed: &Feed, epoch: i32) -> i32
+    ensures { result ≡ last_epoch (known_epoch feed.now.base epoch) feed.now.batches }
+{
+    match feed.batches.as_slice() {
+        [] => epoch_before(feed, epoch),
+        [.., batch] => batch.epoch,
+    }
+}
 
 /// What a controller knows of a log: up to which offset, the epoch of the last batch that it took, the metadata there, and,
 /// where a transaction is open there, the offset of its Begin and its records.
@@ -88,6 +108,23 @@ impl View {
         self.settler.begun()
     }
 
+    /// Whether what was read of a log after the view is nothing: then the view is at the log's end.
+    pub fn is_at_end_of(&self, feed: &Feed) -> bool
+        ensures { result ≡ true → (l : Log) → IsLog l → IsViewOf l self.now → IsFeed (feed_from l self.now.position) feed.now → self.now ≡ read_view l self.now }
+    {
+        feed.base.is_none() && feed.batches.len() == 0
+    }
+
+    /// Puts in place what a batch leads to that was appended after the position, all of whose records count: its last offset,
+    /// its epoch, and the metadata there.
+    pub fn put_appended(&mut self, position: i64, epoch: i32, image: Image)
+        ensures { self.new ≡ record self.old { position = position; epoch = epoch; image = image } }
+    {
+        self.position = position;
+        self.epoch = epoch;
+        self.image = image;
+    }
+
     /// Takes what was read of a log: all of a log from its base on, or the batches after the position. At `Err` the view is
     /// as it was.
     pub fn advance(&mut self, feed: Feed) -> Result<(), NoMemory>
@@ -108,6 +145,38 @@ impl View {
         }
         let builder = self.build(feed)?;
         self.put(builder);
+        Ok(())
+    }
+
+    /// Takes what was read of a log. Where another view of the log stands at the end of what was read, its metadata are shared, and no
+    /// record is applied. At `Err` the view is as it was.
+    pub fn advance_beside(&mut self, feed: Feed, other: &View) -> Result<(), NoMemory>
+        requires { Fits self.old feed }
+        ensures reads { OnOk result ((l : Log) → IsLog l → IsViewOf l self.old → IsViewOf l other.now → IsFeed (feed_from l self.old.position) feed → self.new ≡ read_view l self.old) }
+        ensures err { OnErr result (self.new ≡ self.old) }
+    {
+        if other.position() != feed.end {
+            return self.advance(feed);
+        }
+        if feed.base.is_none() && feed.batches.len() == 0 {
+            return Ok(());
+        }
+        let epoch = epoch_after(&feed, self.epoch());
+        self.share(other, epoch)?;
+        Ok(())
+    }
+
+    // Puts in place what another view knows, with this epoch. At `Err` the view is as it was.
+    fn share(&mut self, other: &View, epoch: i32) -> Result<(), NoMemory>
+        ensures ok { OnOk result (self.new ≡ record other.now { epoch = epoch }) }
+        ensures err { OnErr result (self.new ≡ self.old) }
+    {
+        let image = other.image.copy(self.alloc)?;
+        let settler = other.settler.copy(self.alloc)?;
+        self.position = other.position;
+        self.epoch = epoch;
+        self.image = image;
+        self.settler = settler;
         Ok(())
     }
 

@@ -1,3 +1,4 @@
+use Rattle.kz_log.proofs.Appended.{appended_is_view}
 use Rattle.kz_log.proofs.Views.{new_is_view, feed_fits, append_leaves_views, elect_leaves_views, open_is_begun}
 use Rattle.kz_log.proofs.laws.views_stay.Goals as goal
 
@@ -15,3 +16,6 @@ returns-clause-elect c = elect_leaves_views
 
 pub returns-clause-open : goal.returns-clause-open
 returns-clause-open c = open_is_begun
+
+pub returns-clause-appended : goal.returns-clause-appended
+returns-clause-appended c = appended_is_view
