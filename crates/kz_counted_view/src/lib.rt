@@ -3,12 +3,14 @@
 #![tactic(auto)]
 
 mod after;
+mod counted_image;
 mod counts;
 mod limits;
 mod reading;
 mod view;
 
 pub use after::counts_after;
+pub use counted_image::CountedImage;
 pub use counts::{Counts, counts_of};
 pub use limits::passed_limit;
 pub use reading::read_to_end;

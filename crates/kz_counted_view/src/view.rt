@@ -1,15 +1,15 @@
 //! A view of a log with the counts of its rendering.
-ghost use Rattle.std.specs.Prelude.{◌≡◌, option_map, IfOk, OnOk, OnErr};
+ghost use Rattle.std.specs.Prelude.{◌≡◌, IfOk, OnOk, OnErr};
 ghost use Rattle.kz_spec_data.specs.Image.{all_applied};
 ghost use Rattle.kz_spec_data.specs.Log.{new_view};
-ghost use Rattle.kz_spec_data.specs.Rendering.{excess};
 ghost use Rattle.kz_view_delta.specs.Reads.{IsReadAfter, WasRead, Makes};
 ghost use Rattle.kz_counted_view.specs.Known.{AreCountsOf};
 
-use crate::{Counts, counts_after, counts_of, passed_limit};
+use crate::counted_image::CountedImage;
+use crate::{Counts, counts_after, counts_of};
 use kz_image::{Feed, Image};
 use kz_log::View;
-use kz_render::{FitFault, fits, render};
+use kz_render::render;
 use kz_types::{Duplicate, MetaRecord, NoMemory};
 use kz_view_delta::{keys_between, keys_of_applied, view_after};
 use std::alloc::Global;
@@ -84,28 +84,6 @@ fn counts_of_change(
     counts_after(alloc, counts, before, after, &keys)
 }
 
-// The number of the first limit that the rendering of metadata passes, of which all znodes are rendered.
-fn limit_of_all(alloc: Global, image: &Image) -> Result<Option<u8>, NoMemory>
-    ensures { IfOk result (λ number. number ≡ option_map (λ passed. passed.number) (excess image.now)) }
-{
-    match fits(alloc, image) {
-        Ok(()) => Ok(None),
-        Err(FitFault::Over { number, .. }) => Ok(Some(number)),
-        Err(FitFault::NoMemory) => Err(NoMemory),
-    }
-}
-
-// The number of the first limit that the rendering of metadata passes.
-fn limit_of(alloc: Global, counts: Option<Counts>, image: &Image) -> Result<Option<u8>, NoMemory>
-    requires { AreCountsOf image.now counts }
-    ensures { IfOk result (λ number. number ≡ option_map (λ passed. passed.number) (excess image.now)) }
-{
-    match counts {
-        Some(counts) => Ok(passed_limit(counts)),
-        None => limit_of_all(alloc, image),
-    }
-}
-
 impl CountedView {
     /// The view that knows nothing of a log. The view keeps this allocator.
     pub fn new(alloc: Global) -> CountedView
@@ -145,10 +123,12 @@ impl CountedView {
         ensures made { OnOk result (Makes self.old feed.now self.new) }
         ensures err { OnErr result (self.new ≡ self.old) }
     {
+        if self.view.is_at_end_of(feed) {
+            return Ok(());
+        }
         let made = view_after(self.alloc, &self.view, feed)?;
-        let counts = counts_of_read(self.alloc, self.counts, &self.view, feed, &made)?;
+        self.counts = counts_of_read(self.alloc, self.counts, &self.view, feed, &made)?;
         self.view = made;
-        self.counts = counts;
         Ok(())
     }
 
@@ -162,15 +142,11 @@ impl CountedView {
         Ok(())
     }
 
-    /// The number of the first limit that the rendering passes once these records are applied in a log of this epoch, if any. Only the
-    /// znodes are rendered that the records touch; all are at the first call, and after a read whose touched keys aren't known.
-    /// `NoMemory` is the only error.
-    pub fn limit_after(
-        &mut self,
-        epoch: i32,
-        records: &[MetaRecord],
-    ) -> Result<Option<u8>, NoMemory>
-        ensures limit { IfOk result (λ number. number ≡ option_map (λ passed. passed.number) (excess (all_applied epoch records.now self.old.image))) }
+    /// The metadata after records that are applied in a log of this epoch, with the counts of its rendering. Only the znodes are
+    /// rendered that the records touch; all are at the first call, and after a read whose touched keys aren't known. `NoMemory`
+    /// is the only error.
+    pub fn after(&mut self, epoch: i32, records: &[MetaRecord]) -> Result<CountedImage, NoMemory>
+        ensures after { IfOk result (λ made. made ≡ all_applied epoch records.now self.old.image) }
         ensures same { self.new ≡ self.old }
     {
         self.count()?;
@@ -184,6 +160,16 @@ impl CountedView {
             records,
             &after,
         )?;
-        limit_of(self.alloc, counts, &after)
+        Ok(CountedImage::new(self.alloc, after, counts))
+    }
+
+    /// Puts in place what a batch leads to that was appended after the position, all of whose records count: its last offset,
+    /// its epoch, and the metadata there.
+    pub fn put_appended(&mut self, position: i64, epoch: i32, made: CountedImage)
+        ensures { self.new ≡ record self.old { position = position; epoch = epoch; image = made } }
+    {
+        let (image, counts) = made.into_parts();
+        self.view.put_appended(position, epoch, image);
+        self.counts = counts;
     }
 }

@@ -4,8 +4,8 @@ ghost use Rattle.kz_spec_data.specs.Image.{all_applied};
 
 use kz_image::Image;
 use kz_types::{
-    ConfigRecord, Duplicate, Id, MetaRecord, PartitionChangeRecord, PartitionRecord, Sequence,
-    Text, TopicRecord,
+    ConfigRecord, Duplicate, Id, MAX_BODY_BYTES, MetaRecord, PartitionChangeRecord,
+    PartitionRecord, Sequence, Text, TopicRecord,
 };
 use std::alloc::Global;
 use std::process::Abort;
@@ -81,14 +81,30 @@ pub fn removal() -> MetaRecord {
     MetaRecord::RemoveTopic { topic_id: TOPIC_ID }
 }
 
-/// A member of the configuration of a broker.
-pub fn member(rt: &impl Abort, alloc: Global, broker: &str) -> MetaRecord {
+// A member of the configuration of a broker, with this value, or removed.
+fn member_of(rt: &impl Abort, alloc: Global, broker: &str, value: Option<Text>) -> MetaRecord {
     MetaRecord::Config(ConfigRecord {
         resource_type: 4,
         resource_name: text(rt, alloc, broker),
         name: text(rt, alloc, "a"),
-        value: Some(text(rt, alloc, "1")),
+        value,
     })
+}
+
+/// A member of the configuration of a broker.
+pub fn member(rt: &impl Abort, alloc: Global, broker: &str) -> MetaRecord {
+    member_of(rt, alloc, broker, Some(text(rt, alloc, "1")))
+}
+
+/// The same member, with which the broker's znode has more bytes of data than one may have.
+pub fn long_member(rt: &impl Abort, alloc: Global, broker: &str) -> MetaRecord {
+    let value = Text::from_string(made(rt, "1".repeat(alloc, MAX_BODY_BYTES)));
+    member_of(rt, alloc, broker, Some(value))
+}
+
+/// The same member is removed.
+pub fn no_member(rt: &impl Abort, alloc: Global, broker: &str) -> MetaRecord {
+    member_of(rt, alloc, broker, None)
 }
 
 /// A member of the configuration of the topic.

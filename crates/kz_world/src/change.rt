@@ -10,7 +10,7 @@ ghost use Rattle.kz_world_parts.specs.Worlds.{world_of, world_of_parts, IsDone, 
 use kz_log::MetaLog;
 use kz_tree::ZTree;
 use kz_types::{Answer, MetaRecord, NoMemory};
-use kz_world_parts::{EventFault, Parts, append, leader_refusal, read, records_refusal};
+use kz_world_parts::{EventFault, Parts, append_judged, leader_refusal, read, records_refusal};
 use std::alloc::Global;
 
 /// Asks a controller to append these records. Refused, and where memory runs out or the log's store fails, it changes
@@ -39,8 +39,8 @@ pub fn change<T: ZTree, L: MetaLog>(
         Err(fault) => return Err(fault),
     }
     match records_refusal(alloc, parts.log.inner().epoch(), &mut parts.view, records) {
-        Ok(None) => append(parts, records, now),
-        Ok(Some(refusal)) => Ok(refusal),
+        Ok(Ok(made)) => append_judged(parts, records, now, made),
+        Ok(Err(refusal)) => Ok(refusal),
         Err(NoMemory) => Err(EventFault::NoMemory),
     }
 }

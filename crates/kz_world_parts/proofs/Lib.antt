@@ -1,3 +1,4 @@
+pub mod Appended
 pub mod Stages
 pub mod Starts
 pub mod Least

@@ -30,7 +30,7 @@ use Rattle.kz_world_parts.proofs.Listings.{itself}
 
 -- ---- choices
 
-first_none : (a b : Option Answer) → first_of a b ≡ None → (a ≡ None) × (b ≡ None)
+pub first_none : (a b : Option Answer) → first_of a b ≡ None → (a ≡ None) × (b ≡ None)
 first_none None b h = (refl, h)
 first_none (Some x) b h = absurd (cc)
 

@@ -9,7 +9,7 @@ use Rattle.kz_types.specs.declared.machine.Answer.{Answer}
 use Rattle.kz_types.specs.declared.machine.Answer.TheVariants as answer
 use Rattle.kz_types.specs.declared.record.MetaRecord.{MetaRecord}
 use Rattle.kz_types.specs.declared.record.MetaRecord.TheVariants as meta
-use Rattle.kz_spec_data.specs.Log.{Log, View, IsViewOf, end_of}
+use Rattle.kz_spec_data.specs.Log.{Log, View, IsViewOf, append, end_of}
 use Rattle.kz_spec_data.specs.Tree.{Tree}
 use Rattle.kz_spec_machine.specs.Driver.{Driver, elected_driver, is_one_of}
 use Rattle.kz_spec_machine.specs.Machine.{World, next, running_ids, outcome_unless, full, changed_log, changed_world}
@@ -66,6 +66,11 @@ elected_drivers id epoch drivers = map (λ (d : Driver). if int_eq d.id id then 
 -- what an append by the leader makes of the world, and its answer
 abbrev pub world_after_append : World → List MetaRecord → ℤ → World × Answer
 world_after_append w records now = outcome_unless w (full w.shared.log records) (changed_world w records now) (answer.Appended (end_of (changed_log w.shared.log records now)))
+
+-- where an append by the leader answers so, the log has the records, and the answer is its last offset
+abbrev pub IsAppended : Log → List MetaRecord → ℤ → Log → Answer → Type 0
+IsAppended old records now new (answer.Appended offset) = (append old old.epoch now records ≡ Ok new) × (offset ≡ end_of new)
+IsAppended old records now new a = ⊤
 
 -- what an election writes where a transaction has begun or not, and the migration is in this state
 abbrev pub records_on_election : Option ℤ → ℤ → List MetaRecord

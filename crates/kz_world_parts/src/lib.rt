@@ -18,7 +18,7 @@ mod single_step;
 mod steps;
 mod whole_read;
 
-pub use appending::append;
+pub use appending::{append, append_judged};
 pub use bound::{TurnStart, work};
 pub use drivers::{elect_driver, least_running, place_of, running_ids};
 pub use faults::{

@@ -1,6 +1,6 @@
 //! Reading the log.
 ghost use Rattle.std.specs.Prelude.{◌≡◌, OnOk};
-ghost use Rattle.kz_spec_data.specs.Log.{begun_of, image_of};
+ghost use Rattle.kz_spec_data.specs.Log.{begun_of, end_of, image_of};
 ghost use Rattle.kz_world_parts.specs.Stores.{ReadsLog};
 ghost use Rattle.kz_world_parts.specs.EventDisks.{disks_in};
 ghost use Rattle.kz_world_parts.specs.Worlds.{world_of, world_of_parts, AreKept};
@@ -15,6 +15,7 @@ use kz_types::LogFault;
 /// Brings the world's view to the log's end.
 pub fn read<T: ZTree, L: MetaLog>(parts: &mut Parts<T, L>) -> Result<(), EventFault>
     requires { AreKept L.log parts.old }
+    ensures end { OnOk result (parts.new.view.position ≡ end_of (L.log parts.old.log.inner)) }
     ensures image { OnOk result (parts.new.view.image ≡ image_of (L.log parts.old.log.inner)) }
     ensures begun { OnOk result (parts.new.view.begun ≡ begun_of (L.log parts.old.log.inner)) }
     ensures kept { AreKept L.log parts.new }

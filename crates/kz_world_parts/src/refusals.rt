@@ -1,5 +1,5 @@
 //! Why an event is refused. A refusal tells of no failure, and takes no memory, unless the metadata has to be read.
-ghost use Rattle.std.specs.Prelude.{◌≡◌, pos, false, ◌≤ℤ◌, IfNone, IfSome, IfOk};
+ghost use Rattle.std.specs.Prelude.{◌≡◌, pos, false, ◌≤ℤ◌, Some, None, IfNone, IfSome, IfOk, IfErr};
 ghost use Rattle.kz_spec_data.specs.Image.{all_applied, first_bad, rule_number};
 ghost use Rattle.kz_spec_data.specs.Rendering.{excess};
 ghost use Rattle.kz_spec_machine.specs.Machine.{quorum_refusal, start_refusal, stop_refusal, running_refusal, epoch_refusal, driver_refusal, driver_of, leader_refusal, over_excess, bad_record};
@@ -9,7 +9,7 @@ ghost use Rattle.kz_world_parts.specs.Worlds.{world_of};
 
 use crate::drivers::{is_one_of, is_running, least_running, place_of};
 use crate::parts::Parts;
-use kz_counted_view::CountedView;
+use kz_counted_view::{CountedImage, CountedView};
 use kz_image::{Image, valid};
 use kz_log::MetaLog;
 use kz_tree::ZTree;
@@ -145,44 +145,48 @@ fn bad_record(
     }
 }
 
-// The metadata would pass a limit once these records are applied.
+// The metadata once these records are applied, where it passes no limit.
 fn excess_refusal(
     epoch: i32,
     view: &mut CountedView,
     records: &[MetaRecord],
-) -> Result<Option<Answer>, NoMemory>
-    ensures refusal { IfOk result (λ refusal. refusal ≡ over_excess (excess (all_applied epoch records.now view.old.image))) }
-    ensures no_failure { IfOk result (λ refusal. IfSome refusal (λ answer. is_failure answer ≡ false)) }
+) -> Result<Result<CountedImage, Answer>, NoMemory>
+    ensures refusal { IfOk result (λ judged. IfErr judged (λ answer. over_excess (excess (all_applied epoch records.now view.old.image)) ≡ Some answer)) }
+    ensures no_failure { IfOk result (λ judged. IfErr judged (λ answer. is_failure answer ≡ false)) }
+    ensures accepted { IfOk result (λ judged. IfOk judged (λ made. (over_excess (excess (all_applied epoch records.now view.old.image)) ≡ None) × (made ≡ all_applied epoch records.now view.old.image))) }
     ensures same { view.new ≡ view.old }
 {
-    match view.limit_after(epoch, records)? {
-        Some(number) => Ok(Some(Answer::Over { number })),
-        None => Ok(None),
+    let made = view.after(epoch, records)?;
+    match made.limit()? {
+        Some(number) => Ok(Err(Answer::Over { number })),
+        None => Ok(Ok(made)),
     }
 }
 
-/// The migration isn't committed in the metadata of this view, the records are too many, one of them breaks a rule, or the metadata
-/// would pass a limit once they are applied in a log of this epoch.
+/// The metadata once these records are applied in a log of this epoch; or why they are refused: the migration isn't committed in the
+/// metadata of this view, the records are too many, one of them breaks a rule, or the metadata would pass a limit. `NoMemory` is the
+/// only error.
 pub fn records_refusal(
     alloc: Global,
     epoch: i32,
     view: &mut CountedView,
     records: &[MetaRecord],
-) -> Result<Option<Answer>, NoMemory>
-    ensures refusal { IfOk result (λ refusal. refusal ≡ records_refusal epoch view.old.image records.now) }
-    ensures no_failure { IfOk result (λ refusal. IfSome refusal (λ answer. is_failure answer ≡ false)) }
+) -> Result<Result<CountedImage, Answer>, NoMemory>
+    ensures refusal { IfOk result (λ judged. IfErr judged (λ answer. records_refusal epoch view.old.image records.now ≡ Some answer)) }
+    ensures no_failure { IfOk result (λ judged. IfErr judged (λ answer. is_failure answer ≡ false)) }
+    ensures accepted { IfOk result (λ judged. IfOk judged (λ made. (records_refusal epoch view.old.image records.now ≡ None) × (made ≡ all_applied epoch records.now view.old.image))) }
     ensures same { view.new ≡ view.old }
 {
     if view.image().state() < MIGRATION {
-        return Ok(Some(Answer::NotMigrated));
+        return Ok(Err(Answer::NotMigrated));
     }
     if records.len() > MAX_CHANGE_RECORDS {
-        return Ok(Some(Answer::Over {
+        return Ok(Err(Answer::Over {
             number: Limit::ChangeRecords.number(),
         }));
     }
     match bad_record(alloc, view.image(), records)? {
-        Some(refusal) => Ok(Some(refusal)),
+        Some(refusal) => Ok(Err(refusal)),
         None => excess_refusal(epoch, view, records),
     }
 }
