@@ -7,7 +7,7 @@ ghost use Rattle.kz_stages.specs.Drivers.{IsKept, after_uninitialized, after_bro
 ghost use Rattle.kz_stages.specs.Rows.{driver_of, stage_of};
 ghost use Rattle.kz_driver.specs.Steps.{shared_over, plan_over, made_request, IsStep, LeavesAll, KeepsViews, StepDisks, StopLeaves, Connections, IsFenced, StepFacts, StepEnd, reply_of_fault, GoesOnAfter, target_offset, remaining_ops};
 
-use kz_log::{LogWire, MetaLog, View};
+use kz_log::{LogWire, MetaLog, View, views_stay};
 use kz_requests::StepFault;
 use kz_stages::{
     DriverRow, Peers, Stage, append_records, begin_migration, claim, go_on_without_answer,
@@ -178,7 +178,34 @@ impl Driver {
         ensures connections { Connections (made_request (shared_over T.tree L.log peers.now.declared tree.old log.old) now self.old self.old.stage) result tree.old tree.new log.old log.new }
         ensures fenced { IsFenced (shared_over T.tree L.log peers.now.declared tree.old log.old) self.old result (shared_over T.tree L.log peers.now.declared tree.new log.new) }
     {
-        make_step(self.alloc, &mut self.row, tree, log, peers, now)
+        views_stay();
+        let latest = View::new(self.alloc);
+        self.step_beside(tree, log, peers, now, &latest)
+    }
+
+    /// One step, as `step` makes it. Where it reads the log and the latest view of it stands at its end, the metadata are those of that
+    /// view, and no record is applied.
+    pub fn step_beside<T: ZTree, L: MetaLog>(
+        &mut self,
+        tree: &mut Wire<T>,
+        log: &mut LogWire<L>,
+        peers: &Peers,
+        now: i64,
+        latest: &View,
+    ) -> Reply
+        requires view { IsViewOf (L.log log.old.inner) self.old.view }
+        requires latest { IsViewOf (L.log log.old.inner) latest.now }
+        ensures step { IsStep (plan_over tree.old log.old (made_request (shared_over T.tree L.log peers.now.declared tree.old log.old) now self.old self.old.stage)) (shared_over T.tree L.log peers.now.declared tree.old log.old) peers.now.running now self.old result
+            (shared_over T.tree L.log peers.now.declared tree.new log.new) self.new }
+        ensures failed { LeavesAll result (shared_over T.tree L.log peers.now.declared tree.old log.old) self.old (shared_over T.tree L.log peers.now.declared tree.new log.new) self.new }
+        ensures views { KeepsViews (L.log log.old.inner) (L.log log.new.inner) self.old.id self.new }
+        ensures disks { StepDisks (shared_over T.tree L.log peers.now.declared tree.old log.old) now self.old (payloads_of T.payload_bytes L.payload_bytes) (plan_over tree.old log.old (made_request (shared_over T.tree L.log peers.now.declared tree.old log.old) now self.old self.old.stage)) result
+            (disks_of (T.disk tree.old.inner) (L.disk log.old.inner)) (disks_of (T.disk tree.new.inner) (L.disk log.new.inner)) }
+        ensures stop { StopLeaves (plan_over tree.old log.old (made_request (shared_over T.tree L.log peers.now.declared tree.old log.old) now self.old self.old.stage)) (shared_over T.tree L.log peers.now.declared tree.old log.old) peers.now.running now self.old result (T.left tree.new.inner) (L.left log.new.inner) }
+        ensures connections { Connections (made_request (shared_over T.tree L.log peers.now.declared tree.old log.old) now self.old self.old.stage) result tree.old tree.new log.old log.new }
+        ensures fenced { IsFenced (shared_over T.tree L.log peers.now.declared tree.old log.old) self.old result (shared_over T.tree L.log peers.now.declared tree.new log.new) }
+    {
+        make_step(self.alloc, &mut self.row, tree, log, latest, peers, now)
     }
 }
 
@@ -188,16 +215,18 @@ fn make_step<T: ZTree, L: MetaLog>(
     row: &mut DriverRow,
     tree: &mut Wire<T>,
     log: &mut LogWire<L>,
+    latest: &View,
     peers: &Peers,
     now: i64,
 ) -> Reply
     requires kept { IsKept row.old.epoch row.old.view (stage_of row.old.stage) }
     requires view { IsViewOf (L.log log.old.inner) row.old.view }
+    requires latest { IsViewOf (L.log log.old.inner) latest.now }
     ensures end { StepEnd T.tree L.log T.disk L.disk T.left L.left (payloads_of T.payload_bytes L.payload_bytes) peers.now.declared peers.now.running now (driver_of row.old) (driver_of row.new) result
         (plan_over tree.old log.old (made_request (shared_over T.tree L.log peers.now.declared tree.old log.old) now (driver_of row.old) (stage_of row.old.stage))) tree.old tree.new log.old log.new }
     ensures kept { IsKept row.new.epoch row.new.view (stage_of row.new.stage) }
 {
-    let outcome = step_row(alloc, row, tree, log, peers, now);
+    let outcome = step_row(alloc, row, tree, log, latest, peers, now);
     tree.plan(Plan::Deliver);
     log.plan(Plan::Deliver);
     match outcome {
@@ -254,11 +283,13 @@ fn step_row<T: ZTree, L: MetaLog>(
     row: &mut DriverRow,
     tree: &mut Wire<T>,
     log: &mut LogWire<L>,
+    latest: &View,
     peers: &Peers,
     now: i64,
 ) -> Result<Reply, StepFault>
     requires kept { IsKept row.old.epoch row.old.view (stage_of row.old.stage) }
     requires view { IsViewOf (L.log log.old.inner) row.old.view }
+    requires latest { IsViewOf (L.log log.old.inner) latest.now }
     ensures facts { StepFacts (shared_over T.tree L.log peers.now.declared tree.old log.old) (shared_over T.tree L.log peers.now.declared tree.new log.new) peers.now.running now (driver_of row.old) (driver_of row.new) (plan_over tree.old log.old (made_request (shared_over T.tree L.log peers.now.declared tree.old log.old) now (driver_of row.old) (stage_of row.old.stage))) result (payloads_of T.payload_bytes L.payload_bytes)
         (disks_of (T.disk tree.old.inner) (L.disk log.old.inner)) (disks_of (T.disk tree.new.inner) (L.disk log.new.inner)) (T.left tree.new.inner) (L.left log.new.inner)
         tree.old.faults tree.new.faults log.old.faults log.new.faults }
@@ -268,19 +299,19 @@ fn step_row<T: ZTree, L: MetaLog>(
     match &row.stage {
         Stage::Uninitialized => Ok(become_inactive(row)),
         Stage::Inactive => Ok(Reply::Idle),
-        Stage::WaitForControllerQuorum => wait_for_quorum(row, log, peers),
-        Stage::WaitForBrokers => read_log_for_brokers(row, log),
+        Stage::WaitForControllerQuorum => wait_for_quorum(row, log, latest, peers),
+        Stage::WaitForBrokers => read_log_for_brokers(row, log, latest),
         Stage::ListBrokers => list_brokers(row, tree),
         Stage::ReadControlZnodes => read_control_znodes(alloc, row, tree),
         Stage::ClaimLeadership { .. } => claim(alloc, row, tree, now),
         Stage::ScanForMigration { .. } => scan_for_migration(row, tree),
         Stage::BeginMigration { .. } => begin_migration(alloc, row, log, now),
         Stage::AppendRecords { .. } => append_records(alloc, row, log, now),
-        Stage::ReadLogForResync => read_log_for_resync(alloc, row, log),
+        Stage::ReadLogForResync => read_log_for_resync(alloc, row, log, latest),
         Stage::ScanForResync { .. } => scan_for_resync(alloc, row, tree),
         Stage::WriteResync { .. } => write(alloc, row, tree),
         Stage::KraftControllerToBrokerComm => Ok(inform_brokers(row)),
-        Stage::DualWrite => read_log_in_dual_write(alloc, row, log),
+        Stage::DualWrite => read_log_in_dual_write(alloc, row, log, latest),
         Stage::WriteDelta { .. } => write(alloc, row, tree),
     }
 }

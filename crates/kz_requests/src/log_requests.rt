@@ -36,10 +36,15 @@ pub fn read_feed<L: MetaLog>(view: &View, log: &mut LogWire<L>) -> Result<Feed, 
     }
 }
 
-/// Brings a view to the log's end. At `Err` it is as it was. `Lost` by the plan of the connection; `Log`: the store failed;
-/// `NoMemory`.
-pub fn read<L: MetaLog>(view: &mut View, log: &mut LogWire<L>) -> Result<(), StepFault>
-    requires { IsViewOf (L.log log.old.inner) view.old }
+/// Brings a view to the log's end. Where the latest view of the log stands there, its metadata are shared. At `Err` the view is as
+/// it was. `Lost` by the plan of the connection; `Log`: the store failed; `NoMemory`.
+pub fn read<L: MetaLog>(
+    view: &mut View,
+    log: &mut LogWire<L>,
+    latest: &View,
+) -> Result<(), StepFault>
+    requires view { IsViewOf (L.log log.old.inner) view.old }
+    requires latest { IsViewOf (L.log log.old.inner) latest.now }
     ensures ok { OnOk result (view.new ≡ read_view (L.log log.old.inner) view.old) }
     ensures view { IsViewOf (L.log log.new.inner) view.new }
     ensures err { OnErr result (view.new ≡ view.old) }
@@ -51,7 +56,7 @@ pub fn read<L: MetaLog>(view: &mut View, log: &mut LogWire<L>) -> Result<(), Ste
         Ok(feed) => feed,
         Err(fault) => return Err(fault),
     };
-    match view.advance(feed) {
+    match view.advance_beside(feed, latest) {
         Ok(()) => Ok(()),
         Err(NoMemory) => Err(StepFault::NoMemory),
     }

@@ -72,13 +72,15 @@ fn after_log_in_dual_write(
     Ok(Reply::Looked)
 }
 
-/// DUAL_WRITE, no write under way. At `Err` nothing has changed.
+/// DUAL_WRITE, no write under way: the log is read beside the latest view of it. At `Err` nothing has changed.
 pub fn read_log_in_dual_write<L: MetaLog>(
     alloc: Global,
     row: &mut DriverRow,
     log: &mut LogWire<L>,
+    latest: &View,
 ) -> Result<Reply, StepFault>
-    requires { IsViewOf (L.log log.old.inner) row.old.view }
+    requires view { IsViewOf (L.log log.old.inner) row.old.view }
+    requires latest { IsViewOf (L.log log.old.inner) latest.now }
     ensures ok { IfOk result (λ told. after_rest row.old.view.image (driver_at_log_end (L.log log.old.inner) (driver_of row.old)) ≡ (driver_of row.new, told)) }
     ensures kept { IsKept row.old.epoch row.old.view (stage_of row.old.stage) → row.old.stage ≡ held.DualWrite → IsKept row.new.epoch row.new.view (stage_of row.new.stage) }
     ensures view { IsViewOf (L.log log.new.inner) row.new.view }
@@ -88,6 +90,6 @@ pub fn read_log_in_dual_write<L: MetaLog>(
     ensures disk { LogDisk ReadsDisk Done log.old.plan result (L.disk log.old.inner) (L.disk log.new.inner) }
     ensures id { row.new.id ≡ row.old.id }
 {
-    let (view, feed) = read_to_end(alloc, &row.view, log)?;
+    let (view, feed) = read_to_end(alloc, &row.view, log, latest)?;
     Ok(after_log_in_dual_write(alloc, row, &feed, view)?)
 }

@@ -108,9 +108,15 @@ pub fn views_migrated(row: &DriverRow) -> bool
     row.view.image().state() >= MIGRATION
 }
 
-/// Reads the log to its end. At `Err` the driver is as it was.
-pub fn read_log<L: MetaLog>(row: &mut DriverRow, log: &mut LogWire<L>) -> Result<(), StepFault>
-    requires { IsViewOf (L.log log.old.inner) row.old.view }
+/// Reads the log to its end. Where the latest view of the log stands there, its metadata are shared. At `Err` the driver is as it
+/// was.
+pub fn read_log<L: MetaLog>(
+    row: &mut DriverRow,
+    log: &mut LogWire<L>,
+    latest: &View,
+) -> Result<(), StepFault>
+    requires view { IsViewOf (L.log log.old.inner) row.old.view }
+    requires latest { IsViewOf (L.log log.old.inner) latest.now }
     ensures ok { OnOk result (driver_of row.new ≡ driver_at_log_end (L.log log.old.inner) (driver_of row.old)) }
     ensures view { IsViewOf (L.log log.new.inner) row.new.view }
     ensures err { OnErr result (row.new ≡ row.old) }
@@ -119,5 +125,5 @@ pub fn read_log<L: MetaLog>(row: &mut DriverRow, log: &mut LogWire<L>) -> Result
     ensures disk { LogDisk ReadsDisk Done log.old.plan result (L.disk log.old.inner) (L.disk log.new.inner) }
     ensures id { row.new.id ≡ row.old.id }
 {
-    read(&mut row.view, log)
+    read(&mut row.view, log, latest)
 }

@@ -22,7 +22,7 @@ ghost use Rattle.kz_stages.specs.Rows.{driver_of, stage_of};
 use crate::row::{DriverRow, Stage, is_finalised, read_log, resign};
 use crate::zk_migration::next_page;
 use kz_image::Image;
-use kz_log::{LogWire, MetaLog};
+use kz_log::{LogWire, MetaLog, View};
 use kz_render::render;
 use kz_requests::StepFault;
 use kz_resync::{Remaining, Scan};
@@ -69,13 +69,15 @@ fn after_log(alloc: Global, row: &mut DriverRow) -> Reply
     Reply::Looked
 }
 
-/// Reads the log, whose end is the target. At `Err` the driver is as it was.
+/// Reads the log, whose end is the target, beside the latest view of it. At `Err` the driver is as it was.
 pub fn read_log_for_resync<L: MetaLog>(
     alloc: Global,
     row: &mut DriverRow,
     log: &mut LogWire<L>,
+    latest: &View,
 ) -> Result<Reply, StepFault>
-    requires { IsViewOf (L.log log.old.inner) row.old.view }
+    requires view { IsViewOf (L.log log.old.inner) row.old.view }
+    requires latest { IsViewOf (L.log log.old.inner) latest.now }
     ensures ok { IfOk result (λ told. after_log (driver_at_log_end (L.log log.old.inner) (driver_of row.old)) ≡ (driver_of row.new, told)) }
     ensures kept { IsKept row.old.epoch row.old.view (stage_of row.old.stage) → row.old.stage ≡ held.ReadLogForResync → IsKept row.new.epoch row.new.view (stage_of row.new.stage) }
     ensures view { IsViewOf (L.log log.new.inner) row.new.view }
@@ -85,7 +87,7 @@ pub fn read_log_for_resync<L: MetaLog>(
     ensures disk { LogDisk ReadsDisk Done log.old.plan result (L.disk log.old.inner) (L.disk log.new.inner) }
     ensures id { row.new.id ≡ row.old.id }
 {
-    read_log(row, log)?;
+    read_log(row, log, latest)?;
     Ok(after_log(alloc, row))
 }
 

@@ -11,7 +11,7 @@ ghost use Rattle.kz_requests.specs.Disks.{LogDisk, TreeDisk};
 ghost use Rattle.kz_stages.specs.Rows.{driver_of};
 
 use crate::row::{DriverRow, Stage, is_finalised, read_log, resign};
-use kz_log::{LogWire, MetaLog};
+use kz_log::{LogWire, MetaLog, View};
 use kz_ready::missing_broker;
 use kz_requests::{StepFault, broker_ids};
 use kz_tree::{Wire, ZTree};
@@ -31,12 +31,14 @@ fn after_log(row: &mut DriverRow) -> Reply
     Reply::Looked
 }
 
-/// Reads the log. At `Err` the driver is as it was.
+/// Reads the log, beside the latest view of it. At `Err` the driver is as it was.
 pub fn read_log_for_brokers<L: MetaLog>(
     row: &mut DriverRow,
     log: &mut LogWire<L>,
+    latest: &View,
 ) -> Result<Reply, StepFault>
-    requires { IsViewOf (L.log log.old.inner) row.old.view }
+    requires view { IsViewOf (L.log log.old.inner) row.old.view }
+    requires latest { IsViewOf (L.log log.old.inner) latest.now }
     ensures ok { IfOk result (λ told. unless_finalised (driver_at_log_end (L.log log.old.inner) (driver_of row.old)) (at_stage stage.ListBrokers (driver_at_log_end (L.log log.old.inner) (driver_of row.old)), reply.Looked) ≡ (driver_of row.new, told)) }
     ensures view { IsViewOf (L.log log.new.inner) row.new.view }
     ensures err { OnErr result (row.new ≡ row.old) }
@@ -45,7 +47,7 @@ pub fn read_log_for_brokers<L: MetaLog>(
     ensures disk { LogDisk ReadsDisk Done log.old.plan result (L.disk log.old.inner) (L.disk log.new.inner) }
     ensures id { row.new.id ≡ row.old.id }
 {
-    read_log(row, log)?;
+    read_log(row, log, latest)?;
     Ok(after_log(row))
 }
 

@@ -9,7 +9,7 @@ ghost use Rattle.kz_stages.specs.Rows.{driver_of};
 
 use crate::peers::Peers;
 use crate::row::{DriverRow, Stage, is_finalised, read_log, resign};
-use kz_log::{LogWire, MetaLog};
+use kz_log::{LogWire, MetaLog, View};
 use kz_ready::missing_controller;
 use kz_requests::StepFault;
 use kz_types::{DriverState, MIGRATION, Reply};
@@ -37,13 +37,16 @@ fn after_quorum(row: &mut DriverRow, peers: &Peers) -> Reply
     }
 }
 
-/// Reads the log, and goes on where it is migrated or all declared controllers run. At `Err` the driver is as it was.
+/// Reads the log, beside the latest view of it, and goes on where it is migrated or all declared controllers run. At `Err` the
+/// driver is as it was.
 pub fn wait_for_quorum<L: MetaLog>(
     row: &mut DriverRow,
     log: &mut LogWire<L>,
+    latest: &View,
     peers: &Peers,
 ) -> Result<Reply, StepFault>
-    requires { IsViewOf (L.log log.old.inner) row.old.view }
+    requires view { IsViewOf (L.log log.old.inner) row.old.view }
+    requires latest { IsViewOf (L.log log.old.inner) latest.now }
     ensures ok { IfOk result (λ told. after_quorum peers.now.declared peers.now.running (driver_at_log_end (L.log log.old.inner) (driver_of row.old)) ≡ (driver_of row.new, told)) }
     ensures view { IsViewOf (L.log log.new.inner) row.new.view }
     ensures err { OnErr result (row.new ≡ row.old) }
@@ -52,6 +55,6 @@ pub fn wait_for_quorum<L: MetaLog>(
     ensures disk { LogDisk ReadsDisk Done log.old.plan result (L.disk log.old.inner) (L.disk log.new.inner) }
     ensures id { row.new.id ≡ row.old.id }
 {
-    read_log(row, log)?;
+    read_log(row, log, latest)?;
     Ok(after_quorum(row, peers))
 }

@@ -1,4 +1,4 @@
-ghost use Rattle.kz_spec_data.specs.Log.{IsViewOf};
+ghost use Rattle.kz_spec_data.specs.Log.{IsViewOf, new_view};
 
 use kz_log::{LogWire, MemoryLog, MetaLog, View};
 use kz_requests::{StepFault, append, broker_ids, multi, page, path_at, read, rows_at};
@@ -106,7 +106,8 @@ fn requests_of_the_log(rt: HostRuntime) {
 
 // An empty log, and what is known of it.
 fn started(alloc: Global) -> (LogWire<MemoryLog>, View)
-    ensures { IsViewOf (⟦<MemoryLog as MetaLog>⟧.log result.0.inner) result.1 }
+    ensures view { IsViewOf (⟦<MemoryLog as MetaLog>⟧.log result.0.inner) result.1 }
+    ensures first { IsViewOf (⟦<MemoryLog as MetaLog>⟧.log result.0.inner) new_view }
 {
     (LogWire::new(MemoryLog::new(alloc)), View::new(alloc))
 }
@@ -115,8 +116,10 @@ fn started(alloc: Global) -> (LogWire<MemoryLog>, View)
 fn a_read_of_the_log(rt: HostRuntime) {
     let alloc = rt.alloc();
     let (mut log, mut view) = started(alloc);
-    made(&rt, read(&mut view, &mut log));
+    let latest = View::new(alloc);
+    made(&rt, read(&mut view, &mut log, &latest));
     assert!(&rt; view.position() == -1);
+    drop(latest);
     drop(view);
     drop(log);
 }

@@ -6,7 +6,7 @@ ghost use Rattle.kz_spec_data.specs.Log.{View, IsViewOf, new_view};
 
 use crate::made::{body_of, broker_record, config_record, ids_of, made, path_of, put};
 use kz_driver::{Driver, Peers};
-use kz_log::{LogWire, MemoryLog, MetaLog, views_stay};
+use kz_log::{LogWire, MemoryLog, MetaLog, View as LogView, read_to_end, views_stay};
 use kz_script::write_answer;
 use kz_session::MemoryTree;
 use kz_tree::{Wire, ZTree};
@@ -304,5 +304,113 @@ fn a_claim_is_fenced_by_a_higher_epoch(rt: HostRuntime) {
     tells(&rt, alloc, &mut driver, &mut stores, lines);
     drop(driver);
     drop(later);
+    drop(stores);
+}
+
+// The latest view of the log.
+fn latest_view(rt: &impl Abort, alloc: Global, stores: &mut Stores) -> LogView
+    ensures latest { IsViewOf (⟦<MemoryLog as MetaLog>⟧.log stores.new.log.inner) result }
+    ensures views { (v : View) → IsViewOf (⟦<MemoryLog as MetaLog>⟧.log stores.old.log.inner) v → IsViewOf (⟦<MemoryLog as MetaLog>⟧.log stores.new.log.inner) v }
+{
+    views_stay();
+    let mut latest = LogView::new(alloc);
+    let log = stores.log.inner_mut();
+    let _kept = log.epoch();
+    made(rt, read_to_end(&mut latest, log));
+    latest
+}
+
+// One step beside the latest view of the log. What the driver and others know of the log stays known.
+fn step_beside(
+    rt: &impl Abort,
+    driver: &mut Driver,
+    stores: &mut Stores,
+    latest: &LogView,
+    replies: &mut Sequence<Reply>,
+)
+    requires view { IsViewOf (⟦<MemoryLog as MetaLog>⟧.log stores.old.log.inner) driver.old.view }
+    requires latest { IsViewOf (⟦<MemoryLog as MetaLog>⟧.log stores.old.log.inner) latest.now }
+    ensures view { IsViewOf (⟦<MemoryLog as MetaLog>⟧.log stores.new.log.inner) driver.new.view }
+    ensures views { (v : View) → IsViewOf (⟦<MemoryLog as MetaLog>⟧.log stores.old.log.inner) v → IsViewOf (⟦<MemoryLog as MetaLog>⟧.log stores.new.log.inner) v }
+{
+    let reply = driver.step_beside(&mut stores.tree, &mut stores.log, &stores.peers, 8, latest);
+    put(rt, replies, reply);
+}
+
+// Makes as many steps as there are lines beside the latest view of the log, and compares what they tell.
+fn tells_beside(
+    rt: &impl Abort,
+    alloc: Global,
+    driver: &mut Driver,
+    stores: &mut Stores,
+    latest: &LogView,
+    lines: &str,
+)
+    requires view { IsViewOf (⟦<MemoryLog as MetaLog>⟧.log stores.old.log.inner) driver.old.view }
+    requires latest { IsViewOf (⟦<MemoryLog as MetaLog>⟧.log stores.old.log.inner) latest.now }
+{
+    let mut replies = Sequence::new(alloc);
+    for _ in lines.lines() {
+        step_beside(rt, driver, stores, latest, &mut replies);
+    }
+    let told = made(rt, write_answer(alloc, 1, &Answer::Turn(replies)));
+    assert!(rt; told.as_slice() == lines.as_bytes());
+}
+
+// A migrated log with a configuration that isn't written back, and a controller that is elected then and has read nothing of it.
+fn failed_over(rt: &impl Abort, alloc: Global) -> (Stores, Driver)
+    ensures { IsViewOf (⟦<MemoryLog as MetaLog>⟧.log result.0.log.inner) result.1.view }
+{
+    let (mut stores, first) = migrated(rt, alloc);
+    drop(first);
+    append(rt, &mut stores, config_record(rt, alloc, "1", "a", "v"));
+    elect(rt, &mut stores, &NEXT);
+    let driver = elected(alloc, 3000, 2);
+    (stores, driver)
+}
+
+// The replies after a failover.
+const FAILOVER: &str = "1 moved BECOME_CONTROLLER
+1 looked
+1 claimed 2
+1 looked
+1 read 17
+1 recorded 6
+1 moved DUAL_WRITE
+1 idle
+";
+
+// Whether the driver is in DUAL_WRITE, has all of the log, and has written the configuration.
+fn has_taken_over(driver: &Driver, stores: &Stores) -> bool {
+    driver.state() == DriverState::DualWrite
+        && driver.view().position() == 6
+        && driver.view().epoch() == 2
+        && driver.view().image().state() == 2
+        && has_body(
+            stores.tree.inner(),
+            "/config/brokers/1",
+            "{\"config\":{\"a\":\"v\"},\"version\":1}",
+        )
+}
+
+#[test]
+fn a_driver_alone_takes_over(rt: HostRuntime) {
+    let alloc = rt.alloc();
+    let (mut stores, mut driver) = failed_over(&rt, alloc);
+    tells(&rt, alloc, &mut driver, &mut stores, FAILOVER);
+    assert!(rt; has_taken_over(&driver, &stores));
+    drop(driver);
+    drop(stores);
+}
+
+#[test]
+fn a_driver_beside_a_view_takes_over_as_one_alone(rt: HostRuntime) {
+    let alloc = rt.alloc();
+    let (mut stores, mut driver) = failed_over(&rt, alloc);
+    let latest = latest_view(&rt, alloc, &mut stores);
+    tells_beside(&rt, alloc, &mut driver, &mut stores, &latest, FAILOVER);
+    assert!(rt; has_taken_over(&driver, &stores));
+    drop(latest);
+    drop(driver);
     drop(stores);
 }

@@ -1,10 +1,9 @@
 ghost use Rattle.std.specs.Prelude.{◌≡◌};
 ghost use Rattle.kz_types.specs.declared.plan.Plan.TheVariants as plan;
-ghost use Rattle.kz_spec_data.specs.Log.{IsViewOf};
+ghost use Rattle.kz_spec_data.specs.Log.{IsViewOf, new_view};
 
 use kz_driver::{Driver, Peers};
-use kz_image::Image;
-use kz_log::{LogWire, MemoryLog, MetaLog};
+use kz_log::{LogWire, MemoryLog, MetaLog, View};
 use kz_session::MemoryTree;
 use kz_tree::{Tree, Wire};
 use kz_types::{DriverState, Plan, Reply, Sequence};
@@ -31,6 +30,7 @@ fn no_peers(alloc: Global) -> Peers {
 // An empty tree, an empty log, and a driver before its first step.
 fn started(alloc: Global) -> (Wire<MemoryTree>, LogWire<MemoryLog>, Driver)
     ensures view { IsViewOf (⟦<MemoryLog as MetaLog>⟧.log result.1.inner) result.2.view }
+    ensures first { IsViewOf (⟦<MemoryLog as MetaLog>⟧.log result.1.inner) new_view }
     ensures tree { result.0.plan ≡ plan.Deliver }
     ensures log { result.1.plan ≡ plan.Deliver }
 {
@@ -56,6 +56,7 @@ fn a_step_without_a_request_loses_none(rt: HostRuntime) {
     let alloc = rt.alloc();
     let (mut tree, mut log, mut driver) = started(alloc);
     let peers = no_peers(alloc);
+    let latest = View::new(alloc);
     let told = step(
         &mut tree,
         &mut log,
@@ -63,9 +64,11 @@ fn a_step_without_a_request_loses_none(rt: HostRuntime) {
         &peers,
         5,
         Plan::LostBefore,
+        &latest,
     );
     assert!(rt; matches!(told, Reply::Moved(DriverState::Inactive)));
     drop(told);
+    drop(latest);
     drop(peers);
     drop(driver);
     drop(log);
@@ -78,7 +81,7 @@ fn a_turn_ends_where_there_is_nothing_to_do(rt: HostRuntime) {
     let (mut tree, mut log, mut driver) = started(alloc);
     let peers = no_peers(alloc);
     let start = start_of(&rt, alloc, &driver);
-    let image = Image::new(alloc);
+    let latest = View::new(alloc);
     let told = made(
         &rt,
         turn(
@@ -89,7 +92,7 @@ fn a_turn_ends_where_there_is_nothing_to_do(rt: HostRuntime) {
             &peers,
             5,
             &start,
-            &image,
+            &latest,
         ),
     );
     assert!(rt;
@@ -99,7 +102,7 @@ fn a_turn_ends_where_there_is_nothing_to_do(rt: HostRuntime) {
         )
     );
     drop(told);
-    drop(image);
+    drop(latest);
     drop(start);
     drop(peers);
     drop(driver);

@@ -19,3 +19,7 @@ pub record WasRead (before : View) (f : Feed) (after : View) : Type 0 where
 -- Of whichever log this was read after a view, it makes it this view of the log's end.
 abbrev pub Makes : View → Feed → View → Type 0
 Makes before f after = (l : Log) → IsLog l → IsViewOf l before → IsFeed (feed_from l before.position) f → after ≡ read_view l before
+
+-- The same of a log of which this other is a view too.
+abbrev pub MakesBeside : View → View → Feed → View → Type 0
+MakesBeside latest before f after = (l : Log) → IsLog l → IsViewOf l before → IsViewOf l latest → IsFeed (feed_from l before.position) f → after ≡ read_view l before

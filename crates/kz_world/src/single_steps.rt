@@ -49,6 +49,7 @@ fn step_at<T: ZTree, L: MetaLog>(
         peers,
         now,
         plan,
+        parts.view.view(),
     )
 }
 

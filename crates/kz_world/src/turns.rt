@@ -94,7 +94,7 @@ fn turn_at<T: ZTree, L: MetaLog>(
         peers,
         now,
         start,
-        parts.view.image(),
+        parts.view.view(),
     ) {
         Ok(replies) => Ok(Answer::Turn(Sequence::from_vec(replies))),
         Err(NoMemory) => Err(EventFault::NoMemory),

@@ -11,13 +11,13 @@ ghost use Rattle.kz_world_parts.specs.TurnStops.{AreUp, LeavesOneOf};
 ghost use Rattle.kz_world_parts.specs.Steps.{StepEnds};
 
 use kz_driver::{Driver, Peers};
-use kz_log::{LogWire, MetaLog};
+use kz_log::{LogWire, MetaLog, View};
 use kz_tree::{Wire, ZTree};
 use kz_types::{Plan, Reply};
 
-/// One step of a driver, whose request fares by this plan. A step that fails, or is out of memory, leaves the tree, the log and
-/// the driver; where a disk failed in it, a stop leaves the tree and the log from before, or those that the step would have
-/// made. Afterwards both connections deliver.
+/// One step of a driver, beside the latest view of the log, whose request fares by this plan. A step that fails, or is out of memory,
+/// leaves the tree, the log and the driver; where a disk failed in it, a stop leaves the tree and the log from before, or those that
+/// the step would have made. Afterwards both connections deliver.
 pub fn step<T: ZTree, L: MetaLog>(
     tree: &mut Wire<T>,
     log: &mut LogWire<L>,
@@ -25,8 +25,10 @@ pub fn step<T: ZTree, L: MetaLog>(
     peers: &Peers,
     now: i64,
     plan: Plan,
+    latest: &View,
 ) -> Reply
-    requires { IsViewOf (L.log log.old.inner) driver.old.view }
+    requires view { IsViewOf (L.log log.old.inner) driver.old.view }
+    requires latest { IsViewOf (L.log log.old.inner) latest.now }
     ensures ends { IsSoundPair (shared_over T.tree L.log peers.now.declared tree.old log.old) now driver.old
         → StepEnds plan (shared_over T.tree L.log peers.now.declared tree.old log.old) peers.now.running now driver.old result (shared_over T.tree L.log peers.now.declared tree.new log.new) driver.new }
     ensures views { KeepsViews (L.log log.old.inner) (L.log log.new.inner) driver.old.id driver.new }
@@ -39,5 +41,5 @@ pub fn step<T: ZTree, L: MetaLog>(
 {
     tree.plan(plan);
     log.plan(plan);
-    driver.step(tree, log, peers, now)
+    driver.step_beside(tree, log, peers, now, latest)
 }

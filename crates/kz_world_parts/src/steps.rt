@@ -17,8 +17,7 @@ ghost use Rattle.kz_world_parts.specs.Starts.{most_from};
 use crate::TurnStart;
 use crate::single_step::step;
 use kz_driver::{Driver, Peers};
-use kz_image::Image;
-use kz_log::{LogWire, MetaLog};
+use kz_log::{LogWire, MetaLog, View};
 use kz_tree::{Wire, ZTree};
 use kz_types::{NoMemory, Plan, Reply};
 use std::alloc::Global;
@@ -87,14 +86,14 @@ pub enum StepBound {
 fn may_step(
     alloc: Global,
     start: &TurnStart,
-    image: &Image,
+    latest: &View,
     done: u128,
     known: &mut StepBound,
 ) -> Result<bool, NoMemory>
-    requires { IsKnown (most_from start.now image.now) done known.old }
-    ensures may { IfOk result (λ may. may ≡ nat_lt done (most_from start.now image.now)) }
-    ensures known { IfOk result (λ may. may ≡ true → (done + 1 < 2 ^ 128) × IsKnown (most_from start.now image.now) (done + 1) known.new) }
-    ensures err { OnErr result (done < most_from start.now image.now) }
+    requires { IsKnown (most_from start.now latest.now.image) done known.old }
+    ensures may { IfOk result (λ may. may ≡ nat_lt done (most_from start.now latest.now.image)) }
+    ensures known { IfOk result (λ may. may ≡ true → (done + 1 < 2 ^ 128) × IsKnown (most_from start.now latest.now.image) (done + 1) known.new) }
+    ensures err { OnErr result (done < most_from start.now latest.now.image) }
 {
     let least = match *known {
         StepBound::AtLeast(least) => least,
@@ -108,16 +107,16 @@ fn may_step(
         *known = StepBound::AtLeast(least);
         return Ok(true);
     }
-    let bound = start.most_steps(alloc, image)?;
+    let bound = start.most_steps(alloc, latest.image())?;
     *known = StepBound::Exactly(bound);
     Ok(done < bound)
 }
 
-/// At most as many steps of a driver as the bound allows that its start gives, with these metadata at the end of the log, up to
-/// and with the first whose reply ends the turn. The bound is computed only where a turn comes near a number of steps that it has in any case. Where a step
-/// fails or is out of memory, its reply tells so after those of the steps before; where a disk failed in it, a stop leaves the
-/// tree and the log from before it, or those that it would have made. At `Err` there is no memory for a reply, and nothing has
-/// changed.
+/// At most as many steps of a driver, beside the latest view of the log, as the bound allows that its start and the metadata of that
+/// view give, up to and with the first whose reply ends the turn. The bound is computed only where a turn comes near a number of steps
+/// that it has in any case. Where a step fails or is out of memory, its reply tells so after those of the steps before; where a disk
+/// failed in it, a stop leaves the tree and the log from before it, or those that it would have made. At `Err` there is no memory for
+/// a reply, and nothing has changed.
 pub fn turn<T: ZTree, L: MetaLog>(
     alloc: Global,
     tree: &mut Wire<T>,
@@ -126,12 +125,13 @@ pub fn turn<T: ZTree, L: MetaLog>(
     peers: &Peers,
     now: i64,
     start: &TurnStart,
-    image: &Image,
+    latest: &View,
 ) -> Result<Vec<Reply>, NoMemory>
     requires view { IsViewOf (L.log log.old.inner) driver.old.view }
+    requires latest { IsViewOf (L.log log.old.inner) latest.now }
     requires delivers { (tree.old.plan ≡ Plan.Deliver) × (log.old.plan ≡ Plan.Deliver) }
     ensures ends { IsSoundPair (shared_over T.tree L.log peers.now.declared tree.old log.old) now driver.old → IfOk result (λ replies.
-        TurnEnds (most_from start.now image.now) (shared_over T.tree L.log peers.now.declared tree.old log.old) peers.now.running now driver.old replies.items (shared_over T.tree L.log peers.now.declared tree.new log.new) driver.new) }
+        TurnEnds (most_from start.now latest.now.image) (shared_over T.tree L.log peers.now.declared tree.old log.old) peers.now.running now driver.old replies.items (shared_over T.tree L.log peers.now.declared tree.new log.new) driver.new) }
     ensures views { KeepsViews (L.log log.old.inner) (L.log log.new.inner) driver.old.id driver.new }
     ensures delivers { (tree.new.plan ≡ Plan.Deliver) × (log.new.plan ≡ Plan.Deliver) }
     ensures disks { IsSoundPair (shared_over T.tree L.log peers.now.declared tree.old log.old) now driver.old → IfOk result (λ replies.
@@ -148,7 +148,7 @@ pub fn turn<T: ZTree, L: MetaLog>(
     let mut known = StepBound::AtLeast(LEAST_STEPS);
     let mut done: u128 = 0;
     'steps: loop {
-        let Ok(may) = may_step(alloc, start, image, done, &mut known) else {
+        let Ok(may) = may_step(alloc, start, latest, done, &mut known) else {
             return Ok(replies);
         };
         if !may {
@@ -157,7 +157,7 @@ pub fn turn<T: ZTree, L: MetaLog>(
         let Ok(()) = replies.push(Reply::NoMemory) else {
             return Ok(replies);
         };
-        let reply = step(tree, log, driver, peers, now, Plan::Deliver);
+        let reply = step(tree, log, driver, peers, now, Plan::Deliver, latest);
         let last = ends(&reply);
         put(&mut replies, reply);
         if last {

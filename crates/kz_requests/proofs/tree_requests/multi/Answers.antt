@@ -1,4 +1,4 @@
-use Rattle.std.proofs.Common.{◌≡◌, ℤ, Err, subst}
+use Rattle.std.proofs.Common.{ℤ, Err, subst}
 use Rattle.kz_spec_data.specs.Tree.{multi}
 use Rattle.kz_spec_data.specs.Requests.{Multi, IsTaken, ChangesDisk, answer_by, answer_of_tree_fault}
 use Rattle.kz_tree.specs.Wires.{arrival_of}

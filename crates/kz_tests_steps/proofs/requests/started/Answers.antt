@@ -3,7 +3,12 @@ use Rattle.kz_spec_data.specs.Log.{View, IsViewOf}
 use Rattle.kz_log.proofs.Views.{new_is_view}
 use Rattle.kz_tests_steps.proofs.requests.started.Goals as goal
 
-pub returns : goal.returns
-returns c =
+pub returns-clause-view : goal.returns-clause-view
+returns-clause-view c =
     let log = c.new-2.result.inner in
     subst (λ (v : View). IsViewOf log.rows v) (sym c.new-3.ensures) (new_is_view log.rows log.is_log)
+
+pub returns-clause-first : goal.returns-clause-first
+returns-clause-first c =
+    let log = c.new-2.result.inner in
+    new_is_view log.rows log.is_log

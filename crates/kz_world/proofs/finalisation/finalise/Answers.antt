@@ -55,6 +55,13 @@ returns-in-Err-clause-disks g c =
     unless_none (leader_refusal w c.args.id) _ _ leads
     (either (end_refusal w c.args.id) _ _ (unread _ _ c.in-Err.fault (g.L.MetaLog.disk p.log.inner) (g.L.MetaLog.disk c.read.new.parts.log.inner) reads.0, reads.1) reads)
 
+pub returns-in-Err-end_refusal-clause-disks : goal.returns-in-Err-end_refusal-clause-disks
+returns-in-Err-end_refusal-clause-disks g c =
+    let w = world_of g.T.ZTree.tree g.L.MetaLog.log c.args.parts.now in
+    let leads = ap (leader_refusal w) (sym (to_z-of_z w32 c.args.id c.ranges.id)) ∙ sym c.leader_refusal.ensures.refusal ∙ c.in_default.is in
+    let reads = c.in-Ok.ensures.disks in
+    unless_none (leader_refusal w c.args.id) _ _ leads (either (end_refusal w c.args.id) _ _ (reads.0.1, reads.1) (reads.0.1, reads.1))
+
 pub returns-in-Err-clause-stop : goal.returns-in-Err-clause-stop
 returns-in-Err-clause-stop g c =
     let p = c.args.parts.now in

@@ -1,6 +1,7 @@
-use Rattle.std.proofs.Common.{◌≡◌, true, ap, subst, ◌∙◌, w64, to_z, of_z, List, ℤ, ◌∷◌}
+use Rattle.std.proofs.Common.{◌≡◌, true, sym, ap, subst, ◌∙◌, w64, to_z, of_z, List, ℤ, ◌∷◌}
 use Rattle.std.proofs.lemmas.Int.{to_z-of_z}
 use Rattle.std.proofs.lemmas.Option.{get_or_from_slice_get}
+use Rattle.kz_spec_data.specs.Log.{IsViewOf}
 use Rattle.kz_spec_machine.specs.Driver.{Shared, Driver}
 use Rattle.kz_spec_machine.specs.Machine.{running_ids, pair_of, step_pairs}
 use Rattle.kz_spec_machine.specs.Failures.{is_failed_step}
@@ -17,11 +18,16 @@ use Rattle.kz_world.proofs.Runs.{step_told}
 use Rattle.kz_world_parts.proofs.Views.{view_at, kept_turned}
 use Rattle.kz_world.proofs.single_steps.step_at.Goals as goal
 
-pub step-requires : goal.step-requires
-step-requires g c =
+pub step-requires-clause-view : goal.step-requires-clause-view
+step-requires-clause-view g c =
     let ds = c.args.parts.now.drivers.items in
     let d = c.index_mut.result.now in
     view_at (g.L.MetaLog.log c.args.parts.now.log.inner) ds c.args.at d c.requires.kept.each (get_here ds c.args.at d c.requires.within c.index_mut.ensures.value)
+
+pub step-requires-clause-latest : goal.step-requires-clause-latest
+step-requires-clause-latest g c =
+    let l = g.L.MetaLog.log c.args.parts.now.log.inner in
+    subst (IsViewOf l) (sym c.view.ensures) c.requires.kept.own
 
 pub returns-clause-kept : goal.returns-clause-kept
 returns-clause-kept g c =

@@ -5,7 +5,7 @@ use Rattle.std.proofs.lemmas.Option.{get_or_from_slice_get}
 use Rattle.kz_types.specs.declared.machine.Reply.{Reply}
 use Rattle.kz_types.specs.declared.machine.Answer.TheVariants as answer
 use Rattle.kz_spec_data.specs.Image.{Image}
-use Rattle.kz_spec_data.specs.Log.{image_of}
+use Rattle.kz_spec_data.specs.Log.{View, IsViewOf, image_of}
 use Rattle.kz_spec_machine.specs.Driver.{Shared, Driver}
 use Rattle.kz_spec_machine.specs.Machine.{World, running_ids, work}
 use Rattle.kz_spec_machine.specs.Failures.{is_failed_step}
@@ -36,6 +36,11 @@ turn-requires-clause-view g c =
     let d = c.index_mut.result.now in
     view_at (g.L.MetaLog.log c.args.parts.now.log.inner) ds c.args.at d c.requires.kept.each (get_here ds c.args.at d c.requires.within c.index_mut.ensures.value)
 
+pub turn-requires-clause-latest : goal.turn-requires-clause-latest
+turn-requires-clause-latest g c =
+    let l = g.L.MetaLog.log c.args.parts.now.log.inner in
+    subst (IsViewOf l) (sym c.view.ensures) c.requires.kept.own
+
 pub returns-in-Ok-clause-kept : goal.returns-in-Ok-clause-kept
 returns-in-Ok-clause-kept g c =
     let p = c.args.parts.now in
@@ -59,7 +64,7 @@ returns-in-Ok-clause-ok g c = λ d at_is pair.
     let n = to_z w64 (of_z w64 now) in
     let replies = c.in-Ok.replies.items in
     let e = c.turn.new.driver in
-    let most = most_from c.args.start.now c.image.result.now in
+    let most = most_from c.args.start.now c.view.result.now.image in
     let running = c.args.peers.now.running in
     let first = c.index_mut.result.now in
     let first_is : first ≡ d = c.index_mut.ensures.value ∙ get_or_from_slice_get ds at d first at_is in
@@ -70,7 +75,7 @@ returns-in-Ok-clause-ok g c = λ d at_is pair.
     let by_now = subst (λ x. IsSoundPair (old p.declared) x d → TurnEnds most (old p.declared) running x d replies (new p.declared) e) (to_z-of_z w64 now c.ranges.now) by_driver in
     let after : World = record { shared = new p.declared; drivers = Rattle.std.proofs.Common.set ds at e } in
     subst (λ (rs : List Reply). IsTurned (world_of tree log p) now d after (answer.Turn rs)) (sym c.from_vec.ensures)
-    (turn_told (world_of tree log p) now d at most running (new p.declared) e replies c.requires.kept.distinct at_is (most_told (world_of tree log p).shared d c.args.start.now c.image.result.now (c.requires.start d at_is) (c.image.ensures ∙ c.requires.image)) c.requires.running (c.turn.ensures.views.same_id ∙ ap (λ (x : Driver). x.id) first_is) (by_now pair))
+    (turn_told (world_of tree log p) now d at most running (new p.declared) e replies c.requires.kept.distinct at_is (most_told (world_of tree log p).shared d c.args.start.now c.view.result.now.image (c.requires.start d at_is) (ap (λ (v : View). v.image) c.view.ensures ∙ c.requires.image)) c.requires.running (c.turn.ensures.views.same_id ∙ ap (λ (x : Driver). x.id) first_is) (by_now pair))
 
 pub returns-in-Ok-clause-disks : goal.returns-in-Ok-clause-disks
 returns-in-Ok-clause-disks g c = λ d at_is pair.

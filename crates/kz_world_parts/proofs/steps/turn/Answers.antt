@@ -41,6 +41,10 @@ steps-init g c = record {
   log_plan = c.requires.delivers.1;
 }
 
+-- the latest view is a view of the log after each step
+pub step-reply-requires-clause-latest : goal.step-reply-requires-clause-latest
+step-reply-requires-clause-latest g c = c.steps.invariant.turning.views.views c.args.latest.now c.requires.latest
+
 pub put-requires : goal.put-requires
 put-requires g c =
     let before = c.steps.invariant.turning in
@@ -60,7 +64,7 @@ steps-preserved g c =
     let told = c.step-reply.result in
     let kept = two_kept c.steps.replies.items before.made c.push-in-steps.new.self.items before.kept c.in-Ok-push.ensures.items in
     let len = length-append before.made (told ∷ []) in
-    let most = most_from c.args.start.now c.args.image.now in
+    let most = most_from c.args.start.now c.args.latest.now.image in
     let more = one_more c.steps.done most c.in-Ok.may c.in-Ok.ensures.may c.if-not-may.false in
     record {
       turning = record {
@@ -80,7 +84,7 @@ steps-preserved g c =
 pub returns-in_default : goal.returns-in_default
 returns-in_default g c =
     let n = to_z w64 (of_z w64 c.args.now) in
-    let most = most_from c.args.start.now c.args.image.now in
+    let most = most_from c.args.start.now c.args.latest.now.image in
     let payloads = payloads_of g.T.ZTree.payload_bytes g.L.MetaLog.payload_bytes in
     let running = c.args.peers.now.running in
     let at = moment_over g.T.ZTree.tree g.L.MetaLog.log g.T.ZTree.disk g.L.MetaLog.disk c.args.peers.now.declared in
@@ -104,7 +108,7 @@ returns-in_default g c =
 -- there is no memory for a reply
 pub returns-in_default-push : goal.returns-in_default-push
 returns-in_default-push g c =
-    let most = most_from c.args.start.now c.args.image.now in
+    let most = most_from c.args.start.now c.args.latest.now.image in
     let n = to_z w64 (of_z w64 c.args.now) in
     let payloads = payloads_of g.T.ZTree.payload_bytes g.L.MetaLog.payload_bytes in
     let running = c.args.peers.now.running in
@@ -129,7 +133,7 @@ returns-in_default-push g c =
 -- the turn ends with this step
 pub returns-then-last : goal.returns-then-last
 returns-then-last g c =
-    let most = most_from c.args.start.now c.args.image.now in
+    let most = most_from c.args.start.now c.args.latest.now.image in
     let n = to_z w64 (of_z w64 c.args.now) in
     let payloads = payloads_of g.T.ZTree.payload_bytes g.L.MetaLog.payload_bytes in
     let running = c.args.peers.now.running in
@@ -158,7 +162,7 @@ returns-then-last g c =
 -- all steps that the turn may have are made
 pub returns-then-not-may : goal.returns-then-not-may
 returns-then-not-may g c =
-    let most = most_from c.args.start.now c.args.image.now in
+    let most = most_from c.args.start.now c.args.latest.now.image in
     let n = to_z w64 (of_z w64 c.args.now) in
     let payloads = payloads_of g.T.ZTree.payload_bytes g.L.MetaLog.payload_bytes in
     let running = c.args.peers.now.running in

@@ -11,11 +11,11 @@ invariant-steps g l = record {
   turning : IsTurning l.done l.replies.items (payloads_of g.T.ZTree.payload_bytes g.L.MetaLog.payload_bytes) l.peers.running l.now
       (moment_over g.T.ZTree.tree g.L.MetaLog.log g.T.ZTree.disk g.L.MetaLog.disk l.peers.declared l.fn.tree l.fn.log l.fn.driver)
       (moment_over g.T.ZTree.tree g.L.MetaLog.log g.T.ZTree.disk g.L.MetaLog.disk l.peers.declared l.tree l.log l.driver);
-  within : l.done ≤ most_from l.start l.image;
-  known : IsKnown (most_from l.start l.image) l.done l.known;
+  within : l.done ≤ most_from l.start l.latest.image;
+  known : IsKnown (most_from l.start l.latest.image) l.done l.known;
   tree_plan : l.tree.plan ≡ plan.Deliver;
   log_plan : l.log.plan ≡ plan.Deliver;
 }
 
 abbrev pub decreases-steps : goal.decreases-steps
-decreases-steps g l = most_from l.start l.image - l.done
+decreases-steps g l = most_from l.start l.latest.image - l.done
