@@ -13,6 +13,7 @@ ghost use Rattle.kz_image.specs.Names.{topic_if};
 use crate::names::TopicName;
 use crate::topic::{with_member, with_partition, with_partition_changed};
 use kz_image_rules::new_row;
+use kz_order::are_equal;
 use kz_sorted::Blocks;
 use kz_types::{
     ConfigRecord, Duplicate, Id, NoMemory, PartitionChangeRecord, PartitionRecord, Sequence, Text,
@@ -96,7 +97,7 @@ impl Topics {
     {
         match self.topics.find(name.bytes()) {
             Some(topic) => {
-                if topic.id.bytes == id.bytes {
+                if are_equal(&topic.id.bytes, &id.bytes) {
                     Some(topic)
                 } else {
                     None

@@ -6,13 +6,14 @@ ghost use Rattle.kz_spec_data.specs.ImageRules.{is_empty, is_zero, is_broker_nam
 
 use crate::paths::{has_acl_path, has_user_path};
 use crate::quota_keys::has_quota;
+use kz_order::are_equal;
 use kz_types::{ConfigRecord, Id, MetaRecord, Text, canonical, may_be_part, may_be_topic};
 
 // Whether an id is the one that stands for none.
 fn is_zero(id: &Id) -> bool
     ensures { result ≡ is_zero id.now }
 {
-    id.bytes == [0; 16]
+    are_equal(&id.bytes, &[0; 16])
 }
 
 // Whether a text is empty.

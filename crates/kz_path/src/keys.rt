@@ -6,6 +6,7 @@ ghost use Rattle.kz_types.specs.Paths.{path_of, key_of, key_of_three, key_of_fou
 
 use crate::cut::{Parts, cut};
 use crate::names::restore;
+use kz_order::are_equal;
 use kz_types::{EntityKey, NoMemory, Text, ZPath, may_be_part, may_be_topic, number_in};
 use std::alloc::Global;
 
@@ -16,7 +17,7 @@ pub const DEFAULT: &str = "<default>";
 pub fn are(a: &str, b: &str, word: &str, next: &str) -> bool
     ensures { result ≡ are a.now b.now word.now next.now }
 {
-    a == word && b == next
+    are_equal(a.as_bytes(), word.as_bytes()) && are_equal(b.as_bytes(), next.as_bytes())
 }
 
 /// The name of a topic, where a part is one.

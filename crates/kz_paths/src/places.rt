@@ -8,6 +8,7 @@ use crate::texts::{
     BROKER_IDS_TEXT, CONTROL_TEXT, EPOCH_TEXT, MIGRATION_TEXT, base_texts, control_texts,
     root_texts,
 };
+use kz_order::{are_equal, begins_with};
 
 /// Whether a path is at another or below it. Most paths have no slash where the other ends, so that is looked at first.
 fn is_at_or_below(above: &[u8], path: &[u8]) -> bool
@@ -16,21 +17,21 @@ fn is_at_or_below(above: &[u8], path: &[u8]) -> bool
     if above.len() < path.len() && path[above.len()] != b'/' {
         return false;
     }
-    path.starts_with(above) && (path.len() == above.len() || path[above.len()] == b'/')
+    begins_with(path, above) && (path.len() == above.len() || path[above.len()] == b'/')
 }
 
 /// Whether a path is below another.
 fn is_below(above: &[u8], path: &[u8]) -> bool
     ensures { result ≡ is_below above.now path.now }
 {
-    path.starts_with(above) && above.len() < path.len() && path[above.len()] == b'/'
+    begins_with(path, above) && above.len() < path.len() && path[above.len()] == b'/'
 }
 
 /// Whether a path is one of these texts.
 fn is_among(texts: &[&str], path: &[u8]) -> bool
     ensures { result ≡ list_any (λ t. bytes_eq path.now t.now) texts.now }
 {
-    texts.iter().any(|text| path == text.as_bytes())
+    texts.iter().any(|text| are_equal(path, text.as_bytes()))
 }
 
 /// Whether a path is below one of these texts.
@@ -89,26 +90,26 @@ pub fn is_migrated(path: &[u8]) -> bool
 pub fn is_controller_path(path: &[u8]) -> bool
     ensures { result ≡ bytes_eq path.now control_path }
 {
-    path == CONTROL_TEXT.as_bytes()
+    are_equal(path, CONTROL_TEXT.as_bytes())
 }
 
 /// Whether a path is [`EPOCH_TEXT`].
 pub fn is_epoch_path(path: &[u8]) -> bool
     ensures { result ≡ bytes_eq path.now epoch_path }
 {
-    path == EPOCH_TEXT.as_bytes()
+    are_equal(path, EPOCH_TEXT.as_bytes())
 }
 
 /// Whether a path is [`MIGRATION_TEXT`].
 pub fn is_migration_path(path: &[u8]) -> bool
     ensures { result ≡ bytes_eq path.now migration_path }
 {
-    path == MIGRATION_TEXT.as_bytes()
+    are_equal(path, MIGRATION_TEXT.as_bytes())
 }
 
 /// Whether a path is [`BROKER_IDS_TEXT`].
 pub fn is_broker_ids_path(path: &[u8]) -> bool
     ensures { result ≡ bytes_eq path.now broker_ids_path }
 {
-    path == BROKER_IDS_TEXT.as_bytes()
+    are_equal(path, BROKER_IDS_TEXT.as_bytes())
 }

@@ -6,6 +6,7 @@ ghost use Rattle.kz_types.specs.Ordered.{put as put_in, without as without_in, f
 ghost use Rattle.kz_sorted.specs.BlockLists.{first_key, items_of};
 
 use crate::{Keyed, find_near, put_near, without};
+use kz_order::compare;
 use kz_types::{Duplicate, NoMemory, Shared, copy_all};
 use std::alloc::Global;
 use std::marker::Model;
@@ -157,7 +158,7 @@ pub fn ends_before<T: Keyed>(last: Option<&T>, key: &[u8]) -> bool
     ensures { IsTrue result ↔ IfSome last.entry (λ item. bytes_cmp (T.key item.now) key.now ≡ Less) }
 {
     match last {
-        Some(item) => item.key().cmp(key).is_lt(),
+        Some(item) => compare(item.key(), key).is_lt(),
         None => true,
     }
 }

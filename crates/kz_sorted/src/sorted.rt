@@ -7,6 +7,7 @@ ghost use Rattle.kz_types.specs.Ordered.{find as find_in, put as put_in, without
 ghost use Rattle.kz_types.specs.Spot.{IsSpot};
 
 use crate::Keyed;
+use kz_order::compare;
 use kz_types::NoMemory;
 use std::cmp::Ordering;
 
@@ -24,7 +25,7 @@ fn spot_between<T: Keyed>(items: &[T], key: &[u8], from: usize, to: usize) -> Re
     let mut high = to;
     while low < high {
         let middle = low + (high - low) / 2;
-        match items[middle].key().cmp(key) {
+        match compare(items[middle].key(), key) {
             Ordering::Less => low = middle + 1,
             Ordering::Equal => return Ok(middle),
             Ordering::Greater => high = middle,
@@ -43,7 +44,7 @@ fn spot_from<T: Keyed>(items: &[T], key: &[u8], from: usize) -> Result<usize, us
     if from == items.len() {
         return Err(from);
     }
-    match items[from].key().cmp(key) {
+    match compare(items[from].key(), key) {
         Ordering::Less => spot_between(items, key, from + 1, items.len()),
         Ordering::Equal => Ok(from),
         Ordering::Greater => Err(from),
@@ -59,7 +60,7 @@ pub fn spot_near<T: Keyed>(items: &[T], key: &[u8], guess: usize) -> Result<usiz
     if items.len() <= guess {
         return spot_between(items, key, 0, items.len());
     }
-    match items[guess].key().cmp(key) {
+    match compare(items[guess].key(), key) {
         Ordering::Less => spot_from(items, key, guess + 1),
         Ordering::Equal => Ok(guess),
         Ordering::Greater => spot_between(items, key, 0, guess),

@@ -6,6 +6,7 @@ ghost use Rattle.kz_spec_data.specs.Tree.{has_children};
 
 use crate::names::parent_of;
 use crate::rows::Rows;
+use kz_order::compare;
 use kz_types::{NoMemory, copy_all};
 use std::alloc::Global;
 use std::cmp::Ordering;
@@ -23,7 +24,7 @@ pub(crate) fn with_byte(alloc: Global, path: &[u8], byte: u8) -> Result<Vec<u8>,
 pub(crate) fn is_before(path: &[u8], other: &[u8]) -> bool
     ensures { result ≡ match_ordering (bytes_cmp path.now other.now) true false false }
 {
-    match path.cmp(&other) {
+    match compare(path, other) {
         Ordering::Less => true,
         Ordering::Equal => false,
         Ordering::Greater => false,

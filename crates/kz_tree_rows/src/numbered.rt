@@ -10,6 +10,7 @@ ghost use Rattle.kz_tree_rows.specs.Numbered.{numbers_of, AreNumbered, AreHalves
 
 use crate::changes;
 use crate::later::first_later;
+use kz_order::are_equal;
 use kz_row_numbers::{Numbers, Segments};
 use kz_sorted::{
     Block, Items, Keyed, MAX_BLOCK_ITEMS, MAX_PART_BLOCKS, Near, Shared, block_for, items_after,
@@ -55,7 +56,7 @@ fn find_among_last<'a>(rows: &'a [Shared<Row>], path: &[u8]) -> Option<&'a Row>
     let from = rows.len().saturating_sub(LAST_ROWS);
     for row in &rows[from..] {
         let row = row.get();
-        if row.path.bytes() == path {
+        if are_equal(row.path.bytes(), path) {
             return Some(row);
         }
     }

@@ -11,6 +11,7 @@ ghost use Rattle.kz_verdict.specs.Agreement.{agrees_in, paths_from, unmarked, fo
 
 use kz_image::Image;
 use kz_log::LogRows;
+use kz_order::compare;
 use kz_render::render;
 use kz_sorted::find_near;
 use kz_tree::Tree;
@@ -117,7 +118,7 @@ fn next_path<'a>(
         return Some((&area[i].path, Places::new(i + 1, j)));
     }
     let (left, right) = (&area[i].path, &rendering[j].path);
-    match left.bytes().cmp(right.bytes()) {
+    match compare(left.bytes(), right.bytes()) {
         Ordering::Less => Some((left, Places::new(i + 1, j))),
         Ordering::Equal => Some((left, Places::new(i + 1, j + 1))),
         Ordering::Greater => Some((right, Places::new(i, j + 1))),

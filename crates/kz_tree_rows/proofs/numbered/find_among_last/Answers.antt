@@ -5,8 +5,8 @@ use Rattle.kz_spec_data.specs.Tree.{path_of_row}
 use Rattle.kz_tree_rows.proofs.Ends.{found_late}
 use Rattle.kz_tree_rows.proofs.numbered.find_among_last.Goals as goal
 
-pub returns-then-eq : goal.returns-then-eq
-returns-then-eq c =
+pub returns-then-are_equal : goal.returns-then-are_equal
+returns-then-are_equal c =
     let rows = c.args.rows.now in
     let from = c.saturating_sub-from.result in
     let i = c.loop-row.row-index in
