@@ -1,6 +1,6 @@
 //! The parts of a path.
-ghost use Rattle.std.specs.Prelude.{◌≡◌, ◌∷◌, [], ◌==◌, MatchOption, true};
-ghost use Rattle.std.specs.List.{slice_split};
+ghost use Rattle.std.specs.Prelude.{◌≡◌, ◌<◌, ◌≤◌, ◌∷◌, [], ◌==◌, MatchOption, length, slice_index, true, false};
+ghost use Rattle.std.specs.List.{AllWithin, slice_split};
 ghost use Rattle.kz_types.specs.PathRule.{parts, is_path};
 ghost use Rattle.kz_path.specs.Cut.{IsCut, AreWithin};
 
@@ -18,16 +18,32 @@ pub enum Parts<'a> {
     More,
 }
 
+// The place of the first slash, or the length of the bytes where there is none.
+#[inline]
+fn slash_place(bytes: &[u8]) -> usize
+    ensures within { result ≤ length bytes.now }
+    ensures none { AllWithin (λ b. (b == 47) ≡ false) bytes.now 0 result }
+    ensures slash { result < length bytes.now → slice_index bytes.now result ≡ 47 }
+{
+    for at in 0..bytes.len() {
+        if bytes[at] == b'/' {
+            return at;
+        }
+    }
+    bytes.len()
+}
+
 /// What stands before the first slash, and what after it.
 fn first_part(text: &str) -> (&str, Option<&str>)
     ensures { MatchOption result.1
         (slice_split (λ b. b == 47) text.now ≡ result.0.now ∷ [])
         (λ rest. slice_split (λ b. b == 47) text.now ≡ result.0.now ∷ slice_split (λ b. b == 47) rest.now) }
 {
-    match text.split_once('/') {
-        Some((part, rest)) => (part, Some(rest)),
-        None => (text, None),
+    let at = slash_place(text.as_bytes());
+    if at == text.len() {
+        return (text, None);
     }
+    (&text[..at], Some(&text[at + 1..]))
 }
 
 /// The parts of what stands after a path's first slash.
