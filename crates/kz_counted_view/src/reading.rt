@@ -20,7 +20,7 @@ pub fn read_to_end<L: MetaLog>(view: &mut CountedView, log: &mut L) -> Result<()
         Ok(feed) => feed,
         Err(fault) => return Err(fault),
     };
-    match view.take(&feed) {
+    match view.take(feed) {
         Ok(()) => Ok(()),
         Err(NoMemory) => Err(LogFault::NoMemory),
     }

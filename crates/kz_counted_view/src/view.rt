@@ -117,19 +117,31 @@ impl CountedView {
         self.view.begun()
     }
 
-    /// Takes what was read of a log after the view. At `Err` memory ran out, and the view is as it was.
-    pub fn take(&mut self, feed: &Feed) -> Result<(), NoMemory>
+    // Takes what was read where the counts before it are known, so that they are known after it, too, if the keys that it touches are.
+    fn take_counted(&mut self, feed: &Feed) -> Result<(), NoMemory>
         requires { IsReadAfter self.old feed.now }
         ensures made { OnOk result (Makes self.old feed.now self.new) }
         ensures err { OnErr result (self.new ≡ self.old) }
     {
-        if self.view.is_at_end_of(feed) {
-            return Ok(());
-        }
         let made = view_after(self.alloc, &self.view, feed)?;
         self.counts = counts_of_read(self.alloc, self.counts, &self.view, feed, &made)?;
         self.view = made;
         Ok(())
+    }
+
+    /// Takes what was read of a log after the view. At `Err` memory ran out, and the view is as it was.
+    pub fn take(&mut self, feed: Feed) -> Result<(), NoMemory>
+        requires { IsReadAfter self.old feed }
+        ensures made { OnOk result (Makes self.old feed self.new) }
+        ensures err { OnErr result (self.new ≡ self.old) }
+    {
+        if self.view.is_at_end_of(&feed) {
+            return Ok(());
+        }
+        if self.counts.is_some() {
+            return self.take_counted(&feed);
+        }
+        self.view.advance(feed)
     }
 
     // Counts the znodes of the rendering, where that wasn't done.

@@ -148,6 +148,30 @@ impl View {
         Ok(())
     }
 
+    /// The view of the log's end beside another view of the log, which stands at the end of what was read after this one: its
+    /// metadata are shared, and no record is applied. This view stays. `NoMemory` is the only error.
+    pub fn beside(&self, feed: &Feed, other: &View) -> Result<View, NoMemory>
+        requires { other.now.position ≡ feed.now.end }
+        ensures { IfOk result (λ made. (l : Log) → IsLog l → IsViewOf l self.now → IsViewOf l other.now → IsFeed (feed_from l self.now.position) feed.now → made ≡ read_view l self.now) }
+    {
+        let epoch = epoch_after(feed, self.epoch());
+        let made = other.with_epoch(self.alloc, epoch)?;
+        Ok(made)
+    }
+
+    // A copy of the view, but for the epoch.
+    fn with_epoch(&self, alloc: Global, epoch: i32) -> Result<View, NoMemory>
+        ensures { IfOk result (λ made. made ≡ record self.now { epoch = epoch }) }
+    {
+        Ok(View {
+            alloc,
+            position: self.position,
+            epoch,
+            image: self.image.copy(alloc)?,
+            settler: self.settler.copy(alloc)?,
+        })
+    }
+
     /// Takes what was read of a log. Where another view of the log stands at the end of what was read, its metadata are shared, and no
     /// record is applied. At `Err` the view is as it was.
     pub fn advance_beside(&mut self, feed: Feed, other: &View) -> Result<(), NoMemory>
@@ -158,25 +182,7 @@ impl View {
         if other.position() != feed.end {
             return self.advance(feed);
         }
-        if feed.base.is_none() && feed.batches.len() == 0 {
-            return Ok(());
-        }
-        let epoch = epoch_after(&feed, self.epoch());
-        self.share(other, epoch)?;
-        Ok(())
-    }
-
-    // Puts in place what another view knows, with this epoch. At `Err` the view is as it was.
-    fn share(&mut self, other: &View, epoch: i32) -> Result<(), NoMemory>
-        ensures ok { OnOk result (self.new ≡ record other.now { epoch = epoch }) }
-        ensures err { OnErr result (self.new ≡ self.old) }
-    {
-        let image = other.image.copy(self.alloc)?;
-        let settler = other.settler.copy(self.alloc)?;
-        self.position = other.position;
-        self.epoch = epoch;
-        self.image = image;
-        self.settler = settler;
+        *self = self.beside(&feed, other)?;
         Ok(())
     }
 

@@ -1,13 +1,11 @@
 -- The keys that are touched cover the difference of two renderings.
-use Rattle.std.proofs.Common.{◌≡◌, ℤ, pos, true, List, [], ◌∷◌, ◌++◌, None, Contains, refl, sym, ap, subst, inr}
-use Rattle.std.specs.List.{flat_map}
+use Rattle.std.proofs.Common.{◌≡◌, ℤ, pos, List, [], ◌∷◌, None, Contains, refl, sym, ap, subst, inr}
 use Rattle.std.proofs.lemmas.List.{append-nil}
 use Rattle.kz_types.specs.declared.key.EntityKey.{EntityKey}
 use Rattle.kz_types.specs.declared.record.MetaRecord.{MetaRecord}
-use Rattle.kz_types.specs.Paths.{is_legal}
 use Rattle.kz_spec_data.specs.Metadata.{Image}
 use Rattle.kz_spec_data.specs.Image.{image_with, all_applied}
-use Rattle.kz_spec_data.specs.Log.{Log, View, Feed as LogFeed, feed_from, read_view}
+use Rattle.kz_spec_data.specs.Log.{View, Feed as LogFeed, feed_from, read_view}
 use Rattle.kz_spec_data.specs.Rendering.{render}
 use Rattle.kz_spec_data.specs.Spans.{CoverDifference}
 use Rattle.kz_spec_data.specs.Touched.{Lead, Leads, AreTouched, touched_keys, records_of_feed}

@@ -1,5 +1,5 @@
 //! The keys that are touched between two metadata.
-ghost use Rattle.std.specs.Prelude.{◌≡◌, IfOk, IfSome};
+ghost use Rattle.std.specs.Prelude.{◌≡◌, not, is_some, IfOk, IfSome};
 ghost use Rattle.kz_spec_data.specs.Rendering.{render};
 ghost use Rattle.kz_spec_data.specs.Spans.{CoverDifference};
 ghost use Rattle.kz_spec_data.specs.Touched.{Lead, Leads};
@@ -28,8 +28,8 @@ fn keys_of_feed(
 }
 
 /// The keys that what was read after a view touches: they span each path at which the znodes of the metadata of the two views differ.
-/// Where it has a base, they are all keys of either metadata. None where the view knows of an open transaction, since the records of that
-/// may begin to count. `NoMemory` is the only error.
+/// Where it has a base, they are all keys of either metadata. None exactly where the view knows of an open transaction, since the records of
+/// that may begin to count. `NoMemory` is the only error.
 pub fn keys_between(
     alloc: Global,
     before: &View,
@@ -37,7 +37,8 @@ pub fn keys_between(
     after: &View,
 ) -> Result<Option<Touched>, NoMemory>
     requires { WasRead before.now feed.now after.now }
-    ensures { IfOk result (λ keys. IfSome keys (λ ks. CoverDifference ks (render before.now.image) (render after.now.image))) }
+    ensures cover { IfOk result (λ keys. IfSome keys (λ ks. CoverDifference ks (render before.now.image) (render after.now.image))) }
+    ensures some { IfOk result (λ keys. is_some keys ≡ not (is_some before.now.begun)) }
 {
     if before.begun().is_some() {
         return Ok(None);

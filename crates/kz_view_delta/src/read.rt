@@ -29,9 +29,10 @@ fn view_beside(alloc: Global, view: &View, feed: &Feed, latest: &View) -> Result
     requires { IsReadAfter view.now feed.now }
     ensures { IfOk result (MakesBeside latest.now view.now feed.now) }
 {
-    let mut made = view.copy(alloc)?;
-    let feed = feed.copy(alloc)?;
-    made.advance_beside(feed, latest)?;
+    if latest.position() == feed.end {
+        return view.beside(feed, latest);
+    }
+    let made = view_after(alloc, view, feed)?;
     Ok(made)
 }
 

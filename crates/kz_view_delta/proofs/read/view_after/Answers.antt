@@ -1,6 +1,4 @@
 use Rattle.std.proofs.Common.{sym, subst}
-use Rattle.kz_spec_data.specs.Log.{View, IsViewOf, feed_from, read_view}
-use Rattle.kz_log.specs.Requests.{IsFeed}
 use Rattle.kz_log.specs.Views.{Fits}
 use Rattle.kz_log.proofs.Views.{feed_fits}
 use Rattle.kz_view_delta.specs.Reads.{Makes}
