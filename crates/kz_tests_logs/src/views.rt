@@ -1,6 +1,7 @@
 //! Tests of views over feeds.
 ghost use Rattle.std.specs.Prelude.{◌≡◌, ◌<◌, length};
-ghost use Rattle.kz_spec_data.specs.Log.{IsViewOf};
+ghost use Rattle.kz_spec_data.specs.Log.{IsViewOf, new_view};
+ghost use Rattle.kz_log.specs.Views.{Fits};
 
 use kz_image::Image;
 use kz_log::{Feed, MemoryLog, MetaLog, View, read_to_end, views_stay};
@@ -105,5 +106,85 @@ fn a_feed_with_a_base_begins_anew(rt: HostRuntime) {
     assert!(rt; view.epoch() == 0);
     assert!(rt; view.image().broker_configs().len() == 1);
     assert!(rt; view.begun().is_none());
+    drop(view);
+}
+
+// What a log has after nothing, which a view that knows nothing can take.
+fn all_of<L: MetaLog>(rt: &impl Abort, log: &mut L) -> Feed
+    ensures fits { Fits new_view result }
+    ensures log { L.log log.new ≡ L.log log.old }
+{
+    views_stay();
+    match log.read_from(-1) {
+        Ok(feed) => feed,
+        Err(_) => panic!(rt; "a call failed"),
+    }
+}
+
+#[test]
+fn a_view_shares_the_metadata_of_another_at_the_end(rt: HostRuntime) {
+    let alloc = rt.alloc();
+    let mut log = MemoryLog::new(alloc);
+    made(&rt, log.elect(5, &[MetaRecord::NoOp]));
+    made(&rt, log.append(1, 6, &[config(&rt, alloc)]));
+    views_stay();
+    let mut latest = View::new(alloc);
+    reads(&rt, &mut latest, &mut log, 1, 1);
+    let view = View::new(alloc);
+    let feed = all_of(&rt, &mut log);
+    assert!(rt; !view.is_at_end_of(&feed));
+    assert!(rt; latest.position() == feed.end);
+    let beside = made(&rt, view.beside(&feed, &latest));
+    assert!(rt; beside.position() == 1);
+    assert!(rt; beside.epoch() == 1);
+    assert!(rt; beside.image().broker_configs().len() == 1);
+    assert!(rt; view.position() == -1);
+    drop(beside);
+    drop(feed);
+    drop(view);
+    drop(latest);
+    drop(log);
+}
+
+// Brings a view to the end of what was read, beside another.
+fn advance_beside(rt: &impl Abort, view: &mut View, feed: Feed, other: &View)
+    requires { Fits view.old feed }
+{
+    made(rt, view.advance_beside(feed, other));
+    assert!(rt; view.position() == 1);
+    assert!(rt; view.epoch() == 1);
+    assert!(rt; view.image().broker_configs().len() == 1);
+}
+
+#[test]
+fn a_view_advances_beside_another_at_the_end_or_before_it(rt: HostRuntime) {
+    let alloc = rt.alloc();
+    let mut log = MemoryLog::new(alloc);
+    made(&rt, log.elect(5, &[MetaRecord::NoOp]));
+    made(&rt, log.append(1, 6, &[config(&rt, alloc)]));
+    views_stay();
+    let mut first = View::new(alloc);
+    let nothing = View::new(alloc);
+    let feed = all_of(&rt, &mut log);
+    advance_beside(&rt, &mut first, feed, &nothing);
+    let mut second = View::new(alloc);
+    let feed = all_of(&rt, &mut log);
+    advance_beside(&rt, &mut second, feed, &first);
+    drop(nothing);
+    drop(first);
+    drop(second);
+    drop(log);
+}
+
+#[test]
+fn what_was_appended_is_put_into_a_view(rt: HostRuntime) {
+    let alloc = rt.alloc();
+    let mut image = Image::new(alloc);
+    made(&rt, image.apply(1, &config(&rt, alloc)));
+    let mut view = View::new(alloc);
+    view.put_appended(7, 2, image);
+    assert!(rt; view.position() == 7);
+    assert!(rt; view.epoch() == 2);
+    assert!(rt; view.image().broker_configs().len() == 1);
     drop(view);
 }

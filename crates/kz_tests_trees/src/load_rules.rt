@@ -115,6 +115,20 @@ fn a_tree_is_loaded_whole(rt: HostRuntime) {
     drop(tree);
 }
 
+#[test]
+fn a_znode_that_is_moved_in_is_taken_as_one_that_is_copied(rt: HostRuntime) {
+    let alloc = rt.alloc();
+    let mut check = made(&rt, LoadCheck::new(alloc, LAST_ZXID, &SESSIONS));
+    for znode in &WHOLE {
+        assert!(rt; check.take_owned(row_of(&rt, alloc, *znode)) == Ok(()));
+    }
+    assert!(rt; check.take_owned(row_of(&rt, alloc, WHOLE[0])) == Err(LoadFault::Broken));
+    assert!(rt; check.count() == 9);
+    let tree = check.into_tree();
+    assert!(rt; tree.area_len() == 2);
+    drop(tree);
+}
+
 // Znodes that break a rule, after these.
 static BROKEN: [(&[Znode], Znode); 19] = [
     // the path doesn't rise
