@@ -103,7 +103,7 @@ fn is_multi_told(answer: Result<i64, TreeFault>, told: Told) -> bool {
 }
 
 // Sessions begin and end on a tree, which makes and ends ephemeral znodes.
-static REQUESTS: [(Request, Told); 15] = [
+static REQUESTS: [(Request, Told); 19] = [
     (Request::Begin(1), Told::Done(1)),
     (Request::Begin(1), Told::Known),
     (Request::End(2), Told::Unknown),
@@ -143,6 +143,17 @@ static REQUESTS: [(Request, Told); 15] = [
     (Request::Begin(1), Told::Done(5)),
     (Request::Multi(&[Ask::Create("/e", 1)]), Told::Done(6)),
     (Request::Begin(1), Told::Known),
+    (
+        Request::Multi(&[
+            Ask::Set("/e", 0),
+            Ask::Create("/p/g", 1),
+            Ask::Create("/p/h", 1),
+        ]),
+        Told::Done(7),
+    ),
+    (Request::Multi(&[Ask::Delete("/p/g", 0)]), Told::Done(8)),
+    (Request::Multi(&[Ask::Set("/q", 0)]), Told::Done(9)),
+    (Request::End(1), Told::Done(10)),
 ];
 
 fn is_answered(
@@ -177,12 +188,11 @@ fn ephemeral_znodes_end_with_their_session(rt: HostRuntime) {
     for (request, told) in &REQUESTS {
         assert!(rt; is_answered(&rt, alloc, &mut store, *request, *told));
     }
-    assert!(rt; store.tree().sessions() == [1, 2].as_slice());
-    assert!(rt; store.tree().count() == 4);
-    assert!(rt; is_there(&store, b"/p", 4));
+    assert!(rt; store.tree().sessions() == [2].as_slice());
+    assert!(rt; store.tree().count() == 3);
+    assert!(rt; is_there(&store, b"/p", 10));
     assert!(rt; is_there(&store, b"/p/f", 3));
     assert!(rt; is_there(&store, b"/q", 3));
-    assert!(rt; is_there(&store, b"/e", 6));
     drop(store);
 }
 

@@ -1,10 +1,9 @@
 //! What the begin and the end of a session make of a tree.
-ghost use Rattle.std.specs.Prelude.{◌≡◌, true, ℕ, List, IfOk, OnOk};
+ghost use Rattle.std.specs.Prelude.{◌≡◌, not, IfOk, OnOk};
 ghost use Rattle.std.specs.Ordering.{int_cmp};
-ghost use Rattle.std.specs.List.{list_any};
-ghost use Rattle.std.specs.Str.{bytes_eq};
+ghost use Rattle.std.specs.List.{filter};
 ghost use Rattle.kz_types.specs.Ordered.{put, without};
-ghost use Rattle.kz_spec_data.specs.Tree.{is_live, is_owned, loses_child, without_owned};
+ghost use Rattle.kz_spec_data.specs.Tree.{is_live, is_owned, without_owned};
 ghost use Rattle.kz_tree.specs.Kept.{AreRows, AreSessions};
 
 use kz_tree_rows::{Rows, parent_of};
@@ -73,59 +72,30 @@ fn is_owned(session: i64, row: &Row) -> bool
     }
 }
 
-// Whether a path is the last of these. Siblings mostly stand one after another.
-fn is_last(paths: &[&[u8]], path: &[u8]) -> bool
-    ensures { result ≡ true → list_any (λ other. bytes_eq other.now path.now) paths.now ≡ true }
+// The znodes without those that end with a session. It looks at the ephemeral ones alone.
+fn without_ended(alloc: Global, rows: &Rows, session: i64) -> Result<Rows, NoMemory>
+    ensures value { IfOk result (λ made. made ≡ filter (λ row. not (is_owned session row)) rows.now) }
+    ensures rise { IfOk result (λ made. AreRows made) }
 {
-    match paths.last() {
-        Some(last) => *last == path,
-        None => false,
-    }
-}
-
-// The parents of the znodes that end with a session.
-fn parents_of_owned<'a>(
-    alloc: Global,
-    rows: &'a Rows,
-    session: i64,
-) -> Result<Vec<&'a [u8]>, NoMemory>
-    ensures { IfOk result (λ parents. (path : List ℕ) → list_any (λ other. bytes_eq other.now path) parents.items ≡ loses_child session rows.entry.now path) }
-{
-    let mut parents = Vec::new(alloc);
-    for row in rows.items() {
+    let mut made = rows.copy(alloc)?;
+    for row in rows.ephemeral() {
         if is_owned(session, row) {
-            let parent = parent_of(row.path.bytes());
-            if !is_last(&parents, parent) {
-                parents.push(parent)?;
-            }
+            made.take_out(row.path.bytes())?;
         }
     }
-    Ok(parents)
+    Ok(made)
 }
 
-fn is_among(paths: &[&[u8]], path: &[u8]) -> bool
-    ensures { result ≡ list_any (λ other. bytes_eq other.now path.now) paths.now }
-{
-    for other in paths {
-        if *other == path {
-            return true;
-        }
-    }
-    false
-}
-
-/// The znodes without those that end with a session; their parents show it. Only what changes is copied.
+/// The znodes without those that end with a session; their parents show it. It looks at the ephemeral ones and at these
+/// parents alone, and copies only what changes.
 pub fn without_owned(alloc: Global, rows: &Rows, session: i64, zxid: i64) -> Result<Rows, NoMemory>
     ensures value { IfOk result (λ made. made ≡ without_owned zxid session rows.now) }
     ensures rise { IfOk result (λ made. AreRows made) }
 {
-    let parents = parents_of_owned(alloc, rows, session)?;
-    let mut made = rows.copy(alloc)?;
-    for row in rows.items() {
+    let mut made = without_ended(alloc, rows, session)?;
+    for row in rows.ephemeral() {
         if is_owned(session, row) {
-            made.take_out(row.path.bytes())?;
-        } else if is_among(&parents, row.path.bytes()) {
-            made.touch(alloc, row.path.bytes(), zxid)?;
+            made.touch(alloc, parent_of(row.path.bytes()), zxid)?;
         }
     }
     Ok(made)

@@ -1,11 +1,7 @@
 pub mod BrokerPaths
 pub mod ChildPaths
 pub mod Counts
-pub mod Ends
-pub mod Halving
+pub mod Ephemerals
 pub mod LastSlash
-pub mod LaterLemmas
 pub mod Looks
-pub mod Numbering
 pub mod Pages
-pub mod PartLemmas

@@ -1,15 +1,12 @@
 //! The children of a znode.
-ghost use Rattle.std.specs.Prelude.{◌≡◌, ◌≢◌, ◌∷◌, ◌++◌, [], true, false, IfOk};
-ghost use Rattle.std.specs.Ordering.{match_ordering};
-ghost use Rattle.kz_types.specs.Order.{bytes_cmp};
+ghost use Rattle.std.specs.Prelude.{◌≡◌, ◌≢◌, ◌∷◌, ◌++◌, [], IfOk};
 ghost use Rattle.kz_spec_data.specs.Tree.{has_children};
 
 use crate::names::parent_of;
 use crate::rows::Rows;
-use kz_order::compare;
+use kz_row_parts::is_before;
 use kz_types::{NoMemory, copy_all};
 use std::alloc::Global;
-use std::cmp::Ordering;
 
 /// A path and one more byte.
 pub(crate) fn with_byte(alloc: Global, path: &[u8], byte: u8) -> Result<Vec<u8>, NoMemory>
@@ -18,17 +15,6 @@ pub(crate) fn with_byte(alloc: Global, path: &[u8], byte: u8) -> Result<Vec<u8>,
     let mut made = copy_all(alloc, path)?;
     made.push(byte)?;
     Ok(made)
-}
-
-/// Whether a path comes before another.
-pub(crate) fn is_before(path: &[u8], other: &[u8]) -> bool
-    ensures { result ≡ match_ordering (bytes_cmp path.now other.now) true false false }
-{
-    match compare(path, other) {
-        Ordering::Less => true,
-        Ordering::Equal => false,
-        Ordering::Greater => false,
-    }
 }
 
 /// Whether a znode has this path as its parent. It would stand from the path followed by `/` on, and before the path

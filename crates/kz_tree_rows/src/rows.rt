@@ -4,33 +4,37 @@ ghost use Rattle.std.specs.List.{filter, count_by, list_all};
 ghost use Rattle.kz_types.specs.Paths.{is_migrated};
 ghost use Rattle.kz_spec_data.specs.Loads.{is_before};
 ghost use Rattle.kz_spec_data.specs.Tree.{row_at, put_row, without_row, with_child_change, is_after, is_later, first_row, count_beside};
-ghost use Rattle.kz_tree_rows.specs.Kept.{AreRows};
+ghost use Rattle.kz_tree_rows.specs.Kept.{AreRows, ephemeral_rows};
 
-use crate::items::Items;
-use crate::migrated::is_migrated;
-use crate::parts::PartedRows;
+use crate::ephemeral;
+use kz_row_parts::{Items, PartedRows, is_migrated};
 use kz_types::{Duplicate, NoMemory, Row, ZPath};
 use std::alloc::Global;
 use std::marker::Model;
 
 /// Znodes by rising path, no two with one path, and no more than a `usize` can count. A copy has the same parts of
 /// znodes: it costs a pointer and some numbers for each. Contracts see the list of the znodes.
+///
+/// A list of its own has the ephemeral ones, so that the end of a session doesn't look at the others. ZooKeeper keeps their
+/// paths by session, too.
 #[derive(Drop)]
 pub struct Rows {
+    alloc: Global,
     list: PartedRows,
     migrated: usize,
+    ephemeral: PartedRows,
 }
 
 impl Model for Rows {
     ghost use Rattle.std.specs.Prelude.{List};
     ghost use Rattle.kz_types.specs.declared.tree.Row.{Row};
-    ghost use Rattle.kz_tree_rows.specs.Kept.{AreCounted};
+    ghost use Rattle.kz_tree_rows.specs.Kept.{AreKept};
 
     ghost Value = { List Row };
 
     ghost view = { λ r. r.list };
 
-    ghost invariant = { λ r. AreCounted r.list r.migrated };
+    ghost invariant = { λ r. AreKept r.list r.migrated r.ephemeral };
 }
 
 // 1 for a path of the migrated area, and 0 for another.
@@ -55,8 +59,10 @@ impl Rows {
         ensures { result ≡ [] }
     {
         Rows {
+            alloc,
             list: PartedRows::new(alloc),
             migrated: 0,
+            ephemeral: PartedRows::new(alloc),
         }
     }
 
@@ -114,6 +120,14 @@ impl Rows {
         self.list.items()
     }
 
+    /// The ephemeral znodes, by rising path. It looks at no others.
+    pub fn ephemeral(&self) -> Items<'_>
+        ensures items { result ≡ ephemeral_rows self.now }
+        ensures rise { AreRows self.now }
+    {
+        self.ephemeral.items()
+    }
+
     /// The znodes after a path, or all, by rising path.
     pub fn items_after(&self, after: Option<&ZPath>) -> Items<'_>
         ensures items { result ≡ filter (is_after (option_map (λ path. path.now) after.entry)) self.now }
@@ -159,7 +173,9 @@ impl Rows {
             return Err(NoMemory);
         }
         let migrated = self.migrated + migrated_part(row.path.bytes());
+        let ephemeral = ephemeral::with_added(self.alloc, &self.ephemeral, &row)?;
         self.list.put(row)?;
+        ephemeral::set(&mut self.ephemeral, ephemeral);
         self.migrated = migrated;
         Ok(())
     }
@@ -181,7 +197,10 @@ impl Rows {
         ensures ok { OnOk result (self.new ≡ put_row row self.old) }
         ensures err { OnErr result (self.new ≡ self.old) }
     {
-        self.list.put(row)
+        let ephemeral = ephemeral::with_put(self.alloc, &self.ephemeral, &row)?;
+        self.list.put(row)?;
+        ephemeral::set(&mut self.ephemeral, ephemeral);
+        Ok(())
     }
 
     /// Puts a znode after all others. It searches for no place. At `Err` the znodes are as they were.
@@ -194,7 +213,9 @@ impl Rows {
             return Err(NoMemory);
         }
         let migrated = self.migrated + migrated_part(row.path.bytes());
+        let ephemeral = ephemeral::with_added(self.alloc, &self.ephemeral, &row)?;
         self.list.append(row)?;
+        ephemeral::set(&mut self.ephemeral, ephemeral);
         self.migrated = migrated;
         Ok(())
     }
@@ -217,7 +238,9 @@ impl Rows {
         ensures ok { OnOk result (self.new ≡ without_row path.now self.old) }
         ensures err { OnErr result (self.new ≡ self.old) }
     {
+        let ephemeral = ephemeral::without_removed(self.alloc, &self.ephemeral, path)?;
         self.list.take_out(path)?;
+        ephemeral::set(&mut self.ephemeral, ephemeral);
         self.migrated -= migrated_part(path);
         Ok(())
     }
@@ -238,8 +261,10 @@ impl Duplicate for Rows {
     // The same znodes in the same blocks.
     fn copy(&self, alloc: Global) -> Result<Self, NoMemory> {
         Ok(Rows {
+            alloc,
             list: self.list.copy(alloc)?,
             migrated: self.migrated,
+            ephemeral: self.ephemeral.copy(alloc)?,
         })
     }
 }

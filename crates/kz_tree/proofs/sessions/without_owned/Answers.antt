@@ -1,28 +1,23 @@
-use Rattle.std.proofs.Common.{◌≡◌, Bor, List, ℕ, sym, ap, ◌∙◌}
-use Rattle.std.specs.List.{list_any}
-use Rattle.std.specs.Str.{bytes_eq}
-use Rattle.kz_spec_data.specs.Tree.{loses_child}
-use Rattle.kz_tree.proofs.Owned.{left_out, left_touched, left_same}
+use Rattle.std.proofs.Common.{◌≡◌, sym, ap, ◌∙◌, to_z-of_z}
+use Rattle.kz_spec_data.specs.Tree.{parent_of}
+use Rattle.kz_tree.proofs.Owned.{none_is_touched, parent_touched, parent_left, all_touched}
 use Rattle.kz_tree.proofs.sessions.without_owned.Goals as goal
 
-pub loop-row-preserved-in-Continue-branch-3 : goal.loop-row-preserved-in-Continue-branch-3
-loop-row-preserved-in-Continue-branch-3 c =
-    left_out _ _ c.args.rows.now c.loop-row.row-iterator c.next.new.self c.loop-row.made c.take_out.new.self c.in-Some.row.now c.loop-row.invariant c.in-Some.ensures.steps (sym c.is_owned.ensures ∙ c.if-is_owned.true)
-    (rw c.bytes.ensures.value at c.in_ok-take_out.ensures.ok)
+pub loop-row-init : goal.loop-row-init
+loop-row-init c =
+    none_is_touched _ _ c.args.rows.now c.into_iter-row-iterator.result c.in_ok-made.made c.in_ok-made.ensures.rise c.in_ok-made.ensures.value
+    (c.into_iter-row-iterator.ensures.into_iter_gives ∙ c.ephemeral-row-items.ensures.items)
 
-pub loop-row-preserved-in-Continue-branch-4 : goal.loop-row-preserved-in-Continue-branch-4
-loop-row-preserved-in-Continue-branch-4 c =
-    let row = c.in-Some.row.now in
-    let loses : c.is_among.result ≡ loses_child _ c.args.rows.now row.path =
-    c.is_among.ensures ∙ ap (λ path. list_any (λ (other : Bor (List ℕ)). bytes_eq other.now path) c.deref.result.now) c.bytes-else-is_owned.ensures.value
-    ∙ ap (list_any (λ (other : Bor (List ℕ)). bytes_eq other.now row.path)) c.deref.ensures.value ∙ c.in_ok-parents.ensures row.path in
-    left_touched _ _ c.args.rows.now c.loop-row.row-iterator c.next.new.self c.loop-row.made c.touch.new.self row c.loop-row.invariant c.in-Some.ensures.steps (sym c.is_owned.ensures ∙ c.if-is_owned.false)
-    (sym loses ∙ c.if-is_among.true) (rw c.bytes-then-is_among.ensures.value at c.in_ok-touch.ensures.ok)
+pub loop-row-preserved-in-Continue-branch-2 : goal.loop-row-preserved-in-Continue-branch-2
+loop-row-preserved-in-Continue-branch-2 c =
+    let path : c.parent_of.result.now ≡ parent_of c.in-Some.row.now.path = c.parent_of.ensures ∙ ap parent_of c.bytes.ensures.value in
+    parent_touched _ _ c.args.rows.now c.loop-row.row-iterator c.next.new.self c.loop-row.made c.touch.new.self c.in-Some.row.now c.loop-row.invariant c.in-Some.ensures.steps (sym c.is_owned.ensures ∙ c.if-is_owned.true)
+    (rw path at c.in_ok-touch.ensures.ok)
 
 pub loop-row-preserved : goal.loop-row-preserved
 loop-row-preserved c =
-    let row = c.in-Some.row.now in
-    let loses : c.is_among.result ≡ loses_child _ c.args.rows.now row.path =
-    c.is_among.ensures ∙ ap (λ path. list_any (λ (other : Bor (List ℕ)). bytes_eq other.now path) c.deref.result.now) c.bytes-else-is_owned.ensures.value
-    ∙ ap (list_any (λ (other : Bor (List ℕ)). bytes_eq other.now row.path)) c.deref.ensures.value ∙ c.in_ok-parents.ensures row.path in
-    left_same _ _ c.args.rows.now c.loop-row.row-iterator c.next.new.self c.loop-row.made row c.loop-row.invariant c.in-Some.ensures.steps (sym c.is_owned.ensures ∙ c.if-is_owned.false) (sym loses ∙ c.if-is_among.false)
+    parent_left _ _ c.args.rows.now c.loop-row.row-iterator c.next.new.self c.loop-row.made c.in-Some.row.now c.loop-row.invariant c.in-Some.ensures.steps (sym c.is_owned.ensures ∙ c.if-is_owned.false)
+
+pub returns-clause-value : goal.returns-clause-value
+returns-clause-value c =
+    all_touched c.args.zxid c.args.session c.args.rows.now c.loop-row.row-iterator c.loop-row.made (rw (to_z-of_z c.ranges.session, to_z-of_z c.ranges.zxid) at c.loop-row.invariant) c.in-None.ensures.steps.0

@@ -1,5 +1,5 @@
-use Rattle.kz_tree.proofs.Owned.{IsLeft}
+use Rattle.kz_tree.proofs.Owned.{IsTouched}
 use Rattle.kz_tree.proofs.sessions.without_owned.Given as goal
 
 abbrev pub invariant-loop-row : goal.invariant-loop-row
-invariant-loop-row l = IsLeft l.zxid l.session l.fn.rows l.row-iterator l.made
+invariant-loop-row l = IsTouched l.zxid l.session l.fn.rows l.row-iterator l.made
