@@ -1,7 +1,7 @@
 //! The metadata.
-ghost use Rattle.std.specs.Prelude.{ℕ, ◌≡◌, ◌∷◌, [], ◌&&◌, true, false, All, None, Some, pos, int_le, option_map, IfOk, OnOk, OnErr, IfErr, take, if◌then◌else◌};
+ghost use Rattle.std.specs.Prelude.{ℕ, ◌≡◌, ◌∷◌, [], ◌&&◌, true, false, All, None, Some, pos, int_le, option_map, bytes_eq, map, IfOk, OnOk, OnErr, IfErr, take, if◌then◌else◌};
 ghost use Rattle.std.specs.Ordering.{int_cmp, int_eq};
-ghost use Rattle.std.specs.List.{list_any};
+ghost use Rattle.std.specs.List.{list_any, filter};
 ghost use Rattle.kz_types.specs.Order.{bytes_cmp};
 ghost use Rattle.kz_types.specs.Ordered.{put as put_in, without as without_in, Rises};
 ghost use Rattle.kz_types.specs.declared.codes.TheConstants.{NO_MIGRATION, POST_MIGRATION};
@@ -20,6 +20,7 @@ use crate::{
     QuotaList, Topics, configure, is_migrating, partition_at, register, remove_scram, scram_at,
     set_scram,
 };
+use kz_acls::AclList;
 use kz_laws_znodes::{
     held_config_is_writable, held_credential_is_writable, held_entry_is_writable,
     held_name_is_text, held_partition_change_is_writable, held_partition_is_writable,
@@ -54,7 +55,7 @@ pub struct Image {
     broker_configs: Blocks<Configuration>,
     quotas: QuotaList,
     users: Blocks<ScramEntry>,
-    acls: Blocks<AclEntry>,
+    acls: AclList,
     brokers: Brokers,
     next_producer: Option<i64>,
     state: i8,
@@ -137,7 +138,7 @@ impl Image {
             broker_configs: Blocks::new(alloc),
             quotas: QuotaList::new(alloc),
             users: Blocks::new(alloc),
-            acls: Blocks::new(alloc),
+            acls: AclList::new(alloc),
             brokers: Sequence::new(alloc),
             next_producer: None,
             state: NO_MIGRATION,
@@ -239,7 +240,7 @@ impl Image {
     pub fn acl(&self, id: Id) -> Option<&AclRow>
         ensures { option_map (λ row. row.now) result ≡ acl_of id self.now }
     {
-        match self.acls.find(&id.bytes) {
+        match self.acls.entries().find(&id.bytes) {
             Some(entry) => Some(&entry.row),
             None => None,
         }
@@ -325,7 +326,15 @@ impl Image {
         ensures rising { Rises bytes_cmp id_of_acl self.now.acls }
         ensures legal { All IsAcl self.now.acls }
     {
-        &self.acls
+        self.acls.entries()
+    }
+
+    /// The access control entries of the resources of a name, by rising id. It looks at no other entry. Memory for the references
+    /// is taken from this allocator; at `Err` it ran out.
+    pub fn acls_named(&self, alloc: Global, name: &Text) -> Result<Vec<&AclEntry>, NoMemory>
+        ensures { IfOk result (λ found. map (λ a. a.now) found.items ≡ filter (λ a. bytes_eq a.row.name name.now) self.now.acls) }
+    {
+        self.acls.named(alloc, name.bytes())
     }
 
     // ---- changes
@@ -450,7 +459,7 @@ impl Image {
     {
         held_entry_is_writable(change);
         let entry = acl_entry(self.alloc, change)?;
-        self.acls.put(entry)?;
+        self.acls.put(self.alloc, entry)?;
         Ok(())
     }
 
@@ -458,7 +467,7 @@ impl Image {
         ensures ok { OnOk result (self.new ≡ record self.old { acls = without_in bytes_cmp id_of_acl id.bytes self.old.acls }) }
         ensures err { OnErr result (self.new ≡ self.old) }
     {
-        self.acls.without(&id.bytes)?;
+        self.acls.without(self.alloc, id)?;
         Ok(())
     }
 

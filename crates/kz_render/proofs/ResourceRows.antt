@@ -66,6 +66,25 @@ same_test pattern kind name a legal text h w = by (is_at pattern kind name a.row
     by true e = (bytes_eq-Decides (path_of (acl_key a.row)) (path_of (key.Acl pattern kind name))).1 (ap path_of (key_at pattern kind name a e)) ∙ sym e
     by false e = none e (bytes_eq (path_of (acl_key a.row)) (path_of (key.Acl pattern kind name))) refl ∙ sym e
 
+-- ---- those of a name
+
+-- an entry of another name is none of the resource
+other_name : (a b : Bool) → a && (b && false) ≡ false
+other_name true true = refl
+other_name true false = refl
+other_name false b = refl
+
+-- the entries of the resource's name are enough
+pub rows_named : (pattern kind : ℤ) (name : List ℕ) (acls : List AclEntry) → rows_at pattern kind name (filter (λ (a : AclEntry). bytes_eq a.row.name name) acls) ≡ rows_at pattern kind name acls
+rows_named pattern kind name [] = refl
+rows_named pattern kind name (a ∷ bs) = either (bytes_eq a.row.name name) refl (rows_named pattern kind name bs)
+  where
+    either : (b : Bool) → bytes_eq a.row.name name ≡ b → rows_at pattern kind name (filter (λ (e : AclEntry). bytes_eq e.row.name name) bs) ≡ rows_at pattern kind name bs
+        → rows_at pattern kind name (cond b (a ∷ filter (λ (e : AclEntry). bytes_eq e.row.name name) bs) (filter (λ (e : AclEntry). bytes_eq e.row.name name) bs)) ≡ row_if_at pattern kind name a ++ rows_at pattern kind name bs
+    either true same rest = ap (λ rows. row_if_at pattern kind name a ++ rows) rest
+    either false other rest =
+        rest ∙ sym (ap (λ b. cond b (a.row ∷ []) [] ++ rows_at pattern kind name bs) (ap (λ c. int_eq a.row.pattern pattern && (int_eq a.row.kind kind && c)) other ∙ other_name (int_eq a.row.pattern pattern) (int_eq a.row.kind kind)))
+
 -- ---- all entries
 
 one_more : (b : Bool) (a : AclEntry) (bs : List AclEntry) → cond b (a.row ∷ []) [] ++ map row_of_acl bs ≡ map row_of_acl (cond b (a ∷ bs) bs)

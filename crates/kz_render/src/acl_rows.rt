@@ -1,16 +1,14 @@
 //! The access control entries of one resource.
-ghost use Rattle.std.specs.Prelude.{◌≡◌, ◌&&◌, ◌++◌, true, All, map, IfOk, OnOk, bytes_eq, if◌then◌else◌, [], ◌∷◌};
+ghost use Rattle.std.specs.Prelude.{◌≡◌, ◌&&◌, ◌++◌, true, map, IfOk, OnOk, bytes_eq, if◌then◌else◌, [], ◌∷◌};
 ghost use Rattle.std.specs.Ordering.{int_eq};
 ghost use Rattle.std.specs.List.{filter};
 ghost use Rattle.kz_types.specs.Paths.{is_legal};
 ghost use Rattle.kz_types.specs.declared.key.EntityKey.TheVariants as key;
-ghost use Rattle.kz_spec_data.specs.Legal.{IsAcl};
-ghost use Rattle.kz_laws_znodes.specs.Writable.{IsAclWritable};
 ghost use Rattle.kz_spec_data.specs.Entities.{rows_of_resource};
 ghost use Rattle.kz_render.specs.Resources.{is_at, rows_at};
 
+use kz_image::Image;
 use kz_laws_znodes::held_name_is_text;
-use kz_sorted::Blocks;
 use kz_types::{AclEntry, AclRow, Duplicate, NoMemory, Text};
 use std::alloc::Global;
 
@@ -46,32 +44,32 @@ fn push_at(
     Ok(())
 }
 
-// The entries of a resource, by rising id.
+// Those of these entries that are of a resource, in the order in which they stand.
 fn rows_at(
     alloc: Global,
-    entries: &Blocks<AclEntry>,
+    entries: &[&AclEntry],
     resource: &Resource<'_>,
 ) -> Result<Vec<AclRow>, NoMemory>
-    ensures { IfOk result (λ rows. rows.items ≡ rows_at resource.now.pattern resource.now.kind resource.now.name.now entries.now) }
+    ensures { IfOk result (λ rows. rows.items ≡ rows_at resource.now.pattern resource.now.kind resource.now.name.now (map (λ a. a.now) entries.now)) }
 {
     let mut rows = Vec::new(alloc);
-    for entry in entries.items() {
+    for entry in entries {
         push_at(alloc, &mut rows, resource, &entry.row)?;
     }
     Ok(rows)
 }
 
-/// The entries of the resource of a key, by rising id.
+/// The entries of the resource of a key, by rising id. It looks at no entry of another name.
 pub fn rows_of_resource(
     alloc: Global,
-    entries: &Blocks<AclEntry>,
+    image: &Image,
     resource: &Resource<'_>,
 ) -> Result<Vec<AclRow>, NoMemory>
-    requires legal { is_legal (key.Acl resource.now.pattern resource.now.kind resource.now.name.now) ≡ true }
-    requires entries { All IsAcl entries.now }
-    requires texts { All IsAclWritable entries.now }
-    ensures { IfOk result (λ rows. rows.items ≡ rows_of_resource (key.Acl resource.now.pattern resource.now.kind resource.now.name.now) entries.now) }
+    requires { is_legal (key.Acl resource.now.pattern resource.now.kind resource.now.name.now) ≡ true }
+    ensures { IfOk result (λ rows. rows.items ≡ rows_of_resource (key.Acl resource.now.pattern resource.now.kind resource.now.name.now) image.now.acls) }
 {
+    image.is_held();
     held_name_is_text(resource.name);
-    rows_at(alloc, entries, resource)
+    let named = image.acls_named(alloc, resource.name)?;
+    rows_at(alloc, &named, resource)
 }

@@ -81,8 +81,7 @@ fn resource(
     requires { is_legal (key.Acl resource.now.pattern resource.now.kind resource.now.name.now) ≡ true }
     ensures { IfOk result (λ body. option_map (λ b. b.items) body ≡ option_map text_of_body (entity image.now (key.Acl resource.now.pattern resource.now.kind resource.now.name.now))) }
 {
-    image.is_held();
-    let rows = rows_of_resource(alloc, image.acls(), resource)?;
+    let rows = rows_of_resource(alloc, image, resource)?;
     entries(alloc, &rows)
 }
 

@@ -1,6 +1,8 @@
-//! Tests of the values that all crates share, of the order of bytes, and of lists in the order of their keys.
+//! Tests of the values that all crates share, of the order of bytes, of lists in the order of their keys, and of access control entries.
 #![tactic(auto)]
 
+#[cfg(test)]
+mod acls;
 #[cfg(test)]
 mod copies;
 #[cfg(test)]
