@@ -1,4 +1,5 @@
 //! Each public call with ample memory.
+use kz_row_parts::{PartedRows, is_before};
 use kz_tree_rows::{Rows, has_children, is_migrated, name_of, parent_of, reads};
 use kz_types::{Duplicate, Row, Sequence, ZPath};
 use std::alloc::Global;
@@ -92,6 +93,74 @@ fn znodes_are_changed_and_taken_out(rt: HostRuntime) {
     assert!(rt; rows.find(b"/config").map(|row| row.czxid) == Some(8));
     assert!(rt; copy.count() == 8);
     assert!(rt; copy.find(b"/config").map(|row| row.czxid) == Some(1));
+    drop(copy);
+    drop(rows);
+}
+
+fn owned(rt: &impl Abort, alloc: Global, path: &str, owner: Option<i64>) -> Row {
+    let mut row = row_of(rt, alloc, path, 9);
+    row.owner = owner;
+    row
+}
+
+// Whether the ephemeral znodes are those of these paths.
+fn are_ephemeral(rows: &Rows, paths: &[&str]) -> bool {
+    let mut items = rows.ephemeral();
+    for path in paths {
+        if !is_at(items.next(), path) {
+            return false;
+        }
+    }
+    items.next().is_none()
+}
+
+// A znode with an owner is ephemeral until it is taken out, or one without an owner is put in its place.
+#[test]
+fn ephemeral_znodes_are_listed(rt: HostRuntime) {
+    let alloc = rt.alloc();
+    let mut rows = filled(&rt, alloc);
+    assert!(rt; are_ephemeral(&rows, &[]));
+    made(&rt, rows.put(owned(&rt, alloc, "/controller", Some(1))));
+    made(&rt, rows.put(owned(&rt, alloc, "/brokers/ids/2", Some(2))));
+    let last = owned(&rt, alloc, "/z", Some(1));
+    assert!(rt; rows.are_before(last.path.bytes()));
+    made(&rt, rows.append(last));
+    assert!(rt; are_ephemeral(&rows, &["/brokers/ids/2", "/controller", "/z"]));
+    let copy = made(&rt, rows.copy(alloc));
+    made(&rt, rows.touch(alloc, b"/controller", 10));
+    made(&rt, rows.take_out(b"/z"));
+    made(&rt, rows.put(owned(&rt, alloc, "/brokers/ids/2", None)));
+    assert!(rt; are_ephemeral(&rows, &["/controller"]));
+    assert!(rt; rows.ephemeral().next().map(|row| row.pzxid) == Some(10));
+    assert!(rt; are_ephemeral(&copy, &["/brokers/ids/2", "/controller", "/z"]));
+    drop(copy);
+    drop(rows);
+}
+
+// A list alone, without the counts of a tree.
+#[test]
+fn znodes_in_parts_are_put_and_found(rt: HostRuntime) {
+    let alloc = rt.alloc();
+    let mut rows = PartedRows::new(alloc);
+    assert!(rt; rows.count() == 0 && rows.last().is_none() && rows.first_later(0).is_none());
+    made(&rt, rows.put(row_of(&rt, alloc, "/config/brokers", 4)));
+    made(&rt, rows.put(row_of(&rt, alloc, "/brokers", 5)));
+    assert!(rt; is_before(b"/config", b"/config/topics") && !is_before(b"/config", b"/config"));
+    assert!(rt; !rows.are_before(b"/config"));
+    let last = row_of(&rt, alloc, "/config/topics", 6);
+    assert!(rt; rows.are_before(last.path.bytes()));
+    made(&rt, rows.append(last));
+    assert!(rt; rows.count() == 3);
+    assert!(rt; is_at(rows.last(), "/config/topics"));
+    assert!(rt; is_at(rows.find(b"/brokers"), "/brokers"));
+    assert!(rt; is_at(rows.find_near_end(b"/brokers"), "/brokers"));
+    assert!(rt; is_at(rows.items().next(), "/brokers"));
+    assert!(rt; is_at(rows.items_after(b"/brokers").next(), "/config/brokers"));
+    assert!(rt; is_at(rows.first_later(4), "/config/topics"));
+    let copy = made(&rt, rows.copy(alloc));
+    made(&rt, rows.take_out(b"/config/topics"));
+    assert!(rt; rows.first_later(4).is_none());
+    assert!(rt; rows.count() == 2 && copy.count() == 3);
     drop(copy);
     drop(rows);
 }
